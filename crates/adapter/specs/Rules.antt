@@ -12,7 +12,7 @@ use Rattle.adapter.specs.Device.{FetchedCommand, DevicePort, Device}
 use Rattle.adapter.specs.Decoding.{DecodesTo}
 use Rattle.adapter.specs.Steps.{Steps}
 
--- whatever the device does first
+-- it holds whatever the device does first
 abbrev pub IsStable : (Device → Type 0) → Device → Type 0
 IsStable P d = (mid : Device) → Steps d mid → P mid
 
@@ -21,7 +21,7 @@ pub record IsOn (d : Device) : Type 0 where
   pub ae : d.ae ≡ true
   pub no_reset : d.hr ≡ false
 
--- the adapter has the port
+-- the adapter has the port, which is one of the four that are driven
 abbrev pub HasPort : Device → ℕ → Type 0
 HasPort d port = (port < 4) × (bit d.pi port ≡ true)
 

@@ -24,9 +24,9 @@ pub enum Call<S> {
         /// In bytes; above 64 it counts as 64.
         length: u32,
     },
-    /// Answer what is done.
+    /// Answer what is done, handle errors, and look for disks.
     Service,
-    /// Note that a tick has gone by.
+    /// Note that a tick has gone by, and restart ports with requests that hang.
     Tick,
     /// Reset the adapter.
     Reset,

@@ -1,9 +1,10 @@
 //! The words that all layers share, and the numbers of the memory map.
 //!
-//! Sectors and ranges, clients, ports, slots, frames, requests, grants, refusals, outcomes, replies,
-//! and the calls of a server. A type means what its comment says. `memory` names each place of the driver's frames,
-//! `limits` how much there may be of a thing, and `command_codes` the ATA commands: code, contracts,
-//! definitions and proofs go by the names, and no contract says that a number is the right one.
+//! Sectors and ranges, clients, ports, slots, frames, requests, grants, refusals, outcomes,
+//! replies, and the calls of a server. A type means what its comment says. `memory` names each
+//! place of the driver's frames, `limits` how much there may be of a thing, and `command_codes` the
+//! ATA commands: code, contracts, definitions and proofs go by the names, and no contract says that
+//! a number is the right one.
 #![tactic(auto)]
 
 mod call;

@@ -14,7 +14,7 @@ use Rattle.host_boot.specs.declared.ProbeResult.TheVariants.{Unready}
 use Rattle.identify.specs.declared.wanted.Wanted.{Wanted}
 use Rattle.port_control.specs.declared.Running.{Running}
 use Rattle.port_control.specs.declared.Stopped.{Stopped}
-use Rattle.port_events.specs.Looks.{IsLooking}
+use Rattle.port_control.specs.Looks.{IsLooking}
 use Rattle.server_history.specs.ErrorHandling.{AreUnused}
 use Rattle.server_history.specs.Server.{ServerState, SettledInvariant, is_served}
 use Rattle.server_history.specs.Probing.{ProbesAnew, IsProbedAnew, IsLookedAt, ProbesPort}

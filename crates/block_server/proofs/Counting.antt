@@ -5,8 +5,8 @@ use Rattle.ata_types.specs.declared.call.Call.{Call}
 use Rattle.adapter.specs.declared.access.DeviceStep.{DeviceStep}
 use Rattle.host_boot.specs.Costs.{BOOT_AGAIN_ACCESSES}
 use Rattle.port_control.specs.Costs.{STOP_ACCESSES}
-use Rattle.port_events.specs.declared.PortError.{PortError}
-use Rattle.port_events.specs.declared.PortError.TheVariants.{BusError, TaskFileError, TimedOut, LinkChanged}
+use Rattle.port_control.specs.declared.events.PortError.{PortError}
+use Rattle.port_control.specs.declared.events.PortError.TheVariants.{BusError, TaskFileError, TimedOut, LinkChanged}
 
 -- one more call
 pub most_more : (calls : List (Call DeviceStep)) (call : Call DeviceStep) → most_of_all (calls ++ call ∷ []) ≡ most_of_all calls + most_of call

@@ -12,20 +12,20 @@ use Rattle.adapter.specs.Rules.{HasPort}
 use Rattle.refinement.specs.Driven.{RelatesWith, AnyUse, IsSimulated}
 use Rattle.refinement.specs.Slots.{IsOver}
 use Rattle.dma_frames.specs.Table.{Table}
-use Rattle.error_log.specs.declared.FailedSlot.{FailedSlot}
+use Rattle.identify.specs.declared.error_log.FailedSlot.{FailedSlot}
 use Rattle.error_recovery.specs.Recovery.{FitsFor, IsAloneIn, MayRecover, RecoversOrStops, Rests}
 use Rattle.error_recovery.specs.declared.Recovered.{Recovered}
 use Rattle.host_boot.specs.Taken.{probe_result_of}
-use Rattle.ncq.specs.Masks.{ReadsDone}
-use Rattle.port_events.specs.Looks.{IsLooking, LooksAt}
-use Rattle.port_events.specs.declared.PortEvent.TheVariants.{TaskFileError}
+use Rattle.commands.specs.Masks.{ReadsDone}
+use Rattle.port_control.specs.Looks.{IsLooking, LooksAt}
+use Rattle.port_control.specs.declared.events.PortEvent.TheVariants.{TaskFileError}
 use Rattle.request_queue.specs.Entries.{Held}
 use Rattle.request_queue.specs.declared.disposition.FailedRequest.{FailedRequest}
 use Rattle.server_history.specs.ErrorHandling.{AreQueued, IsFailed, IsFoundOut, TellsErrorHandling}
 use Rattle.server_history.specs.Served.{IsMaskOf, is_used}
 use Rattle.server_history.specs.Server.{ServerState, InCallInvariant, slots_at, state_of, used_for}
-use Rattle.port_events.specs.declared.PortError.{PortError}
-use Rattle.port_events.specs.declared.PortError.TheVariants.{TaskFileError}
+use Rattle.port_control.specs.declared.events.PortError.{PortError}
+use Rattle.port_control.specs.declared.events.PortError.TheVariants.{TaskFileError}
 use Rattle.slots.specs.Uses.{PortSlots, IsTaken, use_at}
 use Rattle.slots.specs.declared.SlotUse.{SlotUse}
 use Rattle.block_server.specs.Ports.{AnswersDoneSlots, LendsDone, with_answers}

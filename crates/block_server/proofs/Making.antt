@@ -16,7 +16,7 @@ use Rattle.grants.specs.Rows.{SameRows}
 use Rattle.host_boot.specs.Taken.{probe_result_of}
 use Rattle.host_boot.specs.declared.Host.{Host}
 use Rattle.identify.specs.declared.DiskInfo.{DiskInfo}
-use Rattle.plan.specs.Plan.{HasClientFrames, IsClient, IsPlan, IsServedGrant, PlanView}
+use Rattle.configuration.specs.Plan.{HasClientFrames, IsClient, IsPlan, IsServedGrant, PlanView}
 use Rattle.server_history.specs.Server.{IsNewServer, ServerState, kept_at, mode_at, mode_found, no_slots, remembered_at, used_for}
 
 -- a row of a plan is one that a configuration may give

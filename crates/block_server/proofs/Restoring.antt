@@ -28,7 +28,7 @@ use Rattle.identify.specs.declared.wanted.Wanted.{Wanted}
 use Rattle.port_boot.specs.States.{IsBootable}
 use Rattle.port_control.specs.Ports.{IsStopped}
 use Rattle.port_control.specs.declared.Stopped.{Stopped}
-use Rattle.port_events.specs.Looks.{IsLooking}
+use Rattle.port_control.specs.Looks.{IsLooking}
 use Rattle.request_queue.specs.Entries.{Held, is_of}
 use Rattle.request_queue.specs.Dispositions.{Holdings, AreResolved, disposition_of}
 use Rattle.request_queue.specs.declared.disposition.FailedRequest.{FailedRequest}
@@ -37,8 +37,8 @@ use Rattle.server_history.specs.ErrorHandling.{BootsAfter, IsFailed, IsRevalidat
 use Rattle.server_history.specs.Served.{IssuesAll, done_reply}
 use Rattle.server_history.specs.Server.{ServerState, InCallInvariant, SettledInvariant, kept_at, mode_at, mode_found, mode_in, no_slots, plain_mode, slots_at, state_of}
 use Rattle.server_history.specs.Turns.{HasPart, InRestart, ServesPort}
-use Rattle.port_events.specs.declared.PortError.{PortError}
-use Rattle.port_events.specs.declared.PortError.TheVariants.{BusError, TaskFileError, TimedOut, LinkChanged}
+use Rattle.port_control.specs.declared.events.PortError.{PortError}
+use Rattle.port_control.specs.declared.events.PortError.TheVariants.{BusError, TaskFileError, TimedOut, LinkChanged}
 use Rattle.slots.specs.Uses.{PortSlots, use_at}
 use Rattle.block_server.specs.Dispositions.{HavePlaces, BookIsSound, holding}
 use Rattle.block_server.specs.Ports.{LendsFound, with_part}

@@ -30,7 +30,7 @@ use Rattle.request_queue.specs.declared.PendingRequest.{PendingRequest}
 use Rattle.server_history.specs.Served.{IssuesAll, IssuesEach, IssuesOne, task_of, use_for}
 use Rattle.server_history.specs.Server.{ServerState, InCallInvariant, is_served, mode_in, no_slots, slots_at, state_of, with_slot}
 use Rattle.slots.specs.Uses.{PortSlots, IsLowestFree, IsTaken, with_use}
-use Rattle.ncq.specs.Tasks.{HasBlockOf, IssuesTask, addresses_of, meaning_of}
+use Rattle.commands.specs.Tasks.{HasBlockOf, IssuesTask, addresses_of, meaning_of}
 
 -- ---- what a request of the book is
 

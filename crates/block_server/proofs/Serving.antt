@@ -11,14 +11,14 @@ use Rattle.hba_regs.specs.Bits.{bit}
 use Rattle.adapter.specs.Device.{Device}
 use Rattle.adapter.specs.Rules.{HasPort}
 use Rattle.host_boot.specs.Taken.{probe_result_of}
-use Rattle.port_events.specs.Looks.{LooksAt}
-use Rattle.port_events.specs.declared.PortEvent.{PortEvent}
-use Rattle.port_events.specs.declared.PortEvent.TheVariants as look
+use Rattle.port_control.specs.Looks.{LooksAt}
+use Rattle.port_control.specs.declared.events.PortEvent.{PortEvent}
+use Rattle.port_control.specs.declared.events.PortEvent.TheVariants as look
 use Rattle.server_history.specs.ErrorHandling.{IsFoundOut}
 use Rattle.server_history.specs.Served.{HasNone, IsMaskOf, is_used}
 use Rattle.server_history.specs.Server.{ServerState, InCallInvariant, slots_at, state_of}
-use Rattle.port_events.specs.declared.PortError.{PortError}
-use Rattle.port_events.specs.declared.PortError.TheVariants.{BusError, TaskFileError, TimedOut, LinkChanged}
+use Rattle.port_control.specs.declared.events.PortError.{PortError}
+use Rattle.port_control.specs.declared.events.PortError.TheVariants.{BusError, TaskFileError, TimedOut, LinkChanged}
 use Rattle.slots.specs.Uses.{PortSlots, IsTaken, use_at}
 use Rattle.slots.specs.declared.SlotUse.{SlotUse}
 use Rattle.block_server.specs.Recovery.{error_of}

@@ -6,11 +6,11 @@ use Rattle.std.specs.Prelude.{ℕ, ◌+◌, ◌*◌, List, [], ◌∷◌}
 use Rattle.adapter.specs.declared.access.DeviceStep.{DeviceStep}
 use Rattle.error_recovery.specs.Costs.{RECOVER_ACCESSES}
 use Rattle.host_boot.specs.Costs.{BOOT_AGAIN_ACCESSES, BOOT_IF_THERE_ACCESSES, RESET_ACCESSES, TAKE_OVER_ACCESSES}
-use Rattle.ncq.specs.Costs.{DONE_ACCESSES, ISSUE_ACCESSES}
+use Rattle.commands.specs.Costs.{DONE_ACCESSES, ISSUE_ACCESSES}
 use Rattle.port_control.specs.Costs.{STOP_ACCESSES}
-use Rattle.port_events.specs.Costs.{LOOK_ACCESSES}
-use Rattle.port_events.specs.declared.PortError.{PortError}
-use Rattle.port_events.specs.declared.PortError.TheVariants.{TaskFileError, TimedOut, LinkChanged}
+use Rattle.port_control.specs.LookCosts.{LOOK_ACCESSES}
+use Rattle.port_control.specs.declared.events.PortError.{PortError}
+use Rattle.port_control.specs.declared.events.PortError.TheVariants.{TaskFileError, TimedOut, LinkChanged}
 
 -- ---- the parts of calls
 

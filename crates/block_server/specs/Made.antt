@@ -13,7 +13,7 @@ use Rattle.dma_frames.specs.Table.{FrameExtent, owner_of, lent_to, ExtentHasFram
 use Rattle.grants.specs.Rows.{SameRows}
 use Rattle.host_boot.specs.Taken.{TakesOver}
 use Rattle.host_boot.specs.declared.Host.{Host}
-use Rattle.plan.specs.Plan.{PlanView, IsPlan, IsPlanOf}
+use Rattle.configuration.specs.Plan.{PlanView, IsPlan, IsPlanOf}
 use Rattle.server_history.specs.Histories.{HasBegun}
 use Rattle.server_history.specs.Server.{SettledInvariant, kept_at, remembered_at, used_for}
 use Rattle.block_server.specs.declared.types.ServerError.{ServerError}

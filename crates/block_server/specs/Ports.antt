@@ -13,8 +13,8 @@ use Rattle.block_machine.specs.declared.due.QueueMode.{QueueMode}
 use Rattle.dma_frames.specs.Table.{Table}
 use Rattle.host_boot.specs.Taken.{probe_result_of}
 use Rattle.host_boot.specs.declared.ProbeResult.{ProbeResult}
-use Rattle.ncq.specs.Tasks.{IsFitTransfer}
-use Rattle.ncq.specs.declared.Task.{Task}
+use Rattle.commands.specs.Tasks.{IsFitTransfer}
+use Rattle.commands.specs.declared.ncq.Task.{Task}
 use Rattle.request_queue.specs.Entries.{Held, IsEarlier}
 use Rattle.server_history.specs.Served.{AnswersEach, AnswersOne, done_reply}
 use Rattle.server_history.specs.Server.{ServerState, InCallInvariant, mode_in, slots_at, state_of, used_for}

@@ -8,16 +8,16 @@ use Rattle.refinement.specs.Driven.{AnyUse, IsSimulated}
 use Rattle.dma_frames.specs.Table.{Table}
 use Rattle.error_recovery.specs.declared.Next.{Next}
 use Rattle.host_boot.specs.Taken.{probe_result_of}
-use Rattle.port_events.specs.Looks.{IsLooking}
-use Rattle.port_events.specs.declared.PortEvent.{PortEvent}
-use Rattle.port_events.specs.declared.PortEvent.TheVariants as look
+use Rattle.port_control.specs.Looks.{IsLooking}
+use Rattle.port_control.specs.declared.events.PortEvent.{PortEvent}
+use Rattle.port_control.specs.declared.events.PortEvent.TheVariants as look
 use Rattle.request_queue.specs.Entries.{Held}
 use Rattle.request_queue.specs.declared.disposition.FailedRequest.{FailedRequest}
 use Rattle.server_history.specs.ErrorHandling.{IsFailed, IsFoundOut, IsErrorHandled, HandlesPortError}
 use Rattle.server_history.specs.Served.{done_reply}
 use Rattle.server_history.specs.Server.{ServerState, InCallInvariant, slots_at, state_of}
-use Rattle.port_events.specs.declared.PortError.{PortError}
-use Rattle.port_events.specs.declared.PortError.TheVariants.{BusError, TaskFileError, LinkChanged}
+use Rattle.port_control.specs.declared.events.PortError.{PortError}
+use Rattle.port_control.specs.declared.events.PortError.TheVariants.{BusError, TaskFileError, LinkChanged}
 use Rattle.slots.specs.Uses.{PortSlots}
 use Rattle.block_server.specs.Ports.{with_answers}
 

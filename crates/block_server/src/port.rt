@@ -6,22 +6,21 @@ ghost use Rattle.refinement.specs.Readying.{IsStored};
 ghost use Rattle.block_machine.specs.Due.{IsDue, due_of};
 ghost use Rattle.block_server.specs.Ports.{Lends, LendsFound, MayGoIn, with_part};
 ghost use Rattle.command_table.specs.Written.{IsUnused};
-ghost use Rattle.ncq.specs.Tasks.{HasBlockOf, IssuesTask, RunsItsList, addresses_of, meaning_of};
+ghost use Rattle.commands.specs.Tasks.{HasBlockOf, IssuesTask, RunsItsList, addresses_of, meaning_of};
 ghost use Rattle.request_queue.specs.Entries.{Held, asks, asks_of};
 ghost use Rattle.server_history.specs.Served.{IssuesAll, IssuesOne};
 ghost use Rattle.server_history.specs.Server.{ServerState};
 ghost use Rattle.std.specs.List.{Contains};
 ghost use Rattle.adapter.specs.Counted.{MakesAtMost};
-ghost use Rattle.ncq.specs.Costs.{ISSUE_ACCESSES};
+ghost use Rattle.commands.specs.Costs.{ISSUE_ACCESSES};
 ghost use Rattle.block_server.specs.Costs.{ISSUES_ACCESSES};
 
 use adapter::Adapter;
 use ata_types::{DRIVER_BYTES, Frame, Op, Port, RequestId, Slot};
 use block_machine::laws::law_due_in_turn;
 use block_machine::{QueueMode, is_plain};
-use flush_trim::{issue_flush, issue_trim};
+use commands::{Task, issue, issue_flush, issue_trim};
 use host_boot::ProbeResult;
-use ncq::{Task, issue};
 use request_queue::laws::{
     law_an_id_is_one_request, law_operations_change_what_is_due, law_the_book_stays_in_order,
 };

@@ -9,12 +9,12 @@ ghost use Rattle.error_recovery.specs.declared.Recovered as recovered_record;
 ghost use Rattle.port_boot.specs.States.{IsBootable};
 ghost use Rattle.port_control.specs.Ports.{IsStopped};
 ghost use Rattle.port_control.specs.declared.Stopped as stopped_token;
-ghost use Rattle.port_events.specs.Looks.{IsLooking};
+ghost use Rattle.port_control.specs.Looks.{IsLooking};
 ghost use Rattle.server_history.specs.Probing.{IsLookedAt};
 ghost use Rattle.adapter.specs.Counted.{MakesAtMost};
 ghost use Rattle.host_boot.specs.Costs.{BOOT_AGAIN_ACCESSES};
 ghost use Rattle.port_control.specs.Costs.{STOP_ACCESSES};
-ghost use Rattle.port_events.specs.Costs.{FIND_ACCESSES};
+ghost use Rattle.port_control.specs.LookCosts.{FIND_ACCESSES};
 
 use super::modes::{PLAIN, mode_of};
 use adapter::Adapter;
@@ -23,7 +23,7 @@ use block_machine::QueueMode;
 use error_recovery::{Next, stop_for_reset};
 use host_boot::{ProbeResult, reboot_port};
 use identify::Wanted;
-use port_events::{has_changed, has_device};
+use port_control::events::{has_changed, has_device};
 use server_history::laws::law_looks_keep;
 
 /// Whether a port in such a state shows what it is booted again for: an absent one a device; one whose disk isn't

@@ -19,7 +19,7 @@ impl<A: Adapter> Server<A> {
     ghost use Rattle.server_history.specs.Histories.{ExtendsHistory};
     ghost use Rattle.adapter.specs.Counted.{MakesAtMost};
 
-    /// At most 64 bytes of a frame. A function of its own, since its caller's frame would have room for them else.
+    /// At most 64 bytes of a frame. A function of its own, since its caller would have room for them on its stack else.
     #[inline(never)]
     fn load_few(
         &mut self,

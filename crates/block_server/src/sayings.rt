@@ -26,8 +26,8 @@ fn said_with(said: CallResult<()>, replies: Replies) -> CallResult
 }
 
 /// What calls said, one thing each, in their order. What the last one said stands apart from the list of those before
-/// it, with room for all replies of a call: so it is made in its place, and not moved until another call is made. (It
-/// has 3 KB, and a list of one call is what `play` makes for each line.)
+/// it, and so do its replies, with room for all. They are made in their place, and not moved until another call comes.
+/// (That room has some KB, and a list of one call is what `play` makes for each line.)
 #[derive(Drop)]
 pub struct Sayings {
     earlier: Vec<CallResult>,

@@ -23,14 +23,13 @@ use ata_types::{
 };
 use block_machine::QueueMode;
 use block_machine::laws::law_due_is_exact;
-use configuration::Config;
+use commands::done;
+use configuration::{Config, Plan};
 use dma_frames::FrameTable;
 use grants::{Grants, decide};
 use host_boot::{ProbeResult, reset, take_over};
 use identify::{DiskInfo, Wanted};
-use ncq::done;
-use plan::Plan;
-use port_events::{PortError, take_event};
+use port_control::events::{PortError, take_event};
 use request_queue::laws::law_the_book_stays_in_order;
 use request_queue::{Book, PendingRequest};
 use server_history::laws::{

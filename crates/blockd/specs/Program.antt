@@ -7,7 +7,7 @@ use Rattle.sector_store.specs.declared.disks.DiskStore.{DiskStore}
 use Rattle.sector_store.specs.declared.disks.DiskStore.TheVariants.{File, Memory}
 use Rattle.sector_store.specs.declared.file.FileStore.{FileStore}
 use Rattle.sector_store.specs.declared.store.MemStore.{MemStore}
-use Rattle.command_line.specs.declared.Args.{Args}
+use Rattle.blockd.specs.declared.command_line.Args.{Args}
 use Rattle.device_model.specs.declared.model.Model.{Model}
 use Rattle.play.specs.Played.{Ends}
 use Rattle.play.specs.declared.session.Ended.{Ended}

@@ -16,6 +16,7 @@ use std::process::ExitCode;
 use std::rt::Env;
 use std::{env, str};
 
+mod command_line;
 mod fault;
 mod program;
 

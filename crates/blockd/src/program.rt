@@ -7,8 +7,8 @@ ghost use Rattle.sector_store.specs.declared.file.FileStore.{FileStore as FileSt
 ghost use Rattle.blockd.specs.Program.{AreDisksOver, Loads, RunsScript, TellsEnd, fault_of};
 ghost use Rattle.blockd.specs.declared.program.Unread.{Unread as UnreadOf};
 
+use crate::command_line::Args;
 use crate::fault::{BlockdError, outcome};
-use command_line::Args;
 use play::{Ended, play};
 use sector_store::{DiskStore, FileStore, MemStore, SectorStore};
 use std::alloc::{AllocError, Global};

@@ -7,3 +7,5 @@ pub mod Blank
 pub mod Zips
 pub mod Same
 pub mod One
+pub mod Fits
+pub mod Wants

@@ -63,7 +63,7 @@ HasItsType members key = IfSome (get_member key.name members) (HasType key.value
 unfoldable pub IsKnown : List KeyRule → List ℕ → Type 0
 IsKnown keys name = Any (λ key. key.name ≡ name) keys
 
--- the table has the keys that it has to have, and no others than these
+-- the table has the keys that it has to have, and none that isn't listed
 unfoldable pub HasKeys : List KeyRule → Members → Type 0
 HasKeys keys members = All (IsPresent members) keys × All (IsKnown keys) (names_of members)
 

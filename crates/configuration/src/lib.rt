@@ -1,8 +1,8 @@
-//! Reads the configuration of a server and of its model from TOML, and checks it.
+//! Reads the configuration of a server and its model from TOML, checks it, and plans what is served.
 //!
 //! The format is this project's own (docs/FORMATS.md). Of several faults the least kind is told,
 //! and a text has one least kind at most. `Config::check` is for values that were read from no
-//! text.
+//! text. A `Plan` is what a server serves by it.
 #![tactic(auto)]
 
 ghost use Rattle.std.specs.Prelude.{◌≡◌};
@@ -10,12 +10,14 @@ ghost use Rattle.configuration.specs.Rules.{kind_number};
 
 mod laws;
 mod parse;
+mod plan;
 mod read;
 mod rules;
 mod schema;
 mod table;
 
 pub use laws::{law_read_text_has_no_fault, law_told_kind_is_one};
+pub use plan::Plan;
 pub use schema::{Key, ValueType};
 use thiserror::Error;
 

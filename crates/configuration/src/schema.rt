@@ -109,7 +109,7 @@ impl Key {
         keys.iter().all(|key| key.has_its_type(table))
     }
 
-    /// Whether a table has the keys that it has to have, and no others than these.
+    /// Whether a table has the keys that it has to have, and none that isn't listed.
     pub fn are_keys_of(keys: &[Key], table: &Table) -> bool
         ensures { IsTrue result ↔ HasKeys (map rule_of keys.now) (table_view table.now) }
     {

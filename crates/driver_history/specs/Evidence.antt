@@ -19,7 +19,7 @@ use Rattle.block_machine.specs.Histories.{JointState}
 use Rattle.block_machine.specs.Ports.{Ports, SameDisk, RequestFault, Evidence, IsInterrupted}
 use Rattle.block_machine.specs.State.{Pending}
 use Rattle.port_control.specs.Engines.{Stops, Sticks}
-use Rattle.error_log.specs.Log.{TellsError}
+use Rattle.identify.specs.Log.{TellsError}
 use Rattle.error_recovery.specs.Evidence.{BringsLog, HasFailed, ShowsFatal}
 use Rattle.driver_history.specs.Trace.{LeavesEngine}
 

@@ -19,8 +19,8 @@ use Rattle.refinement.specs.Driver.{AllFree}
 use Rattle.refinement.specs.Slots.{Free, IsMove, Own, SlotStates, put, op_of}
 use Rattle.disk_page.specs.Asking.{BringsLastPage, IsAsking, LeavesRunning, WaitsInVain}
 use Rattle.command_table.specs.Written.{IsUnused}
-use Rattle.error_log.specs.Log.{TellsNoError}
-use Rattle.error_log.specs.declared.FailedSlot.{FailedSlot}
+use Rattle.identify.specs.Log.{TellsNoError}
+use Rattle.identify.specs.declared.error_log.FailedSlot.{FailedSlot}
 use Rattle.port_control.specs.Engines.{FailsToStop, Sticks, Stops}
 use Rattle.port_control.specs.Ports.{FailsToStopPort, PortStops, HasStopped, WritesCommand}
 use Rattle.port_control.specs.declared.Running as running_token

@@ -5,7 +5,7 @@ use Rattle.adapter.specs.Device.{Device}
 use Rattle.adapter.specs.Rules.{IsOn}
 use Rattle.refinement.specs.Driven.{IsControl, IsSimulated}
 use Rattle.refinement.specs.Driver.{AllFree}
-use Rattle.error_log.specs.Log.{TellsError}
+use Rattle.identify.specs.Log.{TellsError}
 use Rattle.port_control.specs.Calls.{Starts}
 use Rattle.port_control.specs.Ports.{WritesCommand}
 use Rattle.error_recovery.specs.Laws.{Laws}

@@ -19,8 +19,8 @@ use Rattle.refinement.specs.Recovering.{IsLinked, RunsLinked, WorksPlainly}
 use Rattle.refinement.specs.Started.{IsStarted, IsUp}
 use Rattle.refinement.specs.Slots.{Own}
 use Rattle.disk_page.specs.Asking.{ReadsPage}
-use Rattle.error_log.specs.Log.{TellsError, TellsNoError}
-use Rattle.error_log.specs.declared.FailedSlot.{FailedSlot}
+use Rattle.identify.specs.Log.{TellsError, TellsNoError}
+use Rattle.identify.specs.declared.error_log.FailedSlot.{FailedSlot}
 use Rattle.port_control.specs.Engines.{Sticks, Stops}
 use Rattle.port_control.specs.Ports.{HasClearErrors, IsRunning, ReceivesFises, SameButStart, BacksFault, ShowsIdle, WritesCommand}
 use Rattle.port_control.specs.declared.PortFault.TheVariants.{EngineStuck}

@@ -21,8 +21,8 @@ use Rattle.refinement.specs.Links.{PlugsNone, SparesRegister}
 use Rattle.refinement.specs.Recovering.{IsLinked, WorksPlainly}
 use Rattle.refinement.specs.Slots.{Free, Own, SlotStates, op_of, put}
 use Rattle.disk_page.specs.Asking.{IsAsking, WaitsInVain}
-use Rattle.error_log.specs.Log.{TellsError, TellsNoError}
-use Rattle.error_log.specs.declared.FailedSlot.{FailedSlot}
+use Rattle.identify.specs.Log.{TellsError, TellsNoError}
+use Rattle.identify.specs.declared.error_log.FailedSlot.{FailedSlot}
 use Rattle.port_control.specs.Engines.{Sticks, Stops}
 use Rattle.port_control.specs.Ports.{IsClearing, IsRunning, IsStopped, BacksFault, ShowsIdle, WritesCommand, programmed}
 use Rattle.port_control.specs.declared.PortFault.TheVariants.{EngineStuck}

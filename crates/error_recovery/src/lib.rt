@@ -29,9 +29,9 @@ pub mod laws;
 use adapter::Adapter;
 use ata_types::{DRIVER_BYTES, Port, Slot};
 use disk_page::{Page, read_page};
-pub use error_log::FailedSlot;
-use error_log::parse_log;
 use hba_regs::{PortReg, Reg, TaskFile, is_set, without_bit};
+pub use identify::FailedSlot;
+use identify::parse_log;
 use lawful::law_base;
 use port_control::{
     Running, Stopped, clear_error_state, is_bsy_or_drq, keep_receiving, start, stop,

@@ -1,16 +1,19 @@
-//! Reads the page of IDENTIFY DEVICE: what a disk is, or why it is unfit (ACS-3, 7.12.7).
+//! Reads the pages by which a disk tells what it is, and which of its queued commands failed.
 //!
-//! `parse` takes any 512 bytes, and tells the first of six causes. `Wanted` says which disk a port
-//! is to have.
+//! `parse` reads the page of IDENTIFY DEVICE (ACS-3, 7.12.7), and tells the first of six causes
+//! why a disk is unfit. `Wanted` says which disk a port is to have. `parse_log` reads that of log
+//! 10h (ACS-3, A.14). Both take any 512 bytes.
 #![tactic(auto)]
 
 ghost use Rattle.std.specs.Prelude.{◌≡◌, ◌<◌, ◌↔◌, IsTrue, IfOk, IfErr, sum};
 ghost use Rattle.std.specs.Int.{bit_at};
 ghost use Rattle.identify.specs.Page.{AllowsTrim, UnfitApplies, Describes, HasNoUnfit, IsFirstUnfit, IsSerial, unfit_number, sector_count, identity_word};
 
+mod error_log;
 mod wanted;
 
 use byteorder::{ByteOrder, LittleEndian};
+pub use error_log::{FailedSlot, parse_log};
 use thiserror::Error;
 pub use wanted::Wanted;
 
@@ -78,7 +81,7 @@ pub struct DiskInfo {
     pub trim: bool,
 }
 
-/// One past the highest number of sectors that 48-bit addresses reach.
+/// The highest number of sectors that 48-bit addresses reach, and that is taken for fit.
 const MOST_SECTORS: u64 = 1 << 48;
 
 /// The page's word of this number.

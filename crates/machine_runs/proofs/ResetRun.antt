@@ -180,10 +180,13 @@ restarted = record {
       (Again e) h e refl;
   answer = λ e o h. absurd (false≢true (sym (each_step (λ step. is_answer step ≡ false) refl refl refl (Answer e o) h)));
   ended = λ p _. none_ended (moment_of first run3).machine restarting.steps refl p;
-  interrupts = λ p. (λ h. inl (contains_here port [] p (ready_port p h.ready)), λ i. ⊎_elim
-      (λ h. ⊎_elim (λ (same : p ≡ port). subst (λ (x : Port). HasTimedOut (moment_of first run3) x) (sym same) hung) (λ n. absurd (contains_none p n)) (contains_cases port [] p h))
-      (λ h. absurd (contains_none p h))
-      i);
+  interrupts = λ p. (
+    λ h. inl (contains_here port [] p (ready_port p h.ready)),
+    λ i. ⊎_elim
+        (λ h. ⊎_elim (λ (same : p ≡ port). subst (λ (x : Port). HasTimedOut (moment_of first run3) x) (sym same) hung) (λ n. absurd (contains_none p n)) (contains_cases port [] p h))
+        (λ h. absurd (contains_none p h))
+        i,
+  );
   finds = finds_none restarting.steps ports ports refl;
   disk = λ p _ _. inl refl;
   anew = λ p _ e h _ _. ⊎_elim

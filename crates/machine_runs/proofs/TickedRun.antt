@@ -73,10 +73,13 @@ restarted = record {
       (Answer e o) h e o refl;
   ended = λ p _. last_ended (moment_of first run4).machine tick.steps [] over refl refl older_still refl (contains_here (Answer older_still outcome.Ok) (Age aging ∷ []) (Answer older_still outcome.Ok) refl) p;
   anew = λ p _ e h. absurd (contains_none e h);
-  interrupts = λ p. (λ h. inl (contains_here port [] p (ready_port p h.ready)), λ i. ⊎_elim
-      (λ h. ⊎_elim (λ (same : p ≡ port). subst (λ (x : Port). HasTimedOut (moment_of first run4) x) (sym same) hung) (λ n. absurd (contains_none p n)) (contains_cases port [] p h))
-      (λ h. absurd (contains_none p h))
-      i);
+  interrupts = λ p. (
+    λ h. inl (contains_here port [] p (ready_port p h.ready)),
+    λ i. ⊎_elim
+        (λ h. ⊎_elim (λ (same : p ≡ port). subst (λ (x : Port). HasTimedOut (moment_of first run4) x) (sym same) hung) (λ n. absurd (contains_none p n)) (contains_cases port [] p h))
+        (λ h. absurd (contains_none p h))
+        i,
+  );
   finds = finds_none tick.steps ports ports refl;
   disk = λ p _ _. inl refl;
 }

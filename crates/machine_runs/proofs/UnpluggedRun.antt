@@ -122,10 +122,13 @@ restarted = record {
   answer = λ e o h. subst (λ (x : Port). HasTimedOut (moment_of first run5) x) (sym (each_step (λ step. port_of step ≡ port) refl refl refl (Answer e o) h)) hung;
   ended = λ p _. none_ended (moment_of first run5).machine tick.steps refl p;
   anew = λ p _ e h. absurd (contains_none e h);
-  interrupts = λ p. (λ h. inl (contains_here port [] p (ready_port p h.ready)), λ i. ⊎_elim
-      (λ h. subst (λ (x : Port). HasTimedOut (moment_of first run5) x) (sym (only_port p h)) hung)
-      (λ h. absurd (contains_none p h))
-      i);
+  interrupts = λ p. (
+    λ h. inl (contains_here port [] p (ready_port p h.ready)),
+    λ i. ⊎_elim
+        (λ h. subst (λ (x : Port). HasTimedOut (moment_of first run5) x) (sym (only_port p h)) hung)
+        (λ h. absurd (contains_none p h))
+        i,
+  );
   finds = λ e h. (λ dead. absent_not_dead e.request.port dead, λ ready. absent_not_ready e.request.port ready);
   disk = λ p _ shows. shows_none Absent (λ s. s) p shows;
 }

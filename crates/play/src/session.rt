@@ -309,8 +309,8 @@ pub fn play_over<A: Watched + Drop, W: io::Write>(
 ///
 /// The text of the configuration is read first, and then the whole script; the first fault that is found ends it. Then
 /// each line is read again when it is played. Disk 0 of port 0 is the image, and disk 1 the blank one. With a trace,
-/// the moves and clears that the tape has gained stand before a line's own answers; before the first line's also those
-/// since the model was made.
+/// the moves, clears and ends of flushes that the tape has gained stand before a line's own answers; before the first
+/// line's also those since the model was made.
 ///
 /// Where the output fails, or memory is refused, the line that it happens at was the last one that was played, and
 /// those before it were printed. What the output has of that line then is a beginning of its text: nothing, where

@@ -9,3 +9,4 @@ pub mod Clearing
 pub mod Seeing
 pub mod Resetting
 pub mod Starting
+pub mod looks

@@ -1,4 +1,4 @@
--- What laws of the crates below say of accesses, with the kinds of accesses of this crate: its proofs rest on them.
+-- What laws of the crates below say of accesses that control a port, of each kind: their proofs rest on them.
 use Rattle.std.specs.Prelude.{ℕ, true, false, ◌≡◌, ◌≢◌, ◌⊎◌, ◌+◌, ◌%◌, ◌≤◌, ◌++◌, List, length}
 use Rattle.ata_types.specs.declared.Port.{Port}
 use Rattle.adapter.specs.Access.{Access, Does, DoesAll, PortShows, Reads, Writes, note}

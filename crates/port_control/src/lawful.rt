@@ -1,4 +1,4 @@
-// What laws of the crates below say of this crate's accesses, for its proofs. Nothing comes of calling it.
+// What laws of the crates below say of accesses that control a port, for their proofs. Nothing comes of calling it.
 ghost use Rattle.port_control.specs.Laws.{Laws, RegisterSet, Fragment, fits_of, may_of, registers_of};
 
 use adapter::laws::{law_accesses_compose, law_port_registers_are_accessed, law_steps_keep};
@@ -19,7 +19,7 @@ use refinement::laws::{
 };
 use refinement::recovering::{law_link_is_kept, law_running_goes_on};
 
-/// This crate's kinds of accesses.
+/// The kinds of accesses that control a port.
 enum Controls {}
 
 impl Registers for Controls {
@@ -36,7 +36,7 @@ impl Kinds for Controls {
     ghost fits = { fits_of };
 }
 
-/// The laws that the proofs of this crate rest on.
+/// The laws that the proofs on controlling a port rest on.
 pub fn law_base()
     ensures { Laws }
 {

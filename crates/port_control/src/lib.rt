@@ -1,9 +1,10 @@
-//! Stops a port's engine, has it receive FISes, sends COMRESET, and starts it.
+//! Looks at a port, stops its engine, has it receive FISes, sends COMRESET, and starts it.
 //!
 //! (AHCI 1.3.1, 10.1.2, 10.3 and 10.4.2.) Each call is of one port, and leaves the others to the
 //! device (`law_other_ports_are_left` of `refinement`). `Stopped`, `Receiving` and `Running` are
 //! tokens of a port's state. Each call tells what its very accesses showed: so a wait that is given
-//! up had 64 readings. `start` doesn't fail. It knows no client and no command.
+//! up had 64 readings. `start` doesn't fail. `events` looks at a port, between its commands, and
+//! has what is wrong with one. The crate knows no client, and no command's contents.
 #![tactic(auto)]
 
 ghost use Rattle.std.specs.Prelude.{ℕ, ◌≡◌, ◌≢◌, ◌<◌, ◌≤◌, ◌||◌, true, false, IfOk, IfErr, OnOk};
@@ -26,6 +27,7 @@ use ata_types::{DRIVER_BYTES, PORT_BYTES, Port, READINGS, RECEIVED};
 use hba_regs::{ATA_SIGNATURE, PortCommand, PortReg, Reg, SataControl, SataStatus, TaskFile};
 use lawful::law_base;
 
+pub mod events;
 mod lawful;
 pub mod laws;
 

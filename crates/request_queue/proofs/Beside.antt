@@ -3,7 +3,7 @@ use Rattle.std.proofs.Common.{ℕ, ◌≡◌, ◌<◌, ◌∙◌, length, List, 
 use Rattle.std.specs.List.{remove, slice_get}
 use Rattle.std.proofs.lemmas.Option.{slice_get_within}
 use Rattle.ata_types.specs.declared.request.RequestId.{RequestId}
-use Rattle.range_index.specs.declared.Item.{Item}
+use Rattle.request_queue.specs.declared.ranges.Item.{Item}
 use Rattle.request_queue.specs.Beside.{AreBeside}
 use Rattle.request_queue.specs.Counts.{AreCounts}
 use Rattle.request_queue.specs.Entries.{Held, BookIsInOrder, asks_of, without_entry}

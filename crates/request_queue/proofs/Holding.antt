@@ -11,8 +11,8 @@ use Rattle.std.proofs.lemmas.Option.{slice_get_within, slice_get-map, get_or_fro
 use Rattle.ata_types.specs.declared.request.RequestId.{RequestId}
 use Rattle.block_machine.specs.declared.due.Unanswered.{Unanswered}
 use Rattle.block_machine.specs.Due.{IsInOrder, must_keep_order, is_earlier_on_port, is_flush, is_writer, overlap}
-use Rattle.range_index.specs.declared.Item.{Item}
-use Rattle.range_index.specs.Items.{is_earlier_conflict}
+use Rattle.request_queue.specs.declared.ranges.Item.{Item}
+use Rattle.request_queue.specs.Items.{is_earlier_conflict}
 use Rattle.request_queue.specs.Entries.{Held, asks, asks_of, issue, requeued_entry}
 use Rattle.request_queue.specs.Flushes.{listed_flush, flushes_of, is_earlier_flush}
 use Rattle.request_queue.specs.declared.flushes.Flush.{Flush}

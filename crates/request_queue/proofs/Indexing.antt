@@ -16,7 +16,7 @@ use Rattle.ata_types.specs.declared.request.RequestId.{RequestId}
 use Rattle.ata_types.specs.declared.limits.TheConstants.{MOST_UNANSWERED}
 use Rattle.block_machine.specs.declared.due.Unanswered.{Unanswered}
 use Rattle.block_machine.specs.Due.{IsInOrder, is_flush}
-use Rattle.range_index.specs.declared.Item.{Item}
+use Rattle.request_queue.specs.declared.ranges.Item.{Item}
 use Rattle.block_machine.specs.Due.{mark_issued, mark_waiting}
 use Rattle.request_queue.specs.Entries.{Held, asks, asks_of, at_entry, issue, requeued_entry}
 use Rattle.request_queue.proofs.Working.{after_issue, after_requeue}

@@ -21,3 +21,6 @@ pub mod Unheld
 pub mod Holding
 pub mod AnsweringAll
 pub mod Aging
+mod Editing
+mod Ends
+mod Sorting

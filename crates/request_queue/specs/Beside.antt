@@ -1,7 +1,7 @@
 -- What stands beside the requests of a book, so that no call has to walk over all (this project's own).
 use Rattle.std.specs.Prelude.{ℕ, ◌≡◌, List, Option}
 use Rattle.ata_types.specs.declared.request.RequestId.{RequestId}
-use Rattle.range_index.specs.declared.Item.{Item}
+use Rattle.request_queue.specs.declared.ranges.Item.{Item}
 use Rattle.request_queue.specs.Counts.{AreCounts}
 use Rattle.request_queue.specs.Entries.{Held, asks_of}
 use Rattle.request_queue.specs.Flushes.{flushes_of}

@@ -8,3 +8,5 @@ pub mod Flushes
 pub mod Holders
 pub mod Walk
 pub mod Beside
+pub mod Items
+pub mod Index

@@ -3,7 +3,7 @@ use Rattle.std.specs.Prelude.{ℕ, ◌≡◌, ◌≢◌, ◌↔◌, ◌<◌, ◌
 use Rattle.ata_types.specs.declared.Port.{Port}
 use Rattle.block_machine.specs.declared.due.Unanswered.{Unanswered}
 use Rattle.block_machine.specs.Due.{is_flush, is_writer}
-use Rattle.range_index.specs.declared.Item.{Item}
+use Rattle.request_queue.specs.declared.ranges.Item.{Item}
 
 -- the request as it is indexed
 abbrev pub item_of : Unanswered → Item

@@ -11,13 +11,13 @@ use crate::PendingRequest;
 use crate::due::{DueIds, list_due};
 use crate::flushes::{Flush, add_flush, no_flushes, take_flush};
 use crate::holders::{holder_of, no_holders, search_anew};
+use crate::ranges::Ranges;
 use crate::sectors::{add_sectors, no_sectors, take_sectors};
 use crate::store::{RequestSlab, asks_of};
 use arrayvec::ArrayVec;
 use ata_types::{ClientId, MOST_UNANSWERED, PORTS, Port, RequestId};
 use block_machine::QueueMode;
 use dma_frames::{FrameTable, Loan};
-use range_index::Ranges;
 use std::alloc::Global;
 use std::marker::Model;
 

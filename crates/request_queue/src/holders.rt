@@ -7,11 +7,11 @@ ghost use Rattle.request_queue.specs.Holders.{AreHolders, AreHoldersBut, IsHolde
 ghost use Rattle.request_queue.specs.Sectors.{AreIndexed};
 
 use crate::flushes::{Flush, earlier_flush};
+use crate::ranges::Ranges;
 use crate::sectors::{index_of_port, item_of};
 use crate::store::RequestSlab;
 use ata_types::{MOST_UNANSWERED, Op, PORTS, RequestId};
 use block_machine::Unanswered;
-use range_index::Ranges;
 use std::alloc::{AllocError, Global};
 
 /// Holders of no requests, with room for 128. No other call takes memory.

@@ -12,6 +12,7 @@ mod due;
 mod flushes;
 mod holders;
 pub mod laws;
+mod ranges;
 mod sectors;
 mod store;
 

@@ -4,10 +4,10 @@ ghost use Rattle.block_machine.specs.Due as machine;
 ghost use Rattle.request_queue.specs.Entries.{asks_of};
 ghost use Rattle.request_queue.specs.Sectors.{AreIndexed, item_of, index_of_port};
 
+use crate::ranges::{Item, Ranges};
 use crate::store::RequestSlab;
 use ata_types::{MOST_UNANSWERED, Op, PORTS, Port};
 use block_machine::{Unanswered, is_writer};
-use range_index::{Item, Ranges};
 use std::alloc::{AllocError, Global};
 
 /// Lists of no sectors. No other call takes memory.

@@ -1,5 +1,5 @@
--- The lines that answer a script, and those that tell what the device moved and cleared (this project's own). A line
--- feed ends each.
+-- The lines that answer a script, and those that tell what the device moved and cleared, and that a flush ended (this
+-- project's own). A line feed ends each.
 use Rattle.std.specs.Prelude.{ℕ, ◌++◌, ◌∷◌, [], List, true, false, codes}
 use Rattle.std.specs.List.{join_with_byte}
 use Rattle.std.specs.Fmt.{decimal}

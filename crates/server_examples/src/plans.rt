@@ -1,9 +1,8 @@
 // What a configuration asks of a server, and which values break its rules. Texts of configurations stand in the cases
 // of the program.
 use ata_types::{ClientId, Frame, GrantRow, Port, Rights, Sector};
-use configuration::{ClientConfig, Config, GrantConfig, Kind, PortConfig};
+use configuration::{ClientConfig, Config, GrantConfig, Kind, Plan, PortConfig};
 use identify::Wanted;
-use plan::Plan;
 use std::alloc::Global;
 use std::test::Fail;
 

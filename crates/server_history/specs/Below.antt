@@ -47,10 +47,10 @@ use Rattle.error_recovery.specs.Evidence.{BringsLog, HasFailed}
 use Rattle.port_boot.specs.States.{RunsOn, IsOfBoot}
 use Rattle.port_control.specs.Engines.{Falls, Sticks}
 use Rattle.error_recovery.specs.Recovery.{IsRecovering}
-use Rattle.ncq.specs.Masks.{ReadsDone, IsFinding}
-use Rattle.ncq.specs.Tasks.{IsIssuing, IsTaskOf, IssuesTask, MayServe, with_serving}
-use Rattle.ncq.specs.declared.Task.{Task}
-use Rattle.port_events.specs.Laws.{Laws}
+use Rattle.commands.specs.Masks.{ReadsDone, IsFinding}
+use Rattle.commands.specs.Tasks.{IsIssuing, IsTaskOf, IssuesTask, MayServe, with_serving}
+use Rattle.commands.specs.declared.ncq.Task.{Task}
+use Rattle.port_control.specs.LookLaws.{Laws}
 use Rattle.request_queue.specs.Entries.{Held, IsAccepted, IsEarlier, IsFresh, BookIsInOrder, IsWaiting, MayGoAgain, all_marked_under, asks_of, at_entry, issue, requeued_entry, unanswered_entries, without_entry}
 use Rattle.request_queue.specs.declared.PendingRequest.{PendingRequest}
 use Rattle.request_queue.specs.Dispositions.{AnswersAlike, Holdings, AreResolved, quarantines_loan}

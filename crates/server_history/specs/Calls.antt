@@ -27,10 +27,10 @@ use Rattle.driver_history.specs.Histories.{BootsAnew, HasFaultAlone, LosesNoPort
 use Rattle.driver_history.specs.Parts.{HasTurnIn, NamesAlike, all_of, EndsLinked}
 use Rattle.driver_history.specs.Trace.{ClearsNone, ResetsLink}
 use Rattle.port_control.specs.Engines.{Stops}
-use Rattle.port_events.specs.Looks.{LooksAt, look_of, IsLooking}
-use Rattle.port_events.specs.Services.{HasLoss, IsOrdinary, IsService, ShowsDisks, ShowsFatals, ShowsFaults}
-use Rattle.port_events.specs.declared.PortEvent.{PortEvent}
-use Rattle.port_events.specs.declared.PortEvent.TheVariants.{BusError, TaskFileError, LinkChanged, NoEvent}
+use Rattle.port_control.specs.Looks.{LooksAt, look_of, IsLooking}
+use Rattle.port_control.specs.Services.{HasLoss, IsOrdinary, IsService, ShowsDisks, ShowsFatals, ShowsFaults}
+use Rattle.port_control.specs.declared.events.PortEvent.{PortEvent}
+use Rattle.port_control.specs.declared.events.PortEvent.TheVariants.{BusError, TaskFileError, LinkChanged, NoEvent}
 
 pub record LookLaws : Type 0 where
   -- a reading of a port's register

@@ -8,7 +8,7 @@ use Rattle.hba_regs.specs.Bits.{bit}
 use Rattle.adapter.specs.Access.{Access}
 use Rattle.adapter.specs.Device.{Device}
 use Rattle.block_machine.specs.declared.due.QueueMode.{QueueMode}
-use Rattle.error_log.specs.declared.FailedSlot.{FailedSlot}
+use Rattle.identify.specs.declared.error_log.FailedSlot.{FailedSlot}
 use Rattle.error_recovery.specs.Recovery.{RecoversOrStops, TellsRecovery}
 use Rattle.error_recovery.specs.declared.Next.{Next}
 use Rattle.error_recovery.specs.declared.Next.TheVariants as next
@@ -20,10 +20,10 @@ use Rattle.host_boot.specs.declared.ProbeResult.{ProbeResult}
 use Rattle.host_boot.specs.declared.ProbeResult.TheVariants.{Ready, Unready}
 use Rattle.identify.specs.declared.DiskInfo.{DiskInfo}
 use Rattle.identify.specs.declared.wanted.Wanted.{Wanted}
-use Rattle.ncq.specs.Masks.{ReadsDone}
+use Rattle.commands.specs.Masks.{ReadsDone}
 use Rattle.port_control.specs.declared.Running as running_token
-use Rattle.port_events.specs.Looks.{LooksAt}
-use Rattle.port_events.specs.declared.PortEvent.TheVariants as look
+use Rattle.port_control.specs.Looks.{LooksAt}
+use Rattle.port_control.specs.declared.events.PortEvent.TheVariants as look
 use Rattle.request_queue.specs.Entries.{Held, IsEarlier, is_of}
 use Rattle.request_queue.specs.Dispositions.{Holdings, AreResolved, disposition_of}
 use Rattle.request_queue.specs.declared.disposition.FailedRequest as disposition
@@ -32,8 +32,8 @@ use Rattle.request_queue.specs.declared.disposition.Revalidation.TheVariants.{Sa
 use Rattle.slots.specs.Uses.{PortSlots, use_at}
 use Rattle.slots.specs.declared.SlotUse.{SlotUse}
 use Rattle.server_history.specs.Served.{AnswersEach, IsMaskOf, IssuesAll, done_reply}
-use Rattle.port_events.specs.declared.PortError.{PortError}
-use Rattle.port_events.specs.declared.PortError.TheVariants.{BusError, TaskFileError, TimedOut, LinkChanged}
+use Rattle.port_control.specs.declared.events.PortError.{PortError}
+use Rattle.port_control.specs.declared.events.PortError.TheVariants.{BusError, TaskFileError, TimedOut, LinkChanged}
 use Rattle.server_history.specs.Server.{ServerState, kept_at, mode_found, slots_at, used_for}
 
 -- ---- a port's error is handled

@@ -16,7 +16,7 @@ use Rattle.host_boot.specs.declared.Booted.{Booted}
 use Rattle.host_boot.specs.declared.ProbeResult.{ProbeResult}
 use Rattle.host_boot.specs.declared.ProbeResult.TheVariants.{Unready}
 use Rattle.identify.specs.declared.wanted.Wanted.{Wanted}
-use Rattle.port_events.specs.Glances.{FindsChange, FindsDevice}
+use Rattle.port_control.specs.Glances.{FindsChange, FindsDevice}
 use Rattle.slots.specs.Uses.{PortSlots}
 use Rattle.server_history.specs.ErrorHandling.{AreUnused}
 use Rattle.server_history.specs.Server.{ServerState, mode_found}

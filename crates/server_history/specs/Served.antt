@@ -18,18 +18,18 @@ use Rattle.block_machine.specs.Steps.{Step, Answer, Issue, AllTouched}
 use Rattle.dma_frames.specs.Table.{Table, LendsOnly}
 use Rattle.adapter.specs.Access.{Access}
 use Rattle.hba_regs.specs.Bits.{bit}
-use Rattle.ncq.specs.Masks.{ReadsDone}
-use Rattle.ncq.specs.Tasks.{HasBlockOf, IsIssuing, IssuesTask, addresses_of, meaning_of}
+use Rattle.commands.specs.Masks.{ReadsDone}
+use Rattle.commands.specs.Tasks.{HasBlockOf, IsIssuing, IssuesTask, addresses_of, meaning_of}
 use Rattle.refinement.specs.Readying.{IsStored}
-use Rattle.ncq.specs.declared.Task.{Task}
+use Rattle.commands.specs.declared.ncq.Task.{Task}
 use Rattle.request_queue.specs.Entries.{Held, IsEarlier, asks, asks_of, at_entry, due_ids, issue, without_entry}
 use Rattle.request_queue.specs.Machine.{IsEntry}
 use Rattle.server_history.specs.Server.{ServerState, mode_in, slots_at, used_for, with_slot}
 use Rattle.slots.specs.Uses.{PortSlots, IsLowestFree, use_at}
 use Rattle.slots.specs.declared.SlotUse.{SlotUse}
-use Rattle.port_events.specs.Looks.{LooksAt}
-use Rattle.port_events.specs.declared.PortEvent.{PortEvent}
-use Rattle.port_events.specs.declared.PortEvent.TheVariants.{NoEvent}
+use Rattle.port_control.specs.Looks.{LooksAt}
+use Rattle.port_control.specs.declared.events.PortEvent.{PortEvent}
+use Rattle.port_control.specs.declared.events.PortEvent.TheVariants.{NoEvent}
 
 -- ---- a port's turn
 

@@ -22,7 +22,7 @@ use Rattle.block_machine.specs.Steps.{Step, Again, Answer, Issue}
 use Rattle.driver_history.specs.Heeding.{AllGrounded}
 use Rattle.driver_history.specs.Evidence.{IsEvidencedOf}
 use Rattle.error_recovery.specs.Evidence.{BringsLog, HasFailed}
-use Rattle.error_log.specs.Log.{TellsError}
+use Rattle.identify.specs.Log.{TellsError}
 use Rattle.driver_history.specs.Histories.{FindsDone, IsIssuedOn, IssuesDue, LosesNoPortError, RunsWellAnew, PortCorresponds}
 use Rattle.driver_history.specs.Holds.{NoneWaits}
 use Rattle.driver_history.specs.Trace.{IsDriversOwn, ResetsLink}
@@ -31,7 +31,7 @@ use Rattle.host_boot.specs.Taken.{probe_result_of}
 use Rattle.host_boot.specs.declared.ProbeResult.{ProbeResult}
 use Rattle.host_boot.specs.declared.ProbeResult.TheVariants.{Ready, Unready, Unserved}
 use Rattle.request_queue.specs.Entries.{Held, IsOverdue, aged, asks_of}
-use Rattle.port_events.specs.declared.PortError.TheVariants.{TimedOut}
+use Rattle.port_control.specs.declared.events.PortError.TheVariants.{TimedOut}
 use Rattle.server_history.specs.ErrorHandling.{HandlesPortError}
 use Rattle.server_history.specs.Probing.{ProbesPort}
 use Rattle.server_history.specs.Served.{AnswersTurn, HasTurn}

@@ -14,6 +14,7 @@ use block_machine::laws::{
     law_one_id_is_one_request, law_other_ports_stay, law_own_requests_count,
     law_rows_shrink_and_owners_stay, law_steps_go_on, law_what_is_kept_was_answered,
 };
+use commands::laws::{law_calls_are_of_one_port, law_finding_is_followed, law_issuing_performs};
 use driver_history::laws::{law_a_turns_evidence_is_the_calls, law_histories_reach_their_machines};
 use driver_history::troubles::{
     law_a_fatal_error_of_a_part_is_of_the_whole, law_a_fault_alone_in_a_call_is_alone_in_a_turn,
@@ -23,16 +24,15 @@ use driver_history::troubles::{
 };
 use error_recovery::laws::{law_recovery_is_of_its_port, law_what_stands_behind_a_fault_stays};
 use host_boot::laws::law_what_was_booted_again_may_be_served;
-use ncq::laws::{law_calls_are_of_one_port, law_finding_is_followed, law_issuing_performs};
 use port_boot::laws::{
     law_a_boot_is_of_its_port, law_a_disk_is_in_where_one_shows, law_a_port_runs_on,
 };
-use port_control::laws::law_what_is_told_of_engines_stays;
-use port_events::lawful::law_base;
-use port_events::laws::{
+use port_control::events::lawful::law_base;
+use port_control::events::laws::{
     law_answers_tell, law_errors_are_heeded, law_errors_are_seen, law_failures_are_found,
     law_looks_are_of_one_port, law_looks_are_services, law_services_leave,
 };
+use port_control::laws::law_what_is_told_of_engines_stays;
 use refinement::acts::law_acts_give;
 use refinement::disks::law_none_comes_in;
 use refinement::facts::{

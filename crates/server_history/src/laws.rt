@@ -32,7 +32,7 @@ ghost use Rattle.host_boot.specs.declared.ProbeResult.TheVariants.{Ready, Unread
 ghost use Rattle.identify.specs.declared.DiskInfo.{DiskInfo};
 ghost use Rattle.host_boot.specs.declared.Host.{Host};
 ghost use Rattle.hba_regs.specs.Bits.{bit};
-ghost use Rattle.ncq.specs.Masks.{ReadsDone, SeesClear};
+ghost use Rattle.commands.specs.Masks.{ReadsDone, SeesClear};
 ghost use Rattle.request_queue.specs.Entries.{Held, asks, asks_of, due_ids};
 ghost use Rattle.server_history.specs.Histories.{ExtendsSettled, ExtendsBy, ExtendsHistory, HasBegun, InvariantBy, load_said, store_said};
 ghost use Rattle.server_history.specs.Revoked.{RevokesGrant};
@@ -40,12 +40,12 @@ ghost use Rattle.server_history.specs.Served.{Accepts, AnswersDone, AnswersOne, 
 ghost use Rattle.server_history.specs.Stalled.{BookInvariant};
 ghost use Rattle.server_history.specs.Probing.{ProbesPort};
 ghost use Rattle.server_history.specs.Turns.{HasPart, InRestart, ServePorts, ServesPort, Ticks, ProbesUnready, a_tick_older};
-ghost use Rattle.port_events.specs.declared.PortError.TheVariants.{TimedOut};
+ghost use Rattle.port_control.specs.declared.events.PortError.TheVariants.{TimedOut};
 ghost use Rattle.server_history.specs.Server.{ServerState, mode_found, InCallInvariant, IsNewServer, SettledInvariant, kept_at, mode_in, ports_of, server_situation, slots_at, state_of, used_for};
 ghost use Rattle.slots.specs.Uses.{IsLowestFree, IsTaken};
 ghost use Rattle.slots.specs.declared.SlotUse.{SlotUse};
-ghost use Rattle.port_events.specs.Looks.{IsLooking, LooksAt};
-ghost use Rattle.port_events.specs.declared.PortEvent.TheVariants.{TaskFileError, NoEvent};
+ghost use Rattle.port_control.specs.Looks.{IsLooking, LooksAt};
+ghost use Rattle.port_control.specs.declared.events.PortEvent.TheVariants.{TaskFileError, NoEvent};
 ghost use Rattle.ata_types.specs.declared.PortState.{PortState};
 ghost use Rattle.error_recovery.specs.Recovery.{FitsFor, StopsForReset, IsAloneIn, MayRecover};
 ghost use Rattle.error_recovery.specs.declared.Recovered.{Recovered};

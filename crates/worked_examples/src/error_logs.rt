@@ -1,7 +1,7 @@
 // Pages of log 10h, worked out by hand from ACS-3: bits 4:0 of byte 0 are the tag, bit 7 is NQ; byte 2 is the status
 // and byte 3 the error.
 use ata_types::Slot;
-use error_log::{FailedSlot, parse_log};
+use identify::{FailedSlot, parse_log};
 
 /// Tag 1 with status 41h and error 40h, and a last byte.
 fn page(first: u8, last: u8) -> [u8; 512] {

@@ -1,4 +1,4 @@
-//! Tests of the public calls of the lower libraries.
+//! Tests of the public calls of the lower libraries, of the modelled adapter, and of disks' pages.
 //!
 //! Values, bytes, texts and answers come from outside. They stand here since a crate with tests is
 //! proved twice. There is no other code, and nothing uses it.
@@ -7,9 +7,11 @@
 #[cfg(test)]
 mod block_machine_calls;
 #[cfg(test)]
-mod command_lines;
+mod boots;
 #[cfg(test)]
 mod command_tables;
+#[cfg(test)]
+mod disk_pages;
 #[cfg(test)]
 mod dues_and_disks;
 #[cfg(test)]
@@ -28,5 +30,7 @@ mod registers;
 mod requests_of_clients;
 #[cfg(test)]
 mod scripts;
+#[cfg(test)]
+mod told_steps;
 #[cfg(test)]
 mod trim_blocks;

@@ -1,7 +1,7 @@
 // Blocks of trims, worked out by hand from ACS-3: an entry has six bytes of a first sector and two of how many, lowest
 // byte first.
 use ata_types::{Range, Sector};
-use flush_trim::trim_block;
+use commands::trim_block;
 
 /// Name, first sector, how many sectors, and the block's entries up to its zeros.
 const BLOCKS: &[(&str, u64, u32, &[[u8; 8]])] = &[

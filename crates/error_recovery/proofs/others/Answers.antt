@@ -1,5 +1,5 @@
 use Rattle.std.proofs.Common.{Option, refl, sym, subst, arith}
-use Rattle.error_log.specs.declared.FailedSlot.{FailedSlot}
+use Rattle.identify.specs.declared.error_log.FailedSlot.{FailedSlot}
 use Rattle.error_recovery.specs.Recovery.{IsNamedSlot}
 use Rattle.error_recovery.proofs.others.Goals as goal
 

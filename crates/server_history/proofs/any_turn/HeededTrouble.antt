@@ -25,11 +25,11 @@ use Rattle.block_machine.specs.Ports.{Evidence, Ports}
 use Rattle.driver_history.specs.Evidence.{Gains, ShowsChange, ShowsFailure}
 use Rattle.driver_history.specs.Histories.{LosesNoPortError}
 use Rattle.error_recovery.specs.Evidence.{GainsRunning, ShowsFatal}
-use Rattle.ncq.specs.Masks.{IsFinding}
-use Rattle.ncq.specs.Tasks.{IsIssuing}
-use Rattle.port_events.specs.Looks.{IsLooking}
-use Rattle.port_events.specs.Services.{IsOrdinary}
-use Rattle.port_events.specs.declared.PortEvent.TheVariants.{NoEvent}
+use Rattle.commands.specs.Masks.{IsFinding}
+use Rattle.commands.specs.Tasks.{IsIssuing}
+use Rattle.port_control.specs.Looks.{IsLooking}
+use Rattle.port_control.specs.Services.{IsOrdinary}
+use Rattle.port_control.specs.declared.events.PortEvent.TheVariants.{NoEvent}
 use Rattle.slots.specs.Uses.{PortSlots}
 use Rattle.server_history.specs.Below.{LawsBelow}
 use Rattle.server_history.specs.Served.{ChecksUsed, HasNone, HasTurn, IssuesIn}

@@ -22,13 +22,13 @@ use Rattle.refinement.proofs.driver.Stretches.{written_ghc}
 use Rattle.block_machine.specs.Events.{changes_disk}
 use Rattle.block_machine.specs.State.{Machine}
 use Rattle.block_machine.specs.Steps.{Step}
-use Rattle.port_events.specs.Looks.{LooksAt}
-use Rattle.port_events.specs.declared.PortEvent.{PortEvent}
+use Rattle.port_control.specs.Looks.{LooksAt}
+use Rattle.port_control.specs.declared.events.PortEvent.{PortEvent}
 use Rattle.server_history.specs.Below.{LawsBelow}
 use Rattle.server_history.proofs.any_turn.ShownTrouble.{grows_over}
 use Rattle.server_history.specs.Server.{ServerState, IsMachineOf}
 use Rattle.server_history.proofs.any_turn.ToldTrouble.{one_or_none, shows_link}
-use Rattle.port_events.specs.declared.PortEvent.TheVariants.{LinkChanged}
+use Rattle.port_control.specs.declared.events.PortEvent.TheVariants.{LinkChanged}
 
 -- ---- disks that come
 

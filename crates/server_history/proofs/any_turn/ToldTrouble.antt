@@ -23,13 +23,13 @@ use Rattle.driver_history.specs.Evidence.{Gains, ShowsChange, ShowsFailure}
 use Rattle.error_recovery.specs.Evidence.{ShowsFatal}
 use Rattle.error_recovery.specs.declared.Recovered.{Recovered}
 use Rattle.port_boot.specs.States.{RunsOn}
-use Rattle.port_events.specs.Looks.{LooksAt, look_of}
-use Rattle.port_events.specs.declared.PortEvent.{PortEvent}
-use Rattle.port_events.specs.declared.PortEvent.TheVariants.{BusError, TaskFileError, LinkChanged, NoEvent}
+use Rattle.port_control.specs.Looks.{LooksAt, look_of}
+use Rattle.port_control.specs.declared.events.PortEvent.{PortEvent}
+use Rattle.port_control.specs.declared.events.PortEvent.TheVariants.{BusError, TaskFileError, LinkChanged, NoEvent}
 use Rattle.server_history.specs.Below.{LawsBelow}
 use Rattle.server_history.specs.ErrorHandling.{EndsStopped, TellsErrorHandling}
-use Rattle.port_events.specs.declared.PortError.{PortError}
-use Rattle.port_events.specs.declared.PortError.TheVariants as kinds
+use Rattle.port_control.specs.declared.events.PortError.{PortError}
+use Rattle.port_control.specs.declared.events.PortError.TheVariants as kinds
 use Rattle.server_history.proofs.state.CallEvidence.{fatal_shows}
 use Rattle.server_history.proofs.state.FirstMembers.{first_here}
 

@@ -8,8 +8,8 @@ use Rattle.refinement.specs.Driven.{IsDrivenBy}
 use Rattle.refinement.specs.Slots.{IsEmptySlot, RelatesSlot, SlotState}
 use Rattle.block_machine.specs.State.{Machine}
 use Rattle.host_boot.specs.Taken.{probe_result_of}
-use Rattle.ncq.specs.Masks.{ReadsDone}
-use Rattle.port_events.specs.Looks.{IsLooking}
+use Rattle.commands.specs.Masks.{ReadsDone}
+use Rattle.port_control.specs.Looks.{IsLooking}
 use Rattle.server_history.specs.Below.{LawsBelow}
 use Rattle.server_history.specs.Server.{ServerState, IsMachineOf, state_of, used_for}
 use Rattle.server_history.proofs.plain_calls.Looks.{both_clear}

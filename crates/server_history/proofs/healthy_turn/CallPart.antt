@@ -28,7 +28,7 @@ use Rattle.driver_history.specs.Heeding.{AllGrounded}
 use Rattle.driver_history.specs.Evidence.{IsEvidencedOf}
 use Rattle.driver_history.specs.Histories.{IssuesDue}
 use Rattle.host_boot.specs.Taken.{probe_result_of}
-use Rattle.port_events.specs.declared.PortEvent.TheVariants.{NoEvent}
+use Rattle.port_control.specs.declared.events.PortEvent.TheVariants.{NoEvent}
 use Rattle.request_queue.specs.Entries.{Held, IsEarlier}
 use Rattle.slots.specs.declared.SlotUse.{SlotUse}
 use Rattle.server_history.specs.Below.{LawsBelow}

@@ -28,10 +28,10 @@ use Rattle.host_boot.specs.Taken.{probe_result_of}
 use Rattle.host_boot.specs.declared.ProbeResult.TheVariants.{Ready}
 use Rattle.driver_history.specs.Histories.{IssuesDue}
 use Rattle.identify.specs.declared.DiskInfo.{DiskInfo}
-use Rattle.ncq.specs.Masks.{ReadsDone, IsFinding, SeesClear}
-use Rattle.port_events.specs.Looks.{IsLooking, LooksAt}
-use Rattle.port_events.specs.Services.{IsService}
-use Rattle.port_events.specs.declared.PortEvent.TheVariants.{NoEvent}
+use Rattle.commands.specs.Masks.{ReadsDone, IsFinding, SeesClear}
+use Rattle.port_control.specs.Looks.{IsLooking, LooksAt}
+use Rattle.port_control.specs.Services.{IsService}
+use Rattle.port_control.specs.declared.events.PortEvent.TheVariants.{NoEvent}
 use Rattle.request_queue.specs.Entries.{Held, asks_of, due_ids}
 use Rattle.slots.specs.Uses.{PortSlots}
 use Rattle.slots.specs.declared.SlotUse.{SlotUse}

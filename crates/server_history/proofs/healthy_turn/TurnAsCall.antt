@@ -31,8 +31,8 @@ use Rattle.driver_history.specs.Evidence.{ShowsFailure, ShowsLoss}
 use Rattle.driver_history.specs.Histories.{FindsDone, IsUnfitOrForeign, IsAnsweredOk, IsIssuedOn}
 use Rattle.driver_history.specs.Trace.{ReadsMasks}
 use Rattle.host_boot.specs.Taken.{probe_result_of}
-use Rattle.port_events.specs.Looks.{IsLooking}
-use Rattle.port_events.specs.declared.PortEvent.TheVariants.{LinkChanged, NoEvent}
+use Rattle.port_control.specs.Looks.{IsLooking}
+use Rattle.port_control.specs.declared.events.PortEvent.TheVariants.{LinkChanged, NoEvent}
 use Rattle.slots.specs.declared.SlotUse.{SlotUse}
 use Rattle.server_history.specs.Below.{LawsBelow}
 use Rattle.server_history.specs.Served.{AnswersBy, Checks, HasEnded, HasTurn, IsAnsweredIn, IsMaskOf, answers_in, done_reply, is_used}

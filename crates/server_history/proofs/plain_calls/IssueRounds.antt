@@ -24,7 +24,7 @@ use Rattle.block_machine.specs.declared.due.QueueMode.{QueueMode}
 use Rattle.block_machine.specs.declared.due.Unanswered.{Unanswered}
 use Rattle.server_history.proofs.state.ListMembers.{contains_cases, contains_here, contains_there, into_map, map_in}
 use Rattle.driver_history.specs.Histories.{IssuesDue, unissued}
-use Rattle.ncq.specs.Tasks.{IsIssuing}
+use Rattle.commands.specs.Tasks.{IsIssuing}
 use Rattle.request_queue.specs.Entries.{Held, BookIsInOrder, IsWaiting, asks, asks_of, at_entry, due_ids, has_id, issue}
 use Rattle.server_history.specs.Below.{LawsBelow}
 use Rattle.server_history.specs.Served.{IssuesAll, IssuesIn, IssuesEach, IssuesOne, IssuesOnly}

@@ -29,9 +29,9 @@ use Rattle.server_history.proofs.state.PortSlots.{AreOver, busy_used, not_own, r
 use Rattle.server_history.proofs.state.StoredCommands.{service_leaves_stored}
 use Rattle.refinement.specs.Acts.{at_slots}
 use Rattle.std.specs.List.{All}
-use Rattle.port_events.specs.Looks.{IsLooking}
-use Rattle.port_events.specs.Services.{IsService}
-use Rattle.ncq.specs.Masks.{ReadsDone, IsFinding}
+use Rattle.port_control.specs.Looks.{IsLooking}
+use Rattle.port_control.specs.Services.{IsService}
+use Rattle.commands.specs.Masks.{ReadsDone, IsFinding}
 use Rattle.hba_regs.specs.Bits.{bit}
 use Rattle.server_history.specs.Below.{LawsBelow}
 use Rattle.server_history.proofs.state.TransferAccesses.{finding_serves}

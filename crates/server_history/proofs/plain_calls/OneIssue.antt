@@ -36,7 +36,7 @@ use Rattle.request_queue.specs.Machine.{IsBook, IsEntry}
 use Rattle.refinement.specs.Driven.{RelatesWith}
 use Rattle.ata_types.specs.declared.request.Frame.{Frame}
 use Rattle.command_table.specs.Written.{IsUnused}
-use Rattle.ncq.specs.declared.Task.{Task}
+use Rattle.commands.specs.declared.ncq.Task.{Task}
 use Rattle.request_queue.specs.Entries.{asks}
 use Rattle.slots.specs.Uses.{IsLowestFree}
 use Rattle.slots.specs.declared.SlotUse.{SlotUse}
@@ -55,11 +55,11 @@ use Rattle.refinement.specs.Acts.{InSlots, at_slots}
 use Rattle.refinement.specs.Relation.{port_at}
 use Rattle.ata_types.specs.declared.request.Op.{Op}
 use Rattle.ata_types.specs.declared.request.Op.TheVariants.{Read, Write, Trim, Flush}
-use Rattle.ncq.specs.Tasks.{task_operation}
+use Rattle.commands.specs.Tasks.{task_operation}
 use Rattle.server_history.proofs.state.PortSlots.{due_has, free_unused, IsServedBy, its_mode, lowest_may, none_kept, not_dead, not_false, not_own, not_true, of_ready, ready_found, served_request, serves_used, usable_ready, used_or_not, used_there}
 use Rattle.server_history.proofs.state.PairedLists.{at_left}
-use Rattle.port_events.specs.Services.{IsService}
-use Rattle.ncq.specs.Tasks.{IsIssuing, IsTaskOf, IssuesTask, MayServe, with_serving}
+use Rattle.port_control.specs.Services.{IsService}
+use Rattle.commands.specs.Tasks.{IsIssuing, IsTaskOf, IssuesTask, MayServe, with_serving}
 use Rattle.server_history.proofs.state.TransferAccesses.{issuing_serves}
 use Rattle.server_history.proofs.state.RevokedMarks.{issued_marked}
 

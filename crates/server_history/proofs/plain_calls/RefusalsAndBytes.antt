@@ -45,7 +45,7 @@ use Rattle.host_boot.specs.Taken.{probe_result_of}
 use Rattle.host_boot.specs.declared.ProbeResult.TheVariants.{Unready}
 use Rattle.ata_types.specs.declared.PortState.TheVariants.{Dead}
 use Rattle.ata_types.specs.declared.memory.TheConstants.{DRIVER_BYTES, DRIVER_FRAMES}
-use Rattle.port_events.specs.Services.{IsService}
+use Rattle.port_control.specs.Services.{IsService}
 use Rattle.server_history.specs.Below.{LawsBelow}
 use Rattle.driver_history.specs.Heeding.{IsGrounded}
 use Rattle.driver_history.specs.Histories.{CameBy, Issues, IssuesDue, LosesNoPortError, PortCorresponds}

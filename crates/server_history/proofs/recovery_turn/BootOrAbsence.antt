@@ -13,8 +13,8 @@ use Rattle.identify.specs.Wanted.{serial_of}
 use Rattle.identify.specs.declared.wanted.Wanted.{Wanted}
 use Rattle.port_boot.specs.States.{EndsAs}
 use Rattle.server_history.specs.ErrorHandling.{BootsAfter}
-use Rattle.port_events.specs.declared.PortError.{PortError}
-use Rattle.port_events.specs.declared.PortError.TheVariants.{BusError, TaskFileError, TimedOut, LinkChanged}
+use Rattle.port_control.specs.declared.events.PortError.{PortError}
+use Rattle.port_control.specs.declared.events.PortError.TheVariants.{BusError, TaskFileError, TimedOut, LinkChanged}
 
 -- its disk was lost, no device showed, and that was all
 pub record IsFoundAbsent (wanted : Wanted) (port : Port) (port_error : PortError) (found : ProbeResult) (old new : Device) : Type 0 where

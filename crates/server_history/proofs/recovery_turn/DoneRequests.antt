@@ -26,7 +26,7 @@ use Rattle.server_history.proofs.state.ListMembers.{contains_cases, contains_the
 use Rattle.driver_history.specs.Histories.{FindsDone, IsAnsweredOk, IsIssuedOn}
 use Rattle.driver_history.specs.Trace.{ReadsMasks}
 use Rattle.host_boot.specs.Taken.{probe_result_of}
-use Rattle.port_events.specs.Looks.{IsLooking}
+use Rattle.port_control.specs.Looks.{IsLooking}
 use Rattle.request_queue.specs.Entries.{Held}
 use Rattle.request_queue.specs.Dispositions.{disposition_of}
 use Rattle.request_queue.specs.Machine.{IsEntry}

@@ -14,9 +14,9 @@ use Rattle.error_recovery.specs.Recovery.{FitsFor, IsAloneIn, MayRecover}
 use Rattle.driver_history.specs.Holds.{Runs}
 use Rattle.host_boot.specs.Taken.{StillStandsBehind, probe_result_of, wanted_of}
 use Rattle.host_boot.specs.declared.ProbeResult.{ProbeResult}
-use Rattle.ncq.specs.Masks.{ReadsDone}
-use Rattle.port_events.specs.Looks.{IsLooking, LooksAt}
-use Rattle.port_events.specs.declared.PortEvent.TheVariants.{TaskFileError}
+use Rattle.commands.specs.Masks.{ReadsDone}
+use Rattle.port_control.specs.Looks.{IsLooking, LooksAt}
+use Rattle.port_control.specs.declared.events.PortEvent.TheVariants.{TaskFileError}
 use Rattle.slots.specs.declared.SlotUse.{SlotUse}
 use Rattle.server_history.specs.Below.{LawsBelow}
 use Rattle.server_history.specs.Server.{ServerState, InCallInvariant, StandsAlone, slots_at, state_of, used_for}

@@ -32,9 +32,9 @@ use Rattle.host_boot.specs.declared.ProbeResult.TheVariants.{Ready}
 use Rattle.identify.specs.declared.DiskInfo.{DiskInfo}
 use Rattle.identify.specs.declared.wanted.Wanted.{Wanted}
 use Rattle.port_boot.specs.States.{GetsReady}
-use Rattle.port_events.specs.Looks.{IsLooking}
-use Rattle.port_events.specs.declared.PortError.{PortError}
-use Rattle.port_events.specs.declared.PortError.TheVariants.{TaskFileError}
+use Rattle.port_control.specs.Looks.{IsLooking}
+use Rattle.port_control.specs.declared.events.PortError.{PortError}
+use Rattle.port_control.specs.declared.events.PortError.TheVariants.{TaskFileError}
 use Rattle.block_machine.specs.Events.{Service}
 use Rattle.server_history.specs.Below.{LawsBelow}
 use Rattle.server_history.specs.ErrorHandling.{IsErrorHandled, HasResolved, HandlesPortError}

@@ -30,7 +30,7 @@ use Rattle.host_boot.specs.Taken.{probe_result_of, wanted_of}
 use Rattle.host_boot.specs.declared.ProbeResult.{ProbeResult}
 use Rattle.host_boot.specs.declared.ProbeResult.TheVariants.{Unserved, Ready, Unready}
 use Rattle.identify.specs.declared.DiskInfo.{DiskInfo}
-use Rattle.port_events.specs.Looks.{IsLooking}
+use Rattle.port_control.specs.Looks.{IsLooking}
 use Rattle.request_queue.specs.Entries.{Held, IsEarlier, is_of}
 use Rattle.request_queue.specs.Dispositions.{EndsLoan, Holdings, AreResolved, IsResolved, disposition_of, disposition_on, quarantines_loan}
 use Rattle.request_queue.specs.Machine.{IsEntry}
@@ -60,7 +60,7 @@ use Rattle.server_history.proofs.state.PortSlots.{AreOver, not_dead, ready_found
 use Rattle.server_history.proofs.state.PairedLists.{at_left}
 use Rattle.server_history.proofs.dispositions.MoreKeptLoans.{more_kept}
 use Rattle.server_history.proofs.state.FirstMembers.{nowhere}
-use Rattle.port_events.specs.declared.PortError.{PortError}
+use Rattle.port_control.specs.declared.events.PortError.{PortError}
 use Rattle.server_history.proofs.state.RevokedMarks.{tells_of}
 use Rattle.server_history.proofs.state.ListMembers.{in_filter}
 

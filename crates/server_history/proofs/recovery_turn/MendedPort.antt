@@ -18,13 +18,13 @@ use Rattle.host_boot.specs.declared.ProbeResult.{ProbeResult}
 use Rattle.host_boot.specs.declared.ProbeResult.TheVariants.{Ready, Unready, Unserved}
 use Rattle.identify.specs.declared.DiskInfo.{DiskInfo}
 use Rattle.identify.specs.declared.wanted.Wanted.{Wanted}
-use Rattle.port_events.specs.Looks.{IsLooking}
+use Rattle.port_control.specs.Looks.{IsLooking}
 use Rattle.request_queue.specs.Entries.{asks_of, due_ids}
 use Rattle.request_queue.specs.declared.disposition.FailedRequest.{FailedRequest}
 use Rattle.request_queue.specs.declared.disposition.Revalidation.{Revalidation}
 use Rattle.request_queue.specs.declared.disposition.Revalidation.TheVariants.{Dead, DiskLost, SameDisk as SameProspect}
-use Rattle.port_events.specs.declared.PortError.{PortError}
-use Rattle.port_events.specs.declared.PortError.TheVariants.{BusError, TaskFileError, TimedOut, LinkChanged}
+use Rattle.port_control.specs.declared.events.PortError.{PortError}
+use Rattle.port_control.specs.declared.events.PortError.TheVariants.{BusError, TaskFileError, TimedOut, LinkChanged}
 use Rattle.server_history.specs.Below.{LawsBelow}
 use Rattle.server_history.specs.ErrorHandling.{IsRevalidated, IsRevalidation, IsErrorHandled, IsSameDisk, HasResolved, HandlesPortError}
 use Rattle.server_history.specs.Server.{ServerState, InCallInvariant, disk_in, last_disk_of, is_served, mode_in, ports_of, remembered_at, last_sectors_of, last_serial_of, state_of}

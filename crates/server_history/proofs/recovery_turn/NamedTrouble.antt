@@ -14,13 +14,13 @@ use Rattle.refinement.specs.Facts.{IsFaultOf}
 use Rattle.refinement.specs.Links.{IsPlugging}
 use Rattle.driver_history.specs.Evidence.{Gains, ShowsChange, ShowsFailure, ShowsLoss}
 use Rattle.error_recovery.specs.Evidence.{ShowsFatal}
-use Rattle.port_events.specs.Looks.{LooksAt}
-use Rattle.port_events.specs.declared.PortEvent.{PortEvent}
-use Rattle.port_events.specs.declared.PortEvent.TheVariants as look
+use Rattle.port_control.specs.Looks.{LooksAt}
+use Rattle.port_control.specs.declared.events.PortEvent.{PortEvent}
+use Rattle.port_control.specs.declared.events.PortEvent.TheVariants as look
 use Rattle.server_history.specs.Below.{LawsBelow}
 use Rattle.server_history.specs.ErrorHandling.{IsFoundOut}
-use Rattle.port_events.specs.declared.PortError.{PortError}
-use Rattle.port_events.specs.declared.PortError.TheVariants.{BusError, TaskFileError, TimedOut, LinkChanged}
+use Rattle.port_control.specs.declared.events.PortError.{PortError}
+use Rattle.port_control.specs.declared.events.PortError.TheVariants.{BusError, TaskFileError, TimedOut, LinkChanged}
 use Rattle.server_history.proofs.any_turn.ToldTrouble.{errors_shown, fatal_shown, loss_shown, no_change, no_fatal, not_missing}
 use Rattle.server_history.proofs.state.FirstMembers.{first_here, nowhere}
 use Rattle.server_history.proofs.recovery_turn.TurnParts.{failed_of, fatal_of, gone_of, is_named_if, named_if_is}

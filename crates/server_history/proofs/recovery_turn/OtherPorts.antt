@@ -43,11 +43,11 @@ use Rattle.host_boot.specs.declared.ProbeResult.TheVariants.{Unserved, Ready, Un
 use Rattle.identify.specs.declared.DiskInfo.{DiskInfo}
 use Rattle.identify.specs.declared.wanted.Wanted.{Wanted}
 use Rattle.port_boot.specs.States.{IsBootTo, IsBooting, IsOfBoot, StopsOnWay}
-use Rattle.port_events.specs.Looks.{IsLooking}
+use Rattle.port_control.specs.Looks.{IsLooking}
 use Rattle.slots.specs.declared.SlotUse.{SlotUse}
 use Rattle.server_history.specs.Below.{LawsBelow}
 use Rattle.server_history.specs.ErrorHandling.{IsRevalidated}
-use Rattle.port_events.specs.declared.PortError.{PortError}
+use Rattle.port_control.specs.declared.events.PortError.{PortError}
 use Rattle.server_history.specs.Server.{HasCommand, ServerState, InCallInvariant, used_for}
 use Rattle.server_history.proofs.state.SilentOperations.{silent_more, silent_none}
 use Rattle.server_history.proofs.state.PortSlots.{not_own, used_there}

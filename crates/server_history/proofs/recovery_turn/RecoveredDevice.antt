@@ -42,7 +42,7 @@ use Rattle.slots.specs.Uses.{PortSlots, use_at}
 use Rattle.server_history.specs.Below.{LawsBelow}
 use Rattle.server_history.specs.ErrorHandling.{IsRevalidated}
 use Rattle.server_history.specs.Server.{IsUsedAs, no_slots, use_of, used_for}
-use Rattle.port_events.specs.declared.PortError.{PortError}
+use Rattle.port_control.specs.declared.events.PortError.{PortError}
 use Rattle.server_history.proofs.recovery_turn.BootOrAbsence.{IsFoundAbsent, boots_or_absent}
 
 -- ---- steps of the device

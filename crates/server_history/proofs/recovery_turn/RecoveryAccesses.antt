@@ -46,8 +46,8 @@ use Rattle.server_history.specs.ErrorHandling.{IsRevalidated}
 use Rattle.server_history.proofs.state.TurnAccesses.{table_own}
 use Rattle.server_history.proofs.recovery_turn.LinkResets.{ResetsBy, early_resets, late_resets, ready_resets, resets_since}
 use Rattle.server_history.proofs.state.SilentOperations.{silent_more, silent_none}
-use Rattle.port_events.specs.declared.PortError.{PortError}
-use Rattle.port_events.specs.declared.PortError.TheVariants.{LinkChanged}
+use Rattle.port_control.specs.declared.events.PortError.{PortError}
+use Rattle.port_control.specs.declared.events.PortError.TheVariants.{LinkChanged}
 use Rattle.server_history.proofs.recovery_turn.BootOrAbsence.{IsFoundAbsent, boots_or_absent}
 
 -- ---- kinds of accesses

@@ -49,7 +49,7 @@ use Rattle.slots.specs.declared.SlotUse.{SlotUse}
 use Rattle.server_history.specs.Below.{LawsBelow}
 use Rattle.server_history.specs.ErrorHandling.{IsRevalidated, AreUnused}
 use Rattle.server_history.specs.Server.{HasSlots, ServerState, InCallInvariant, IsMachineOf, IsPortOf, is_served, kept_at, mode_at, mode_found, mode_in, no_slots, plain_mode, slots_at, state_of, usable_of, used_for, HasTrueMark}
-use Rattle.port_events.specs.declared.PortError.{PortError}
+use Rattle.port_control.specs.declared.events.PortError.{PortError}
 use Rattle.server_history.proofs.state.PortGrounds.{left_on}
 use Rattle.server_history.proofs.recovery_turn.OtherPorts.{Passes}
 use Rattle.server_history.proofs.state.DrivenAccesses.{driven_as}

@@ -10,13 +10,13 @@ use Rattle.block_machine.specs.Histories.{IsReachable}
 use Rattle.block_machine.specs.Ports.{SameDisk}
 use Rattle.block_machine.specs.State.{Machine}
 use Rattle.host_boot.specs.Taken.{probe_result_of}
-use Rattle.port_events.specs.Looks.{IsLooking}
+use Rattle.port_control.specs.Looks.{IsLooking}
 use Rattle.request_queue.specs.declared.disposition.Revalidation.TheVariants.{DiskLost}
 use Rattle.server_history.specs.Below.{LawsBelow}
 use Rattle.server_history.specs.ErrorHandling.{HasResolved, IsRevalidation, HandlesPortError}
 use Rattle.server_history.specs.Server.{InCallInvariant, IsMachineOf, ServerState, ports_of, state_of}
 use Rattle.server_history.specs.Turns.{InRestart, OwesTurn, RestartsPort}
-use Rattle.port_events.specs.declared.PortError.TheVariants.{TaskFileError, TimedOut, LinkChanged}
+use Rattle.port_control.specs.declared.events.PortError.TheVariants.{TaskFileError, TimedOut, LinkChanged}
 use Rattle.server_history.proofs.recovery_turn.MendedPort.{dead_found, disk_same, interrupted, ready_info}
 use Rattle.server_history.proofs.recovery_turn.DecidedSteps.{DecidesTurn, nobody}
 use Rattle.server_history.proofs.recovery_turn.TurnEvidence.{IsEvident}

@@ -24,14 +24,14 @@ use Rattle.block_machine.specs.State.{Machine, Pending}
 use Rattle.block_machine.specs.Steps.{Answer, May, Step}
 use Rattle.server_history.proofs.state.ListMembers.{contains_cases, contains_here, map_in, in_filter}
 use Rattle.driver_history.specs.Histories.{IsAnsweredFaulty, IsIssuedOn}
-use Rattle.error_log.specs.declared.FailedSlot.{FailedSlot}
+use Rattle.identify.specs.declared.error_log.FailedSlot.{FailedSlot}
 use Rattle.error_recovery.specs.Recovery.{MayRecover, Rests, TellsRecovery}
 use Rattle.error_recovery.specs.declared.Next.{Next}
 use Rattle.error_recovery.specs.declared.Next.TheVariants as next
 use Rattle.host_boot.specs.Taken.{probe_result_of}
-use Rattle.port_events.specs.Looks.{IsLooking}
-use Rattle.port_events.specs.declared.PortError.{PortError}
-use Rattle.port_events.specs.declared.PortError.TheVariants.{TaskFileError}
+use Rattle.port_control.specs.Looks.{IsLooking}
+use Rattle.port_control.specs.declared.events.PortError.{PortError}
+use Rattle.port_control.specs.declared.events.PortError.TheVariants.{TaskFileError}
 use Rattle.request_queue.specs.Entries.{Held, is_of}
 use Rattle.request_queue.specs.Dispositions.{Holdings, AreResolved, IsResolved, disposition_of, disposition_on, reply_to}
 use Rattle.request_queue.specs.declared.PendingRequest.{PendingRequest}

@@ -29,12 +29,12 @@ use Rattle.error_recovery.specs.Evidence.{HasFailed}
 use Rattle.error_recovery.specs.Recovery.{EndsIn, Rests, TellsEngine}
 use Rattle.error_recovery.specs.declared.Next.{Next}
 use Rattle.error_recovery.specs.declared.Next.TheVariants as next
-use Rattle.error_log.specs.declared.FailedSlot.{FailedSlot}
+use Rattle.identify.specs.declared.error_log.FailedSlot.{FailedSlot}
 use Rattle.host_boot.specs.Taken.{probe_result_of, wanted_of}
 use Rattle.host_boot.specs.declared.ProbeResult.TheVariants.{Ready, Unready}
 use Rattle.port_control.specs.Engines.{Sticks, Stops}
-use Rattle.port_events.specs.Looks.{IsLooking, LooksAt}
-use Rattle.port_events.specs.declared.PortEvent.{PortEvent}
+use Rattle.port_control.specs.Looks.{IsLooking, LooksAt}
+use Rattle.port_control.specs.declared.events.PortEvent.{PortEvent}
 use Rattle.request_queue.specs.Entries.{Held, asks_of, due_ids}
 use Rattle.request_queue.specs.declared.disposition.FailedRequest as failed_request
 use Rattle.request_queue.specs.declared.disposition.Revalidation.TheVariants.{DiskLost}
@@ -61,9 +61,9 @@ use Rattle.server_history.proofs.any_turn.ShownDevice.{had_disk, shows_device}
 use Rattle.server_history.proofs.state.PortSlots.{AreOver, ready_found}
 use Rattle.server_history.proofs.recovery_turn.TurnStretches.{TurnParts, accesses_in, done_over, found_is, found_kept, mid_device, turn_parts}
 use Rattle.server_history.proofs.state.FirstMembers.{nowhere}
-use Rattle.port_events.specs.declared.PortEvent.TheVariants as look
-use Rattle.port_events.specs.declared.PortError.{PortError}
-use Rattle.port_events.specs.declared.PortError.TheVariants.{BusError, TaskFileError, TimedOut, LinkChanged}
+use Rattle.port_control.specs.declared.events.PortEvent.TheVariants as look
+use Rattle.port_control.specs.declared.events.PortError.{PortError}
+use Rattle.port_control.specs.declared.events.PortError.TheVariants.{BusError, TaskFileError, TimedOut, LinkChanged}
 use Rattle.server_history.proofs.state.TurnAccesses.{look_list, look_does}
 use Rattle.host_boot.specs.Again.{BootsAgain}
 use Rattle.host_boot.specs.declared.Booted.{Booted}

@@ -24,8 +24,8 @@ use Rattle.server_history.specs.Dispositions.{DecidesOn}
 use Rattle.server_history.specs.ErrorHandling.{IsErrorHandled, HasResolved, requests_of}
 use Rattle.server_history.specs.Served.{HasEnded, answers_in}
 use Rattle.server_history.specs.Server.{ServerState, IsMachineOf}
-use Rattle.port_events.specs.declared.PortError.{PortError}
-use Rattle.port_events.specs.declared.PortError.TheVariants.{BusError, TimedOut, LinkChanged}
+use Rattle.port_control.specs.declared.events.PortError.{PortError}
+use Rattle.port_control.specs.declared.events.PortError.TheVariants.{BusError, TimedOut, LinkChanged}
 use Rattle.server_history.proofs.state.CallEvidence.{shows_failure, shows_fatal, shows_loss}
 use Rattle.std.proofs.lemmas.Bool.{false≢true}
 use Rattle.server_history.proofs.state.FirstMembers.{first_here, nowhere}

@@ -19,10 +19,10 @@ use Rattle.refinement.proofs.device.PortNotes.{access_notes, notes_read}
 use Rattle.refinement.proofs.device.ShownDevice.{access_shown}
 use Rattle.refinement.specs.Noted.{SparesReading}
 use Rattle.port_control.specs.Ports.{programmed}
-use Rattle.port_events.specs.Laws.{Laws}
-use Rattle.port_events.specs.Services.{IsService}
-use Rattle.port_events.proofs.Recording.{services_recorded}
-use Rattle.port_events.proofs.Serving.{services_keep, spares_port}
+use Rattle.port_control.specs.LookLaws.{Laws}
+use Rattle.port_control.specs.Services.{IsService}
+use Rattle.port_control.proofs.looks.Recording.{services_recorded}
+use Rattle.port_control.proofs.looks.Serving.{services_keep, spares_port}
 use Rattle.driver_history.specs.Holds.{Runs}
 
 -- the engine runs, and its areas and its device were found

@@ -11,9 +11,9 @@ use Rattle.refinement.specs.Links.{SparesRegister}
 use Rattle.refinement.specs.Places.{IsTableByte}
 use Rattle.refinement.specs.Readying.{LeavesStored}
 use Rattle.command_table.specs.Written.{IsBlockStore, IsTableStore}
-use Rattle.ncq.specs.Tasks.{IsIssuing}
-use Rattle.port_events.specs.Services.{IsService}
-use Rattle.port_events.proofs.Serving.{spares_ghc, spares_port}
+use Rattle.commands.specs.Tasks.{IsIssuing}
+use Rattle.port_control.specs.Services.{IsService}
+use Rattle.port_control.proofs.looks.Serving.{spares_ghc, spares_port}
 use Rattle.server_history.proofs.state.TransferAccesses.{issuing_serves}
 
 -- the slots are two

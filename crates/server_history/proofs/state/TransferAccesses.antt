@@ -6,10 +6,10 @@ use Rattle.hba_regs.specs.declared.reg.Reg.TheVariants.{Px}
 use Rattle.adapter.specs.Access.{Access, DoesAll, Reads}
 use Rattle.adapter.specs.Access.Access.{Reading, Writing, Loading, Storing}
 use Rattle.adapter.specs.Device.{Device}
-use Rattle.ncq.specs.Masks.{ReadsDone, IsFinding}
-use Rattle.ncq.specs.Tasks.{IsIssuing}
+use Rattle.commands.specs.Masks.{ReadsDone, IsFinding}
+use Rattle.commands.specs.Tasks.{IsIssuing}
 use Rattle.server_history.specs.Served.{IssuesIn}
-use Rattle.port_events.specs.Services.{IsService}
+use Rattle.port_control.specs.Services.{IsService}
 
 -- ---- issuing
 

@@ -21,18 +21,18 @@ use Rattle.refinement.specs.Driven.{IsBitOf, IsDrivenBy, IsOf}
 use Rattle.refinement.specs.Facts.{RunsWell, Undisturbed}
 use Rattle.command_table.specs.Written.{IsStoreWithBlock, IsTableStore}
 use Rattle.driver_history.specs.Histories.{IssuesOn}
-use Rattle.ncq.specs.Tasks.{IsIssuing}
+use Rattle.commands.specs.Tasks.{IsIssuing}
 use Rattle.driver_history.specs.Trace.{IsDriversOwn, LeavesCommand, LeavesEngine, ReadsMasks}
 use Rattle.server_history.specs.Below.{LawsBelow}
 use Rattle.server_history.specs.Served.{Checks, HasNone, HasTurn, IsMaskOf, IssuesIn, is_used}
 use Rattle.slots.specs.Uses.{PortSlots, use_at}
 use Rattle.server_history.proofs.state.TransferAccesses.{both_read, issues_serve}
-use Rattle.port_events.specs.Looks.{LooksAt}
-use Rattle.port_events.specs.Services.{IsService}
-use Rattle.port_events.specs.declared.PortEvent.{PortEvent}
-use Rattle.port_events.specs.declared.PortEvent.TheVariants.{NoEvent}
-use Rattle.port_events.proofs.Seeing.{seen_well}
-use Rattle.port_events.proofs.Serving.{spares_port}
+use Rattle.port_control.specs.Looks.{LooksAt}
+use Rattle.port_control.specs.Services.{IsService}
+use Rattle.port_control.specs.declared.events.PortEvent.{PortEvent}
+use Rattle.port_control.specs.declared.events.PortEvent.TheVariants.{NoEvent}
+use Rattle.port_control.proofs.looks.Seeing.{seen_well}
+use Rattle.port_control.proofs.looks.Serving.{spares_port}
 
 -- ---- the device's steps
 

@@ -29,13 +29,13 @@ use Rattle.identify.specs.declared.wanted.Wanted.{Wanted}
 use Rattle.port_boot.specs.States.{IsBootable}
 use Rattle.port_control.specs.Ports.{IsStopped}
 use Rattle.port_control.specs.declared.Stopped.{Stopped}
-use Rattle.port_events.specs.Looks.{IsLooking}
+use Rattle.port_control.specs.Looks.{IsLooking}
 use Rattle.server_history.specs.Below.{LawsBelow}
 use Rattle.server_history.specs.ErrorHandling.{IsRevalidated}
 use Rattle.server_history.specs.Server.{InCallInvariant, ServerState, disk_in, last_disk_of, is_served, no_slots, plain_mode, ports_of, remembered_at, last_sectors_of, last_serial_of, state_of}
 use Rattle.server_history.specs.Probing.{BootsOnce, IsProbedAnew}
 use Rattle.server_history.specs.Turns.{LeavesOthers}
-use Rattle.port_events.specs.declared.PortError.TheVariants.{TimedOut}
+use Rattle.port_control.specs.declared.events.PortError.TheVariants.{TimedOut}
 use Rattle.server_history.proofs.recovery_turn.MendedPort.{dead_is, disk_is, found_served}
 use Rattle.server_history.proofs.recovery_turn.OtherPorts.{Passes, PassesTo, after_passes, look_passes, passes_none, recovery_passes, slots_of}
 use Rattle.server_history.proofs.recovery_turn.TurnEvidence.{engine_sticks, engine_stops}

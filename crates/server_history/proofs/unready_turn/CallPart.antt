@@ -30,14 +30,14 @@ use Rattle.error_recovery.specs.declared.Next.TheVariants as next
 use Rattle.host_boot.specs.Taken.{StillStandsBehind, probe_result_of, wanted_of}
 use Rattle.host_boot.specs.declared.ProbeResult.{ProbeResult}
 use Rattle.host_boot.specs.declared.ProbeResult.TheVariants.{Unready, Unserved}
-use Rattle.port_events.specs.Looks.{IsLooking}
-use Rattle.port_events.specs.Services.{IsService}
+use Rattle.port_control.specs.Looks.{IsLooking}
+use Rattle.port_control.specs.Services.{IsService}
 use Rattle.request_queue.specs.Entries.{asks_of}
 use Rattle.server_history.specs.Below.{LawsBelow}
 use Rattle.server_history.specs.Server.{AreKept, InCallInvariant, IsMachineOf, IsPortOf, SettledInvariant, ServerState, is_served, mode_at, mode_in, plain_mode, state_of, usable_of, use_of}
 use Rattle.server_history.specs.Probing.{BootsOnce, IsProbedAnew, IsLookedAt, ProbesPort}
 use Rattle.server_history.specs.Turns.{HasPart, InProbe, ProbesUnready, server_moment}
-use Rattle.port_events.specs.declared.PortError.TheVariants.{TimedOut}
+use Rattle.port_control.specs.declared.events.PortError.TheVariants.{TimedOut}
 use Rattle.server_history.proofs.unready_turn.AnotherBoot.{accesses, after_it, book_left, does, found_then, its_stand, listed, looking_part, low, never_ready, no_disk, only, others, silent, stuck_if, tells, then_is, unready, until, until_of, whole}
 use Rattle.server_history.proofs.state.DrivenAccesses.{driven_as}
 use Rattle.server_history.proofs.unready_turn.IdleLook.{looked_stands}

@@ -23,7 +23,7 @@ use Rattle.identify.specs.Wanted.{serial_of}
 use Rattle.identify.specs.declared.wanted.Wanted.{Wanted}
 use Rattle.port_boot.specs.States.{EndsAs, HasPage, IsUnfit}
 use Rattle.port_control.specs.Ports.{IsStopped, SawDevice}
-use Rattle.port_events.specs.Glances.{FindsChange}
+use Rattle.port_control.specs.Glances.{FindsChange}
 use Rattle.server_history.specs.Below.{LawsBelow}
 use Rattle.server_history.specs.Probing.{IsLookedAt}
 use Rattle.server_history.proofs.state.PortGrounds.{left_on}

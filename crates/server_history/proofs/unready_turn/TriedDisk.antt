@@ -29,7 +29,7 @@ use Rattle.identify.specs.declared.DiskInfo.{DiskInfo}
 use Rattle.identify.specs.declared.wanted.Wanted.{Wanted}
 use Rattle.port_boot.specs.States.{EndsAs, EndsEarly, EndsLate, IsStateOfFault}
 use Rattle.port_control.specs.Ports.{HasClearErrors}
-use Rattle.port_events.specs.Looks.{IsLooking}
+use Rattle.port_control.specs.Looks.{IsLooking}
 use Rattle.server_history.specs.Below.{LawsBelow}
 use Rattle.server_history.specs.Server.{state_of}
 use Rattle.server_history.proofs.any_turn.ToldTrouble.{is_plugging, one_or_none}

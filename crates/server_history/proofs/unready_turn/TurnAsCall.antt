@@ -33,13 +33,13 @@ use Rattle.host_boot.specs.declared.ProbeResult.{ProbeResult}
 use Rattle.host_boot.specs.declared.ProbeResult.TheVariants.{Ready, Unready}
 use Rattle.identify.specs.declared.DiskInfo.{DiskInfo}
 use Rattle.port_control.specs.declared.Stopped.{Stopped}
-use Rattle.port_events.specs.Glances.{FindsChange, FindsDevice}
-use Rattle.port_events.specs.Looks.{IsLooking}
+use Rattle.port_control.specs.Glances.{FindsChange, FindsDevice}
+use Rattle.port_control.specs.Looks.{IsLooking}
 use Rattle.server_history.specs.Below.{LawsBelow}
 use Rattle.server_history.specs.Server.{InCallInvariant, ServerState, is_served, ports_of, state_of}
 use Rattle.server_history.specs.Probing.{BootsOnce, IsProbedAnew, IsLookedAt}
 use Rattle.server_history.specs.Turns.{server_instant}
-use Rattle.port_events.specs.declared.PortError.TheVariants.{TimedOut, LinkChanged}
+use Rattle.port_control.specs.declared.events.PortError.TheVariants.{TimedOut, LinkChanged}
 use Rattle.server_history.proofs.unready_turn.AnotherBoot.{interrupted, never_ready, stuck_if, whole, accesses, afterwards, does, found_then, then_is, until, until_of}
 use Rattle.server_history.proofs.state.DrivenAccesses.{by_none}
 use Rattle.server_history.proofs.unready_turn.IdleLook.{unchanged, unequal}

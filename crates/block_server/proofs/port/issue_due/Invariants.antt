@@ -1,6 +1,6 @@
 use Rattle.std.proofs.Common.{◌≡◌, ◌*◌, drop, length}
 use Rattle.adapter.specs.Counted.{MakesAtMost}
-use Rattle.ncq.specs.Costs.{ISSUE_ACCESSES}
+use Rattle.commands.specs.Costs.{ISSUE_ACCESSES}
 use Rattle.block_machine.specs.Due.{AreAllDueInOrder}
 use Rattle.block_server.specs.Ports.{Lends, with_part}
 use Rattle.request_queue.specs.Entries.{asks_of}

@@ -1,10 +1,10 @@
 use Rattle.std.proofs.Common.{List, Some, not, ap, ◌∙◌, subst}
 use Rattle.refinement.specs.Readying.{IsStored}
 use Rattle.ata_types.specs.declared.request.Frame.{Frame}
-use Rattle.ncq.specs.Tasks.{HasBlockOf, IssuesTask, addresses_of, meaning_of}
+use Rattle.commands.specs.Tasks.{HasBlockOf, IssuesTask, addresses_of, meaning_of}
 use Rattle.block_machine.specs.Due.{is_plain}
 use Rattle.request_queue.specs.declared.PendingRequest.{PendingRequest}
-use Rattle.ncq.specs.declared.Task.{Task}
+use Rattle.commands.specs.declared.ncq.Task.{Task}
 use Rattle.slots.specs.Uses.{with_use}
 use Rattle.block_server.proofs.Sending as sending
 use Rattle.block_server.proofs.port.issue_one.Goals as goal

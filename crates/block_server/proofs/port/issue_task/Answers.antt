@@ -5,9 +5,9 @@ use Rattle.ata_types.specs.declared.request.Op.{Op}
 use Rattle.ata_types.specs.declared.request.Op.TheVariants.{Read, Write, Trim, Flush}
 use Rattle.adapter.specs.Device.{Device}
 use Rattle.refinement.specs.Readying.{IsStored}
-use Rattle.ncq.specs.Issuing.{MayIssueTask}
-use Rattle.ncq.specs.Tasks.{HasBlockOf, IssuesTask, addresses_of, meaning_of}
-use Rattle.ncq.specs.declared.Task.{Task}
+use Rattle.commands.specs.Issuing.{MayIssueTask}
+use Rattle.commands.specs.Tasks.{HasBlockOf, IssuesTask, addresses_of, meaning_of}
+use Rattle.commands.specs.declared.ncq.Task.{Task}
 use Rattle.block_server.specs.Ports.{MayGoIn}
 use Rattle.block_server.proofs.port.issue_task.Goals as goal
 

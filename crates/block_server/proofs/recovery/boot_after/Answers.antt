@@ -1,6 +1,6 @@
 use Rattle.std.proofs.Common.{sym, subst}
 use Rattle.server_history.specs.ErrorHandling.{BootsAfter}
-use Rattle.port_events.specs.declared.PortError.{PortError}
+use Rattle.port_control.specs.declared.events.PortError.{PortError}
 use Rattle.block_server.proofs.Restoring.{boots_other}
 use Rattle.block_server.proofs.recovery.boot_after.Goals as goal
 

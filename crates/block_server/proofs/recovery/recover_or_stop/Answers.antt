@@ -4,8 +4,8 @@ use Rattle.adapter.specs.Access.{Access}
 use Rattle.adapter.specs.Device.{Device}
 use Rattle.error_recovery.specs.declared.Recovered.{Recovered}
 use Rattle.server_history.specs.ErrorHandling.{EndsStopped, TellsErrorHandling}
-use Rattle.port_events.specs.declared.PortError.{PortError}
-use Rattle.port_events.specs.declared.PortError.TheVariants.{BusError, TaskFileError, TimedOut, LinkChanged}
+use Rattle.port_control.specs.declared.events.PortError.{PortError}
+use Rattle.port_control.specs.declared.events.PortError.TheVariants.{BusError, TaskFileError, TimedOut, LinkChanged}
 use Rattle.block_server.proofs.Counting.{mending_stops}
 use Rattle.block_server.proofs.recovery.recover_or_stop.Goals as goal
 

@@ -1,7 +1,7 @@
 use Rattle.std.proofs.Common.{◌≡◌, List, get_or, false, sym, ap, ◌∙◌, subst, arith}
 use Rattle.std.specs.List.{Contains, list_any}
-use Rattle.range_index.specs.declared.Item.{Item}
-use Rattle.range_index.specs.Items.{is_earlier_conflict}
+use Rattle.request_queue.specs.declared.ranges.Item.{Item}
+use Rattle.request_queue.specs.Items.{is_earlier_conflict}
 use Rattle.request_queue.specs.Sectors.{index_of_port, item_of}
 use Rattle.request_queue.proofs.Indexing.{by_default, in_four}
 use Rattle.request_queue.proofs.Holding.{by_flushes, one_holds}

@@ -3,7 +3,7 @@ use Rattle.std.proofs.Common.{◌≡◌, ◌≢◌, ◌<◌, ◌++◌, ◌∷◌
 use Rattle.std.proofs.lemmas.Bool.{not-true}
 use Rattle.std.proofs.lemmas.List.{length-map}
 use Rattle.std.specs.List.{All, insert}
-use Rattle.range_index.specs.declared.Item.{Item}
+use Rattle.request_queue.specs.declared.ranges.Item.{Item}
 use Rattle.request_queue.specs.Entries.{Held, asks, asks_of}
 use Rattle.request_queue.specs.Sectors.{item_of, index_of_port}
 use Rattle.request_queue.proofs.Indexing.{flush_accepted, accepted, room_left, items_fresh, put_back, by_default, in_four}

@@ -1,7 +1,7 @@
 use Rattle.std.proofs.Common.{◌≡◌, [], List, Bool, not, true, false, Some, get_or, subst, sym, ap, ◌∙◌, arith, refl}
 use Rattle.std.proofs.lemmas.Bool.{not-true}
 use Rattle.std.specs.List.{Contains, remove, slice_get}
-use Rattle.range_index.specs.declared.Item.{Item}
+use Rattle.request_queue.specs.declared.ranges.Item.{Item}
 use Rattle.request_queue.specs.Entries.{asks_of}
 use Rattle.request_queue.specs.Sectors.{index_of_port}
 use Rattle.request_queue.proofs.Indexing.{flush_answered, answered, its_item, put_back, by_default, in_four}

@@ -4,8 +4,8 @@ use Rattle.host_boot.specs.Taken.{probe_result_of}
 use Rattle.server_history.specs.Served.{IsMaskOf}
 use Rattle.server_history.specs.Server.{SettledInvariant, ServerState, slots_at, state_of}
 use Rattle.server_history.specs.Turns.{ServesPort}
-use Rattle.port_events.specs.Looks.{LooksAt}
-use Rattle.port_events.specs.declared.PortEvent.TheVariants.{NoEvent}
+use Rattle.port_control.specs.Looks.{LooksAt}
+use Rattle.port_control.specs.declared.events.PortEvent.TheVariants.{NoEvent}
 use Rattle.block_server.specs.Seen.{seen}
 use Rattle.block_server.specs.View.{ServerView, server_of}
 use Rattle.block_server.proofs.Standing.{is_on, of_on}

@@ -1,7 +1,7 @@
 use Rattle.std.proofs.Common.{ℕ, ◌≡◌, ◌+◌, ◌*◌, ◌≤◌, ◌++◌, false, List, drop, length}
 use Rattle.adapter.specs.Counted.{MakesAtMost}
 use Rattle.block_server.specs.Costs.{port_error_accesses}
-use Rattle.port_events.specs.declared.PortError.TheVariants.{TimedOut}
+use Rattle.port_control.specs.declared.events.PortError.TheVariants.{TimedOut}
 use Rattle.host_boot.specs.Taken.{probe_result_of}
 use Rattle.ata_types.specs.declared.request.Reply.{Reply}
 use Rattle.ata_types.specs.declared.limits.TheConstants.{MOST_UNANSWERED}

@@ -1,0 +1,117 @@
+-- The first read may be issued.
+use Rattle.std.proofs.Common.{ℕ, List, length, ◌≡◌, ◌<◌, ◌+◌, ◌/◌, ◌^◌, Bool, true, false, not, [], ◌∷◌, Some, inl, refl, sym, ◌∙◌, ap, subst, lit<, arith, ⊎_elim}
+use Rattle.std.proofs.lemmas.Bool.{cases_eq}
+use Rattle.ata_types.specs.declared.Port.{Port}
+use Rattle.ata_types.specs.declared.refusal.Rule.TheVariants.{FrameCount}
+use Rattle.ata_types.specs.declared.request.Op.{Op}
+use Rattle.ata_types.specs.declared.request.Op.TheVariants.{Read}
+use Rattle.adapter.specs.Commands.{Meaning, is_queued, is_ranged}
+use Rattle.adapter.specs.FirstRead.{first_read}
+use Rattle.adapter.specs.Memory.{changed}
+use Rattle.adapter.specs.ReadDone.{read_of}
+use Rattle.adapter.specs.Decoding.{DecodesTo, piece_addresses}
+use Rattle.block_machine.specs.Confined.{WasAccepted}
+use Rattle.block_machine.specs.Due.{is_plain}
+use Rattle.block_machine.specs.Left.{IsLegal, IsStart, after}
+use Rattle.block_machine.specs.Rules.{frames_for}
+use Rattle.block_machine.specs.State.{Accepted, Machine, Pending}
+use Rattle.block_machine.specs.Steps.{Issue, May, Step}
+use Rattle.block_machine.specs.declared.due.QueueMode.{QueueMode}
+use Rattle.refinement.specs.Driver.{IsPrepared, idle}
+use Rattle.refinement.specs.Slots.{ArePlaces, op_of}
+use Rattle.refinement.specs.Witness.{PreparedIsKnown, prepared_read}
+use Rattle.commands.specs.Tasks.{IsFitTransfer}
+use Rattle.commands.specs.Witness.{FirstMayBeIssued}
+use Rattle.commands.specs.declared.ncq.Task.{Task}
+
+-- a request that was accepted has as many frames as it needs
+frames_fit : (start : Machine) (history : List Step) (r : Accepted) → WasAccepted start history r → length r.asked.frames.items ≡ frames_for r.asked.op r.asked.count
+frames_fit start [] r was = absurd was
+frames_fit start (step ∷ past) r was = ⊎_elim
+    (λ first. ⊎_elim (λ same. same) (λ other. absurd (first.1.unbroken FrameCount other)) (cases_eq (length r.asked.frames.items) (frames_for r.asked.op r.asked.count)))
+    (λ before. frames_fit start past r before)
+    was
+
+-- given what the laws say of the first read, and of requests that are issued
+module _ (known : PreparedIsKnown) (one : (memory : ℕ → ℕ) (list slot : ℕ) (m n : Meaning) (xs ys : List ℕ) → DecodesTo memory list slot m xs → DecodesTo memory list slot n ys → (m ≡ n) × (xs ≡ ys))
+    (says : DecodesTo first_read.memory 0 0 (read_of 100 8) (piece_addresses 0x64000 8))
+    (issued : (start : Machine) (history : List Step) (mode : QueueMode) (e : Pending) → IsStart start → IsLegal start history → May (after start history) (Issue mode e) → WasAccepted start history e.request) where
+  prepared : IsPrepared (idle prepared_read).uses known.machine prepared_read 0 0 known.mode known.request 1
+  prepared = known.prepared
+
+  abbrev request : Accepted
+  request = known.request.request
+
+  -- memory says the first read, so the request is that read
+  same : (prepared.command ≡ read_of 100 8) × (prepared.places ≡ piece_addresses 0x64000 8)
+  unfolding changed
+  same = one first_read.memory 0 0 prepared.command (read_of 100 8) prepared.places (piece_addresses 0x64000 8) prepared.told.says says
+
+  read_is : request.asked.op ≡ Read
+  read_is = some_read (sym prepared.means.op ∙ ap (λ (m : Meaning). op_of m.operation) same.0)
+    where
+      some_read : {op : Op} → Some op ≡ Some Read → op ≡ Read
+      some_read e = cc
+
+  first_is : request.asked.first.0 ≡ 100
+  first_is = sym (prepared.means.first (ap (λ (m : Meaning). is_ranged m.operation) same.0)) ∙ ap (λ (m : Meaning). m.first) same.0
+
+  count_is : request.asked.count ≡ 8
+  count_is = sym (subst (λ (op : Op). ArePlaces op 0 request prepared.places) read_is prepared.means.places_are).0 ∙ ap (λ (places : List ℕ). length places) same.1
+
+  number_is : length request.asked.frames.items ≡ (request.asked.count + 7) / 8
+  number_is =
+      frames_fit known.reached.first known.reached.past request
+      (issued known.reached.first known.reached.past known.mode known.request known.reached.starts known.reached.legal (subst (λ (m : Machine). May m (Issue known.mode known.request)) known.reached.is prepared.may))
+      ∙ ap (λ (op : Op). frames_for op request.asked.count) read_is
+
+  is_plain_read : is_plain known.mode request.asked.op ≡ true
+  is_plain_read = is_true (is_plain known.mode request.asked.op) (sym (ap (λ (m : Meaning). is_queued m.operation) same.0) ∙ prepared.kind)
+    where
+      is_true : (b : Bool) → false ≡ not b → b ≡ true
+      is_true true e = refl
+      is_true false e = absurd (let z : false ≡ true = e in cc)
+
+  abbrev transfer : Task
+  transfer = record { op = request.asked.op; range = record { first = request.asked.first; count = request.asked.count }; queued = false }
+
+  fits : IsFitTransfer transfer request.asked.frames.items
+  fits = record {
+    transfers = inl read_is;
+    some = let count = count_is in omega (arith, count);
+    few = let count = count_is in omega (arith, count);
+    first = subst (λ (n : ℕ). n < 2 ^ 48) (sym first_is) (omega arith);
+    number = number_is;
+  }
+
+  pub first_may_be_issued : FirstMayBeIssued
+  unfolding changed
+  first_may_be_issued = record {
+    on = record { ae = refl; no_reset = refl };
+    there = (lit< tt, refl);
+    room = omega arith;
+    may = record { started = refl; list = refl };
+    agreed = record {
+      machine = known.machine;
+      parked = λ port. [];
+      reached = known.reached;
+      knows = known.knows;
+    };
+    mode = known.mode;
+    request = known.request;
+    due = prepared.may;
+    transfer = transfer;
+    frames = request.asked.frames.items;
+    fits = fits;
+    plain = refl;
+    is = record {
+      port_is = ap (λ (n : ℕ). let port : Port = record { 0 = n } in port) prepared.port_is;
+      operation = refl;
+      first = refl;
+      count = refl;
+      frames_are = refl;
+      kind = sym (ap (λ (b : Bool). not b) is_plain_read);
+      usable = prepared.usable;
+      head = λ q. refl;
+    };
+  }

@@ -1,0 +1,16 @@
+use Rattle.commands.proofs.ProbeResult.{finds_done}
+use Rattle.commands.proofs.finding.law_reading_finds_done.Goals as goal
+
+pub returns : goal.returns
+returns c = finds_done (record {
+  access = c.law_acts_are_done.ensures.access;
+  on = c.law_adapter_stays.ensures.on;
+  controls = c.law_controls_stay.ensures;
+  ends = c.law_ended_is_clear.ensures.ends;
+  reached = c.law_going_composes.ensures.reached;
+  device = c.law_histories_go_on.ensures.device;
+  after_both = c.law_histories_go_on.ensures.after;
+  reading = c.law_reading_is_followed.ensures;
+  keeps = c.law_steps_keep.ensures;
+  kept = c.law_steps_spare_the_book.ensures.kept;
+})

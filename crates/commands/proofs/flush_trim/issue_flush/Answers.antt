@@ -1,0 +1,28 @@
+use Rattle.std.proofs.Common.{[], arith}
+use Rattle.ata_types.specs.declared.range.Range.{Range}
+use Rattle.commands.specs.PlainTasks.{flush_meaning}
+use Rattle.commands.proofs.Armed.{armed_flush, flush, flush_table}
+use Rattle.commands.proofs.flush_trim.issue_flush.Goals as goal
+
+-- no sectors: any range does
+abbrev nowhere : Range
+nowhere = record { first = record { 0 = 0 }; count = 0 }
+
+pub write-requires : goal.write-requires
+write-requires g c =
+    let q = c.requires in
+    let table = c.write_table.ensures in
+    (c.law_writing_issues.ensures c.args.port 0 (flush_meaning nowhere) [] _ _ _
+    (armed_flush c.args.port nowhere [] _ _ _ q.may.on q.may.there q.may.agreed q.may.may table.on c.bit_of-own.ensures table.followed (table.says flush [] (flush_table _ c.flush_command.ensures)))).0
+
+pub returns : goal.returns
+returns g c =
+    let q = c.requires in
+    let table = c.write_table.ensures in
+    record {
+      issued = λ range frames.
+          (c.law_writing_issues.ensures c.args.port 0 (flush_meaning range) frames _ _ _
+          (armed_flush c.args.port range frames _ _ _ q.may.on q.may.there q.may.agreed q.may.may table.on c.bit_of-own.ensures table.followed (table.says flush [] (flush_table _ c.flush_command.ensures)))).1 _
+          c.write.ensures.does;
+      cost = omega arith;
+    }

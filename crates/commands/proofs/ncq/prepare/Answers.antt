@@ -1,0 +1,47 @@
+use Rattle.std.proofs.Common.{◌≡◌, ap, ◌∙◌, arith, subst, sym}
+use Rattle.adapter.specs.Decoding.{pieces}
+use Rattle.adapter.specs.declared.command.Prd.{Prd}
+use Rattle.command_table.specs.Places.{places_of}
+use Rattle.command_table.specs.Written.{IsTableFor}
+use Rattle.std.specs.Prelude.{List}
+use Rattle.commands.specs.Tasks.{addresses_of, meaning_of}
+use Rattle.commands.proofs.Telling.{kind_of, never_trim, no_block, stored_for, table_says}
+use Rattle.commands.proofs.ncq.prepare.Goals as goal
+
+pub arm-requires-clause-there : goal.arm-requires-clause-there
+arm-requires-clause-there g c = (c.law_stores_leave_the_port.ensures c.args.port c.args.slot.0 _ _ c.requires.may.on c.requires.may.there c.requires.may.may c.write_table.ensures.followed).0
+
+pub arm-requires-clause-started : goal.arm-requires-clause-started
+arm-requires-clause-started g c = (c.law_stores_leave_the_port.ensures c.args.port c.args.slot.0 _ _ c.requires.may.on c.requires.may.there c.requires.may.may c.write_table.ensures.followed).1.started
+
+pub returns-clause-armed : goal.returns-clause-armed
+returns-clause-armed g c =
+    let q = c.requires in
+    let few = q.fits.few in
+    let places : pieces c.prds-prds.result.items ≡ places_of c.args.frames.now c.args.transfer.now.range.count =
+    c.prds-prds.ensures.places (omega arith) ∙ ap (places_of c.args.frames.now) (omega arith) in
+    let transfer = c.args.transfer.now in
+    let port = c.args.port.0 in
+    let slot = c.args.slot.0 in
+    let addresses = addresses_of port transfer.op transfer.range.count c.args.frames.now in
+    let table = table_says transfer c.args.frames.now port slot q.fits.transfers q.fits.some few q.fits.first c.command.result c.prds-prds.result.items c.command.ensures
+    (c.prds-prds.ensures.whole (omega arith)) places in
+    record {
+      on = q.may.on;
+      there = q.may.there;
+      small = q.slot;
+      usable = q.usable;
+      agreed = q.may.agreed;
+      may = q.may.may;
+      kind = kind_of transfer.queued transfer.op q.fits.transfers;
+      head = never_trim slot transfer.op q.fits.transfers;
+      mid = g.A.Adapter.device c.write_table.new.adapter;
+      mid_on = c.write_table.ensures.on;
+      stores = stored_for port slot _ _ transfer.op q.fits.transfers c.write_table.ensures.followed;
+      told =
+          let P : List Prd → Type 0 = λ es. IsTableFor slot c.command.result es (meaning_of transfer) addresses in
+          c.write_table.ensures.says (meaning_of transfer) addresses (subst P (sym c.as_slice.ensures.value) table);
+      block = no_block transfer.range port _ transfer.op q.fits.transfers;
+      alone = c.bit_of-own.ensures;
+      arms = c.arm.ensures.arms;
+    }

@@ -1,0 +1,7 @@
+pub mod Issuing
+pub mod Masks
+pub mod Tasks
+pub mod Witness
+pub mod Costs
+pub mod Block
+pub mod PlainTasks

@@ -1,0 +1,13 @@
+-- What a flush and a trim are to do (ACS-3).
+use Rattle.std.specs.Prelude.{false}
+use Rattle.ata_types.specs.declared.range.Range.{Range}
+use Rattle.ata_types.specs.declared.request.Op.TheVariants.{Trim, Flush}
+use Rattle.commands.specs.declared.ncq.Task.{Task}
+
+-- the disk's cache is written back, whatever range the request names
+abbrev pub flush_meaning : Range → Task
+flush_meaning range = record { op = Flush; range = range; queued = false }
+
+-- these sectors are forgotten
+abbrev pub trim_meaning : Range → Task
+trim_meaning range = record { op = Trim; range = range; queued = false }

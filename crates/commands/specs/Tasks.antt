@@ -1,0 +1,166 @@
+-- What the command of a slot is to do for a request, and how it is issued (AHCI 1.3.1, 3.3.13, 3.3.14 and 5.5; ACS-3:
+-- READ DMA EXT, WRITE DMA EXT, READ FPDMA QUEUED, WRITE FPDMA QUEUED, DATA SET MANAGEMENT with TRIM, FLUSH CACHE EXT).
+use Rattle.std.specs.Prelude.{ℕ, Bool, true, false, not, ◌≡◌, ◌⊎◌, ◌<◌, ◌≤◌, ◌+◌, ◌/◌, ◌^◌, ◌++◌, List, [], ◌∷◌, length, All}
+use Rattle.ata_types.specs.declared.Port.{Port}
+use Rattle.ata_types.specs.declared.range.Range.{Range}
+use Rattle.ata_types.specs.declared.request.Frame.{Frame}
+use Rattle.ata_types.specs.declared.request.Op.{Op}
+use Rattle.ata_types.specs.declared.request.Op.TheVariants.{Read, Write, Trim, Flush}
+use Rattle.ata_types.specs.declared.request.RequestId.{RequestId}
+use Rattle.ata_types.specs.declared.limits.TheConstants.{MOST_REQUEST_SECTORS}
+use Rattle.hba_regs.specs.declared.reg.Reg.TheVariants.{Px}
+use Rattle.hba_regs.specs.declared.reg.PortReg.TheVariants.{Ci, Sact}
+use Rattle.adapter.specs.Access.{Access, Writes}
+use Rattle.adapter.specs.Access.Access.{Writing, Storing}
+use Rattle.adapter.specs.Commands.{Meaning}
+use Rattle.adapter.specs.Device.{Device}
+use Rattle.adapter.specs.Memory.{bytes_at}
+use Rattle.adapter.specs.Trim.{consecutive, trim_sectors}
+use Rattle.adapter.specs.declared.command.Operation.{Operation}
+use Rattle.adapter.specs.declared.command.Operation.TheVariants as operation
+use Rattle.block_machine.specs.Due.{is_plain}
+use Rattle.block_machine.specs.Events.{AllDevices}
+use Rattle.block_machine.specs.State.{Pending, Machine}
+use Rattle.block_machine.specs.Steps.{Step, Issue, May}
+use Rattle.block_machine.specs.declared.due.QueueMode.{QueueMode}
+use Rattle.refinement.specs.Acts.{Act, InSlots, ComesWith, act_steps}
+use Rattle.refinement.specs.Driven.{IsBitOf, IsDrivenBy}
+use Rattle.refinement.specs.Places.{list_of, scratch_of}
+use Rattle.refinement.specs.Slots.{SlotState, Free, Armed, Serves, SlotStates, put}
+use Rattle.command_table.specs.Written.{IsStoreWithBlock, IsTableStore}
+use Rattle.command_table.specs.Places.{places_of}
+use Rattle.commands.specs.declared.ncq.Task.{Task}
+
+-- ---- tasks
+
+-- a request that moves its sectors to or from its frames
+abbrev pub IsTransfer : Op → Type 0
+IsTransfer op = (op ≡ Read) ⊎ (op ≡ Write)
+
+-- A read or a write of 1 to 1024 sectors, the first of them below 2^48, and the frames that they need, eight sectors to
+-- a frame.
+pub record IsFitTransfer (r : Task) (frames : List Frame) : Type 0 where
+  pub transfers : IsTransfer r.op
+  pub some : 1 ≤ r.range.count
+  pub few : r.range.count ≤ MOST_REQUEST_SECTORS
+  pub first : r.range.first.0 < 2 ^ 48
+  pub number : length frames ≡ (r.range.count + 7) / 8
+
+-- the command that does what a request asks, queued if it is to be
+abbrev pub task_operation : Bool → Op → Operation
+task_operation true Read = operation.ReadQueued
+task_operation false Read = operation.Read
+task_operation true Write = operation.WriteQueued
+task_operation false Write = operation.Write
+task_operation queued Trim = operation.Trim
+task_operation queued Flush = operation.Flush
+
+-- of a range, what the command's FIS says: a trim's sectors stand in its block, and a flush has none
+abbrev pub in_fis : Op → ℕ → ℕ
+in_fis Read n = n
+in_fis Write n = n
+in_fis Trim n = 0
+in_fis Flush n = 0
+
+-- what the task's command says
+abbrev pub meaning_of : Task → Meaning
+meaning_of r = record {
+  operation = task_operation r.queued r.op;
+  first = in_fis r.op r.range.first.0;
+  count = in_fis r.op
+      r.range.count;
+}
+
+-- The addresses that the slot's bytes say, on this port: a transfer's sectors are in its frames, and a trim's block is
+-- in the scratch frame.
+abbrev pub addresses_of : ℕ → Op → ℕ → List Frame → List ℕ
+addresses_of port Read count frames = places_of frames count
+addresses_of port Write count frames = places_of frames count
+addresses_of port Trim count frames = scratch_of port ∷ []
+addresses_of port Flush count frames = []
+
+-- a trim's block stands in the port's scratch frame, and names its sectors (ACS-3)
+abbrev pub HasBlockOf : Op → Range → ℕ → (ℕ → ℕ) → Type 0
+HasBlockOf Trim range port memory = trim_sectors (bytes_at memory (scratch_of port) 512) ≡ consecutive range.first.0
+    range.count
+HasBlockOf _ range port memory = Unit {0}
+
+-- The request is this task, on this port, and its mode asks for this kind of command. The slot is usable, and a plain
+-- one's is slot 0.
+pub record IsTaskOf (port : Port) (slot : ℕ) (r : Task) (frames : List Frame) (mode : QueueMode)
+    (e : Pending) : Type 0 where
+  pub port_is : e.request.port ≡ port
+  pub operation : e.request.asked.op ≡ r.op
+  pub first : e.request.asked.first ≡ r.range.first
+  pub count : e.request.asked.count ≡ r.range.count
+  pub frames_are : e.request.asked.frames.items ≡ frames
+  pub kind : r.queued ≡ not (is_plain mode r.op)
+  pub usable : slot < mode.usable
+  pub head : r.queued ≡ false → slot ≡ 0
+
+-- ---- issuing
+
+-- the port runs, with its command list in its place
+pub record RunsItsList (port : ℕ) (d : Device) : Type 0 where
+  pub started : (d.port port).st ≡ true
+  pub list : (d.port port).bases.clb ≡ list_of port
+
+-- what is stored for a task: the slot's header and table, and a trim's block
+abbrev pub IsStoreFor : Op → ℕ → ℕ → Access → Type 0
+IsStoreFor Trim port slot access = IsStoreWithBlock port slot access
+IsStoreFor _ port slot access = IsTableStore port slot access
+
+-- It stores the slot's header or table, or a block, or writes PxSACT or PxCI with the slot's bit alone.
+abbrev pub IsIssuing : Port → ℕ → Access → Type 0
+IsIssuing port slot (Writing r v) = ((r ≡ Px port Sact) ⊎ (r ≡ Px port Ci)) × IsBitOf slot v
+IsIssuing port slot (Storing at bytes) = IsStoreWithBlock port.0 slot (Storing at bytes)
+IsIssuing port slot access = ⊥
+
+-- What stands behind the stores: for a queued command PxSACT is written before PxCI (AHCI 1.3.1, 5.5.1).
+abbrev pub writes_of : Port → Bool → ℕ → List Access
+writes_of port true v = Writing (Px port Sact) v ∷ Writing (Px port Ci) v ∷ []
+writes_of port false v = Writing (Px port Ci) v ∷ []
+
+-- PxSACT was written, for a queued command; for a plain one nothing was done
+abbrev pub Arms : Bool → Port → ℕ → Device → Device → Type 0
+Arms true port v old new = Writes (Px port Sact) v old new
+Arms false port v old new = new ≡ old
+
+-- Stores of what the slot's command needs come first, and then the writes of the slot's bit.
+pub record StoresThenWrites (port : Port) (slot : ℕ) (r : Task) (accesses : List Access) : Type 0 where
+  pub stores : List Access
+  pub only : All (IsStoreFor r.op port.0 slot) stores
+  pub own : ℕ
+  pub alone : IsBitOf slot own
+  pub order : accesses ≡ stores ++ writes_of port r.queued own
+
+-- the slot is free, and the request is due
+abbrev pub MayServe : Port → ℕ → QueueMode → Pending → InSlots → Machine → Type 0
+MayServe port slot mode e s m = (s.uses port.0 slot ≡ Free) × May m (Issue mode e)
+
+-- the slot serves the request
+abbrev pub with_serving : Port → ℕ → RequestId → InSlots → InSlots
+with_serving port slot id s = record s { uses = put s.uses port.0 slot (Serves id) }
+
+-- on its way from being free to serving this request
+abbrev pub IsOnItsWay : RequestId → SlotState → Type 0
+IsOnItsWay id u = (u ≡ Free) ⊎ ((u ≡ Armed) ⊎ (u ≡ Serves id))
+
+-- The device makes steps, and last of all the request is issued. The slot is put to no other use meanwhile, and each
+-- other one is used after each act as before the first.
+pub record IssuesAtEnd (port : Port) (slot : ℕ) (mode : QueueMode) (e : Pending) (uses : SlotStates)
+    (acts : List Act) : Type 0 where
+  pub before : List Step
+  pub device : AllDevices before
+  pub last : act_steps acts ≡ Issue mode e ∷ before
+  pub own : All (λ act. IsOnItsWay e.request.id (act.later.uses port.0 slot)) acts
+  pub others : (q k : ℕ) → (q ≡ port.0 → k ≡ slot → ⊥) → All (λ act. act.later.uses q k ≡ uses q k) acts
+
+-- Such accesses led there, in this order. And from each machine that agrees with the slot free, and on which a request
+-- that is this task is due, acts with these accesses lead to one that agrees with a driver whose slot serves it.
+pub record IssuesTask (port : Port) (slot : ℕ) (r : Task) (frames : List Frame) (old new : Device) : Type 0 where
+  pub driven : IsDrivenBy (IsIssuing port slot) old new
+  pub order : StoresThenWrites port slot r driven.accesses
+  pub comes : (mode : QueueMode) (e : Pending) → IsTaskOf port slot r frames mode e
+      → ComesWith driven.accesses (MayServe port slot mode e) (with_serving port slot e.request.id)
+      (λ s m. IssuesAtEnd port slot mode e s.uses) old new

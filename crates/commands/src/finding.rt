@@ -1,0 +1,34 @@
+// A law of commands that are found done, for this crate's own use: the clause is the theorem. Nothing comes of calling
+// it.
+ghost use Rattle.std.specs.Prelude.{ℕ};
+ghost use Rattle.ata_types.specs.declared.Port.{Port};
+ghost use Rattle.hba_regs.specs.declared.reg.Reg.TheVariants.{Px};
+ghost use Rattle.hba_regs.specs.declared.reg.PortReg.TheVariants.{Ci, Sact};
+ghost use Rattle.adapter.specs.Access.{Reads};
+ghost use Rattle.adapter.specs.Device.{Device};
+ghost use Rattle.adapter.specs.Rules.{IsOn};
+ghost use Rattle.commands.specs.Masks.{AreClear, ReadsDone, SeesClear};
+
+use adapter::laws::law_steps_keep;
+use refinement::acts::law_acts_are_done;
+use refinement::facts::{law_adapter_stays, law_controls_stay, law_ended_is_clear};
+use refinement::laws::{
+    law_going_composes, law_histories_go_on, law_reading_is_followed, law_steps_spare_the_book,
+};
+
+/// PxCI and then PxSACT are read: they tell what is done.
+pub fn law_reading_finds_done()
+    ensures { (port : Port) (mask done issued active : ℕ) (old mid new : Device) → IsOn old
+        → Reads (Px port Ci) issued old mid → Reads (Px port Sact) active mid new → AreClear mask issued active done
+        → ReadsDone port mask done old new × SeesClear port mask done old }
+{
+    law_acts_are_done();
+    law_adapter_stays();
+    law_controls_stay();
+    law_ended_is_clear();
+    law_going_composes();
+    law_histories_go_on();
+    law_reading_is_followed();
+    law_steps_keep();
+    law_steps_spare_the_book();
+}

@@ -1,0 +1,173 @@
+//! Issues reads and writes in any slot of a port, and finds out which are done.
+//!
+//! (Native command queuing, or plain commands; AHCI 1.3.1, 5.5; ACS-3.) Each call is of one port,
+//! whatever the others do. The contract on issuing is of a `Task`, which may be a trim or a flush
+//! as well. Clear bits tell that a request has ended only while ST is one, since clearing ST clears
+//! them, too. What issuing leaves of the port beside its slot follows from the kinds of its
+//! accesses, by laws of `refinement`. It knows no client and no book.
+ghost use Rattle.std.specs.Prelude.{◌≡◌, ◌≤◌, ◌<◌, ◌*◌, ◌/◌, ◌%◌, true, false};
+ghost use Rattle.adapter.specs.Commands.{command_of};
+ghost use Rattle.adapter.specs.Rules.{IsOn, HasPort};
+ghost use Rattle.refinement.specs.Driven.{IsBitOf};
+ghost use Rattle.hba_regs.specs.declared.reg.PortReg.TheVariants.{Ci, Sact};
+ghost use Rattle.hba_regs.specs.declared.reg.Reg.TheVariants.{Px};
+ghost use Rattle.commands.specs.Issuing.{IsArmedFor, IsIssued, MayIssueTask};
+ghost use Rattle.commands.specs.Masks.{AreClear, ReadsDone, SeesClear};
+ghost use Rattle.commands.specs.Tasks.{Arms, IsFitTransfer, IsTransfer, task_operation};
+ghost use Rattle.adapter.specs.Counted.{MakesAtMost};
+ghost use Rattle.commands.specs.Costs.{ARM_ACCESSES, DONE_ACCESSES, ISSUE_ACCESSES};
+
+use crate::finding::law_reading_finds_done;
+use crate::issuing::law_stores_leave_the_port;
+use crate::laws::law_writing_issues;
+use adapter::{Adapter, Command};
+use ata_types::{
+    DRIVER_BYTES, Frame, MOST_REQUEST_SECTORS, Op, Port, READ_DMA_EXT, READ_FPDMA_QUEUED, Range,
+    Slot, WRITE_DMA_EXT, WRITE_FPDMA_QUEUED,
+};
+use command_table::{prds, write_table};
+use hba_regs::{PortReg, Reg, with_bit};
+use refinement::facts::law_adapter_stays;
+use refinement::laws::law_writing_is_permitted;
+
+/// Where a queued command has its tag, which is its slot: bits 7:3 of the count field (ACS-3).
+const TAG_FACTOR: u16 = 8;
+
+/// The device field of a command with a 48-bit address (ACS-3).
+const LBA: u8 = 0x40;
+
+const SECTOR_BYTES: u32 = 512;
+
+/// What the command of a slot is to do.
+#[derive(Clone, Copy, Debug, PartialEq, Eq)]
+pub struct Task {
+    pub op: Op,
+    /// Of a transfer, 1 to 1024 sectors, the first of them below 2^48.
+    pub range: Range,
+    /// Whether its command is queued: that of a transfer may be.
+    pub queued: bool,
+}
+
+/// The command of a transfer in a slot (ACS-3): of a queued one, the features field has the sectors, and the count
+/// field the tag.
+fn command(transfer: &Task, slot: Slot) -> Command
+    requires transfers { IsTransfer transfer.now.op }
+    requires few { transfer.now.range.count ≤ MOST_REQUEST_SECTORS }
+    requires slot { slot.0 < 32 }
+    ensures { result ≡ command_of (task_operation transfer.now.queued transfer.now.op) slot.0 transfer.now.range.first.0
+        transfer.now.range.count }
+{
+    let sectors = transfer.range.count as u16;
+    let reads = transfer.op == Op::Read;
+    let code = match (reads, transfer.queued) {
+        (true, true) => READ_FPDMA_QUEUED,
+        (true, false) => READ_DMA_EXT,
+        (false, true) => WRITE_FPDMA_QUEUED,
+        (false, false) => WRITE_DMA_EXT,
+    };
+    let (features, count) = if transfer.queued {
+        (sectors, TAG_FACTOR * u16::from(slot.0))
+    } else {
+        (0, sectors)
+    };
+    Command {
+        code,
+        features,
+        count,
+        lba: transfer.range.first.0,
+        device: LBA,
+    }
+}
+
+/// The slot's bit of PxCI and PxSACT, alone.
+pub fn bit_of(slot: Slot) -> u32
+    requires { slot.0 < 32 }
+    ensures { IsBitOf slot.0 result }
+{
+    with_bit(0, u32::from(slot.0))
+}
+
+/// Sets the slot's bit of PxSACT for a queued command; nothing is done for a plain one.
+fn arm<A: Adapter>(adapter: &mut A, port: Port, own: u32, queued: bool)
+    requires on { IsOn (A.device adapter.old) }
+    requires there { HasPort (A.device adapter.old) port.0 }
+    requires started { ((A.device adapter.old).port port.0).st ≡ true }
+    ensures arms { Arms queued port own (A.device adapter.old) (A.device adapter.new) }
+    ensures cost { MakesAtMost 1 (A.access_count adapter.old) (A.access_count adapter.new) }
+{
+    law_writing_is_permitted();
+    if queued {
+        adapter.write(Reg::Px(port, PortReg::Sact), own);
+    }
+}
+
+/// Stores header and table of the slot, so that they say the transfer, and arms the slot. The slot's bit, alone, is the
+/// result.
+fn prepare<A: Adapter>(
+    adapter: &mut A,
+    port: Port,
+    slot: Slot,
+    transfer: &Task,
+    frames: &[Frame],
+) -> u32
+    requires may { MayIssueTask port slot.0 (A.device adapter.old) }
+    requires slot { slot.0 < 32 }
+    requires usable { slot.0 ≤ (A.device adapter.old).cap / 256 % 32 }
+    requires fits { IsFitTransfer transfer.now frames.now }
+    ensures armed { IsArmedFor port slot.0 transfer.now frames.now result (A.device adapter.old)
+        (A.device adapter.new) }
+    ensures cost { MakesAtMost ARM_ACCESSES (A.access_count adapter.old) (A.access_count adapter.new) }
+{
+    let prds = prds(frames, SECTOR_BYTES * transfer.range.count);
+    write_table(
+        adapter,
+        port,
+        slot,
+        &command(transfer, slot),
+        prds.as_slice(),
+    );
+    let own = bit_of(slot);
+    law_stores_leave_the_port();
+    arm(adapter, port, own, transfer.queued);
+    own
+}
+
+/// Issues a transfer, eight sectors to a frame, in an unused slot of a port that runs: a queued one as READ or WRITE
+/// FPDMA QUEUED, for which the slot's bit of PxSACT is set first, and a plain one as READ or WRITE DMA EXT.
+pub fn issue<A: Adapter>(adapter: &mut A, port: Port, slot: Slot, transfer: &Task, frames: &[Frame])
+    requires may { MayIssueTask port slot.0 (A.device adapter.old) }
+    requires slot { slot.0 < 32 }
+    requires usable { slot.0 ≤ (A.device adapter.old).cap / 256 % 32 }
+    requires fits { IsFitTransfer transfer.now frames.now }
+    ensures issued { IsIssued port slot.0 transfer.now frames.now (A.device adapter.old) (A.device adapter.new) }
+    ensures cost { MakesAtMost ISSUE_ACCESSES (A.access_count adapter.old) (A.access_count adapter.new) }
+{
+    let own = prepare(adapter, port, slot, transfer, frames);
+    law_writing_issues();
+    adapter.write(Reg::Px(port, PortReg::Ci), own);
+}
+
+/// The bits of the mask that are clear in both of the others.
+fn clear_in_both(mask: u32, issued: u32, active: u32) -> u32
+    ensures { AreClear mask issued active result }
+{
+    mask & !(issued | active)
+}
+
+/// The slots of the mask whose bits are clear in both PxCI and PxSACT, which are read in this order, once each; where
+/// one has a command, that is done. Bit k is slot k. While ST is one, the device alone clears these bits; a queued
+/// command leaves PxCI when it is taken, and PxSACT when it ends.
+pub fn done<A: Adapter>(adapter: &mut A, port: Port, mask: u32) -> u32
+    requires on { IsOn (A.device adapter.old) }
+    requires there { HasPort (A.device adapter.old) port.0 }
+    ensures on { IsOn (A.device adapter.new) }
+    ensures finds { ReadsDone port mask result (A.device adapter.old) (A.device adapter.new) }
+    ensures seen { SeesClear port mask result (A.device adapter.old) }
+    ensures cost { MakesAtMost DONE_ACCESSES (A.access_count adapter.old) (A.access_count adapter.new) }
+{
+    law_adapter_stays();
+    law_reading_finds_done();
+    let issued = adapter.read(Reg::Px(port, PortReg::Ci));
+    let active = adapter.read(Reg::Px(port, PortReg::Sact));
+    clear_in_both(mask, issued, active)
+}

@@ -1,5 +1,0 @@
-pub mod Issuing
-pub mod Masks
-pub mod Tasks
-pub mod Witness
-pub mod Costs

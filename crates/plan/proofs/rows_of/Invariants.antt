@@ -1,6 +1,0 @@
-use Rattle.std.proofs.Common.{◌≡◌, map, take}
-use Rattle.plan.specs.Parts.{row_of}
-use Rattle.plan.proofs.rows_of.Given as goal
-
-abbrev pub invariant-loop-grant : goal.invariant-loop-grant
-invariant-loop-grant l = l.rows.items ≡ map row_of (take l.grant-index l.grants)

@@ -1,6 +1,0 @@
-use Rattle.std.proofs.Common.{◌≡◌, map, take}
-use Rattle.plan.specs.Parts.{owner_extent}
-use Rattle.plan.proofs.runs_of.Given as goal
-
-abbrev pub invariant-loop-client : goal.invariant-loop-client
-invariant-loop-client l = l.runs.items ≡ map owner_extent (take l.client-index l.clients)

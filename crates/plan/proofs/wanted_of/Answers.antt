@@ -1,6 +1,0 @@
-use Rattle.plan.proofs.Wants.{four}
-use Rattle.plan.specs.Parts.{IsWantedIn}
-use Rattle.plan.proofs.wanted_of.Goals as goal
-
-pub returns : goal.returns
-returns c = four (IsWantedIn c.args.ports.now) _ _ _ _ c.wanted_in.ensures c.wanted_in-2.ensures c.wanted_in-3.ensures c.wanted_in-4.ensures

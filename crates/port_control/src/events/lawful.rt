@@ -1,0 +1,59 @@
+// What laws of the crates below say of the accesses of looks, for their proofs and those above. Nothing comes of
+// calling it.
+ghost use Rattle.port_control.specs.LookLaws.{Laws, Fragment, fits_of, may_of};
+
+use adapter::laws::{law_port_registers_are_accessed, law_steps_compose, law_steps_keep};
+use refinement::disks::law_look_tells;
+use refinement::facts::{
+    law_adapter_stays, law_cleared_stays, law_controls_stay, law_errors_are_kept,
+    law_errors_are_shown, law_fault_is_found, law_faults_are_recorded, law_healthy_stays,
+    law_link_stays, law_loads_and_stores_leave_ports, law_notes_are_set, law_notes_stay,
+    law_plugging_is_found, law_running_well_is_found, law_trouble_is_shown,
+};
+use refinement::fragments::{law_other_ports_are_left, law_tapes};
+use refinement::kinds::{Kinds, law_fragments};
+use refinement::laws::{
+    law_acknowledging_is_permitted, law_clear_bits_stay, law_writing_is_permitted,
+};
+
+/// The kinds of accesses of looks.
+enum Looks {}
+
+impl Kinds for Looks {
+    ghost Kind = { Fragment };
+
+    ghost may = { may_of };
+
+    ghost fits = { fits_of };
+}
+
+/// The laws that the proofs on looks rest on.
+pub fn law_base()
+    ensures { Laws }
+{
+    law_port_registers_are_accessed();
+    law_steps_compose();
+    law_steps_keep();
+    law_look_tells();
+    law_adapter_stays();
+    law_cleared_stays();
+    law_controls_stay();
+    law_errors_are_kept();
+    law_errors_are_shown();
+    law_fault_is_found();
+    law_faults_are_recorded();
+    law_healthy_stays();
+    law_link_stays();
+    law_loads_and_stores_leave_ports();
+    law_notes_are_set();
+    law_notes_stay();
+    law_plugging_is_found();
+    law_running_well_is_found();
+    law_trouble_is_shown();
+    law_fragments::<Looks>();
+    law_acknowledging_is_permitted();
+    law_clear_bits_stay();
+    law_writing_is_permitted();
+    law_other_ports_are_left();
+    law_tapes();
+}

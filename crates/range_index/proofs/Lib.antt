@@ -1,3 +1,0 @@
-mod Editing
-mod Ends
-mod Sorting

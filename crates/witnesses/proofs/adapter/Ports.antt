@@ -1,0 +1,280 @@
+-- The adapter that the runs begin with, and what makes accesses allowed and commands safe there.
+use Rattle.std.proofs.Common.{ℕ, zero, suc, ◌≡◌, ◌≢◌, ◌<◌, ◌≤◌, ◌+◌, ◌*◌, ◌/◌, ◌%◌, ◌^◌, ◌&&◌, ◌||◌, Bool, true, false, List, [], ◌∷◌, ◌++◌, Some, None, length, nat_eq, ne_eqb, ◌==◌, subst, inl, inr, arith, refl, sym, ap, ◌∙◌}
+use Rattle.std.proofs.lemmas.Bool.{eqb-true}
+use Rattle.std.proofs.lemmas.Bool.Decides.{eqb_tells, nat_tests}
+use Rattle.std.proofs.lemmas.List.{length-replicate}
+use Rattle.std.proofs.lemmas.List.Elements.{All-replicate}
+use Rattle.std.proofs.lemmas.Nat.Bits.{bit_at-pow_other}
+use Rattle.std.specs.Int.{bit_at}
+use Rattle.hba_regs.specs.Bits.{bit}
+use Rattle.hba_regs.specs.declared.reg.Reg.TheVariants.{Ghc, Px}
+use Rattle.adapter.specs.Access.Access.{Reading, Writing}
+use Rattle.adapter.specs.Steps.DeviceTransition.{Fall, LinkUp, Unplug}
+use Rattle.witnesses.specs.Runs.AccessOrStep.{Made, Came}
+use Rattle.adapter.specs.Commands.{Meaning, is_queued}
+use Rattle.adapter.specs.Device.{Disk, IsDisk, IsSector, TellsItsSectors, DevicePort, Device}
+use Rattle.adapter.specs.FirstRead.{first_disk, no_disk, quiet_port, first_read_sector}
+use Rattle.adapter.specs.Guarded.{IsGuardedSlot, IsGuardedPort, Passing}
+use Rattle.adapter.specs.Idle.{IsIdle, IsIdlePort, IsSane}
+use Rattle.adapter.specs.Memory.{changed}
+use Rattle.adapter.specs.Rules.{IsProgrammed, MayCommand, MayIssue}
+use Rattle.adapter.specs.Decoding.{DecodesTo}
+use Rattle.witnesses.specs.Runs.{AccessOrStep, IsAsReset, IsReachableByRun, IsSafe, MayAllCome, run, after_event}
+use Rattle.witnesses.proofs.adapter.Scene.{memory, memory_bytes}
+use Rattle.witnesses.proofs.adapter.Sets.{Range, is_in, covers, spares, spares_all, covered, spared, avoided, both, true-false}
+
+-- ---- the adapter
+
+-- a port with a disk, as after a reset
+abbrev pub disk_port : DevicePort
+disk_port = record quiet_port { disk = first_disk; plugged = first_disk ∷ []; present = true }
+
+-- Ports 0 and 1 have a disk; the memory has the commands.
+abbrev pub first : Device
+first = record {
+  telling = true;
+  size = 4096 * 256;
+  memory = memory;
+  cap = 0x1f03;
+  pi = 0x0f;
+  hr = false;
+  ae = false;
+  ie = false;
+  port = changed (changed (λ _. quiet_port) 0 disk_port) 1 disk_port;
+  tape = [];
+}
+
+pub at_each : (P : DevicePort → Type 0) → P disk_port → P quiet_port → (q : ℕ) → P (first.port q)
+unfolding changed
+at_each P with_disk without q =
+    elim (eqb_tells q 1) [
+      | inl one ↦ rw one.0 with_disk
+      | inr more ↦ rw more.0 (elim (eqb_tells q 0) [ inl none ↦ rw none.0 with_disk | inr some ↦ rw some.0 without ])
+    ]
+
+pub first_idle : IsIdle first
+first_idle = record {
+  no_reset = refl;
+  port = at_each IsIdlePort
+      (record { st = refl; cr = refl; fre = refl; fr = refl; ci = λ _. refl; sact = λ _. refl; taken = λ _. refl })
+      (record { st = refl; cr = refl; fre = refl; fr = refl; ci = λ _. refl; sact = λ _. refl; taken = λ _. refl });
+}
+
+-- ---- runs go on
+
+run_append : (xs ys : List AccessOrStep) (d : Device) → run ys (run xs d) ≡ run (xs ++ ys) d
+run_append [] ys d = refl
+run_append (x ∷ xs) ys d = run_append xs ys (after_event x d)
+
+may_append : (xs ys : List AccessOrStep) (d : Device) → MayAllCome xs d → MayAllCome ys (run xs d) → MayAllCome (xs ++ ys) d
+may_append [] ys d h more = more
+may_append (x ∷ xs) ys d h more = (h.0, may_append xs ys (after_event x d) h.1 more)
+
+pub reached_more : {d : Device} → IsReachableByRun d → (events : List AccessOrStep) → MayAllCome events d → IsReachableByRun (run events d)
+reached_more {d} r events may = record {
+  first = r.first;
+  idle = r.idle;
+  off = r.off;
+  reset = r.reset;
+  sane = r.sane;
+  events = r.events ++ events;
+  may = may_append r.events events r.first r.may (let P : Device → Type 0 = λ e. MayAllCome events e in subst P r.is may);
+  is = ap (λ (e : Device). run events e) r.is ∙ run_append r.events events r.first;
+}
+
+-- an event of this port, or one that leaves all ports
+unfoldable pub is_of : ℕ → AccessOrStep → Bool
+is_of p (Made (Reading (Px port r) v)) = nat_eq port.0 p
+is_of p (Made (Writing (Px port r) v)) = nat_eq port.0 p
+is_of p (Made (Writing Ghc v)) = true
+is_of p (Came (LinkUp q sig n)) = nat_eq q p
+is_of p (Came (Fall q)) = nat_eq q p
+is_of p (Came (Unplug q)) = nat_eq q p
+is_of p _ = false
+
+unfoldable pub are_of : ℕ → List AccessOrStep → Bool
+are_of p [] = true
+are_of p (event ∷ events) = is_of p event && are_of p events
+
+changed_elsewhere : (f : ℕ → DevicePort) (place p q : ℕ) (new : DevicePort) → nat_eq place p ≡ true → q ≢ p → changed f place new q ≡ f q
+unfolding changed
+changed_elsewhere f place p q new here other =
+    let same : place ≡ p = eqb-true place p here in
+    let ne : q ≢ place = (λ e. other (e ∙ same)) in
+    rw (ne_eqb q place ne) refl
+
+event_elsewhere : (p : ℕ) (event : AccessOrStep) (d : Device) → is_of p event ≡ true → (q : ℕ) → q ≢ p → (after_event event d).port q ≡ d.port q
+unfolding is_of
+event_elsewhere p (Made (Reading (Px port r) v)) d h q other = changed_elsewhere d.port port.0 p q _ h other
+event_elsewhere p (Made (Writing (Px port r) v)) d h q other = changed_elsewhere d.port port.0 p q _ h other
+event_elsewhere p (Made (Writing Ghc v)) d h q other = refl
+event_elsewhere p (Came (LinkUp port sig n)) d h q other = changed_elsewhere d.port port p q _ h other
+event_elsewhere p (Came (Fall port)) d h q other = changed_elsewhere d.port port p q _ h other
+event_elsewhere p (Came (Unplug port)) d h q other = changed_elsewhere d.port port p q _ h other
+event_elsewhere p _ d h q other = absurd (true-false h refl)
+
+-- the events of one port leave the others
+pub run_elsewhere : (p : ℕ) (events : List AccessOrStep) (d : Device) → are_of p events ≡ true → (q : ℕ) → q ≢ p → (run events d).port q ≡ d.port q
+unfolding are_of
+run_elsewhere p [] d h q other = refl
+run_elsewhere p (event ∷ events) d h q other =
+    run_elsewhere p events (after_event event d) (both _ _ h).1 q other ∙ event_elsewhere p event d (both _ _ h).0 q other
+
+-- ---- what is allowed
+
+-- two values have the same bits below a place, but for bits 0 and 4
+unfoldable pub same_others : ℕ → ℕ → ℕ → Bool
+same_others v w zero = true
+same_others v w (suc n) = (nat_eq n 0 || nat_eq n 4 || nat_eq (bit_at v n) (bit_at w n)) && same_others v w n
+
+same_here : (v w n place : ℕ) → place ≡ n → nat_eq n 0 || nat_eq n 4 || nat_eq (bit_at v n) (bit_at w n) ≡ true → place ≢ 0 → place ≢ 4 → bit v place ≡ bit w place
+same_here v w n place here h no_st no_fre =
+    let same : bit_at v n ≡ bit_at w n = grind (arith, nat_tests) in
+    ap (λ (k : ℕ). bit v k) here ∙ (ap (λ (b : ℕ). b == 1) same ∙ ap (λ (k : ℕ). bit w k) (sym here))
+
+others_below : (v w n : ℕ) → same_others v w n ≡ true → (place : ℕ) → place < n → place ≢ 0 → place ≢ 4 → bit v place ≡ bit w place
+unfolding same_others
+others_below v w zero h place less no_st no_fre = absurd (omega (arith, less))
+others_below v w (suc n) h place less no_st no_fre =
+    elim (eqb_tells place n) [
+      | inl here ↦ same_here v w n place here.1 (both _ _ h).0 no_st no_fre
+      | inr other ↦ others_below v w n (both _ _ h).1 place (omega (arith, less, other.1)) no_st no_fre
+    ]
+
+-- a command register's value that changes ST and FRE alone
+pub others_are : (v w : ℕ) → same_others v w 32 ≡ true → (place : ℕ) → place < 32 → place ≢ 0 → place ≢ 4 → bit v place ≡ bit w place
+others_are v w h = others_below v w 32 h
+
+-- a power of two has one bit
+pub no_bit : (n k : ℕ) → k ≢ n → bit (2 ^ n) k ≡ false
+no_bit n k other = ap (λ (b : ℕ). b == 1) (bit_at-pow_other n k other)
+
+one_bit : (n k : ℕ) → bit (2 ^ n) k ≡ true → k ≡ n
+one_bit n k set = elim (eqb_tells k n) [ inl same ↦ same.1 | inr other ↦ absurd (true-false set (no_bit n k other.1)) ]
+
+-- PxCMD: FRE is set; ST is set beside it
+pub may_receive : (p : DevicePort) → p.fr ≡ false → p.bases.fb_set ≡ true → p.bases.fbu_set ≡ true → same_others 0x10 p.notes.last_cmd 32 ≡ true → MayCommand p 0x10
+may_receive p fallen fb fbu same = record {
+  start = λ h. absurd (true-false h refl);
+  receive = λ _. inr (record { fallen = fallen; fb = fb; fbu = fbu });
+  stop_receiving = λ h. absurd (true-false refl h);
+  others = others_are 0x10 p.notes.last_cmd same;
+}
+
+pub may_start : (p : DevicePort) → p.cr ≡ false → p.fre ≡ true → IsProgrammed p → p.notes.last_ssts % 16 ≡ 3
+    → bit p.notes.last_tfd 7 || bit p.notes.last_tfd 3 ≡ false → same_others 0x11 p.notes.last_cmd 32 ≡ true → MayCommand p 0x11
+may_start p fallen receives programmed link not_busy same = record {
+  start = λ _. inr (record { fallen = fallen; receives = receives; programmed = programmed; link = link; not_busy = not_busy });
+  receive = λ _. inl receives;
+  stop_receiving = λ h. absurd (true-false refl h);
+  others = others_are 0x11 p.notes.last_cmd same;
+}
+
+-- one slot is issued, by its own bit
+pub issue_allowed : (d : Device) (p : DevicePort) (k : ℕ) → p.st ≡ true → k ≤ d.cap / 256 % 32 → p.ci k ≡ false → p.taken k ≡ None
+    → (m : Meaning) (places : List ℕ) → DecodesTo d.memory p.bases.clb k m places
+    → ((n : Meaning) (more : List ℕ) → DecodesTo d.memory p.bases.clb k n more → is_queued n.operation ≡ true → p.sact k ≡ true)
+    → MayIssue d p (2 ^ k)
+issue_allowed d p k running usable free none m places says armed = record {
+  running = running;
+  usable = λ slot set. rw (one_bit k slot set) usable;
+  free = λ slot set. (ap p.ci (one_bit k slot set) ∙ free, ap p.taken (one_bit k slot set) ∙ none);
+  says = λ slot set. (m, places, (let P : ℕ → Type 0 = λ s. DecodesTo d.memory p.bases.clb s m places in subst P (sym (one_bit k slot set)) says));
+  queued = λ slot n more set said. (let P : ℕ → Type 0 = λ s. DecodesTo d.memory p.bases.clb s n more → is_queued n.operation ≡ true → p.sact s ≡ true in
+      subst P (sym (one_bit k slot set)) (armed n more) said);
+}
+
+-- ---- sectors and bytes
+
+pub told_bytes : (k : ℕ) → k < 256 → IsSector (first_read_sector k)
+unfolding first_read_sector
+told_bytes k small = (length-replicate 512 k, All-replicate (λ b. b < 256) 512 k small)
+
+is_disk : (disk : Disk) (told : ℕ → List ℕ) → disk.sectors ≡ Some told → ((k : ℕ) → k < disk.size → IsSector (told k)) → IsDisk disk
+is_disk disk told is each = λ other other_is k small.
+    let same : Some told ≡ Some other = sym is ∙ other_is in
+    let P : (ℕ → List ℕ) → Type 0 = λ f. IsSector (f k) in
+    subst P (let e : told ≡ other = (cc) in e) (each k small)
+
+pub disk_is : IsDisk first_disk
+disk_is = is_disk first_disk first_read_sector refl (λ k small. told_bytes k small)
+
+none_is : IsDisk no_disk
+none_is = is_disk no_disk (λ k. []) refl (λ k small. absurd (omega (arith, small)))
+
+pub first_sane : IsSane first
+first_sane = record {
+  bytes = memory_bytes;
+  disk = at_each (λ p. IsDisk p.disk) disk_is none_is;
+  told = λ _. at_each (λ p. TellsItsSectors p.disk) (first_read_sector, refl) (λ k. [], refl);
+}
+
+first_reset : (q : ℕ) → IsAsReset (first.port q)
+first_reset = at_each IsAsReset
+    (record { bases = refl; control = refl; link = refl; due = refl; fresh = refl; halt = refl; broken = refl; notes = refl })
+    (record { bases = refl; control = refl; link = refl; due = refl; fresh = refl; halt = refl; broken = refl; notes = refl })
+
+pub first_reached : IsReachableByRun first
+first_reached = record { first = first; idle = first_idle; off = refl; reset = first_reset; sane = first_sane; events = []; may = tt; is = refl }
+
+-- ---- what is safe
+
+pub slot_guarded : (rs : List Range) (mem : ℕ → ℕ) (list slot : ℕ) (m : Meaning) (places : List ℕ) (s : DecodesTo mem list slot m places) (table : ℕ)
+    → (s.table ≡ table) × (length s.prds ≡ 1)
+    → covers rs (list + 32 * slot) (list + 32 * slot + 4) ≡ true → covers rs (list + 32 * slot + 8) (list + 32 * slot + 32) ≡ true
+    → covers rs table (table + 144) ≡ true → spares rs (list + 32 * slot + 4) (list + 32 * slot + 8) ≡ true → spares_all rs places ≡ true
+    → IsGuardedSlot (Passing (is_in rs)) (Passing (is_in rs)) mem list slot
+slot_guarded rs mem list slot m places s table is head rest whole count apart = record {
+  meaning = m;
+  places = places;
+  says = s;
+  head = covered rs _ _ head;
+  rest = covered rs _ _ rest;
+  table = λ at low high. covered rs table (table + 144) whole at (omega (arith, low, is.0)) (omega (arith, high, is.0, is.1));
+  count = spared rs _ _ count;
+  places_avoid = avoided rs places apart;
+}
+
+-- a port that nothing was issued on
+pub unused_port : (rs : List Range) (mem : ℕ → ℕ) (p : DevicePort) → ((k : ℕ) → p.ci k ≡ false) → ((k : ℕ) → p.taken k ≡ None)
+    → (p.fre ≡ true → spares rs p.bases.fb (p.bases.fb + 256) ≡ true) → IsGuardedPort (Passing (is_in rs)) (Passing (is_in rs)) mem p
+unused_port rs mem p clear none area = record {
+  slot = λ k used. absurd (elim used [ inl issued ↦ true-false issued (clear k) | inr t ↦ (let e : None ≡ Some t.0 = sym (none k) ∙ t.1 in (cc)) ]);
+  taken = λ k t is. absurd (let e : None ≡ Some t = sym (none k) ∙ is in (cc));
+  received = λ on. spared rs _ _ (area on);
+}
+
+-- one with commands that are issued and not taken
+pub issued_port : (rs : List Range) (mem : ℕ → ℕ) (p : DevicePort)
+    → ((k : ℕ) → p.ci k ≡ true → IsGuardedSlot (Passing (is_in rs)) (Passing (is_in rs)) mem p.bases.clb k) → ((k : ℕ) → p.taken k ≡ None)
+    → (p.fre ≡ true → spares rs p.bases.fb (p.bases.fb + 256) ≡ true) → IsGuardedPort (Passing (is_in rs)) (Passing (is_in rs)) mem p
+issued_port rs mem p issued none area = record {
+  slot = λ k used. elim used [ inl set ↦ issued k set | inr t ↦ absurd (let e : None ≡ Some t.0 = sym (none k) ∙ t.1 in (cc)) ];
+  taken = λ k t is. absurd (let e : None ≡ Some t = sym (none k) ∙ is in (cc));
+  received = λ on. spared rs _ _ (area on);
+}
+
+-- a port as it was at first
+pub untouched : (rs : List Range) (mem : ℕ → ℕ) (q : ℕ) → IsGuardedPort (Passing (is_in rs)) (Passing (is_in rs)) mem (first.port q)
+untouched rs mem =
+    at_each (IsGuardedPort (Passing (is_in rs)) (Passing (is_in rs)) mem)
+    (unused_port rs mem disk_port (λ k. refl) (λ k. refl) (λ on. absurd (true-false on refl)))
+    (unused_port rs mem quiet_port (λ k. refl) (λ k. refl) (λ on. absurd (true-false on refl)))
+
+-- An adapter is safe on which nothing was issued, where port 0 alone was touched.
+pub unused_safe : (d : Device) → ((k : ℕ) → (d.port 0).ci k ≡ false) → ((k : ℕ) → (d.port 0).taken k ≡ None)
+    → ((q : ℕ) → q ≢ 0 → d.port q ≡ first.port q) → IsSafe d
+unfolding spares
+unused_safe d clear none elsewhere = record {
+  tables = is_in [];
+  kept = is_in [];
+  guarded = record {
+    within = λ at h. h;
+    port = λ q. elim (eqb_tells q 0) [
+      | inl here ↦ (let P : ℕ → Type 0 = λ n. IsGuardedPort (Passing (is_in [])) (Passing (is_in [])) d.memory (d.port n) in
+          subst P (sym here.1) (unused_port [] d.memory (d.port 0) clear none (λ on. refl)))
+      | inr away ↦ (let P : DevicePort → Type 0 = λ p. IsGuardedPort (Passing (is_in [])) (Passing (is_in [])) d.memory p in
+          subst P (sym (elsewhere q away.1)) (untouched [] d.memory q))
+    ];
+  };
+}

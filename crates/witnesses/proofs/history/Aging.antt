@@ -1,0 +1,165 @@
+-- The read is issued, and the device never takes it: a tick makes it older, and restarts its port only at its age of three.
+use Rattle.std.proofs.Common.{ℕ, zero, suc, ◌≡◌, ◌<◌, ◌≤◌, ◌∙◌, ◌++◌, List, [], ◌∷◌, inl, inr, ⊎_elim, refl, sym, ap, arith, append-nil}
+use Rattle.std.specs.Prelude.{IsTrue, count_by}
+use Rattle.std.specs.List.{Contains}
+use Rattle.std.proofs.lemmas.Bool.{true≢false}
+use Rattle.std.proofs.lemmas.List.Elements.{All-nil}
+use Rattle.std.proofs.lemmas.List.Sorted.{IsPermutation-refl}
+use Rattle.ata_types.specs.declared.Port.{Port}
+use Rattle.ata_types.specs.declared.PortState.TheVariants.{Absent, Ready}
+use Rattle.ata_types.specs.declared.request.Outcome.{Outcome}
+use Rattle.ata_types.specs.declared.request.Outcome.TheVariants as outcome
+use Rattle.adapter.specs.Device.{Device}
+use Rattle.adapter.specs.declared.access.DeviceStep.{DeviceStep}
+use Rattle.refinement.specs.Relation.{port_at}
+use Rattle.refinement.specs.Driver.{IsBacked}
+use Rattle.block_machine.specs.Due.{NoneDue}
+use Rattle.block_machine.specs.Events.{AgesOnce, Happens, HasTimedOut, RestartsTimedOut, Served, Tick, is_age}
+use Rattle.block_machine.specs.Histories.{Happening}
+use Rattle.block_machine.specs.State.{Pending, unanswered}
+use Rattle.block_machine.specs.Steps.{Step, Again, Age, Answer}
+use Rattle.block_machine.specs.declared.due.Unanswered.{Unanswered}
+use Rattle.identify.specs.declared.wanted.Wanted.TheVariants.{Any}
+use Rattle.driver_history.specs.Evidence.{IsEvidencedOf, ShowsFailure, ShowsLoss}
+use Rattle.driver_history.specs.Histories.{IssuesDue, CallCorresponds, PortCorresponds}
+use Rattle.driver_history.specs.Trace.{IsServing, LeavesEngine}
+use Rattle.witnesses.specs.Scene.{plain}
+use Rattle.witnesses.proofs.history.Accepting.{both, holds_issued, in_book, issued_at, issued_for, waiting_for}
+use Rattle.witnesses.proofs.history.Command.{read_memory}
+use Rattle.witnesses.proofs.history.Holding.{IsCalm, first_slots, no_trouble, unnamed_evidenced}
+use Rattle.witnesses.proofs.history.Issuing.{none_named, nothing}
+use Rattle.witnesses.proofs.history.Members.{nowhere, only}
+use Rattle.witnesses.proofs.history.Pages.{plain_disks}
+use Rattle.witnesses.proofs.history.Ready.{calm, fit_ready, served_ready, two_served}
+use Rattle.witnesses.proofs.history.Serving.{none_due}
+use Rattle.witnesses.proofs.history.Submitting.{issued, submitted}
+
+-- ---- who is hung
+
+pub hung_at : (age : ℕ) → 2 ≤ age → HasTimedOut (issued_at age).moment (port_at 0)
+hung_at age old = record { ready = refl; pending = waiting_for age; here = (0, omega arith, refl); port_is = refl; issued = refl; old_enough = old }
+
+-- port 0 alone is ever
+pub hung_first : (age : ℕ) (port : Port) → HasTimedOut (issued_at age).moment port → port ≡ port_at 0
+hung_first age port h = sym h.port_is ∙ ap (λ (e : Pending). e.request.port) (in_book age h.pending h.here)
+
+pub not_hung : (age : ℕ) → age < 2 → (port : Port) → HasTimedOut (issued_at age).moment port → ⊥
+not_hung age young port h =
+    let same : h.pending.age ≡ age = ap (λ (e : Pending). e.age) (in_book age h.pending h.here) in
+    let old = h.old_enough in
+    omega (arith, same, old, young)
+
+-- ---- ages
+
+-- the requests of both ports are a tick older
+abbrev pub ages : Step
+ages = Age two_served
+
+pub ready_is : (n : ℕ) → (IsTrue (two_served (port_at n)) → both.state (port_at n) ≡ Ready) × (both.state (port_at n) ≡ Ready → IsTrue (two_served (port_at n)))
+ready_is zero = (λ _. refl, λ _. refl)
+ready_is (suc zero) = (λ _. refl, λ _. refl)
+ready_is (suc (suc n)) = (λ t. absurd (true≢false (sym t)), λ is. absurd (let x : Absent ≡ Ready = is in cc))
+
+-- a call ages them once, and first of all
+pub ages_once : (later : List Step) → count_by is_age later ≡ 0 → AgesOnce both (later ++ ages ∷ [])
+ages_once later once = record { ready = two_served; is_ready = λ port. ready_is port.0; later = later; first = refl; once = once }
+
+-- no request is due
+pub not_due : (age : ℕ) (port : Port) → NoneDue plain (unanswered (waiting_for age) ∷ []) port
+not_due age = none_due plain (unanswered (waiting_for age) ∷ []) (λ r here. ap (λ (x : Unanswered). x.issued) (only (unanswered (waiting_for age)) r here))
+
+-- nor does a port tell of trouble
+pub quiet : (n : ℕ) → both.state (port_at n) ≡ Ready → (ShowsLoss (port_at n) submitted submitted → ⊥) × (ShowsFailure (submitted.port n) → ⊥)
+quiet = calm submitted.tape read_memory issued refl refl refl (λ place from. refl) submitted
+
+-- ---- a tick that restarts nothing
+
+module _ (age : ℕ) where
+  abbrev pub tick : Happening Device DeviceStep
+  tick = record {
+    event = record { ask = Tick; said = Served []; evidence = nothing; steps = ages ∷ []; ports = both };
+    device = submitted;
+  }
+
+  -- it neither answers a request nor lets one wait again
+  unanswered_then : (e : Pending) (o : Outcome) → Contains (ages ∷ []) (Answer e o) → ⊥
+  unanswered_then e o here = let same : Answer e o ≡ ages = only ages (Answer e o) here in cc
+
+  unrepeated : (e : Pending) → Contains (ages ∷ []) (Again e) → ⊥
+  unrepeated e here = let same : Again e ≡ ages = only ages (Again e) here in cc
+
+  pub backed : IsBacked submitted submitted (issued_for age) (ages ∷ [])
+  backed = record {
+    telling = refl;
+    gained = [];
+    tape = refl;
+    tells = (tt, λ d. d);
+    told = λ _. (tt, tt);
+    plugged = λ port. ([], sym (append-nil (submitted.port port).plugged), refl);
+  }
+
+  pub evidenced : (n : ℕ) → IsEvidencedOf Tick (Served []) [] (issued_at age) both submitted nothing (port_at n)
+  evidenced n = unnamed_evidenced Tick (Served []) [] (issued_at age) both submitted nothing (port_at n) (none_named (port_at n)) (quiet n) (All-nil (LeavesEngine (port_at n)))
+
+  pub issues : (port : Port) → IssuesDue (both.mode port) (ages ∷ []) (issued_for (suc age)) port
+  issues port r here at_port = (
+    λ f. absurd (true≢false (sym f)),
+    λ due. absurd (not_due (suc age) port r at_port due),
+  )
+
+  module _ (young : age < 2) where
+    restarts_none : RestartsTimedOut (issued_at age).moment nothing (ages ∷ []) (issued_at (suc age)).moment
+    restarts_none = record {
+      ports = λ port. inl (not_hung age young port, (refl, refl, refl, refl, refl, refl));
+      again = λ e here. absurd (unrepeated e here);
+      answer = λ e o here. absurd (unanswered_then e o here);
+      ended = λ port h. absurd (not_hung age young port h);
+      anew = λ port h. absurd (not_hung age young port h);
+      interrupts = λ port. (λ h. absurd (not_hung age young port h), λ why. absurd (⊎_elim (nowhere port) (nowhere port) why));
+      finds = λ e here. absurd (unanswered_then e outcome.Unplugged here);
+      disk = λ port h. absurd (not_hung age young port h);
+    }
+
+    pub tick_happens : Happens (issued_at age).moment tick.event
+    tick_happens = record {
+      may = (tt, tt);
+      belong = (tt, inr tt);
+      last = (tt, λ id handled issued_in. absurd (true≢false (sym handled)));
+      lawful = tt;
+      fit = fit_ready plain_disks;
+      disks = λ e o here there same. (refl, refl);
+      answered = record {
+        tells = record { answers = []; same = IsPermutation-refl _; ordered = λ i j d less low. absurd (omega (arith, less, low)); told = refl };
+        ages = ages_once [] refl;
+        restarts = restarts_none;
+        unplugs = record {
+          emptied = λ e other here. absurd (unanswered_then e outcome.Unplugged here);
+          alike = λ e other here. absurd (unanswered_then e outcome.Unplugged here);
+        };
+        issues = λ port is. not_due (suc age) port;
+        emptied = λ port is not_ready. absurd (not_ready is);
+      };
+    }
+
+    pub tick_part : (n : ℕ) → PortCorresponds (issued_at age) tick [] (port_at n)
+    tick_part n = record {
+      finds = λ h. absurd (not_hung age young (port_at n) h);
+      faults = tt;
+      probes = tt;
+      boots = λ h. absurd (not_hung age young (port_at n) h);
+      port_error = no_trouble nothing (issued_at age) both submitted (port_at n) [] refl (All-nil (IsCalm n)) (served_ready n) (quiet n);
+      well = λ why. absurd (⊎_elim (nowhere (port_at n)) (nowhere (port_at n)) why);
+      heeds = tt;
+    }
+
+    unfoldable pub tick_ties : CallCorresponds (Any ∷ Any ∷ []) (issued_at age) tick
+    tick_ties = record {
+      accesses = [];
+      came = (refl, All-nil (IsServing (HasTimedOut (issued_at age).moment)));
+      backed = backed;
+      evidenced = record { faults = λ f here. absurd (nowhere f here); port = λ port. evidenced port.0 };
+      grounded = tt;
+      issues = λ port is. issues port;
+      port = λ port. tick_part port.0;
+      holds = (first_slots, holds_issued (suc age));
+    }

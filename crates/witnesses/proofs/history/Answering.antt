@@ -1,0 +1,397 @@
+-- The service that answers the read and loses the other disk meets all that is asked of it.
+use Rattle.adapter.specs.declared.command.Operation.TheVariants as operation
+use Rattle.adapter.specs.FirstRead.{first_read_sector}
+use Rattle.adapter.specs.Steps.{move_of, done_entry}
+use Rattle.std.proofs.Common.{ℕ, zero, suc, ◌≡◌, ◌≢◌, ◌∙◌, true, false, List, [], ◌∷◌, inl, inr, ⊎_elim, refl, sym, ap, arith, ◌⊎◌, ◌++◌}
+use Rattle.std.proofs.lemmas.Bool.{true≢false}
+use Rattle.std.specs.List.{Contains, All}
+use Rattle.std.proofs.lemmas.List.Elements.{All-nil, All-cons, All-contains}
+use Rattle.ata_types.specs.declared.Port.{Port}
+use Rattle.ata_types.specs.declared.PortState.TheVariants.{Absent, Ready, Unfit, Dead}
+use Rattle.ata_types.specs.declared.request.Op.TheVariants.{Read, Write}
+use Rattle.ata_types.specs.declared.request.Outcome.TheVariants as outcome
+use Rattle.adapter.specs.Device.{Device}
+use Rattle.adapter.specs.declared.tape.Entry.TheVariants as entry
+use Rattle.refinement.specs.Relation.{port_at}
+use Rattle.refinement.specs.Driver.{IsBacked}
+use Rattle.refinement.specs.Witness.{first_id}
+use Rattle.block_machine.specs.Histories.{Happening}
+use Rattle.block_machine.specs.Events.{HadDisk, Happens, Service, Served}
+use Rattle.block_machine.specs.Ports.{AreFit, IsInterrupted, IsServiced, SamePort}
+use Rattle.block_machine.specs.State.{Pending}
+use Rattle.block_machine.specs.Steps.{Step, End, Answer, Unplug}
+use Rattle.identify.specs.declared.wanted.Wanted.TheVariants.{Any}
+use Rattle.std.proofs.lemmas.List.Sorted.{IsPermutation-refl}
+use Rattle.ata_types.specs.declared.request.Outcome.{Outcome}
+use Rattle.ata_types.specs.declared.request.Reply.{Reply}
+use Rattle.hba_regs.specs.declared.reg.Reg.TheVariants.{Px}
+use Rattle.hba_regs.specs.declared.reg.PortReg.TheVariants.{Cmd, Ssts, Serr}
+use Rattle.adapter.specs.Access.{Access}
+use Rattle.adapter.specs.Access.Access.{Reading, Writing}
+use Rattle.adapter.specs.declared.access.DeviceStep.{DeviceStep}
+use Rattle.refinement.specs.Links.{IsPlugging}
+use Rattle.error_recovery.specs.Evidence.{ShowsFatal}
+use Rattle.driver_history.specs.Heeding.{ServesReady}
+use Rattle.driver_history.specs.Evidence.{Gains, IsEvidencedOf, ShowsLoss, ShowsFailure}
+use Rattle.driver_history.specs.Histories.{FindsDone, IsIssuedOn, CallCorresponds, PortCorresponds, BootsAnew, LosesNoPortError, RunsWellAnew, TendsPort}
+use Rattle.driver_history.specs.Trace.{LeavesCommand}
+use Rattle.port_control.specs.Engines.{Stops}
+use Rattle.witnesses.specs.Loss.{finding_turn, losing_turn, loss_evidence, LossIsAHistory}
+use Rattle.witnesses.proofs.history.Holding.{IsUnnamed, named, named_is, no_slots, tries_ready, unnamed_evidenced, IsCalm, no_trouble}
+use Rattle.witnesses.proofs.history.Command.{read_memory}
+use Rattle.witnesses.proofs.history.Devices.{does_append, IsOf, leaves, no_bit, serving, WritesOf, AreServing}
+use Rattle.witnesses.proofs.history.Submitting.{issued, submitted, command}
+use Rattle.witnesses.proofs.history.Accepting.{asked, both, first, in_book, issuing, submit, submit_happens, submit_parts, submit_ties, submitted_at, waiting, no_flags, none_there, not_ended}
+use Rattle.witnesses.proofs.history.Pages.{plain_disks}
+use Rattle.witnesses.proofs.history.Ready.{begins, calm, fit_ready, not_dead, served_ready, starts}
+use Rattle.witnesses.proofs.history.Losing.{finding_allowed, losing_allowed, between, finds, loses, lost}
+use Rattle.witnesses.proofs.history.Memory.{tells}
+use Rattle.witnesses.proofs.history.Lost.{all_touched, ended, gained, holds_lost, lost_at, one, service_steps, touched, touching}
+use Rattle.witnesses.proofs.history.Members.{nowhere}
+
+-- ---- ports
+
+fit_one : AreFit one
+fit_one = record {
+  few = (fit_ready plain_disks).few;
+  absent = λ port is. absent_of port.0 is;
+  slots = λ port is. (omega arith, omega arith, λ _. refl);
+  causes = λ port cause is. absurd (no_cause port.0 cause is);
+}
+  where
+    absent_of : (n : ℕ) → one.served (port_at n) ≡ false → one.state (port_at n) ≡ Absent
+    absent_of zero is = absurd (true≢false is)
+    absent_of (suc zero) is = refl
+    absent_of (suc (suc n)) is = refl
+
+    no_cause : (n cause : ℕ) → one.state (port_at n) ≡ Unfit cause → ⊥
+    no_cause zero cause is = let x : Ready ≡ Unfit cause = is in cc
+    no_cause (suc zero) cause is = let x : Absent ≡ Unfit cause = is in cc
+    no_cause (suc (suc n)) cause is = let x : Absent ≡ Unfit cause = is in cc
+
+not_dead_then : (n : ℕ) → one.state (port_at n) ≡ Dead → ⊥
+not_dead_then zero is = let x : Ready ≡ Dead = is in cc
+not_dead_then (suc zero) is = let x : Absent ≡ Dead = is in cc
+not_dead_then (suc (suc n)) is = let x : Absent ≡ Dead = is in cc
+
+-- ---- the service
+
+abbrev reply : Reply
+reply = record { id = first_id; client = asked.client; outcome = outcome.Ok }
+
+abbrev service : Happening Device DeviceStep
+service = record {
+  event = record { ask = Service; said = Served (reply ∷ []); evidence = loss_evidence; steps = service_steps; ports = one };
+  device = lost;
+}
+
+abbrev turns : List Access
+turns = finding_turn ++ losing_turn
+
+answer_here : Contains service_steps (Answer ended outcome.Ok)
+answer_here = (1, omega arith, refl)
+
+-- it is the one answer
+only_ok : (e : Pending) (o : Outcome) → Contains service_steps (Answer e o) → o ≡ outcome.Ok
+only_ok e o here =
+    All-contains IsOk service_steps (Answer e o)
+    (All-cons IsOk (Unplug (port_at 1)) (Answer ended outcome.Ok ∷ End touched ∷ touching ∷ []) (λ e o same. absurd cc)
+    (All-cons IsOk (Answer ended outcome.Ok) (End touched ∷ touching ∷ []) (λ e o same. cc)
+    (All-cons IsOk (End touched) (touching ∷ []) (λ e o same. absurd cc)
+    (All-cons IsOk touching [] (λ e o same. absurd cc) (All-nil IsOk)))))
+    here e o refl
+  where
+    IsOk : Step → Type 0
+    IsOk step = (e : Pending) (o : Outcome) → step ≡ Answer e o → o ≡ outcome.Ok
+
+not_unplugged : (e : Pending) → Contains service_steps (Answer e outcome.Unplugged) → ⊥
+not_unplugged e here = let x : outcome.Unplugged ≡ outcome.Ok = only_ok e outcome.Unplugged here in cc
+
+becomes : (n : ℕ) → IsServiced both loss_evidence one (port_at n)
+becomes n = (
+  λ is. absurd (not_dead n is),
+  λ _. (
+    record {
+      served = refl;
+      stuck = (λ is. absurd (not_dead_then n is), λ h. absurd (nowhere (port_at n) h));
+      keeps = λ is. (refl, refl);
+    },
+    changes n,
+  ),
+)
+  where
+    changes : (n : ℕ) → SamePort both one (port_at n) ⊎ IsInterrupted loss_evidence (port_at n)
+    changes zero = inl (refl, refl, refl, refl, refl, refl)
+    changes (suc zero) = inr (inl (named 1))
+    changes (suc (suc n)) = inl (refl, refl, refl, refl, refl, refl)
+
+had_disk : (n : ℕ) → SamePort both one (port_at n) ⊎ HadDisk submitted_at.moment service_steps lost_at.moment (port_at n)
+had_disk zero = inl (refl, refl, refl, refl, refl, refl)
+had_disk (suc zero) = inr (λ shows. absurd shows)
+had_disk (suc (suc n)) = inl (refl, refl, refl, refl, refl, refl)
+
+service_backed : IsBacked submitted lost issuing service_steps
+service_backed = record {
+  telling = refl;
+  gained = gained;
+  tape = refl;
+  tells = (
+    [],
+    touching ∷ [],
+    Unplug (port_at 1) ∷ Answer ended outcome.Ok ∷ End touched ∷ [],
+    tt,
+    record {
+      pending = waiting;
+      moves = inl ((0, omega arith, refl), refl);
+      port_is = refl;
+      op_is = refl;
+      number = 0;
+      within = omega arith;
+      sector_is = refl;
+      place_is = refl;
+      direction_is = refl;
+      lent = refl;
+      step = refl;
+    },
+    (
+      [],
+      End touched ∷ [],
+      Unplug (port_at 1) ∷ Answer ended outcome.Ok ∷ [],
+      tt,
+      record { pending = touched; moves = inl ((0, omega arith, refl), refl); port_is = refl; op_is = refl; step = refl },
+      (Answer ended outcome.Ok ∷ [], Unplug (port_at 1) ∷ [], [], (tt, λ d. d), refl, tt, refl),
+      refl,
+    ),
+    refl,
+  );
+  told = λ _. ((((tt, λ _ b low. tells 100 b low), tt), tt), tt);
+  plugged = λ port. ([], plugs port, refl);
+}
+  where
+    plugs : (n : ℕ) → (lost.port n).plugged ≡ (submitted.port n).plugged ++ []
+    plugs zero = refl
+    plugs (suc zero) = refl
+    plugs (suc (suc n)) = refl
+
+-- ---- what stands behind the evidence
+
+stops : Stops (port_at 1) turns
+stops = record {
+  before = finding_turn ++ Reading (Px (port_at 1) Ssts) 0 ∷ Reading (Px (port_at 1) Cmd) 0xc011 ∷ [];
+  cleared = 0xc010;
+  between = [];
+  fallen = 0x4010;
+  later = Writing (Px (port_at 1) Serr) 0xffffffff ∷ Reading (Px (port_at 1) Ssts) 0 ∷ [];
+  here = refl;
+  clears = refl;
+  only = All-nil (LeavesCommand (port_at 1));
+  shown = refl;
+}
+
+of_second : WritesOf (IsOf (port_at 1)) turns
+of_second = (refl, (refl, tt))
+
+of_served : AreServing (TendsPort both) turns
+of_served = (tended 0 refl, (tended 0 refl, (tended 1 refl, (tended 1 refl, ((λ is. cc, tended 1 refl), (tended 1 refl, ((λ is. cc, tended 1 refl), (tended 1 refl, tt))))))))
+  where
+    tended : (n : ℕ) → both.served (port_at n) ≡ true → TendsPort both (port_at n)
+    tended n served = (served, not_dead n)
+
+gains : Gains (IsPlugging 1) submitted lost
+gains = record {
+  gained = gained;
+  tape = refl;
+  entry = entry.Unplug (port_at 1);
+  here = (2, omega arith, refl);
+  is = refl;
+}
+
+-- a port but for the second one isn't named
+unnamed : (n : ℕ) → n ≢ 1 → IsUnnamed loss_evidence (port_at n)
+unnamed n ne = record {
+  lost = λ h. ne (named_is 1 n h);
+  gone = λ h. ne (named_is 1 n h);
+  failed = nowhere (port_at n);
+  fatal = nowhere (port_at n);
+  stopped = λ h. ne (named_is 1 n h);
+  stuck = nowhere (port_at n);
+}
+
+apart_evidenced : (n : ℕ) → n ≢ 1 → IsEvidencedOf Service (Served (reply ∷ [])) turns submitted_at one lost loss_evidence (port_at n)
+apart_evidenced n ne = unnamed_evidenced Service (Served (reply ∷ [])) turns submitted_at one lost loss_evidence (port_at n) (unnamed n ne)
+    (calm submitted.tape read_memory issued refl refl refl (λ place from. refl) lost n)
+    (leaves (IsOf (port_at 1)) (port_at n) (λ is. ne (ap (λ (p : Port). p.0) is)) (λ is. ne (ap (λ (p : Port). p.0) is)) turns of_second)
+
+service_evidenced : (n : ℕ) → IsEvidencedOf Service (Served (reply ∷ [])) turns submitted_at one lost loss_evidence (port_at n)
+service_evidenced zero = apart_evidenced 0 (omega arith)
+service_evidenced (suc zero) =
+    let quiet = calm submitted.tape read_memory issued refl refl refl (λ place from. refl) lost 1 refl in
+    record {
+      lost = λ h. inr (inr (inl gains));
+      gone_all = λ is loss. named 1;
+      gone_only = λ h. (refl, inr (inr gains));
+      failed_all = λ is f. absurd (quiet.1 f);
+      failed_only = λ h. absurd (nowhere (port_at 1) h);
+      fatal_all = λ is f. absurd (quiet.1 (inl f));
+      fatal_only = λ h. absurd (nowhere (port_at 1) h);
+      stopped_all = inr (inl (named 1));
+      stopped_only = λ h. inl stops;
+      stuck_only = λ h. absurd (nowhere (port_at 1) h);
+    }
+service_evidenced (suc (suc n)) = apart_evidenced (suc (suc n)) (omega arith)
+
+-- ---- each port's part
+
+done_there : FindsDone (port_at 0) turns submitted_at service_steps
+done_there = record {
+  ci = 0;
+  sact = 0;
+  reads = record { before = []; later = losing_turn; here = refl; running = All-nil (LeavesCommand (port_at 0)) };
+  exact = λ e slot on s. (λ ok. (no_bit slot, no_bit slot), λ clear. (ended, sym (ap (λ (x : Pending). x.request) (in_book 0 e on.here)), answer_here));
+}
+
+service_finds : (n : ℕ) (e : Pending) → IsIssuedOn (port_at n) issuing e → FindsDone (port_at n) turns submitted_at service_steps
+service_finds zero e on = done_there
+service_finds (suc n) e on = absurd (none_there 0 n e on)
+
+heeds : (n : ℕ) → both.state (port_at n) ≡ Ready → ServesReady submitted_at.moment loss_evidence service_steps lost_at.moment (port_at n)
+heeds zero is = record {
+  ended = λ e here at_port done. absurd (not_ended 0 e here done);
+  emptied = λ g e here. absurd (nowhere e here);
+  told = λ g. absurd ((unnamed 0 (omega arith)).gone g);
+  interrupts = λ why. absurd (⊎_elim (nowhere (port_at 0)) (unnamed 0 (omega arith)).gone why);
+  anew = λ why e here. absurd (nowhere e here);
+  single = omega arith;
+  fatal = λ h. absurd (nowhere (port_at 0) h);
+  disk = λ shows. inl refl;
+  calm = inr (record {
+    same = (refl, refl, refl, refl, refl, refl);
+    told = λ e o here at_port. inl (only_ok e o here);
+    uninterrupted = λ why. ⊎_elim (unnamed 0 (omega arith)).stopped (nowhere (port_at 0)) why;
+  });
+}
+heeds (suc zero) is = record {
+  ended = λ e here at_port done. absurd (not_ended 0 e here done);
+  emptied = λ g e here. absurd (nowhere e here);
+  told = λ g. inl (λ e o here at_port. inl (only_ok e o here));
+  interrupts = λ why. inl (named 1);
+  anew = λ why e here. absurd (nowhere e here);
+  single = omega arith;
+  fatal = λ h. absurd (nowhere (port_at 1) h);
+  disk = λ shows. absurd shows;
+  calm = inl (inr (inl (named 1)));
+}
+heeds (suc (suc n)) is = absurd (let x : Absent ≡ Ready = is in cc)
+
+quiet : (n : ℕ) → both.state (port_at n) ≡ Ready → (ShowsLoss (port_at n) submitted lost → ⊥) × (ShowsFailure (submitted.port n) → ⊥)
+quiet = calm submitted.tape read_memory issued refl refl refl (λ place from. refl) lost
+
+not_shown : (n : ℕ) → both.state (port_at n) ≡ Ready → ShowsFatal (submitted.port n) ⊎ ShowsLoss (port_at n) submitted lost → ⊥
+not_shown n is f = ⊎_elim (λ fatal. (quiet n is).1 (inl fatal)) (quiet n is).0 f
+
+service_boots : (n : ℕ) → BootsAnew Service (Served (reply ∷ [])) turns submitted_at one lost (port_at n)
+service_boots zero = (λ is f. absurd (not_shown 0 is f), inl (refl, refl, refl, refl, refl, refl))
+service_boots (suc zero) = (λ is f. absurd (not_shown 1 is f), inr (inr (inl refl)))
+service_boots (suc (suc n)) = (λ is f. absurd (not_shown (suc (suc n)) is f), inl (refl, refl, refl, refl, refl, refl))
+
+-- what the tape has gained is no trouble of another port than the second
+gained_calm : (n : ℕ) → n ≢ 1 → All (IsCalm n) gained
+gained_calm n ne =
+    All-cons (IsCalm n) (entry.Move (move_of 0 0 command (first_read_sector 100))) (done_entry 0 0 operation.Read ∷ entry.Unplug (port_at 1) ∷ []) (λ x. x, λ x. x, λ x. x)
+    (All-cons (IsCalm n) (done_entry 0 0 operation.Read) (entry.Unplug (port_at 1) ∷ []) (λ x. x, λ x. x, λ x. x)
+    (All-cons (IsCalm n) (entry.Unplug (port_at 1)) [] (λ x. x, λ x. x, λ (is : 1 ≡ n). ne (sym is)) (All-nil (IsCalm n))))
+
+port_error : (n : ℕ) → LosesNoPortError loss_evidence submitted_at one lost (port_at n)
+port_error zero = no_trouble loss_evidence submitted_at one lost (port_at 0) gained refl (gained_calm 0 (omega arith)) (served_ready 0) (quiet 0)
+port_error (suc zero) = record {
+  errors = λ ready why. inl (inl (named 1));
+  changes = λ tends why. inl (inl (named 1));
+  fault = λ ready. absurd (let x : Absent ≡ Ready = ready in cc);
+  fatal = λ ready. absurd (let x : Absent ≡ Ready = ready in cc);
+  disk = λ ready. absurd (let x : Absent ≡ Ready = ready in cc);
+}
+port_error (suc (suc n)) = no_trouble loss_evidence submitted_at one lost (port_at (suc (suc n))) gained refl (gained_calm (suc (suc n)) (omega arith)) (served_ready (suc (suc n))) (quiet (suc (suc n)))
+
+-- the port that was stopped isn't ready, and no other was stopped
+well : (n : ℕ) → RunsWellAnew loss_evidence turns submitted_at one lost (port_at n)
+well zero = λ why. absurd (⊎_elim (unnamed 0 (omega arith)).stopped (unnamed 0 (omega arith)).stuck why)
+well (suc zero) = λ why ready. absurd (let x : Absent ≡ Ready = ready in cc)
+well (suc (suc n)) = λ why. absurd (⊎_elim (unnamed (suc (suc n)) (omega arith)).stopped (unnamed (suc (suc n)) (omega arith)).stuck why)
+
+service_happens : Happens submitted_at.moment service.event
+service_happens = record {
+  may = (
+    (
+      (
+        (tt, (inl ((0, omega arith, refl), refl), omega arith, refl, omega arith, λ e. absurd (let x : Read ≡ Write = e in cc))),
+        (inl ((0, omega arith, refl), refl), all_touched, refl),
+      ),
+      ((0, omega arith, refl), tt),
+    ),
+    refl,
+  );
+  belong = ((((tt, inl tt), inl tt), inr tt), inl tt);
+  last = ((((tt, λ id h is. absurd (true≢false (sym is))), λ id h is. absurd (true≢false (sym is))), λ id h is. absurd (true≢false (sym is))), λ id h is. absurd (true≢false (sym is)));
+  lawful = (tt, (record { pending = waiting; here = (0, omega arith, refl); id_is = refl; issued = refl }, refl, all_touched, refl));
+  fit = fit_one;
+  disks = λ e o here. absurd (nowhere e here);
+  answered = record {
+    tells = record { answers = (ended, outcome.Ok) ∷ []; same = IsPermutation-refl _; ordered = λ i j d less low. absurd (omega (arith, less, low)); told = refl };
+    dead = λ e o here is. absurd (not_dead e.request.port.0 is);
+    unplugs = record { emptied = λ e other here. absurd (not_unplugged e here); alike = λ e other here. absurd (not_unplugged e here) };
+    issues = λ port is r at_port due. absurd (nowhere r due.here);
+    emptied = λ port other e here. absurd (nowhere e here);
+    ended = λ port is e here at_port done. absurd (not_ended 0 e here done);
+    becomes = λ port. becomes port.0;
+    disk = λ port. had_disk port.0;
+  };
+}
+
+service_part : (n : ℕ) → PortCorresponds submitted_at service turns (port_at n)
+service_part n = record {
+  finds = λ is e on. service_finds n e on;
+  faults = λ alone. absurd (true≢false (sym alone.shows.fault ∙ (no_flags n 30)));
+  probes = λ served none. tries_ready turns submitted_at one lost (port_at n) (served_ready n served);
+  boots = service_boots n;
+  port_error = port_error n;
+  well = well n;
+  heeds = heeds n;
+}
+
+service_ties : CallCorresponds (Any ∷ Any ∷ []) submitted_at service
+service_ties = record {
+  accesses = turns;
+  came = (does_append finding_turn losing_turn submitted between lost finds loses, serving (TendsPort both) turns of_served);
+  backed = service_backed;
+  evidenced = record { faults = λ f here. absurd (nowhere f here); port = λ port. service_evidenced port.0 };
+  grounded = tt;
+  issues = λ port is r here. absurd (nowhere r here);
+  port = λ port. service_part port.0;
+  holds = (no_slots, holds_lost);
+}
+
+pub loss_is_a_history : LossIsAHistory
+unfolding service_ties
+loss_is_a_history = record {
+  first = first;
+  ready = (refl, refl);
+  submit = submit;
+  asked = asked;
+  reads = refl;
+  submits = (refl, refl);
+  service = service;
+  serves = (refl, refl);
+  between = between;
+  finding = finds;
+  finding_allowed = finding_allowed;
+  in_then = refl;
+  losing = loses;
+  losing_allowed = losing_allowed;
+  evidence = refl;
+  still = refl;
+  absent = refl;
+  history = ((((starts, fit_ready plain_disks), begins plain_disks), submit_happens, submit_ties), service_happens, service_ties);
+  turns = refl;
+  submit_parts = submit_parts;
+  service_parts = λ port. service_part port.0;
+}

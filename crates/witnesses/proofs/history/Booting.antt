@@ -1,0 +1,163 @@
+-- The adapter is reset, and its ports are booted, which finds no ATA disk. This is the way of the device.
+use Rattle.std.proofs.Common.{ℕ, zero, suc, ◌≡◌, ◌++◌, ◌∙◌, true, false, List, [], ◌∷◌, inl, inr, refl, sym, ap, subst, arith}
+use Rattle.std.proofs.lemmas.Bool.{false≢true, true≢false}
+use Rattle.hba_regs.specs.declared.reg.Reg.TheVariants.{Px}
+use Rattle.hba_regs.specs.declared.reg.PortReg.{PortReg}
+use Rattle.hba_regs.specs.declared.reg.PortReg.TheVariants.{Clb, Clbu, Fb, Fbu, Is, Cmd, Tfd, Sig, Ssts, Sctl, Serr}
+use Rattle.adapter.specs.Access.{Access, DoesAll, PortShows, Reads, Writes, note, port_written}
+use Rattle.adapter.specs.Device.{DevicePort, Device}
+use Rattle.adapter.specs.Rules.{MayCommand}
+use Rattle.adapter.specs.Steps.{MayLinkUp, device_after, with_link, with_reset}
+use Rattle.adapter.specs.Steps.DeviceTransition.{LinkUp, ResetEnds}
+use Rattle.refinement.specs.Relation.{port_at}
+use Rattle.refinement.specs.Places.{list_of, received_of}
+use Rattle.witnesses.specs.Allowed.{AreAllowed}
+use Rattle.witnesses.specs.Reset.{booting, rebooting}
+use Rattle.witnesses.specs.Scene.{device_with, having, running_port}
+use Rattle.witnesses.proofs.history.Command.{read_memory}
+use Rattle.witnesses.proofs.history.Devices.{AlikeBut, but_first, but_second, put_device, reads, same_beside, writes}
+use Rattle.witnesses.proofs.history.Submitting.{pages, submitted}
+
+-- ---- a port's boot
+
+-- a port as it is after a reset
+abbrev pub quieted : ℕ → DevicePort
+quieted port = with_reset (running_port port)
+
+-- the link is up, and the device isn't an ATA disk
+abbrev up : DevicePort → DevicePort
+up p = with_link p 0xeb140101 false
+
+module _ (k : ℕ) where
+  abbrev asked : DevicePort
+  asked = record (quieted k) { notes = note Cmd 0 (quieted k) }
+
+  abbrev with_list : DevicePort
+  with_list = port_written Clb (list_of k) 2 asked
+
+  abbrev with_lists : DevicePort
+  with_lists = port_written Clbu 0 2 with_list
+
+  abbrev with_area : DevicePort
+  with_area = port_written Fb (received_of k) 2 with_lists
+
+  abbrev placed : DevicePort
+  placed = port_written Fbu 0 2 with_area
+
+  abbrev asked_again : DevicePort
+  asked_again = record placed { notes = note Cmd 0 placed }
+
+  abbrev hearing : DevicePort
+  hearing = port_written Cmd 0x10 2 asked_again
+
+  abbrev sending : DevicePort
+  sending = port_written Sctl 1 2 hearing
+
+  abbrev awaiting : DevicePort
+  awaiting = port_written Sctl 0 2 sending
+
+  abbrev shown : DevicePort
+  shown = record (up awaiting) { notes = note Ssts 3 (up awaiting) }
+
+  abbrev unchanged : DevicePort
+  unchanged = port_written Serr 0xffffffff 2 shown
+
+  abbrev calmed : DevicePort
+  calmed = port_written Is 0xffffffff 2 unchanged
+
+  abbrev idle : DevicePort
+  idle = record calmed { notes = note Tfd 0x77 calmed }
+
+  abbrev pub unfit : DevicePort
+  unfit = record idle { notes = note Sig 0xeb140101 idle }
+
+  -- the port stands at its place in these lists
+  module _ (around : DevicePort → List DevicePort) (at : (p : DevicePort) → having (around p) k ≡ p) (alike : (p q : DevicePort) → AlikeBut k (around p) (around q)) where
+    abbrev pub dev : DevicePort → Device
+    dev p = device_with pages read_memory (around p)
+
+    unfoldable pub reads_here : (r : PortReg) (v : ℕ) (p : DevicePort) → PortShows r v p → Reads (Px (port_at k) r) v (dev p) (dev (record p { notes = note r v p }))
+    reads_here r v p shows = reads pages read_memory k (around p) (around (record p { notes = note r v p })) (alike p (record p { notes = note r v p })) r v
+        (subst (PortShows r v) (sym (at p)) shows) (at (record p { notes = note r v p }) ∙ ap (λ (q : DevicePort). record q { notes = note r v q }) (sym (at p)))
+
+    unfoldable pub writes_here : (r : PortReg) (v : ℕ) (p : DevicePort) → Writes (Px (port_at k) r) v (dev p) (dev (port_written r v 2 p))
+    writes_here r v p = writes pages read_memory k (around p) (around (port_written r v 2 p)) (alike p (port_written r v 2 p)) r v (at (port_written r v 2 p) ∙ ap (port_written r v 2) (sym (at p)))
+
+    unfoldable pub comes_up : Reads (Px (port_at k) Ssts) 3 (dev awaiting) (dev shown)
+    comes_up = record {
+      mid = dev (up awaiting);
+      steps = record {
+        steps = LinkUp k 0xeb140101 false ∷ [];
+        lead = (
+          subst (λ (p : DevicePort). MayLinkUp p 0xeb140101) (sym (at awaiting)) (record { present = refl; det = refl; due = refl; fits = omega arith }),
+          put_device pages read_memory k (around awaiting) (around (up awaiting)) (up (having (around awaiting) k)) (at (up awaiting) ∙ ap up (sym (at awaiting))) (alike awaiting (up awaiting)),
+        );
+      };
+      shows = subst (PortShows Ssts 3) (sym (at (up awaiting))) refl;
+      effect = put_device pages read_memory k (around (up awaiting)) (around shown) (record (having (around (up awaiting)) k) { notes = note Ssts 3 (having (around (up awaiting)) k) })
+          (at shown ∙ ap (λ (q : DevicePort). record q { notes = note Ssts 3 q }) (sym (at (up awaiting)))) (alike (up awaiting) shown);
+    }
+
+    -- and then there come these
+    unfoldable pub boots : (later : List Access) (new : Device) → DoesAll later (dev unfit) new → DoesAll (booting k ++ later) (dev (quieted k)) new
+    boots later new then = (dev asked, reads_here Cmd 0 (quieted k) (refl, refl, refl, refl), (dev with_list, writes_here Clb (list_of k) asked, (dev with_lists, writes_here Clbu 0 with_list, (dev with_area, writes_here Fb (received_of k) with_lists, (dev placed, writes_here Fbu 0 with_area, (dev asked_again, reads_here Cmd 0 placed (refl, refl, refl, refl), (dev hearing, writes_here Cmd 0x10 asked_again, (dev sending, writes_here Sctl 1 hearing, (dev awaiting, writes_here Sctl 0 sending, (dev shown, comes_up, (dev unchanged, writes_here Serr 0xffffffff shown, (dev calmed, writes_here Is 0xffffffff unchanged, (dev idle, reads_here Tfd 0x77 calmed refl, (dev unfit, reads_here Sig 0xeb140101 idle refl, then))))))))))))))
+
+-- ---- the adapter's reset
+
+-- HR is one
+abbrev pending : Device
+pending = record submitted { hr = true; ae = true; ie = false }
+
+-- and has fallen
+abbrev ended : Device
+ended = device_after ResetEnds pending
+
+abbrev first_quieted : DevicePort → List DevicePort
+first_quieted p = p ∷ quieted 1 ∷ []
+
+abbrev second_quieted : DevicePort → List DevicePort
+second_quieted p = unfit 0 ∷ p ∷ []
+
+abbrev begun : Device
+begun = device_with pages read_memory (quieted 0 ∷ quieted 1 ∷ [])
+
+abbrev pub rebooted : Device
+rebooted = device_with pages read_memory (unfit 0 ∷ unfit 1 ∷ [])
+
+pub ports_are : having (quieted 0 ∷ quieted 1 ∷ []) ≡ ended.port
+ports_are = λ i n. each n i
+  where
+    each : (n : ℕ) → having (quieted 0 ∷ quieted 1 ∷ []) n ≡ ended.port n
+    each zero = refl
+    each (suc zero) = refl
+    each (suc (suc n)) = refl
+
+unfoldable pub does : DoesAll rebooting submitted rebooted
+does = (
+  pending,
+  record { mid = submitted; steps = record { steps = []; lead = refl }; effect = refl },
+  (
+    ended,
+    record { mid = ended; steps = record { steps = ResetEnds ∷ []; lead = (refl, refl) }; shows = (refl, refl, refl); effect = refl },
+    (
+      begun,
+      record { mid = ended; steps = record { steps = []; lead = refl }; effect = ap (λ (f : ℕ → DevicePort). record begun { port = f }) ports_are },
+      boots 0 first_quieted (λ p. refl) (λ p q. but_first p q (quieted 1 ∷ [])) (booting 1) rebooted
+          (boots 1 second_quieted (λ p. refl) (λ p q. but_second (unfit 0) p q []) [] rebooted refl),
+    ),
+  ),
+)
+
+-- ---- by the rules
+
+may_hear : (k : ℕ) → MayCommand (asked_again k) 0x10
+may_hear k = record {
+  start = λ set. absurd (false≢true set);
+  receive = λ set. inr (record { fallen = refl; fb = refl; fbu = refl });
+  stop_receiving = λ clear. absurd (true≢false clear);
+  others = λ place low start receive. same_beside 0x10 0 refl refl refl refl place start receive;
+}
+
+pub allowed : AreAllowed rebooting submitted rebooted does
+unfolding does boots comes_up reads_here writes_here reads writes
+allowed = (tt, (tt, (tt, ((record { ae = refl; no_reset = refl }, (omega arith, refl)), ((record { ae = refl; no_reset = refl }, (omega arith, refl), (refl, refl, refl, omega arith)), ((record { ae = refl; no_reset = refl }, (omega arith, refl), (refl, refl, refl)), ((record { ae = refl; no_reset = refl }, (omega arith, refl), (refl, refl, refl, omega arith)), ((record { ae = refl; no_reset = refl }, (omega arith, refl), (refl, refl, refl)), ((record { ae = refl; no_reset = refl }, (omega arith, refl)), ((record { ae = refl; no_reset = refl }, (omega arith, refl), may_hear 0), ((record { ae = refl; no_reset = refl }, (omega arith, refl), (refl, inr refl)), ((record { ae = refl; no_reset = refl }, (omega arith, refl), (refl, inl refl)), ((record { ae = refl; no_reset = refl }, (omega arith, refl)), ((record { ae = refl; no_reset = refl }, (omega arith, refl), tt), ((record { ae = refl; no_reset = refl }, (omega arith, refl), tt), ((record { ae = refl; no_reset = refl }, (omega arith, refl)), ((record { ae = refl; no_reset = refl }, (omega arith, refl)), ((record { ae = refl; no_reset = refl }, (omega arith, refl)), ((record { ae = refl; no_reset = refl }, (omega arith, refl), (refl, refl, refl, omega arith)), ((record { ae = refl; no_reset = refl }, (omega arith, refl), (refl, refl, refl)), ((record { ae = refl; no_reset = refl }, (omega arith, refl), (refl, refl, refl, omega arith)), ((record { ae = refl; no_reset = refl }, (omega arith, refl), (refl, refl, refl)), ((record { ae = refl; no_reset = refl }, (omega arith, refl)), ((record { ae = refl; no_reset = refl }, (omega arith, refl), may_hear 1), ((record { ae = refl; no_reset = refl }, (omega arith, refl), (refl, inr refl)), ((record { ae = refl; no_reset = refl }, (omega arith, refl), (refl, inl refl)), ((record { ae = refl; no_reset = refl }, (omega arith, refl)), ((record { ae = refl; no_reset = refl }, (omega arith, refl), tt), ((record { ae = refl; no_reset = refl }, (omega arith, refl), tt), ((record { ae = refl; no_reset = refl }, (omega arith, refl)), ((record { ae = refl; no_reset = refl }, (omega arith, refl)), tt)))))))))))))))))))))))))))))))

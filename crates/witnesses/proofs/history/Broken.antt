@@ -1,0 +1,183 @@
+-- The service that restarts the port of the fatal error, and finds no ATA disk: it meets all that is asked of it.
+use Rattle.std.proofs.Common.{ℕ, zero, suc, ◌≡◌, ◌∙◌, [], ◌∷◌, inl, inr, ⊎_elim, refl, sym, arith, ◌⊎◌}
+use Rattle.std.proofs.lemmas.Bool.{true≢false}
+use Rattle.std.proofs.lemmas.List.Elements.{All-from_recursion}
+use Rattle.std.proofs.lemmas.List.Sorted.{IsPermutation-refl}
+use Rattle.ata_types.specs.declared.PortState.TheVariants.{Absent, Ready}
+use Rattle.ata_types.specs.declared.request.Outcome.TheVariants as outcome
+use Rattle.adapter.specs.Device.{Device}
+use Rattle.adapter.specs.declared.access.DeviceStep.{DeviceStep}
+use Rattle.refinement.specs.Relation.{port_at}
+use Rattle.block_machine.specs.Events.{HadDisk, Happens, Served, Service}
+use Rattle.block_machine.specs.Histories.{Happening}
+use Rattle.block_machine.specs.Ports.{IsInterrupted, IsServiced, SamePort}
+use Rattle.block_machine.specs.State.{Pending}
+use Rattle.block_machine.specs.Steps.{Step, Answer}
+use Rattle.identify.specs.declared.wanted.Wanted.TheVariants.{Any}
+use Rattle.driver_history.specs.Heeding.{ServesReady}
+use Rattle.driver_history.specs.Histories.{BootsAnew, FindsDone, IsIssuedOn, TendsPort, CallCorresponds, PortCorresponds}
+use Rattle.driver_history.specs.Trace.{LeavesCommand}
+use Rattle.witnesses.specs.Fatal.{FatalErrorIsAHistory, fatal_accesses, fatal_evidence, looking}
+use Rattle.witnesses.proofs.history.Accepting.{asked, both, first, issuing, submit, submit_happens, submit_parts, submit_ties, waiting, bits_set, leaves_other, none_there, not_ended, the_answer}
+use Rattle.witnesses.proofs.history.Breaking.{allowed, broken, does, outset}
+use Rattle.witnesses.proofs.history.Devices.{AreServing, serving}
+use Rattle.witnesses.proofs.history.Holding.{named, named_is, no_slots, tries_ready}
+use Rattle.witnesses.proofs.history.Meeting.{broken_at, meeting, meeting_happens, meeting_part, meeting_ties, no_fault, shows_fatal, unpaged}
+use Rattle.witnesses.proofs.history.Members.{nowhere}
+use Rattle.witnesses.proofs.history.Pages.{plain_disks}
+use Rattle.witnesses.proofs.history.Ready.{begins, fit_ready, not_dead, served_ready, starts}
+use Rattle.witnesses.proofs.history.Rebooted.{IsRestart, Restart, backed, booted_at, evidenced, fit_one, finds, holds_booted, may_become, of_first, of_served, one, others_same, quiet, replies, resets, there, port_error, unnamed, unplugs, well}
+use Rattle.witnesses.proofs.history.Rebooted as rebooted
+
+-- ---- the restart
+
+abbrev answer : Step
+answer = Answer waiting outcome.Unplugged
+
+abbrev restart : Restart
+restart = record {
+  ask = Service;
+  said = Served replies;
+  steps = answer ∷ [];
+  machine = issuing;
+  port = broken;
+  looked = looking;
+  outset = outset;
+  failed = port_at 0 ∷ [];
+}
+
+abbrev booted : Device
+booted = rebooted.booted outset
+
+is_restart : IsRestart restart
+is_restart = record {
+  no_change = (refl, refl);
+  device = refl;
+  failed_all = λ f. named 0;
+  failed_only = λ n h. (named_is 0 n h, shows_fatal);
+  writes = (inl refl, (inr refl, of_first));
+  running = All-from_recursion (LeavesCommand (port_at 0)) looking (tt, (λ is. cc, (λ is. cc, (tt, tt))));
+  unfound = λ e slot s clear. bits_set 0 broken refl (λ k. refl) (λ k. refl) e slot s clear;
+  told = λ e o here. (the_answer outcome.Unplugged e o here).1;
+  own = ((tt, λ d. d), (tt, tt), λ n. refl);
+  plugged = refl;
+}
+
+-- ---- the call
+
+becomes : (n : ℕ) → IsServiced both fatal_evidence one (port_at n)
+becomes n = (λ is. absurd (not_dead n is), λ _. (may_become (port_at 0 ∷ []) n, changes n))
+  where
+    changes : (n : ℕ) → SamePort both one (port_at n) ⊎ IsInterrupted fatal_evidence (port_at n)
+    changes zero = inr (inl (named 0))
+    changes (suc n) = inl (others_same n)
+
+had_disk : (n : ℕ) → SamePort both one (port_at n) ⊎ HadDisk broken_at.moment (answer ∷ []) (booted_at outset).moment (port_at n)
+had_disk zero = inr (λ shows. inl refl)
+had_disk (suc n) = inl (others_same n)
+
+abbrev service : Happening Device DeviceStep
+service = record {
+  event = record { ask = Service; said = Served replies; evidence = fatal_evidence; steps = answer ∷ []; ports = one };
+  device = booted;
+}
+
+of_tended : AreServing (TendsPort both) fatal_accesses
+of_tended = (tended, ((λ is. cc, tended), ((λ is. cc, tt), (tended, of_served (TendsPort both) tended))))
+  where
+    tended : TendsPort both (port_at 0)
+    tended = (refl, not_dead 0)
+
+-- ---- what it owes each port
+
+heeds : (n : ℕ) → both.state (port_at n) ≡ Ready → ServesReady broken_at.moment fatal_evidence (answer ∷ []) (booted_at outset).moment (port_at n)
+heeds zero is = record {
+  ended = λ e here at_port ended. absurd (not_ended 0 e here ended);
+  emptied = λ g. absurd (nowhere (port_at 0) g);
+  told = λ g. absurd (nowhere (port_at 0) g);
+  interrupts = λ why. inl (named 0);
+  anew = λ why e here. absurd (nowhere e here);
+  single = omega arith;
+  fatal = λ h. (named 0, refl);
+  disk = λ shows. inl refl;
+  calm = inl (inl (named 0));
+}
+heeds (suc zero) is = leaves_other outcome.Unplugged fatal_evidence (booted_at outset).moment (unnamed restart is_restart 0) (omega arith) (refl, refl, refl, refl, refl, refl)
+heeds (suc (suc n)) is = absurd (let x : Absent ≡ Ready = is in cc)
+
+boots : (n : ℕ) → BootsAnew Service (Served replies) fatal_accesses broken_at one booted (port_at n)
+boots zero = (λ is f. inr (inr (resets looking)), inr (inr (inr (resets looking))))
+boots (suc zero) = (λ is f. absurd (⊎_elim (λ fatal. quiet restart is_restart 0 is (inl fatal)) (there restart is_restart 1 is) f), inl (refl, refl, refl, refl, refl, refl))
+boots (suc (suc n)) = (λ is. absurd (let x : Absent ≡ Ready = is in cc), inl (refl, refl, refl, refl, refl, refl))
+
+service_finds : (n : ℕ) (e : Pending) → IsIssuedOn (port_at n) issuing e → FindsDone (port_at n) fatal_accesses broken_at (answer ∷ [])
+service_finds zero e on = finds restart is_restart
+service_finds (suc n) e on = absurd (none_there 0 n e on)
+
+happens : Happens broken_at.moment service.event
+happens = record {
+  may = (tt, ((0, omega arith, refl), tt));
+  belong = (tt, inr tt);
+  last = (tt, λ id h is. absurd (true≢false (sym is)));
+  lawful = (tt, (named 0, named 0));
+  fit = fit_one;
+  disks = λ e o here. absurd (nowhere e here);
+  answered = record {
+    tells = record { answers = (waiting, outcome.Unplugged) ∷ []; same = IsPermutation-refl _; ordered = λ i j d less low. absurd (omega (arith, less, low)); told = refl };
+    dead = λ e o here is. absurd (not_dead e.request.port.0 is);
+    unplugs = unplugs restart is_restart;
+    issues = λ port is r at_port due. absurd (nowhere r due.here);
+    emptied = λ port other e here. absurd (nowhere e here);
+    ended = λ port is e here at_port done. absurd (not_ended 0 e here done);
+    becomes = λ port. becomes port.0;
+    disk = λ port. had_disk port.0;
+  };
+}
+
+part_of : (n : ℕ) → PortCorresponds broken_at service fatal_accesses (port_at n)
+part_of n = record {
+  finds = λ is e on. service_finds n e on;
+  faults = λ alone. absurd (true≢false (sym alone.shows.fault ∙ no_fault n));
+  probes = λ served none. tries_ready fatal_accesses broken_at one booted (port_at n) (served_ready n served);
+  boots = boots n;
+  port_error = port_error restart is_restart n;
+  well = well restart is_restart n;
+  heeds = heeds n;
+}
+
+ties : CallCorresponds (Any ∷ Any ∷ []) broken_at service
+ties = record {
+  accesses = fatal_accesses;
+  came = (does, serving (TendsPort both) fatal_accesses of_tended);
+  backed = backed restart is_restart;
+  evidenced = record { faults = λ f here. absurd (nowhere f here); port = λ port. evidenced restart is_restart port.0 };
+  grounded = tt;
+  issues = λ port is r here. absurd (nowhere r here);
+  port = λ port. part_of port.0;
+  holds = (no_slots, holds_booted outset (unpaged 1));
+}
+
+pub fatal_error_is_a_history : FatalErrorIsAHistory
+unfolding ties meeting_ties
+fatal_error_is_a_history = record {
+  first = first;
+  submit = submit;
+  asked = asked;
+  reads = refl;
+  submits = (refl, refl);
+  told = meeting;
+  tells = (refl, refl);
+  shows = shows_fatal;
+  ready = refl;
+  service = service;
+  serves = (refl, refl);
+  evidence = refl;
+  unfit = refl;
+  does = does;
+  allowed = allowed;
+  history = (((((starts, fit_ready plain_disks), begins plain_disks), submit_happens, submit_ties), meeting_happens, meeting_ties), happens, ties);
+  accesses = refl;
+  submit_parts = submit_parts;
+  told_parts = λ port. meeting_part port.0;
+  service_parts = λ port. part_of port.0;
+}

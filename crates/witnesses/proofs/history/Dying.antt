@@ -1,0 +1,382 @@
+-- A reset that doesn't end, and the service after it.
+use Rattle.std.proofs.Common.{◌∙◌, ℕ, zero, suc, ◌≡◌, false, List, [], ◌∷◌, ◌++◌, None, inl, inr, ⊎_elim, refl, sym, ap, arith, true, ◌≢◌, append-nil}
+use Rattle.std.proofs.lemmas.Bool.{true≢false}
+use Rattle.std.specs.List.{Contains}
+use Rattle.std.proofs.lemmas.List.Elements.{All-nil}
+use Rattle.std.proofs.lemmas.List.Sorted.{IsPermutation-refl}
+use Rattle.ata_types.specs.declared.Port.{Port}
+use Rattle.ata_types.specs.declared.PortState.TheVariants.{Absent, Ready, Unfit, Foreign, Dead}
+use Rattle.ata_types.specs.declared.request.Outcome.TheVariants as outcome
+use Rattle.ata_types.specs.declared.request.Reply.{Reply}
+use Rattle.adapter.specs.Device.{Device}
+use Rattle.adapter.specs.declared.access.DeviceStep.{DeviceStep}
+use Rattle.refinement.specs.Relation.{port_at}
+use Rattle.refinement.specs.Acts.{at_slots}
+use Rattle.refinement.specs.Driver.{IsBacked, DriverRelation}
+use Rattle.refinement.specs.Slots.{ServesRequest, RelatesSlot}
+use Rattle.refinement.specs.Witness.{first_id}
+use Rattle.block_machine.specs.Events.{Service, Served, Happens}
+use Rattle.block_machine.specs.Histories.{Happening, JointState}
+use Rattle.block_machine.specs.Ports.{IsServiced, Ports, AreFit}
+use Rattle.block_machine.specs.Left.{after}
+use Rattle.block_machine.specs.State.{Pending, Machine}
+use Rattle.block_machine.specs.Steps.{Step, Answer, NoneKept}
+use Rattle.host_boot.specs.Taken.{wanted_of}
+use Rattle.identify.specs.declared.wanted.Wanted.TheVariants.{Any}
+use Rattle.driver_history.specs.Evidence.{IsEvidencedOf}
+use Rattle.driver_history.specs.Histories.{CallCorresponds, PortCorresponds, ProbesDisk, IsUnfitOrForeign, TendsPort}
+use Rattle.driver_history.specs.Holds.{HoldsOf, HoldsWith, NoneWaits}
+use Rattle.driver_history.specs.Trace.{LeavesEngine, IsServing}
+use Rattle.host_boot.specs.Resets.{ReadsGlobalControl}
+use Rattle.witnesses.specs.Dead.{reset_accesses, DeathIsAHistory}
+use Rattle.witnesses.specs.Scene.{having, showing}
+use Rattle.hba_regs.specs.declared.reg.Reg.TheVariants.{Ghc}
+use Rattle.adapter.specs.Access.{DoesAll}
+use Rattle.adapter.specs.Rules.{IsOn}
+use Rattle.refinement.specs.Acts.{at_slots}
+use Rattle.refinement.specs.Driver.{DriverRelation}
+use Rattle.block_machine.specs.Events.{Reset, WasReset}
+use Rattle.block_machine.specs.Ports.{Evidence, IsStuck}
+use Rattle.driver_history.specs.Histories.{ProbesDisk}
+use Rattle.witnesses.proofs.history.Command.{read_memory}
+use Rattle.witnesses.proofs.history.Devices.{leaves}
+use Rattle.witnesses.proofs.history.Holding.{first_slots, have_first, unnamed_evidenced, unserved_at, uses_first, IsCalm, no_trouble}
+use Rattle.witnesses.proofs.history.Issuing.{none_named, nothing}
+use Rattle.witnesses.proofs.history.Submitting.{issued, pages, second, submitted}
+use Rattle.witnesses.proofs.history.Accepting.{asked, both, first, holds_submitted, in_book, issuing, submit, submit_happens, submit_ties, submitted_at, waiting, serves, the_answer, not_ended}
+use Rattle.witnesses.proofs.history.Pages.{plain_disks}
+use Rattle.witnesses.proofs.history.Ready.{begins, calm, fit_ready, served_of, served_ready, starts}
+use Rattle.witnesses.proofs.history.Members.{nowhere, only, either}
+
+-- ---- the reset
+
+abbrev dead : Ports
+dead = showing plain_disks.info (true ∷ true ∷ []) (Dead ∷ Dead ∷ [])
+
+abbrev pending : Device
+pending = record submitted { hr = true; ae = true; ie = false }
+
+resets : DoesAll reset_accesses submitted pending
+resets = (
+  pending,
+  record { mid = submitted; steps = record { steps = []; lead = refl }; effect = refl },
+  (pending, record { mid = pending; steps = record { steps = []; lead = refl }; shows = (refl, refl, refl); effect = refl }, refl),
+)
+
+abbrev stuck_evidence : Evidence
+stuck_evidence = record { faults = []; lost = []; gone = []; failed = []; fatal = []; stopped = []; stuck = port_at 0 ∷ port_at 1 ∷ [] }
+
+abbrev reset : Happening Device DeviceStep
+reset = record {
+  event = record { ask = Reset; said = WasReset None; evidence = stuck_evidence; steps = []; ports = dead };
+  device = pending;
+}
+
+abbrev pending_at : JointState Device
+pending_at = record { device = pending; moment = record { machine = issuing; ports = dead } }
+
+not_on : IsOn pending → ⊥
+not_on on = absurd (true≢false on.no_reset)
+
+-- nothing that the machine agrees with changes by a reset that is pending
+still_knows : (m : Machine) → DriverRelation m (at_slots first_slots submitted) → DriverRelation m (at_slots first_slots pending)
+still_knows m k = record {
+  agrees = record { slot = k.agrees.slot; apart = k.agrees.apart; received = k.agrees.received; disk = k.agrees.disk; memory = k.agrees.memory; sectors = k.agrees.sectors; lasting = k.agrees.lasting };
+  have = k.have;
+}
+
+-- what holds of each port, where requests are port 0's alone
+port_dead : (m : Machine) → ((n : ℕ) → n ≢ 0 → NoneWaits m (port_at n)) → ((n : ℕ) → n ≢ 0 → NoneKept m (port_at n)) → (n : ℕ)
+    → HoldsOf (wanted_of (Any ∷ Any ∷ []) n) first_slots (record { device = pending; moment = record { machine = m; ports = dead } }) (port_at n) (dead.served (port_at n)) (dead.state (port_at n))
+port_dead m waits kept zero = record { why = inr not_on; waits = λ on. absurd (not_on on) }
+port_dead m waits kept (suc zero) = record { why = inr not_on; waits = λ on. absurd (not_on on) }
+port_dead m waits kept (suc (suc n)) = unserved_at first_slots (record { device = pending; moment = record { machine = m; ports = dead } }) (suc (suc n)) refl refl
+    (record { free = λ slot. refl; unparked = refl }) (waits (suc (suc n)) (omega arith)) (kept (suc (suc n)) (omega arith))
+
+all_dead : (n : ℕ) → dead.served (port_at n) ≡ true → dead.state (port_at n) ≡ Dead
+all_dead zero is = refl
+all_dead (suc zero) is = refl
+all_dead (suc (suc n)) is = absurd (true≢false (sym is))
+
+holds_dead : (m : Machine) → DriverRelation m (at_slots first_slots pending) → ((n : ℕ) → n ≢ 0 → NoneWaits m (port_at n)) → ((n : ℕ) → n ≢ 0 → NoneKept m (port_at n))
+    → HoldsWith (Any ∷ Any ∷ []) first_slots (record { device = pending; moment = record { machine = m; ports = dead } })
+holds_dead m knows waits kept = record {
+  knows = knows;
+  served = λ port low. served_of pages read_memory (issued ∷ second ∷ []) port.0;
+  on = inr (λ port is. all_dead port.0 is);
+  port = λ port low. port_dead m waits kept port.0;
+}
+
+waits_first : (n : ℕ) → n ≢ 0 → NoneWaits issuing (port_at n)
+waits_first n ne e here is = ne (sym (sym (ap (λ (x : Pending). x.request.port.0) (in_book 0 e here)) ∙ ap (λ (p : Port). p.0) is))
+
+not_ready : (n : ℕ) → dead.state (port_at n) ≡ Ready → ⊥
+not_ready zero is = let x : Dead ≡ Ready = is in cc
+not_ready (suc zero) is = let x : Dead ≡ Ready = is in cc
+not_ready (suc (suc n)) is = let x : Absent ≡ Ready = is in cc
+
+fit_dead : AreFit dead
+fit_dead = record {
+  few = (fit_ready plain_disks).few;
+  absent = λ port is. absent_of port.0 is;
+  slots = λ port is. absurd (not_ready port.0 is);
+  causes = λ port cause is. absurd (no_cause port.0 cause is);
+}
+  where
+    absent_of : (n : ℕ) → dead.served (port_at n) ≡ false → dead.state (port_at n) ≡ Absent
+    absent_of zero is = absurd (true≢false is)
+    absent_of (suc zero) is = absurd (true≢false is)
+    absent_of (suc (suc n)) is = refl
+
+    no_cause : (n cause : ℕ) → dead.state (port_at n) ≡ Unfit cause → ⊥
+    no_cause zero cause is = let x : Dead ≡ Unfit cause = is in cc
+    no_cause (suc zero) cause is = let x : Dead ≡ Unfit cause = is in cc
+    no_cause (suc (suc n)) cause is = let x : Absent ≡ Unfit cause = is in cc
+
+stuck_is : (n : ℕ) → IsStuck both stuck_evidence dead (port_at n)
+stuck_is zero = (refl, λ is. (refl, (0, omega arith, refl)), (refl, refl))
+stuck_is (suc zero) = (refl, λ is. (refl, (1, omega arith, refl)), (refl, refl))
+stuck_is (suc (suc n)) = (refl, λ is. absurd (true≢false (sym is)), (refl, refl))
+
+reset_happens : Happens submitted_at.moment reset.event
+reset_happens = record {
+  may = tt;
+  belong = tt;
+  last = tt;
+  lawful = tt;
+  fit = fit_dead;
+  disks = λ e o here there same. (refl, refl);
+  answered = (tt, λ port. stuck_is port.0);
+}
+
+unchanged : (d : Device) → ((n : ℕ) → (d.port n).plugged ≡ (d.port n).plugged ++ [])
+unchanged d n = sym (append-nil (d.port n).plugged)
+
+reset_backed : IsBacked submitted pending issuing []
+reset_backed = record { telling = refl; gained = []; tape = refl; tells = tt; told = λ _. tt; plugged = λ port. ([], unchanged submitted port, refl) }
+
+-- the port is served if it is named
+named_served : (n : ℕ) → Contains (port_at 0 ∷ port_at 1 ∷ []) (port_at n) → both.served (port_at n) ≡ true
+named_served zero h = refl
+named_served (suc zero) h = refl
+named_served (suc (suc n)) h = absurd (⊎_elim
+    (λ (same : port_at (suc (suc n)) ≡ port_at 0). let z : suc (suc n) ≡ 0 = ap (λ (p : Port). p.0) same in omega (arith, z))
+    (λ (same : port_at (suc (suc n)) ≡ port_at 1). let z : suc (suc n) ≡ 1 = ap (λ (p : Port). p.0) same in omega (arith, z))
+    (either (port_at 0) (port_at 1) (port_at (suc (suc n))) h))
+
+reset_evidenced : (n : ℕ) → IsEvidencedOf Reset (WasReset None) reset_accesses submitted_at dead pending stuck_evidence (port_at n)
+reset_evidenced n =
+    let quiet = calm submitted.tape read_memory issued refl refl refl (λ place from. refl) pending n in
+    record {
+      lost = λ h. absurd (nowhere (port_at n) h);
+      gone_all = λ is loss. absurd ((quiet is).0 loss);
+      gone_only = λ h. absurd (nowhere (port_at n) h);
+      failed_all = λ is f. absurd ((quiet is).1 f);
+      failed_only = λ h. absurd (nowhere (port_at n) h);
+      fatal_all = λ is f. absurd ((quiet is).1 (inl f));
+      fatal_only = λ h. absurd (nowhere (port_at n) h);
+      stopped_all = inl (leaves (λ r. r ≡ Ghc) (port_at n) (λ is. cc) (λ is. cc) reset_accesses (refl, tt));
+      stopped_only = λ h. absurd (nowhere (port_at n) h);
+      stuck_only = λ h. inr (tt, named_served n h);
+    }
+
+reset_part : (n : ℕ) → PortCorresponds submitted_at reset reset_accesses (port_at n)
+reset_part n = record {
+  finds = tt;
+  faults = tt;
+  probes = tt;
+  boots = tt;
+  port_error = no_trouble stuck_evidence submitted_at dead pending (port_at n) [] refl (All-nil (IsCalm n)) (served_ready n) (calm submitted.tape read_memory issued refl refl refl (λ place from. refl) pending n);
+  well = λ why ready. absurd (not_ready n ready);
+  heeds = tt;
+}
+
+reset_ties : CallCorresponds (Any ∷ Any ∷ []) submitted_at reset
+reset_ties = record {
+  accesses = reset_accesses;
+  came = (resets, record { asked = []; shown = 0x80000001; here = refl; only = All-nil ReadsGlobalControl; pending = refl });
+  backed = reset_backed;
+  evidenced = record { faults = λ f here. absurd (nowhere f here); port = λ port. reset_evidenced port.0 };
+  grounded = tt;
+  issues = λ port is. absurd (not_ready port.0 is);
+  port = λ port. reset_part port.0;
+  holds = (first_slots, holds_dead issuing (still_knows issuing holds_submitted.knows) waits_first (λ n ne e kept. absurd (nowhere e kept)));
+}
+
+-- ---- the service
+
+abbrev answer : Step
+answer = Answer waiting outcome.PortDead
+
+abbrev answered : Machine
+answered = after issuing (answer ∷ [])
+
+abbrev replies : List Reply
+replies = record { id = first_id; client = asked.client; outcome = outcome.PortDead } ∷ []
+
+abbrev service : Happening Device DeviceStep
+service = record {
+  event = record { ask = Service; said = Served replies; evidence = nothing; steps = answer ∷ []; ports = dead };
+  device = pending;
+}
+
+is_kept : (e : Pending) → Contains answered.kept e → e ≡ waiting
+is_kept e here = only waiting e here
+
+-- the slot serves the kept request as it served it before
+serves_kept : ServesRequest answered read_memory issued 0 0 first_id
+serves_kept =
+    let s = serves in
+    record {
+      pending = s.pending;
+      moves = inr (0, omega arith, sym (⊎_elim (λ here. in_book 0 s.pending here.0) (λ kept. absurd (nowhere s.pending kept)) s.moves));
+      id_is = s.id_is;
+      port_is = s.port_is;
+      placed = s.placed;
+      command = s.command;
+      places = s.places;
+      told = s.told;
+      means = s.means;
+      stage = s.stage;
+    }
+
+slot_kept : (n k : ℕ) → RelatesSlot answered read_memory pages (having (issued ∷ second ∷ []) n) n k (uses_first n k)
+slot_kept zero zero = serves_kept
+slot_kept zero (suc k) = holds_submitted.knows.agrees.slot zero (suc k)
+slot_kept (suc n) k = holds_submitted.knows.agrees.slot (suc n) k
+
+knows_kept : DriverRelation answered (at_slots first_slots pending)
+knows_kept =
+    let k : DriverRelation issuing (at_slots first_slots submitted) = holds_submitted.knows in
+    record {
+      agrees = record {
+        slot = slot_kept;
+        apart = k.agrees.apart;
+        received = k.agrees.received;
+        disk = λ n. let d = k.agrees.disk n in record { present = d.present; id = d.id; size = d.size };
+        memory = k.agrees.memory;
+        sectors = λ telling n. let d = k.agrees.sectors telling n in record { told = d.told; tells = d.tells; same = d.same };
+        lasting = k.agrees.lasting;
+      };
+      have = λ n e may at_port. inr (⊎_elim
+          (λ here. absurd (nowhere e here.0))
+          (λ kept. have_first e n (ap (λ (x : Pending). x.request.port.0) (is_kept e kept)) (ap (λ (x : Pending). x.request.id) (is_kept e kept)) at_port) may);
+    }
+
+kept_first : (n : ℕ) → n ≢ 0 → NoneKept answered (port_at n)
+kept_first n ne e here is = ne (sym (sym (ap (λ (x : Pending). x.request.port.0) (is_kept e here)) ∙ ap (λ (p : Port). p.0) is))
+
+not_unplugged : (e : Pending) → Contains (answer ∷ []) (Answer e outcome.Unplugged) → ⊥
+not_unplugged e here = let x : outcome.Unplugged ≡ outcome.PortDead = (the_answer outcome.PortDead e outcome.Unplugged here).1 in cc
+
+becomes : (n : ℕ) → IsServiced dead nothing dead (port_at n)
+becomes zero = (λ is. (refl, refl, refl, refl, refl, refl), λ other. absurd (other refl))
+becomes (suc zero) = (λ is. (refl, refl, refl, refl, refl, refl), λ other. absurd (other refl))
+becomes (suc (suc n)) = (
+  λ is. (refl, refl, refl, refl, refl, refl),
+  λ other. (
+    record {
+      served = refl;
+      stuck = (λ is. absurd (let x : Absent ≡ Dead = is in cc), λ h. absurd (nowhere (port_at (suc (suc n))) h));
+      keeps = λ is. (refl, refl);
+    },
+    inl (refl, refl, refl, refl, refl, refl),
+  ),
+)
+
+service_happens : Happens pending_at.moment service.event
+service_happens = record {
+  may = (tt, ((0, omega arith, refl), tt));
+  belong = (tt, inr tt);
+  last = (tt, λ id handled issued_in. absurd (true≢false (sym issued_in)));
+  lawful = (tt, refl);
+  fit = fit_dead;
+  disks = λ e o here. absurd (nowhere e here);
+  answered = record {
+    tells = record { answers = (waiting, outcome.PortDead) ∷ []; same = IsPermutation-refl _; ordered = λ i j d less low. absurd (omega (arith, less, low)); told = refl };
+    dead = λ e o here is. (the_answer outcome.PortDead e o here).1;
+    unplugs = record { emptied = λ e other here. absurd (not_unplugged e here); alike = λ e other here. absurd (not_unplugged e here) };
+    issues = λ port is r at_port due. absurd (nowhere r due.here);
+    emptied = λ port other e here. absurd (nowhere e here);
+    ended = λ port is e here at_port done. absurd (not_ended 0 e here done);
+    becomes = λ port. becomes port.0;
+    disk = λ port. inl (refl, refl, refl, refl, refl, refl);
+  };
+}
+
+service_evidenced : (n : ℕ) → IsEvidencedOf Service (Served replies) [] pending_at dead pending nothing (port_at n)
+service_evidenced n = unnamed_evidenced Service (Served replies) [] pending_at dead pending nothing (port_at n)
+    (none_named (port_at n))
+    (λ is. absurd (not_ready n is))
+    (All-nil (LeavesEngine (port_at n)))
+
+probes : (n : ℕ) → dead.served (port_at n) ≡ true → ProbesDisk [] pending_at dead pending (port_at n)
+probes n served =
+    let is = all_dead n served in
+    record {
+      shown = λ absent. absurd (let x : Dead ≡ Absent = sym is ∙ absent in cc);
+      absent = λ absent. absurd (let x : Dead ≡ Absent = sym is ∙ absent in cc);
+      missing = λ bad. absurd (not_bad is bad);
+      changed = λ bad. absurd (not_bad is bad);
+    }
+  where
+    not_bad : dead.state (port_at n) ≡ Dead → IsUnfitOrForeign dead (port_at n) → ⊥
+    not_bad is (inl foreign) = let x : Dead ≡ Foreign = sym is ∙ foreign in cc
+    not_bad is (inr unfit) = let x : Dead ≡ Unfit unfit.0 = sym is ∙ unfit.1 in cc
+
+untended : (n : ℕ) → TendsPort dead (port_at n) → ⊥
+untended zero tends = tends.1 refl
+untended (suc zero) tends = tends.1 refl
+untended (suc (suc n)) tends = true≢false (sym tends.0)
+
+service_part : (n : ℕ) → PortCorresponds pending_at service [] (port_at n)
+service_part n = record {
+  finds = λ is. absurd (not_ready n is);
+  faults = λ alone. absurd (not_ready n alone.ready);
+  probes = λ served none. probes n served;
+  boots = (λ is. absurd (not_ready n is), inl (refl, refl, refl, refl, refl, refl));
+  port_error = record {
+    errors = λ is. absurd (not_ready n is);
+    changes = λ tends. absurd (untended n tends);
+    fault = λ is. absurd (not_ready n is);
+    fatal = λ is. absurd (not_ready n is);
+    disk = λ is. absurd (not_ready n is);
+  };
+  well = λ why is. absurd (not_ready n is);
+  heeds = λ is. absurd (not_ready n is);
+}
+
+service_backed : IsBacked pending pending issuing (answer ∷ [])
+service_backed = record { telling = refl; gained = []; tape = refl; tells = (tt, λ d. d); told = λ _. (tt, tt); plugged = λ port. ([], unchanged pending port, refl) }
+
+service_ties : CallCorresponds (Any ∷ Any ∷ []) pending_at service
+service_ties = record {
+  accesses = [];
+  came = (refl, All-nil (IsServing (TendsPort dead)));
+  backed = service_backed;
+  evidenced = record { faults = λ f here. absurd (nowhere f here); port = λ port. service_evidenced port.0 };
+  grounded = tt;
+  issues = λ port is. absurd (not_ready port.0 is);
+  port = λ port. service_part port.0;
+  holds = (first_slots, holds_dead answered knows_kept (λ n ne e here. absurd (nowhere e here)) kept_first);
+}
+
+pub death_is_a_history : DeathIsAHistory
+unfolding reset_ties service_ties
+death_is_a_history = record {
+  first = first;
+  submit = submit;
+  asked = asked;
+  submits = (refl, refl);
+  reset = reset;
+  resets = (refl, refl);
+  dead = (refl, refl);
+  service = service;
+  serves = (refl, refl);
+  history = (((((starts, fit_ready plain_disks), begins plain_disks), submit_happens, submit_ties), reset_happens, reset_ties), service_happens, service_ties);
+  kept = waiting;
+  keeps = ((0, omega arith, refl), refl);
+  accesses = (refl, refl);
+  reset_parts = λ port. reset_part port.0;
+  service_parts = λ port. service_part port.0;
+}

@@ -1,0 +1,305 @@
+-- A service finds one queued read of a sector done on port 0, and answers it; nothing else is done meanwhile.
+use Rattle.std.proofs.Common.{ℕ, zero, suc, ◌≡◌, ◌<◌, ◌*◌, ◌+◌, ◌↔◌, ◌∙◌, ◌++◌, Bool, true, false, List, [], ◌∷◌, map, slice_index, Some, inl, inr, ⊎_elim, refl, sym, ap, subst, arith}
+use Rattle.std.proofs.lemmas.Bool.{true≢false}
+use Rattle.std.specs.List.{All, Contains}
+use Rattle.std.proofs.lemmas.List.Elements.{All-contains, All-from_recursion}
+use Rattle.std.proofs.lemmas.List.Sorted.{IsPermutation-refl}
+use Rattle.ata_types.specs.declared.Port.{Port}
+use Rattle.ata_types.specs.declared.PortState.TheVariants.{Ready}
+use Rattle.ata_types.specs.declared.request.Op.TheVariants.{Read, Write}
+use Rattle.ata_types.specs.declared.request.Outcome.{Outcome}
+use Rattle.ata_types.specs.declared.request.Outcome.TheVariants as outcome
+use Rattle.ata_types.specs.declared.request.Reply.{Reply}
+use Rattle.ata_types.specs.declared.request.RequestId.{RequestId}
+use Rattle.hba_regs.specs.Bits.{bit}
+use Rattle.hba_regs.specs.declared.reg.Reg.TheVariants.{Px}
+use Rattle.hba_regs.specs.declared.reg.PortReg.TheVariants.{Sact, Ci}
+use Rattle.adapter.specs.Access.{Access, DoesAll}
+use Rattle.adapter.specs.Access.Access.{Reading}
+use Rattle.adapter.specs.Device.{DevicePort, Device, FetchedCommand}
+use Rattle.adapter.specs.FirstRead.{first_read_sector}
+use Rattle.adapter.specs.Memory.{patched}
+use Rattle.adapter.specs.Decoding.{piece_addresses}
+use Rattle.adapter.specs.Steps.{begun, done_entry, move_of}
+use Rattle.adapter.specs.declared.access.DeviceStep.{DeviceStep}
+use Rattle.adapter.specs.declared.command.Operation.TheVariants.{ReadQueued}
+use Rattle.adapter.specs.declared.tape.Entry.{Entry}
+use Rattle.adapter.specs.declared.tape.Entry.TheVariants as entry
+use Rattle.refinement.specs.Acts.{InSlots}
+use Rattle.refinement.specs.Relation.{port_at}
+use Rattle.refinement.specs.Driver.{IsBacked}
+use Rattle.refinement.specs.Slots.{ServesRequest}
+use Rattle.block_machine.specs.Due.{IsDue, NoneDue}
+use Rattle.block_machine.specs.Events.{Happens, Service, Served, ShowsDisk}
+use Rattle.block_machine.specs.Histories.{JointState, Happening}
+use Rattle.block_machine.specs.Left.{after}
+use Rattle.block_machine.specs.Ports.{Evidence, IsServiced}
+use Rattle.block_machine.specs.State.{Block, Machine, Pending, unanswered}
+use Rattle.block_machine.specs.Steps.{Step, Answer, End, Touch, AllTouched, mark_ended, touch}
+use Rattle.block_machine.specs.declared.due.Unanswered.{Unanswered}
+use Rattle.identify.specs.declared.wanted.Wanted.TheVariants.{Any}
+use Rattle.driver_history.specs.Heeding.{ServesReady}
+use Rattle.driver_history.specs.Evidence.{IsEvidencedOf, ShowsFailure, ShowsLoss}
+use Rattle.driver_history.specs.Histories.{FindsDone, IsAnsweredOk, IsIssuedOn, TendsPort, CallCorresponds, PortCorresponds, unissued}
+use Rattle.driver_history.specs.Holds.{mode_of}
+use Rattle.driver_history.specs.Trace.{LeavesCommand, LeavesEngine}
+use Rattle.witnesses.specs.Scene.{queueing_cap}
+use Rattle.witnesses.proofs.history.Command.{queued_read}
+use Rattle.witnesses.proofs.history.Devices.{serving}
+use Rattle.witnesses.proofs.history.Holding.{IsCalm, no_trouble, tries_ready, unnamed_evidenced}
+use Rattle.witnesses.proofs.history.Issuing.{none_named, nothing, unplugged}
+use Rattle.witnesses.proofs.history.Members.{nowhere}
+use Rattle.witnesses.proofs.history.Memory.{tells}
+use Rattle.witnesses.proofs.history.Pages.{Kind}
+use Rattle.witnesses.proofs.history.Ready.{Agreeing, fit_ready, holds, instant_with, not_dead, served_ready, shows_none, two_ready, two_states}
+use Rattle.witnesses.proofs.history.Serving.{outstanding_as}
+
+-- ports that stay what they are, where none gets stuck
+pub stay_serviced : (disk : Kind) (evidence : Evidence) (n : ℕ) → (Contains evidence.stuck (port_at n) → ⊥) → IsServiced (two_ready disk) evidence (two_ready disk) (port_at n)
+stay_serviced disk evidence n unstuck = (
+  λ is. absurd (not_dead n is),
+  λ _. (
+    record {
+      served = refl;
+      stuck = (λ is. absurd (not_dead n is), λ h. absurd (unstuck h));
+      keeps = λ is. (refl, refl);
+    },
+    inl (refl, refl, refl, refl, refl, refl),
+  ),
+)
+
+-- A service that finds the read in this slot done: what was in memory, and the port, before it and after it; what the tape had gained since the
+-- pages; and the values of PxCI and PxSACT that were read.
+pub record Discovery : Type 0 where
+  pub disk : Kind
+  pub machine : Machine
+  pub slots : InSlots
+  pub slots_then : InSlots
+  pub more : List Entry
+  pub memory : ℕ → ℕ
+  pub port : DevicePort
+  pub port_then : DevicePort
+  pub id : RequestId
+  pub sector : ℕ
+  pub frame_number : ℕ
+  pub held : ℕ → Block
+  pub slot : ℕ
+  pub ci : ℕ
+  pub sact : ℕ
+
+module _ (c : Discovery) where
+  abbrev pub outstanding : Pending
+  outstanding = outstanding_as c.id c.sector c.frame_number c.held
+
+  abbrev pub touching : Step
+  touching = Touch outstanding 0 (slice_index (first_read_sector c.sector))
+
+  abbrev pub ended : Pending
+  ended = mark_ended (touch 0 outstanding)
+
+  abbrev pub steps : List Step
+  steps = Answer ended outcome.Ok ∷ End (touch 0 outstanding) ∷ touching ∷ []
+
+  abbrev pub answered : Machine
+  answered = after c.machine steps
+
+  abbrev pub command : FetchedCommand
+  command = begun (queued_read c.sector) (piece_addresses (4096 * c.frame_number) 1)
+
+  -- the sector was moved, and the command ended
+  abbrev pub gained : List Entry
+  gained = entry.Move (move_of 0 c.slot command (first_read_sector c.sector)) ∷ done_entry 0 c.slot ReadQueued ∷ []
+
+  abbrev pub memory_then : ℕ → ℕ
+  memory_then = patched c.memory (4096 * c.frame_number) (first_read_sector c.sector)
+
+  abbrev pub masks : List Access
+  masks = Reading (Px (port_at 0) Ci) c.ci ∷ Reading (Px (port_at 0) Sact) c.sact ∷ []
+
+  abbrev pub before : JointState Device
+  before = instant_with c.disk c.slots c.machine c.more c.memory c.port
+
+  abbrev pub served_at : JointState Device
+  served_at = instant_with c.disk c.slots_then answered (c.more ++ gained) memory_then c.port_then
+
+  abbrev pub replies : List Reply
+  replies = record { id = c.id; client = outstanding.request.asked.client; outcome = outcome.Ok } ∷ []
+
+  abbrev pub service : Happening Device DeviceStep
+  service = record {
+    event = record { ask = Service; said = Served replies; evidence = nothing; steps = steps; ports = two_ready c.disk };
+    device = served_at.device;
+  }
+
+  -- there is one answer
+  pub only_answer : (e : Pending) (o : Outcome) → Contains steps (Answer e o) → (e ≡ ended) × (o ≡ outcome.Ok)
+  only_answer e o here = All-contains IsOne steps (Answer e o) (All-from_recursion IsOne steps (λ e o same. (cc, cc), (λ e o same. absurd cc, (λ e o same. absurd cc, tt)))) here e o refl
+    where
+      IsOne : Step → Type 0
+      IsOne step = (e : Pending) (o : Outcome) → step ≡ Answer e o → (e ≡ ended) × (o ≡ outcome.Ok)
+
+  pub record IsFound : Type 0 where
+    pub agreed : Agreeing c.disk c.slots c.machine c.more c.memory c.port
+    pub agreeing : Agreeing c.disk c.slots_then answered (c.more ++ gained) memory_then c.port_then
+    pub here : Contains c.machine.book outstanding
+    pub touched_here : Contains (after c.machine (touching ∷ [])).book (touch 0 outstanding)
+    pub ended_here : Contains (after c.machine (End (touch 0 outstanding) ∷ touching ∷ [])).book ended
+    pub lent : c.machine.lent (record { 0 = c.frame_number }) ≡ Some c.id
+    pub on_disk : c.sector < 256
+    pub unended : (e : Pending) → Contains c.machine.book e → e.ended ≡ false
+    pub none_due : (port : Port) → NoneDue (mode_of queueing_cap c.disk.info) (map unanswered answered.book) port
+    pub none_issued : unissued steps (map unanswered answered.book) ≡ map unanswered answered.book
+    pub does : DoesAll masks before.device served_at.device
+    pub exact : (e : Pending) (slot : ℕ) → IsIssuedOn (port_at 0) c.machine e → ServesRequest c.machine c.memory c.port 0 slot e.request.id
+        → IsAnsweredOk e steps ↔ ((bit c.ci slot ≡ false) × (bit c.sact slot ≡ false))
+
+  module _ (is : IsFound) where
+    in_then : c.machine.present (port_at 0) ≡ true
+    in_then = ap (λ (f : Port → Bool). f (port_at 0)) is.agreed.disks.0
+
+    all_touched : AllTouched (touch 0 outstanding)
+    all_touched zero low = refl
+    all_touched (suc i) low = absurd (omega (arith, low))
+
+    not_unplugged : (e : Pending) → Contains steps (Answer e outcome.Unplugged) → ⊥
+    not_unplugged e here = let x : outcome.Unplugged ≡ outcome.Ok = (only_answer e outcome.Unplugged here).1 in cc
+
+    pub backed : IsBacked before.device served_at.device c.machine steps
+    backed = record {
+      telling = refl;
+      gained = gained;
+      tape = refl;
+      tells = (
+        [],
+        touching ∷ [],
+        Answer ended outcome.Ok ∷ End (touch 0 outstanding) ∷ [],
+        tt,
+        record {
+          pending = outstanding;
+          moves = inl (is.here, refl);
+          port_is = refl;
+          op_is = refl;
+          number = 0;
+          within = omega arith;
+          sector_is = refl;
+          place_is = omega arith;
+          direction_is = refl;
+          lent = is.lent;
+          step = refl;
+        },
+        (
+          [],
+          End (touch 0 outstanding) ∷ [],
+          Answer ended outcome.Ok ∷ [],
+          tt,
+          record { pending = touch 0 outstanding; moves = inl (is.touched_here, refl); port_is = refl; op_is = refl; step = refl },
+          (tt, λ d. d),
+          refl,
+        ),
+        refl,
+      );
+      told = λ _. (((tt, λ _ b low. brought b low), tt), tt);
+      plugged = λ port. ([], unplugged c.port c.port_then is.agreed.stands is.agreeing.stands port, refl);
+    }
+      where
+        brought : (b : ℕ) → b < 512 → slice_index (first_read_sector c.sector) b ≡ c.machine.disks (port_at 0) (c.sector + 0) b
+        brought b low = tells c.sector b low ∙ (let same : c.sector ≡ c.sector + 0 = omega arith in same) ∙ sym (ap (λ (f : Port → ℕ → ℕ → ℕ). f (port_at 0) (c.sector + 0) b) is.agreed.disks.3)
+
+    quiet : (n : ℕ) → two_states (port_at n) ≡ Ready → (ShowsLoss (port_at n) before.device served_at.device → ⊥) × (ShowsFailure (before.device.port n) → ⊥)
+    quiet = shows_none before.device.tape c.memory c.port is.agreed.stands served_at.device
+
+    pub evidenced : (n : ℕ) → IsEvidencedOf Service (Served replies) masks before (two_ready c.disk) served_at.device nothing (port_at n)
+    evidenced n = unnamed_evidenced Service (Served replies) masks before (two_ready c.disk) served_at.device nothing (port_at n) (none_named (port_at n)) (quiet n)
+        (All-from_recursion (LeavesEngine (port_at n)) masks ((tt, tt), ((tt, tt), tt)))
+
+    finds : (n : ℕ) (e : Pending) → IsIssuedOn (port_at n) c.machine e → FindsDone (port_at n) masks before steps
+    finds zero e on = record {
+      ci = c.ci;
+      sact = c.sact;
+      reads = record { before = []; later = []; here = refl; running = All-from_recursion (LeavesCommand (port_at 0)) [] tt };
+      exact = is.exact;
+    }
+    finds (suc n) e on = absurd (let z : 0 ≡ suc n = sym (is.agreed.first_alone e on.here) ∙ ap (λ (q : Port). q.0) on.port_is in omega (arith, z))
+
+    not_ended : (e : Pending) → Contains c.machine.book e → e.ended ≡ true → ⊥
+    not_ended e here at = true≢false (sym at ∙ is.unended e here)
+
+    heeds : (n : ℕ) → ServesReady before.moment nothing steps served_at.moment (port_at n)
+    heeds n = record {
+      ended = λ e here at_port done. absurd (not_ended e here done);
+      emptied = λ g. absurd (nowhere (port_at n) g);
+      told = λ g. absurd (nowhere (port_at n) g);
+      interrupts = λ why. absurd (⊎_elim (nowhere (port_at n)) (nowhere (port_at n)) why);
+      anew = λ why. absurd (⊎_elim (nowhere (port_at n)) (nowhere (port_at n)) why);
+      single = omega arith;
+      fatal = λ h. absurd (nowhere (port_at n) h);
+      disk = λ shows. inl (in_of n shows);
+      calm = inr (record {
+        same = (refl, refl, refl, refl, refl, refl);
+        told = λ e o here at_port. inl (only_answer e o here).1;
+        uninterrupted = λ why. ⊎_elim (nowhere (port_at n)) (nowhere (port_at n)) why;
+      });
+    }
+      where
+        in_of : (n : ℕ) → ShowsDisk (two_states (port_at n)) → c.machine.present (port_at n) ≡ true
+        in_of zero shows = in_then
+        in_of (suc zero) shows = ap (λ (f : Port → Bool). f (port_at 1)) is.agreed.disks.0
+        in_of (suc (suc n)) shows = absurd shows
+
+    gained_calm : (n : ℕ) → All (IsCalm n) gained
+    gained_calm n = All-from_recursion (IsCalm n) gained ((λ x. x, λ x. x, λ x. x), ((λ x. x, λ x. x, λ x. x), tt))
+
+    pub service_happens : Happens before.moment service.event
+    service_happens = record {
+      may = (
+        (
+          (tt, (inl (is.here, refl), omega arith, in_then, sizes, λ e. absurd (let x : Read ≡ Write = e in cc))),
+          (inl (is.touched_here, refl), all_touched, in_then),
+        ),
+        (is.ended_here, tt),
+      );
+      belong = (((tt, inl tt), inl tt), inr tt);
+      last = (((tt, λ id h i. absurd (true≢false (sym i))), λ id h i. absurd (true≢false (sym i))), λ id h i. absurd (true≢false (sym i)));
+      lawful = (tt, (record { pending = outstanding; here = is.here; id_is = refl; issued = refl }, refl, all_touched, refl));
+      fit = fit_ready c.disk;
+      disks = λ e o here there same. (refl, refl);
+      answered = record {
+        tells = record { answers = (ended, outcome.Ok) ∷ []; same = IsPermutation-refl _; ordered = λ i j d less low. absurd (omega (arith, less, low)); told = refl };
+        dead = λ e o here dead. absurd (not_dead e.request.port.0 dead);
+        unplugs = record { emptied = λ e other here. absurd (not_unplugged e here); alike = λ e other here. absurd (not_unplugged e here) };
+        issues = λ port ready. is.none_due port;
+        emptied = λ port other e here at. other (ap (λ (n : ℕ). two_states (port_at n)) (ap (λ (q : Port). q.0) (sym at) ∙ is.agreeing.first_alone e here));
+        ended = λ port ready e here at_port done. absurd (true≢false (sym done ∙ is.unended e here));
+        becomes = λ port. stay_serviced c.disk nothing port.0 (nowhere port);
+        disk = λ port. inl (refl, refl, refl, refl, refl, refl);
+      };
+    }
+      where
+        sizes : c.sector + 0 < c.machine.sizes (port_at 0)
+        sizes = let low = is.on_disk in let size : c.machine.sizes (port_at 0) ≡ 256 = ap (λ (f : Port → ℕ). f (port_at 0)) is.agreed.disks.2 in omega (arith, low, size)
+
+    pub service_part : (n : ℕ) → PortCorresponds before service masks (port_at n)
+    service_part n = record {
+      finds = λ ready e on. finds n e on;
+      faults = λ alone. absurd ((quiet n alone.ready).1 (inr alone.shows.fault));
+      probes = λ served none. tries_ready masks before (two_ready c.disk) served_at.device (port_at n) (served_ready n served);
+      boots = (λ ready f. absurd (⊎_elim (λ fatal. (quiet n ready).1 (inl fatal)) (quiet n ready).0 f), inl (refl, refl, refl, refl, refl, refl));
+      port_error = no_trouble nothing before (two_ready c.disk) served_at.device (port_at n) gained refl (gained_calm n) (served_ready n) (quiet n);
+      well = λ why. absurd (⊎_elim (nowhere (port_at n)) (nowhere (port_at n)) why);
+      heeds = λ ready. heeds n;
+    }
+
+    unfoldable pub service_ties : CallCorresponds (Any ∷ Any ∷ []) before service
+    service_ties = record {
+      accesses = masks;
+      came = (is.does, serving (TendsPort (two_ready c.disk)) masks ((refl, not_dead 0), ((refl, not_dead 0), tt)));
+      backed = backed;
+      evidenced = record { faults = λ f here. absurd (nowhere f here); port = λ port. evidenced port.0 };
+      grounded = tt;
+      issues = λ port ready r here at_port. (
+        λ issued. absurd (true≢false (sym issued)),
+        λ due. absurd (is.none_due port r at_port (subst (λ (book : List Unanswered). IsDue (mode_of queueing_cap c.disk.info) book r) is.none_issued due)),
+      );
+      port = λ port. service_part port.0;
+      holds = (c.slots_then, holds c.disk c.slots_then answered (c.more ++ gained) memory_then c.port_then is.agreeing);
+    }

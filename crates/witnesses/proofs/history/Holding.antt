@@ -1,0 +1,260 @@
+-- What holds between two calls, of ports of these devices; and the evidence of ports that aren't named.
+use Rattle.refinement.specs.Links.{IsPlugging}
+use Rattle.refinement.specs.Errors.{IsFatalOf}
+use Rattle.std.proofs.lemmas.List.Elements.{All-contains, Contains-append_right}
+use Rattle.std.proofs.lemmas.List.{append_cancel_left}
+use Rattle.std.proofs.Common.{ℕ, zero, suc, ◌≡◌, ◌≢◌, ◌≤◌, ◌∙◌, ◌++◌, true, false, List, [], ◌∷◌, length, None, inl, inr, ⊎_elim, refl, sym, ap, subst, arith}
+use Rattle.std.proofs.lemmas.Bool.{true≢false}
+use Rattle.std.specs.List.{Contains, All}
+use Rattle.ata_types.specs.declared.Port.{Port}
+use Rattle.ata_types.specs.declared.PortState.TheVariants.{Absent, Foreign, Ready, Unfit}
+use Rattle.ata_types.specs.declared.request.RequestId.{RequestId}
+use Rattle.ata_types.specs.declared.limits.TheConstants.{READINGS}
+use Rattle.adapter.specs.Access.{Access, named_causes}
+use Rattle.adapter.specs.Device.{DevicePort, Device}
+use Rattle.adapter.specs.Device.Halt.{NotHalted, HaltedPlain, HaltedQueued}
+use Rattle.adapter.specs.FirstRead.{quiet_port}
+use Rattle.adapter.specs.Idle.{IsIdlePort}
+use Rattle.adapter.specs.declared.access.DeviceStep.{DeviceStep}
+use Rattle.adapter.specs.declared.command.Operation.TheVariants.{Identify}
+use Rattle.adapter.specs.declared.tape.Entry.{Entry}
+use Rattle.refinement.specs.Acts.{InSlots}
+use Rattle.refinement.specs.Relation.{port_at}
+use Rattle.refinement.specs.Facts.{IsFaulted, IsFaultOf}
+use Rattle.refinement.specs.Slots.{Free, Serves, SlotStates, IsMove}
+use Rattle.refinement.specs.Witness.{first_id}
+use Rattle.block_machine.specs.Events.{Ask, CallResult}
+use Rattle.block_machine.specs.Histories.{JointState}
+use Rattle.block_machine.specs.Ports.{Ports, Evidence}
+use Rattle.block_machine.specs.State.{Pending}
+use Rattle.block_machine.specs.Steps.{NoneKept}
+use Rattle.block_machine.specs.declared.due.QueueMode.{QueueMode}
+use Rattle.port_boot.specs.States.{HasFitDisk}
+use Rattle.port_control.specs.Ports.{programmed}
+use Rattle.error_recovery.specs.Evidence.{GainsRunning}
+use Rattle.driver_history.specs.Evidence.{IsEvidencedOf, ShowsFailure, ShowsLoss, Gains}
+use Rattle.driver_history.specs.Histories.{IsUnfitOrForeign, ProbesDisk, LosesNoPortError}
+use Rattle.driver_history.specs.Holds.{HasNothing, HasRequests, IsClients, IsOfKind, IsUnservedAt, NoneWaits, Runs}
+use Rattle.driver_history.specs.Trace.{LeavesEngine}
+use Rattle.witnesses.specs.Scene.{page_entry, page_move}
+use Rattle.witnesses.proofs.history.Pages.{Kind}
+use Rattle.witnesses.proofs.history.Members.{only}
+
+-- ---- slots
+
+-- no slot is in use
+abbrev pub no_slots : InSlots
+no_slots = record { uses = λ port slot. Free; parked = λ port. [] }
+
+-- slot 0 of port 0 serves request 1
+abbrev pub uses_first : SlotStates
+uses_first zero zero = Serves first_id
+uses_first zero (suc slot) = Free
+uses_first (suc port) slot = Free
+
+abbrev pub first_slots : InSlots
+first_slots = record { uses = uses_first; parked = λ port. [] }
+
+-- no other does
+pub serves_first : (port slot : ℕ) (id : RequestId) → uses_first port slot ≡ Serves id → (port ≡ 0) × (slot ≡ 0)
+serves_first zero zero id is = (refl, refl)
+serves_first zero (suc slot) id is = absurd (let x : Free ≡ Serves id = is in cc)
+serves_first (suc port) slot id is = absurd (let x : Free ≡ Serves id = is in cc)
+
+-- ---- ports
+
+pub unserved_at : (s : InSlots) (i : JointState Device) (port : ℕ) → i.moment.ports.state (port_at port) ≡ Absent → i.device.port port ≡ quiet_port → HasNothing s port → NoneWaits i.moment.machine (port_at port)
+    → NoneKept i.moment.machine (port_at port) → IsUnservedAt s i (port_at port)
+unserved_at s i port absent quiet slots waits kept = record {
+  absent = absent;
+  idle = subst IsIdlePort (sym quiet) (record { st = refl; cr = refl; fre = refl; fr = refl; ci = λ s. refl; sact = λ s. refl; taken = λ s. refl });
+  slots = slots;
+  waits = waits;
+  kept = kept;
+}
+
+-- nothing has halted it
+unfaulted : IsFaulted NotHalted → ⊥
+unfaulted f = ⊎_elim (λ a. let x : NotHalted ≡ HaltedPlain = a in cc) (λ a. let x : NotHalted ≡ HaltedQueued = a in cc) f
+
+-- a port runs on which no fault is on record
+pub runs_on : (port : ℕ) (d : Device) → (d.port port).st ≡ true → (d.port port).cr ≡ true → (d.port port).fre ≡ true → (d.port port).bases ≡ programmed port → (d.port port).notes.link_count ≡ READINGS
+    → (d.port port).notes.st_set_at ≤ length d.tape → (d.port port).link_due ≡ false → (d.port port).is 30 ≡ false → (d.port port).halt ≡ NotHalted → Runs port d
+runs_on port d st cr fre bases saw known linked calm whole = record {
+  st = st;
+  cr = cr;
+  fre = fre;
+  bases = bases;
+  saw = saw;
+  recorded = record { known = known; linked = linked; flag = λ f. absurd (true≢false (sym f ∙ calm)); fault = λ f. absurd (unfaulted (subst IsFaulted whole f)) };
+}
+
+-- the last page of its disk stands on the tape
+pub fit_disk : (disk : Kind) (port : ℕ) (d : Device) (before later : List Entry) → d.tape ≡ before ++ page_entry disk.page port ∷ later → (d.port port).sctl_det ≡ 0 → (d.port port).ie ≡ named_causes
+    → (d.port port).notes.sctl_written_at ≡ 0 → All (λ e. IsMove port Identify e → ⊥) later → HasFitDisk None port d disk.info
+fit_disk disk port d before later is det ie since last = record {
+  det = det;
+  tells = ie;
+  page = disk.page;
+  has = record {
+    before = before;
+    move = page_move disk.page port;
+    later = later;
+    here = is;
+    since = omega (arith, since);
+    is_move = (refl, refl);
+    last = last;
+    bytes = refl;
+  };
+  fit = disk.fits;
+}
+
+-- nothing is in its slots
+pub requests_none : (s : InSlots) (i : JointState Device) (port : Port) (mode : QueueMode) → ((slot : ℕ) → s.uses port.0 slot ≡ Free) → s.parked port.0 ≡ [] → HasRequests s i port mode
+requests_none s i port mode free unparked = record {
+  clients = λ slot. inl (free slot);
+  low = λ slot above. free slot;
+  unparked = unparked;
+  kinds = λ slot e in_slot. absurd (unserved slot e.request.id in_slot.serves);
+  alone = λ slot e in_slot. absurd (unserved slot e.request.id in_slot.serves);
+}
+  where
+    unserved : (slot : ℕ) (id : RequestId) → s.uses port.0 slot ≡ Serves id → ⊥
+    unserved slot id is = let z : Free ≡ Serves id = sym (free slot) ∙ is in cc
+
+-- slot 0 of port 0 serves the one request, by a command of its kind
+pub requests_first : (i : JointState Device) (mode : QueueMode) → 1 ≤ mode.usable → ((e : Pending) → Contains i.moment.machine.book e → IsOfKind mode i.device 0 0 e) → HasRequests first_slots i (port_at 0) mode
+requests_first i mode usable kind = record {
+  clients = clients;
+  low = λ slot above. low slot (omega (arith, usable, above));
+  unparked = refl;
+  kinds = λ slot e s unended. kinds slot e s.here s.serves;
+  alone = λ slot e s plain. alone slot e s.serves;
+}
+  where
+    clients : (slot : ℕ) → IsClients (uses_first 0 slot)
+    clients zero = inr (first_id, refl)
+    clients (suc slot) = inl refl
+
+    low : (slot : ℕ) → 1 ≤ slot → uses_first 0 slot ≡ Free
+    low zero above = absurd (omega (arith, above))
+    low (suc slot) above = refl
+
+    kinds : (slot : ℕ) (e : Pending) → Contains i.moment.machine.book e → uses_first 0 slot ≡ Serves e.request.id → IsOfKind mode i.device 0 slot e
+    kinds zero e here u = kind e here
+    kinds (suc slot) e here u = absurd (let z : Free ≡ Serves e.request.id = u in cc)
+
+    alone : (slot : ℕ) (e : Pending) → uses_first 0 slot ≡ Serves e.request.id → (slot ≡ 0) × ((other : ℕ) → other ≢ 0 → uses_first 0 other ≡ Free)
+    alone zero e u = (refl, λ other ne. low other (omega (arith, ne)))
+    alone (suc slot) e u = absurd (let z : Free ≡ Serves e.request.id = u in cc)
+
+-- what is issued or kept is a request of slot 0 of port 0
+pub have_first : (e : Pending) (q : ℕ) → e.request.port.0 ≡ 0 → e.request.id ≡ first_id → e.request.port.0 ≡ q → (slot : ℕ) × (uses_first q slot ≡ Serves e.request.id)
+have_first e q zero_is id_is at_port = (0, subst (λ (n : ℕ). uses_first n 0 ≡ Serves e.request.id) (sym zero_is ∙ at_port) (ap Serves (sym id_is)))
+
+-- ---- what is named
+
+-- a port is named alone
+pub named : (port : ℕ) → Contains (port_at port ∷ []) (port_at port)
+named port = (0, omega arith, refl)
+
+pub named_is : (port n : ℕ) → Contains (port_at port ∷ []) (port_at n) → n ≡ port
+named_is port n here = ap (λ (p : Port). p.0) (only (port_at port) (port_at n) here)
+
+-- the evidence names the port nowhere
+pub record IsUnnamed (evidence : Evidence) (port : Port) : Type 0 where
+  pub lost : Contains evidence.lost port → ⊥
+  pub gone : Contains evidence.gone port → ⊥
+  pub failed : Contains evidence.failed port → ⊥
+  pub fatal : Contains evidence.fatal port → ⊥
+  pub stopped : Contains evidence.stopped port → ⊥
+  pub stuck : Contains evidence.stuck port → ⊥
+
+-- a port that shows its device, and no change
+pub unlost : (port : Port) (old new : Device) → (old.port port.0).serr_n ≡ false → (old.port port.0).serr_x ≡ false → (old.port port.0).ssts_det ≡ 3 → ShowsLoss port old new → ⊥
+unlost port old new n x there loss = ⊎_elim (λ change. ⊎_elim (λ a. absurd (true≢false (sym a ∙ n))) (λ a. absurd (true≢false (sym a ∙ x))) change) (λ missing. missing.0 there) loss
+
+-- and one with no bit of PxIS that tells of trouble
+pub unfailing : (p : DevicePort) → ((place : ℕ) → 27 ≤ place → p.is place ≡ false) → ShowsFailure p → ⊥
+unfailing p calm fails = ⊎_elim (λ fatal. absurd (true≢false (sym fatal.set ∙ calm fatal.place fatal.from))) (λ fault. absurd (true≢false (sym fault ∙ calm 30 (omega arith)))) fails
+
+-- a port that isn't named, wasn't stopped, and showed no trouble if it was ready
+pub unnamed_evidenced : (ask : Ask DeviceStep) (said : CallResult) (accesses : List Access) (old : JointState Device) (ports : Ports) (new : Device) (evidence : Evidence) (port : Port) → IsUnnamed evidence port
+    → (old.moment.ports.state port ≡ Ready → (ShowsLoss port old.device new → ⊥) × (ShowsFailure (old.device.port port.0) → ⊥)) → All (LeavesEngine port) accesses
+    → IsEvidencedOf ask said accesses old ports new evidence port
+unnamed_evidenced ask said accesses old ports new evidence port un calm left = record {
+  lost = λ h. absurd (un.lost h);
+  gone_all = λ is loss. absurd ((calm is).0 loss);
+  gone_only = λ h. absurd (un.gone h);
+  failed_all = λ is f. absurd ((calm is).1 f);
+  failed_only = λ h. absurd (un.failed h);
+  fatal_all = λ is f. absurd ((calm is).1 (inl f));
+  fatal_only = λ h. absurd (un.fatal h);
+  stopped_all = inl left;
+  stopped_only = λ h. absurd (un.stopped h);
+  stuck_only = λ h. absurd (un.stuck h);
+}
+
+-- ---- disks that are there
+
+-- a ready port isn't tried
+pub tries_ready : (accesses : List Access) (old : JointState Device) (ports : Ports) (new : Device) (port : Port) → old.moment.ports.state port ≡ Ready → ProbesDisk accesses old ports new port
+tries_ready accesses old ports new port ready = record {
+  shown = λ is. absurd (not_absent is);
+  absent = λ is. absurd (not_absent is);
+  missing = λ bad. absurd (not_bad bad);
+  changed = λ bad. absurd (not_bad bad);
+}
+  where
+    not_absent : old.moment.ports.state port ≡ Absent → ⊥
+    not_absent is = let x : Ready ≡ Absent = sym ready ∙ is in cc
+
+    not_bad : IsUnfitOrForeign old.moment.ports port → ⊥
+    not_bad (inl is) = let x : Ready ≡ Foreign = sym ready ∙ is in cc
+    not_bad (inr is) = let x : Ready ≡ Unfit is.0 = sym ready ∙ is.1 in cc
+
+-- ---- trouble
+
+-- nothing of this kind was gained
+pub gained_none : (Is : Entry → Type 0) (old new : Device) (gained : List Entry) → new.tape ≡ old.tape ++ gained → All (λ e. Is e → ⊥) gained → Gains Is old new → ⊥
+gained_none Is old new gained is none g =
+    let same : g.gained ≡ gained = append_cancel_left old.tape g.gained gained (sym g.tape ∙ is) in
+    All-contains (λ e. Is e → ⊥) gained g.entry none (subst (λ (es : List Entry). Contains es g.entry) same g.here) g.is
+
+-- so it was not while ST was one either
+pub ran_none : (Is : Entry → Type 0) (port : ℕ) (old new : Device) → (Gains Is old new → ⊥) → GainsRunning Is port old new → ⊥
+ran_none Is port old new none g = none (record {
+  gained = g.before ++ (g.entry ∷ g.later);
+  tape = g.tape;
+  entry = g.entry;
+  here = Contains-append_right g.before (g.entry ∷ g.later) g.entry (0, omega arith, refl);
+  is = g.is;
+})
+
+-- neither a fault, nor a fatal error, nor a disk of the port that goes or comes
+abbrev pub IsCalm : ℕ → Entry → Type 0
+IsCalm port e = (IsFaultOf port e → ⊥) × (IsFatalOf port e → ⊥) × (IsPlugging port e → ⊥)
+
+pub each : {X : Type 0} {P Q : X → Type 0} (xs : List X) → ((x : X) → P x → Q x) → All P xs → All Q xs
+each xs goes all k d low = goes _ (all k d low)
+
+-- where a port showed no trouble, and none came, there is none to be heeded
+pub no_trouble : (evidence : Evidence) (old : JointState Device) (ports : Ports) (new : Device) (port : Port) (gained : List Entry) → new.tape ≡ old.device.tape ++ gained → All (IsCalm port.0) gained
+    → (old.moment.ports.served port ≡ true → old.moment.ports.state port ≡ Ready)
+    → (old.moment.ports.state port ≡ Ready → (ShowsLoss port old.device new → ⊥) × (ShowsFailure (old.device.port port.0) → ⊥)) → LosesNoPortError evidence old ports new port
+no_trouble evidence old ports new port gained is none served calm = record {
+  errors = λ ready why. absurd (⊎_elim (calm ready).1 (λ came. ⊎_elim faults fatals came) why);
+  changes = λ tends why. absurd (⊎_elim (λ change. (calm (served tends.0)).0 (inl change)) plugs why);
+  fault = λ ready g. absurd (ran_none (IsFaultOf port.0) port.0 old.device new faults g);
+  fatal = λ ready g. absurd (ran_none (IsFatalOf port.0) port.0 old.device new fatals g);
+  disk = λ ready g. absurd (ran_none (IsPlugging port.0) port.0 old.device new plugs g);
+}
+  where
+    faults : Gains (IsFaultOf port.0) old.device new → ⊥
+    faults = gained_none (IsFaultOf port.0) old.device new gained is (each gained (λ e (c : IsCalm port.0 e). c.0) none)
+
+    fatals : Gains (IsFatalOf port.0) old.device new → ⊥
+    fatals = gained_none (IsFatalOf port.0) old.device new gained is (each gained (λ e (c : IsCalm port.0 e). c.1) none)
+
+    plugs : Gains (IsPlugging port.0) old.device new → ⊥
+    plugs = gained_none (IsPlugging port.0) old.device new gained is (each gained (λ e (c : IsCalm port.0 e). c.2) none)

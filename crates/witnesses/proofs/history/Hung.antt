@@ -1,0 +1,233 @@
+-- The third tick finds the port of the read hung, and restarts it, which finds no ATA disk: it meets all that is asked of it.
+use Rattle.std.proofs.Common.{ℕ, zero, suc, ◌≡◌, ◌⊎◌, true, List, [], ◌∷◌, inl, inr, ⊎_elim, refl, sym, ap, subst, arith}
+use Rattle.std.specs.List.{Contains}
+use Rattle.std.proofs.lemmas.Bool.{true≢false}
+use Rattle.std.proofs.lemmas.List.Elements.{All-nil}
+use Rattle.std.proofs.lemmas.List.Sorted.{IsPermutation-refl}
+use Rattle.ata_types.specs.declared.Port.{Port}
+use Rattle.ata_types.specs.declared.PortState.TheVariants.{Ready}
+use Rattle.ata_types.specs.declared.request.Outcome.{Outcome}
+use Rattle.ata_types.specs.declared.request.Outcome.TheVariants as outcome
+use Rattle.adapter.specs.Device.{Device}
+use Rattle.adapter.specs.declared.access.DeviceStep.{DeviceStep}
+use Rattle.refinement.specs.Relation.{port_at}
+use Rattle.refinement.specs.Facts.{RunsWell}
+use Rattle.block_machine.specs.Events.{Happens, HasTimedOut, RestartsTimedOut, Served, Tick}
+use Rattle.block_machine.specs.Histories.{Happening}
+use Rattle.block_machine.specs.Ports.{IsInterrupted, MayBecome, SamePort}
+use Rattle.block_machine.specs.State.{Pending}
+use Rattle.block_machine.specs.Steps.{Again, Answer, Step}
+use Rattle.identify.specs.declared.wanted.Wanted.TheVariants.{Any}
+use Rattle.driver_history.specs.Histories.{BootsAnew, FindsDone, CallCorresponds, PortCorresponds}
+use Rattle.driver_history.specs.Trace.{LeavesCommand}
+use Rattle.witnesses.specs.Hung.{HungPortIsAHistory}
+use Rattle.witnesses.specs.Restart.{restart_evidence, restarting}
+use Rattle.witnesses.proofs.history.Accepting.{asked, bits_set, both, first, issued_at, issued_for, not_ended, submit, submit_happens, submit_parts, submit_ties, waiting_for}
+use Rattle.witnesses.proofs.history.Aging.{ages, ages_once, hung_at, hung_first, not_hung, tick, tick_happens, tick_part, tick_ties}
+use Rattle.witnesses.proofs.history.Devices.{serving}
+use Rattle.witnesses.proofs.history.Holding.{named, named_is, no_slots, unfailing}
+use Rattle.witnesses.proofs.history.Members.{either, nowhere}
+use Rattle.witnesses.proofs.history.Pages.{plain_disks}
+use Rattle.witnesses.proofs.history.Ready.{begins, fit_ready, no_page, starts}
+use Rattle.witnesses.proofs.history.Rebooted.{IsRestart, Restart, backed, booted_at, evidenced, finds, fit_one, holds_booted, may_become, not_dead_then, not_ready_then, of_first, of_served, one, others_same, replies, resets, port_error, unplugs, well}
+use Rattle.witnesses.proofs.history.Rebooted as rebooted
+use Rattle.witnesses.proofs.history.Restarting.{Outset, restart_allowed, restarts}
+use Rattle.witnesses.proofs.history.Submitting.{issued, submitted}
+
+-- ---- the restart
+
+-- the port was as when the read was issued
+abbrev outset : Outset
+outset = record { gained = []; still = refl; flags = issued.is; broken = issued.broken; notes = issued.notes }
+
+abbrev booted : Device
+booted = rebooted.booted outset
+
+abbrev answer : Step
+answer = Answer (waiting_for 3) outcome.Unplugged
+
+abbrev steps : List Step
+steps = answer ∷ ages ∷ []
+
+abbrev restart : Restart
+restart = record {
+  ask = Tick;
+  said = Served replies;
+  steps = steps;
+  machine = issued_for 2;
+  port = issued;
+  looked = [];
+  outset = outset;
+  failed = [];
+}
+
+-- there is one answer
+the_answer : (e : Pending) (o : Outcome) → Contains steps (Answer e o) → (e ≡ waiting_for 3) × (o ≡ outcome.Unplugged)
+the_answer e o here = ⊎_elim
+    (λ (same : Answer e o ≡ answer). (cc, cc))
+    (λ (same : Answer e o ≡ ages). absurd cc)
+    (either answer ages (Answer e o) here)
+
+-- no request waits again
+unrepeated : (e : Pending) → Contains steps (Again e) → ⊥
+unrepeated e here = ⊎_elim (λ (same : Again e ≡ answer). cc) (λ (same : Again e ≡ ages). cc) (either answer ages (Again e) here)
+
+-- it is port 0's
+answers_first : (e : Pending) (o : Outcome) → Contains steps (Answer e o) → e.request.port ≡ port_at 0
+answers_first e o here = ap (λ (x : Pending). x.request.port) (the_answer e o here).0
+
+is_restart : IsRestart restart
+is_restart = record {
+  no_change = (refl, refl);
+  device = refl;
+  failed_all = λ f. absurd (unfailing issued (λ place from. refl) f);
+  failed_only = λ n h. absurd (nowhere (port_at n) h);
+  writes = of_first;
+  running = All-nil (LeavesCommand (port_at 0));
+  unfound = λ e slot s clear. bits_set 2 issued refl (λ k. refl) (λ k. refl) e slot s clear;
+  told = λ e o here. (the_answer e o here).1;
+  own = (((tt, λ d. d), λ d. d), ((tt, tt), tt), λ n. refl);
+  plugged = refl;
+}
+
+-- ---- the call
+
+abbrev restarting_tick : Happening Device DeviceStep
+restarting_tick = record {
+  event = record { ask = Tick; said = Served replies; evidence = restart_evidence []; steps = steps; ports = one };
+  device = booted;
+}
+
+hung : HasTimedOut (issued_at 2).moment (port_at 0)
+hung = hung_at 2 (omega arith)
+
+-- what is of port 0 alone is of a hung port
+is_hung : (port : Port) → port ≡ port_at 0 → HasTimedOut (issued_at 2).moment port
+is_hung port is = subst (HasTimedOut (issued_at 2).moment) (sym is) hung
+
+-- no other port is hung
+other : (n : ℕ) → HasTimedOut (issued_at 2).moment (port_at (suc n)) → ⊥
+other n h = let same = ap (λ (p : Port). p.0) (hung_first 2 (port_at (suc n)) h) in omega (arith, same)
+
+interrupted : (port : Port) → IsInterrupted (restart_evidence []) port → HasTimedOut (issued_at 2).moment port
+interrupted port (inl h) = is_hung port (ap port_at (named_is 0 port.0 h))
+interrupted port (inr h) = absurd (nowhere port h)
+
+-- it becomes what a restart may make of it, and the others stay as they are
+becomes : (n : ℕ) → ((HasTimedOut (issued_at 2).moment (port_at n) → ⊥) × SamePort both one (port_at n)) ⊎ (HasTimedOut (issued_at 2).moment (port_at n) × MayBecome both (restart_evidence []) one (port_at n))
+becomes zero = inr (hung, may_become [] 0)
+becomes (suc n) = inl (other n, others_same n)
+
+restarts_hung : RestartsTimedOut (issued_at 2).moment (restart_evidence []) steps (booted_at outset).moment
+restarts_hung = record {
+  ports = λ port. becomes port.0;
+  again = λ e here. absurd (unrepeated e here);
+  answer = λ e o here. is_hung e.request.port (answers_first e o here);
+  ended = λ port h e here at_port ended. absurd (not_ended 2 e here ended);
+  anew = λ port h e here. absurd (nowhere e here);
+  interrupts = λ port. (λ h. subst (IsInterrupted (restart_evidence [])) (sym (hung_first 2 port h)) (inl (named 0)), interrupted port);
+  finds = λ e here. (not_dead_then e.request.port.0, λ ready. absurd (not_ready_first e.request.port (answers_first e outcome.Unplugged here) ready));
+  disk = λ port h shows. inl (subst (λ (p : Port). (issued_for 2).present p ≡ true) (sym (hung_first 2 port h)) refl);
+}
+  where
+    not_ready_first : (port : Port) → port ≡ port_at 0 → one.state port ≡ Ready → ⊥
+    not_ready_first port is ready = not_ready_then (subst (λ (p : Port). one.state p ≡ Ready) is ready)
+
+happens : Happens (issued_at 2).moment restarting_tick.event
+happens = record {
+  may = ((tt, tt), ((0, omega arith, refl), tt));
+  belong = ((tt, inr tt), inr (inl tt));
+  last = ((tt, λ id handled issued_in. absurd (true≢false (sym handled))), λ id handled issued_in. absurd (true≢false (sym issued_in)));
+  lawful = (tt, (named 0, named 0));
+  fit = fit_one;
+  disks = λ e o here. absurd (nowhere e here);
+  answered = record {
+    tells = record { answers = (waiting_for 3, outcome.Unplugged) ∷ []; same = IsPermutation-refl _; ordered = λ i j d less low. absurd (omega (arith, less, low)); told = refl };
+    ages = ages_once (answer ∷ []) refl;
+    restarts = restarts_hung;
+    unplugs = unplugs restart is_restart;
+    issues = λ port is r at_port due. absurd (nowhere r due.here);
+    emptied = λ port is not_ready e here. absurd (nowhere e here);
+  };
+}
+
+-- ---- what it owes each port
+
+finds_there : (n : ℕ) → HasTimedOut (issued_at 2).moment (port_at n) → FindsDone (port_at n) restarting (issued_at 2) steps
+finds_there zero h = finds restart is_restart
+finds_there (suc n) h = absurd (other n h)
+
+boots : (n : ℕ) → BootsAnew Tick (Served replies) restarting (issued_at 2) one booted (port_at n)
+boots zero h = inr (resets [])
+boots (suc n) h = absurd (other n h)
+
+part_of : (n : ℕ) → PortCorresponds (issued_at 2) restarting_tick restarting (port_at n)
+part_of n = record {
+  finds = finds_there n;
+  faults = tt;
+  probes = tt;
+  boots = boots n;
+  port_error = port_error restart is_restart n;
+  well = well restart is_restart n;
+  heeds = tt;
+}
+
+ties : CallCorresponds (Any ∷ Any ∷ []) (issued_at 2) restarting_tick
+ties = record {
+  accesses = restarting;
+  came = (restarts outset, serving (HasTimedOut (issued_at 2).moment) restarting (of_served (HasTimedOut (issued_at 2).moment) hung));
+  backed = backed restart is_restart;
+  evidenced = record { faults = λ f here. absurd (nowhere f here); port = λ port. evidenced restart is_restart port.0 };
+  grounded = tt;
+  issues = λ port is r here. absurd (nowhere r here);
+  port = λ port. part_of port.0;
+  holds = (no_slots, holds_booted outset (no_page 1));
+}
+
+-- ---- the history
+
+-- when the third tick begins, the port runs well
+runs_well : RunsWell (submitted.port 0)
+runs_well = record {
+  st = refl;
+  cr = refl;
+  det = refl;
+  present = refl;
+  fresh = refl;
+  linked = refl;
+  running = refl;
+  whole = refl;
+  quiet = record { serr_n = refl; serr_x = refl; quiet = λ place from to. refl };
+}
+
+pub hung_port_is_a_history : HungPortIsAHistory
+unfolding ties tick_ties
+hung_port_is_a_history = record {
+  first = first;
+  submit = submit;
+  asked = asked;
+  reads = refl;
+  submits = (refl, refl);
+  tick = tick 0;
+  ticks = (refl, refl);
+  young = not_hung 0 (omega arith);
+  second = tick 1;
+  ticks_again = (refl, refl);
+  young_then = not_hung 1 (omega arith);
+  ready = refl;
+  well = runs_well;
+  hung = hung;
+  alone = hung_first 2;
+  restart = restarting_tick;
+  restarts = (refl, refl);
+  evidence = refl;
+  unfit = refl;
+  does = restarts outset;
+  allowed = restart_allowed outset;
+  history = ((((((starts, fit_ready plain_disks), begins plain_disks), submit_happens, submit_ties), tick_happens 0 (omega arith), tick_ties 0 (omega arith)), tick_happens 1 (omega arith), tick_ties 1 (omega arith)), happens, ties);
+  accesses = (refl, refl, refl);
+  submit_parts = submit_parts;
+  tick_parts = λ port. tick_part 0 (omega arith) port.0;
+  second_parts = λ port. tick_part 1 (omega arith) port.0;
+  restart_parts = λ port. part_of port.0;
+}

@@ -1,0 +1,239 @@
+-- A read of one sector is accepted, and issued in the same call; nothing else is done meanwhile.
+use Rattle.std.proofs.Common.{ℕ, zero, suc, ◌≡◌, ◌<◌, ◌≤◌, ◌^◌, ◌∙◌, ◌↔◌, ◌++◌, List, [], ◌∷◌, map, None, Some, inr, ⊎_elim, refl, sym, ap, subst, arith, append-nil}
+use Rattle.std.specs.Prelude.{Ok}
+use Rattle.std.proofs.lemmas.Bool.{true≢false}
+use Rattle.std.specs.List.{All, Contains}
+use Rattle.std.proofs.lemmas.List.Elements.{All-nil}
+use Rattle.ata_types.specs.declared.Port.{Port}
+use Rattle.ata_types.specs.declared.grant.GrantRow.{GrantRow}
+use Rattle.ata_types.specs.declared.refusal.Refusal.TheVariants as refused
+use Rattle.ata_types.specs.declared.request.Frame.{Frame}
+use Rattle.ata_types.specs.declared.request.Op.TheVariants.{Read, Trim}
+use Rattle.ata_types.specs.declared.request.Request.{Request}
+use Rattle.ata_types.specs.declared.request.RequestId.{RequestId}
+use Rattle.hba_regs.specs.declared.reg.Reg.TheVariants.{Px}
+use Rattle.hba_regs.specs.declared.reg.PortReg.TheVariants.{Cmd, Sctl, Sact, Ci}
+use Rattle.adapter.specs.Access.{Access, DoesAll}
+use Rattle.adapter.specs.Access.Access.{Reading, Writing, Loading, Storing}
+use Rattle.adapter.specs.Device.{DevicePort, Device}
+use Rattle.adapter.specs.declared.access.DeviceStep.{DeviceStep}
+use Rattle.refinement.specs.Acts.{InSlots}
+use Rattle.refinement.specs.Relation.{port_at}
+use Rattle.refinement.specs.Driver.{IsBacked}
+use Rattle.block_machine.specs.Due.{IsDue}
+use Rattle.block_machine.specs.Events.{Happens, Submit, Submitted, AllIssued, IsIssuedIn, situation_of}
+use Rattle.block_machine.specs.Histories.{JointState, Happening}
+use Rattle.block_machine.specs.Left.{after}
+use Rattle.block_machine.specs.Ports.{Evidence}
+use Rattle.block_machine.specs.Refusals.{IsAcceptable}
+use Rattle.block_machine.specs.State.{Accepted, Block, Machine, block_of, unanswered}
+use Rattle.block_machine.specs.Steps.{Step, Accept, Issue, IsNew, May, newly_accepted, unanswered_of}
+use Rattle.block_machine.specs.declared.due.Unanswered.{Unanswered}
+use Rattle.identify.specs.declared.wanted.Wanted.TheVariants.{Any}
+use Rattle.driver_history.specs.Evidence.{IsEvidencedOf}
+use Rattle.driver_history.specs.Histories.{IssuesDue, IssuesOn, CallCorresponds, PortCorresponds, unissued}
+use Rattle.driver_history.specs.Holds.{mode_of}
+use Rattle.driver_history.specs.Trace.{LeavesEngine}
+use Rattle.witnesses.specs.Scene.{having, queueing_cap}
+use Rattle.witnesses.proofs.history.Holding.{IsCalm, IsUnnamed, each, no_trouble, unnamed_evidenced}
+use Rattle.witnesses.proofs.history.Members.{nowhere, only}
+use Rattle.witnesses.proofs.history.Pages.{Kind}
+use Rattle.witnesses.proofs.history.Ready.{Agreeing, Stands, acceptable, client, fit_ready, frame, holds, instant_with, its_row, request, row, served_ready, shows_none, two_ready, two_rows}
+use Rattle.witnesses.proofs.history.Submitting.{second}
+
+-- ---- the request
+
+-- a read of sector k into the first 512 bytes of frame n
+abbrev pub reading : ℕ → ℕ → Request
+reading k n = request 0 Read k 1 (frame n ∷ [])
+
+abbrev pub accepted_as : RequestId → ℕ → ℕ → (ℕ → Block) → Accepted
+accepted_as id k n held = record { id = id; port = port_at 0; asked = reading k n; held = held }
+
+-- The machine may take it next: its frame is free, and the client hasn't too many.
+pub record MayTake (disk : Kind) (m : Machine) (id : RequestId) (k n : ℕ) : Type 0 where
+  pub rows : m.rows ≡ two_rows
+  pub id_is : id.0 ≡ m.next
+  pub left : m.next < 2 ^ 64
+  pub few : unanswered_of m.book client < 16
+  pub owned : m.owner (frame n) ≡ Some client
+  pub free : m.lent (frame n) ≡ None
+  pub from : 100 ≤ k
+  pub to : k < 164
+  pub on_disk : k < disk.info.sectors
+
+module _ (disk : Kind) (m : Machine) (id : RequestId) (k n : ℕ) (may : MayTake disk m id k n) where
+  pub is_acceptable : IsAcceptable (situation_of (record { machine = m; ports = two_ready disk })) (reading k n)
+  is_acceptable =
+      let from = may.from in
+      let to = may.to in
+      let on_disk = may.on_disk in
+      acceptable 0 (situation_of (record { machine = m; ports = two_ready disk })) (reading k n) (record {
+        rows = may.rows;
+        mine = (0, omega arith, refl);
+        client_is = refl;
+        grant = refl;
+        allowed = refl;
+        count = (omega arith, omega arith);
+        covered = λ _. (from, omega (arith, to));
+        frames = refl;
+        single = omega arith;
+        owned = λ f e. let g : frame n ≡ f = cc in subst (λ (x : Frame). m.owner x ≡ Some client) g may.owned;
+        free = λ f e. let g : frame n ≡ f = cc in subst (λ (x : Frame). m.lent x ≡ None) g may.free;
+        ready = refl;
+        on_disk = λ _. omega (arith, on_disk);
+        no_trim = λ e. let x : Read ≡ Trim = e in cc;
+        few = may.few;
+        ids = may.left;
+      })
+
+  pub is_new : IsNew m (accepted_as id k n (block_of m.memory (frame n ∷ [])))
+  is_new = record {
+    id = may.id_is;
+    id_left = may.left;
+    unbroken = λ rule h. is_acceptable (refused.Rule rule) h;
+    port = λ x named. sym (ap (λ (r : GrantRow). r.port) (its_row x (subst (λ (rows : List GrantRow). Contains rows x) may.rows named.0) ∙ ap row named.1.1));
+    few = may.few;
+    held = refl;
+  }
+
+-- ---- evidence
+
+-- nothing is named
+abbrev pub nothing : Evidence
+nothing = record { faults = []; lost = []; gone = []; failed = []; fatal = []; stopped = []; stuck = [] }
+
+pub none_named : (port : Port) → IsUnnamed nothing port
+none_named port = record { lost = nowhere port; gone = nowhere port; failed = nowhere port; fatal = nowhere port; stopped = nowhere port; stuck = nowhere port }
+
+-- what issues on port 0 leaves each engine alone
+leaves_engine : (port : Port) (access : Access) → IssuesOn (port_at 0) access → LeavesEngine port access
+leaves_engine port (Reading r v) i = absurd i
+leaves_engine port (Loading at bytes) i = absurd i
+leaves_engine port (Storing at bytes) i = (tt, tt)
+leaves_engine port (Writing r v) i = (
+  λ is. ⊎_elim (λ e. let x : Px (port_at 0) Sact ≡ Px port Cmd = sym e ∙ is in absurd cc) (λ e. let x : Px (port_at 0) Ci ≡ Px port Cmd = sym e ∙ is in absurd cc) i,
+  λ is. ⊎_elim (λ e. let x : Px (port_at 0) Sact ≡ Px port Sctl = sym e ∙ is in absurd cc) (λ e. let x : Px (port_at 0) Ci ≡ Px port Sctl = sym e ∙ is in absurd cc) i,
+)
+
+-- no disk is put in where port 0 stands before and after
+pub unplugged : (p p' : DevicePort) → Stands p → Stands p' → (n : ℕ) → (having (p' ∷ second ∷ []) n).plugged ≡ (having (p ∷ second ∷ []) n).plugged ++ []
+unplugged p p' a b zero =
+    let same : p'.plugged ≡ p.plugged = ap (λ (q : DevicePort). q.plugged) (b.same ∙ sym a.same) in
+    same ∙ sym (append-nil p.plugged)
+unplugged p p' a b (suc zero) = refl
+unplugged p p' a b (suc (suc n)) = refl
+
+-- ---- the call
+
+-- A read of a sector is submitted on port 0, by these accesses: what was in memory, and the port, before it and after it.
+pub record Submission : Type 0 where
+  pub disk : Kind
+  pub machine : Machine
+  pub slots : InSlots
+  pub slots_then : InSlots
+  pub memory : ℕ → ℕ
+  pub memory_then : ℕ → ℕ
+  pub port : DevicePort
+  pub port_then : DevicePort
+  pub id : RequestId
+  pub sector : ℕ
+  pub frame_number : ℕ
+  pub accesses : List Access
+
+module _ (c : Submission) where
+  abbrev pub accepted : Accepted
+  accepted = accepted_as c.id c.sector c.frame_number (block_of c.machine.memory (frame c.frame_number ∷ []))
+
+  abbrev pub submit_steps : List Step
+  submit_steps = Issue (mode_of queueing_cap c.disk.info) (newly_accepted accepted) ∷ Accept accepted ∷ []
+
+  abbrev pub issuing : Machine
+  issuing = after c.machine submit_steps
+
+  abbrev pub before : JointState Device
+  before = instant_with c.disk c.slots c.machine [] c.memory c.port
+
+  abbrev pub submitted_at : JointState Device
+  submitted_at = instant_with c.disk c.slots_then issuing [] c.memory_then c.port_then
+
+  abbrev pub submit : Happening Device DeviceStep
+  submit = record {
+    event = record { ask = Submit (reading c.sector c.frame_number); said = Submitted (Ok c.id); evidence = nothing; steps = submit_steps; ports = two_ready c.disk };
+    device = submitted_at.device;
+  }
+
+  pub record IsIssued : Type 0 where
+    pub stands : Stands c.port
+    pub agreeing : Agreeing c.disk c.slots_then issuing [] c.memory_then c.port_then
+    pub takes : MayTake c.disk c.machine c.id c.sector c.frame_number
+    pub may : May (after c.machine (Accept accepted ∷ [])) (Issue (mode_of queueing_cap c.disk.info) (newly_accepted accepted))
+    pub all_issued : AllIssued submitted_at.moment
+    pub due : (port : Port) → IssuesDue (mode_of queueing_cap c.disk.info) submit_steps issuing port
+    pub does : DoesAll c.accesses before.device submitted_at.device
+    pub only : All (IssuesOn (port_at 0)) c.accesses
+
+  -- A request that was due while no other was unanswered, and is issued: so exactly what is due is issued.
+  pub due_alone : unissued submit_steps (map unanswered issuing.book) ≡ unanswered (newly_accepted accepted) ∷ []
+      → IsDue (mode_of queueing_cap c.disk.info) (unanswered (newly_accepted accepted) ∷ []) (unanswered (newly_accepted accepted)) → IsIssuedIn c.id submit_steps
+      → (port : Port) → IssuesDue (mode_of queueing_cap c.disk.info) submit_steps issuing port
+  due_alone alone due issued port r here at_port = subst AllRight (sym alone) right r here
+    where
+      AllRight : List Unanswered → Type 0
+      AllRight book = (r : Unanswered) → Contains book r → IsIssuedIn r.id submit_steps ↔ IsDue (mode_of queueing_cap c.disk.info) book r
+
+      right : AllRight (unanswered (newly_accepted accepted) ∷ [])
+      right r here =
+          subst (λ (x : Unanswered). IsIssuedIn x.id submit_steps ↔ IsDue (mode_of queueing_cap c.disk.info) (unanswered (newly_accepted accepted) ∷ []) x)
+          (sym (only (unanswered (newly_accepted accepted)) r here)) (λ _. due, λ _. issued)
+
+  module _ (is : IsIssued) where
+    pub submit_happens : Happens before.moment submit.event
+    submit_happens = record {
+      may = ((tt, is_new c.disk c.machine c.id c.sector c.frame_number is.takes), is.may);
+      belong = ((tt, inr refl), inr (refl, refl));
+      last = ((tt, λ id handled issued_in. absurd (true≢false (sym handled))), λ id handled issued_in. absurd (true≢false (sym issued_in)));
+      lawful = tt;
+      fit = fit_ready c.disk;
+      disks = λ e o here there same. (refl, refl);
+      answered = (is_acceptable c.disk c.machine c.id c.sector c.frame_number is.takes, (accepted, refl, refl), λ port. (refl, refl, refl, refl, refl, refl), is.all_issued);
+    }
+
+    pub backed : IsBacked before.device submitted_at.device c.machine submit_steps
+    backed = record {
+      telling = refl;
+      gained = [];
+      tape = sym (append-nil _);
+      tells = ((tt, λ d. d), λ d. d);
+      told = λ _. ((tt, tt), tt);
+      plugged = λ port. ([], unplugged c.port c.port_then is.stands is.agreeing.stands port, refl);
+    }
+
+    pub evidenced : (port : ℕ) → IsEvidencedOf submit.event.ask submit.event.said c.accesses before (two_ready c.disk) submitted_at.device nothing (port_at port)
+    evidenced port = unnamed_evidenced submit.event.ask submit.event.said c.accesses before (two_ready c.disk) submitted_at.device nothing (port_at port) (none_named (port_at port))
+        (shows_none before.device.tape c.memory c.port is.stands submitted_at.device port)
+        (each c.accesses (leaves_engine (port_at port)) is.only)
+
+    pub submit_part : (port : ℕ) → PortCorresponds before submit c.accesses (port_at port)
+    submit_part port = record {
+      finds = tt;
+      faults = tt;
+      probes = tt;
+      boots = tt;
+      port_error = no_trouble nothing before (two_ready c.disk) submitted_at.device (port_at port) [] (sym (append-nil _)) (All-nil (IsCalm port)) (served_ready port)
+          (shows_none before.device.tape c.memory c.port is.stands submitted_at.device port);
+      well = λ why. absurd (⊎_elim (nowhere (port_at port)) (nowhere (port_at port)) why);
+      heeds = λ why. ⊎_elim (λ h. nowhere (port_at port) h) (λ h. nowhere (port_at port) h) why;
+    }
+
+    unfoldable pub submit_ties : CallCorresponds (Any ∷ Any ∷ []) before submit
+    submit_ties = record {
+      accesses = c.accesses;
+      came = (is.does, (row 0, (subst (λ (rows : List GrantRow). Contains rows (row 0)) (sym is.takes.rows) (0, omega arith, refl), (refl, refl)), is.only));
+      backed = backed;
+      evidenced = record { faults = λ f here. absurd (nowhere f here); port = λ port. evidenced port.0 };
+      grounded = tt;
+      issues = λ port ready. is.due port;
+      port = λ port. submit_part port.0;
+      holds = (c.slots_then, holds c.disk c.slots_then issuing [] c.memory_then c.port_then is.agreeing);
+    }

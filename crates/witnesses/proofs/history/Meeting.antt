@@ -1,0 +1,212 @@
+-- The device is told to meet a fatal error while the read is issued: what holds then, and it meets all that is asked of that call.
+use Rattle.std.proofs.Common.{ℕ, zero, suc, ◌≡◌, ◌≢◌, ◌∙◌, ◌++◌, true, false, not, List, [], ◌∷◌, inl, inr, ⊎_elim, refl, sym, ap, subst, arith}
+use Rattle.std.specs.List.{All}
+use Rattle.std.proofs.lemmas.Bool.{le-ltb}
+use Rattle.std.proofs.lemmas.List.Elements.{All-nil, All-cons}
+use Rattle.ata_types.specs.declared.Port.{Port}
+use Rattle.ata_types.specs.declared.PortState.TheVariants.{Ready}
+use Rattle.adapter.specs.Commands.{is_queued}
+use Rattle.adapter.specs.Device.{Device}
+use Rattle.adapter.specs.Memory.{changed}
+use Rattle.adapter.specs.ReadDone.{read_of}
+use Rattle.adapter.specs.Decoding.{piece_addresses}
+use Rattle.adapter.specs.declared.access.DeviceStep.{DeviceStep}
+use Rattle.adapter.specs.declared.access.DeviceStep.TheVariants.{Fatal}
+use Rattle.adapter.specs.declared.access.FatalError.TheVariants.{Interface}
+use Rattle.adapter.specs.declared.command.Operation.TheVariants.{Identify}
+use Rattle.adapter.specs.declared.tape.Entry.{Entry}
+use Rattle.adapter.specs.declared.tape.Entry.TheVariants as entry
+use Rattle.refinement.specs.Acts.{at_slots}
+use Rattle.refinement.specs.Relation.{port_at}
+use Rattle.refinement.specs.Driver.{IsBacked, DriverRelation}
+use Rattle.refinement.specs.Facts.{IsFaultOf}
+use Rattle.refinement.specs.Links.{IsPlugging}
+use Rattle.refinement.specs.Slots.{IsMove, RelatesSlot, ServesRequest}
+use Rattle.refinement.specs.Witness.{first_id}
+use Rattle.block_machine.specs.Due.{is_plain}
+use Rattle.block_machine.specs.Events.{Device as Told, Happens, Stepped}
+use Rattle.block_machine.specs.Histories.{Happening, JointState}
+use Rattle.block_machine.specs.State.{Pending}
+use Rattle.error_recovery.specs.Evidence.{ShowsFatal}
+use Rattle.host_boot.specs.Taken.{wanted_of}
+use Rattle.identify.specs.declared.wanted.Wanted.TheVariants.{Any}
+use Rattle.driver_history.specs.Evidence.{Gains, IsEvidencedOf, ShowsFailure, ShowsLoss}
+use Rattle.driver_history.specs.Histories.{LosesNoPortError, CallCorresponds, PortCorresponds}
+use Rattle.driver_history.specs.Holds.{HoldsOf, HoldsWith, IsOfKind, IsReadyAt}
+use Rattle.driver_history.specs.Trace.{LeavesEngine}
+use Rattle.witnesses.specs.Scene.{having, page_entry, plain}
+use Rattle.witnesses.proofs.history.Accepting.{both, holds_submitted, in_book, issuing, submitted_at, waiting}
+use Rattle.witnesses.proofs.history.Breaking.{breaks, broken, can_break, dev, tape_broken}
+use Rattle.witnesses.proofs.history.Command.{read_memory, told}
+use Rattle.witnesses.proofs.history.Holding.{IsCalm, first_slots, fit_disk, gained_none, no_trouble, ran_none, requests_first, runs_on, unnamed_evidenced, unserved_at, uses_first}
+use Rattle.witnesses.proofs.history.Issuing.{none_named, nothing}
+use Rattle.witnesses.proofs.history.Members.{nowhere}
+use Rattle.witnesses.proofs.history.Memory.{past_driver}
+use Rattle.witnesses.proofs.history.Pages.{plain_disks}
+use Rattle.witnesses.proofs.history.Ready.{agreeing, calm, fit_ready, no_page, other_page, second_ready, served_of, served_ready}
+use Rattle.witnesses.proofs.history.Serving.{serves_one}
+use Rattle.witnesses.proofs.history.Submitting.{issued, others_clear, second, submitted}
+
+-- ---- what holds
+
+abbrev pub broken_at : JointState Device
+broken_at = record { device = dev broken; moment = record { machine = issuing; ports = both } }
+
+-- the fatal error is the one entry that the tape has gained
+abbrev pub gained : List Entry
+gained = entry.Fatal (port_at 0) ∷ []
+
+-- no page came after those of the two ports
+pub unpaged : (port : ℕ) → All (λ e. IsMove port Identify e → ⊥) gained
+unpaged port = All-cons (λ e. IsMove port Identify e → ⊥) (entry.Fatal (port_at 0)) [] (λ x. x) (no_page port)
+
+pub shows_fatal : ShowsFatal broken
+unfolding changed
+shows_fatal = record { place = 27; from = omega arith; to = omega arith; set = refl }
+
+-- it has no other flag
+pub no_fault : (n : ℕ) → ((dev broken).port n).is 30 ≡ false
+unfolding changed
+no_fault zero = refl
+no_fault (suc zero) = refl
+no_fault (suc (suc n)) = refl
+
+-- the slot serves the request as before
+serves_still : ServesRequest issuing read_memory broken 0 0 first_id
+serves_still = serves_one issuing read_memory broken 0 (read_of 100 1) first_id 100 100 waiting.request.held 0 refl (omega arith) (0, omega arith, refl) refl refl told
+    (inl (record { started = refl; issued = refl; free = refl; sact = refl; block = tt; untouched = λ i. sym (le-ltb i 0 (omega arith)); unended = refl }))
+
+slots : (n k : ℕ) → RelatesSlot issuing read_memory tape_broken (having (broken ∷ second ∷ []) n) n k (uses_first n k)
+slots zero zero = serves_still
+slots zero (suc k) = record { issued = others_clear k; free = refl; unarmed = refl }
+slots (suc n) k = holds_submitted.knows.agrees.slot (suc n) k
+
+present : (n : ℕ) → issuing.present (port_at n) ≡ (having (broken ∷ second ∷ []) n).present
+present zero = refl
+present (suc zero) = refl
+present (suc (suc n)) = refl
+
+knows : DriverRelation issuing (at_slots first_slots (dev broken))
+knows = agreeing issuing first_slots tape_broken read_memory broken second
+    (record { own_first = refl; own_second = refl; disks = (refl, refl); present = present; ids = refl; sizes = refl; bytes = refl; lasting = (refl, refl); still = refl })
+    slots holds_submitted.knows.agrees.apart (λ f b from small. past_driver f b from) holds_submitted.knows.have
+
+kind_of : (e : Pending) → e ≡ waiting → IsOfKind plain (dev broken) 0 0 e
+kind_of e is = record {
+  command = read_of 100 1;
+  places = piece_addresses 0x64000 1;
+  told = told;
+  kind = subst (λ (x : Pending). is_queued (read_of 100 1).operation ≡ not (is_plain plain x.request.asked.op)) (sym is) refl;
+}
+
+port_ready : IsReadyAt Any first_slots broken_at (port_at 0)
+port_ready = record {
+  on = record { ae = refl; no_reset = refl };
+  runs = runs_on 0 (dev broken) refl refl refl refl refl (omega arith) refl (no_fault 0) refl;
+  info = plain_disks.info;
+  disk = fit_disk plain_disks 0 (dev broken) [] (page_entry plain_disks.page 1 ∷ gained) refl refl refl refl (other_page plain_disks.page gained (unpaged 0));
+  shows = record { serial = refl; sectors = refl; trims = refl; mode = refl };
+  slots = requests_first broken_at plain (omega arith) (λ e here. kind_of e (in_book 0 e here));
+  kept = λ e k. absurd (nowhere e k);
+}
+
+port_broken : (n : ℕ) → HoldsOf (wanted_of (Any ∷ Any ∷ []) n) first_slots broken_at (port_at n) (both.served (port_at n)) (both.state (port_at n))
+port_broken zero = port_ready
+port_broken (suc zero) = second_ready plain_disks first_slots issuing gained read_memory broken (unpaged 1) (λ slot. refl) refl refl
+port_broken (suc (suc n)) = unserved_at first_slots broken_at (suc (suc n)) refl refl (record { free = λ slot. refl; unparked = refl })
+    (λ e here is. let z : 0 ≡ suc (suc n) = sym (ap (λ (x : Pending). x.request.port.0) (in_book 0 e here)) ∙ ap (λ (p : Port). p.0) is in omega (arith, z))
+    (λ e kept. absurd (nowhere e kept))
+
+pub holds_broken : HoldsWith (Any ∷ Any ∷ []) first_slots broken_at
+holds_broken = record {
+  knows = knows;
+  served = λ port low. served_of tape_broken read_memory (broken ∷ second ∷ []) port.0;
+  on = inl (record { ae = refl; no_reset = refl });
+  port = λ port low. port_broken port.0;
+}
+
+-- ---- the call
+
+abbrev pub meeting : Happening Device DeviceStep
+meeting = record {
+  event = record { ask = Told (Fatal (port_at 0) Interface); said = Stepped true; evidence = nothing; steps = []; ports = both };
+  device = dev broken;
+}
+
+pub meeting_happens : Happens submitted_at.moment meeting.event
+meeting_happens = record {
+  may = tt;
+  belong = tt;
+  last = tt;
+  lawful = tt;
+  fit = fit_ready plain_disks;
+  disks = λ e o here there same. (refl, refl);
+  answered = (tt, λ port. (refl, refl, refl, refl, refl, refl));
+}
+
+pub backed : IsBacked submitted (dev broken) issuing []
+backed = record {
+  telling = refl;
+  gained = gained;
+  tape = refl;
+  tells = ([], [], [], tt, refl, tt, refl);
+  told = λ _. tt;
+  plugged = λ port. ([], plugs port, refl);
+}
+  where
+    plugs : (n : ℕ) → ((dev broken).port n).plugged ≡ (submitted.port n).plugged ++ []
+    plugs zero = refl
+    plugs (suc zero) = refl
+    plugs (suc (suc n)) = refl
+
+quiet : (n : ℕ) → both.state (port_at n) ≡ Ready → (ShowsLoss (port_at n) submitted (dev broken) → ⊥) × (ShowsFailure (submitted.port n) → ⊥)
+quiet = calm submitted.tape read_memory issued refl refl refl (λ place from. refl) (dev broken)
+
+pub evidenced : (n : ℕ) → IsEvidencedOf meeting.event.ask meeting.event.said [] submitted_at both (dev broken) nothing (port_at n)
+evidenced n = unnamed_evidenced meeting.event.ask meeting.event.said [] submitted_at both (dev broken) nothing (port_at n) (none_named (port_at n)) (quiet n) (All-nil (LeavesEngine (port_at n)))
+
+-- the error is no trouble of another port
+fatal_alone : (n : ℕ) → n ≢ 0 → All (IsCalm n) gained
+fatal_alone n ne = All-cons (IsCalm n) (entry.Fatal (port_at 0)) [] (λ x. x, λ (is : 0 ≡ n). ne (sym is), λ x. x) (All-nil (IsCalm n))
+
+pub no_plugging : All (λ e. IsPlugging 0 e → ⊥) gained
+no_plugging = All-cons (λ e. IsPlugging 0 e → ⊥) (entry.Fatal (port_at 0)) [] (λ x. x) (All-nil (λ e. IsPlugging 0 e → ⊥))
+
+port_error : (n : ℕ) → LosesNoPortError nothing submitted_at both (dev broken) (port_at n)
+port_error zero = record {
+  errors = λ ready why. inr (inl shows_fatal);
+  changes = λ tends why. absurd (⊎_elim (λ change. (quiet 0 refl).0 (inl change)) plugs why);
+  fault = λ ready g. absurd (ran_none (IsFaultOf 0) 0 submitted (dev broken) faults g);
+  fatal = λ ready g. shows_fatal;
+  disk = λ ready g. absurd (ran_none (IsPlugging 0) 0 submitted (dev broken) plugs g);
+}
+  where
+    faults : Gains (IsFaultOf 0) submitted (dev broken) → ⊥
+    faults = gained_none (IsFaultOf 0) submitted (dev broken) gained refl (All-cons (λ e. IsFaultOf 0 e → ⊥) (entry.Fatal (port_at 0)) [] (λ x. x) (All-nil (λ e. IsFaultOf 0 e → ⊥)))
+
+    plugs : Gains (IsPlugging 0) submitted (dev broken) → ⊥
+    plugs = gained_none (IsPlugging 0) submitted (dev broken) gained refl no_plugging
+port_error (suc n) = no_trouble nothing submitted_at both (dev broken) (port_at (suc n)) gained refl (fatal_alone (suc n) (omega arith)) (served_ready (suc n)) (quiet (suc n))
+
+pub meeting_part : (n : ℕ) → PortCorresponds submitted_at meeting [] (port_at n)
+meeting_part n = record {
+  finds = tt;
+  faults = tt;
+  probes = tt;
+  boots = tt;
+  port_error = port_error n;
+  well = λ why. absurd (⊎_elim (nowhere (port_at n)) (nowhere (port_at n)) why);
+  heeds = λ why. ⊎_elim (nowhere (port_at n)) (nowhere (port_at n)) why;
+}
+
+unfoldable pub meeting_ties : CallCorresponds (Any ∷ Any ∷ []) submitted_at meeting
+meeting_ties = record {
+  accesses = [];
+  came = (refl, inl (record { can = can_break; effect = breaks }));
+  backed = backed;
+  evidenced = record { faults = λ f here. absurd (nowhere f here); port = λ port. evidenced port.0 };
+  grounded = tt;
+  issues = λ port. tt;
+  port = λ port. meeting_part port.0;
+  holds = (first_slots, holds_broken);
+}

@@ -1,0 +1,482 @@
+-- An unfit disk is taken out, and the service that follows meets all that is asked of it.
+use Rattle.std.proofs.Common.{ℕ, zero, suc, ◌≡◌, ◌≤◌, ◌++◌, ◌==◌, ◌⊎◌, true, false, [], ◌∷◌, inl, inr, ⊎_elim, refl, sym, ap, arith, append-nil}
+use Rattle.std.proofs.lemmas.Bool.{cond-false, ne_eqb, true≢false}
+use Rattle.std.proofs.lemmas.List.Elements.{All-nil, All-cons}
+use Rattle.std.proofs.lemmas.List.Sorted.{IsPermutation-refl}
+use Rattle.ata_types.specs.declared.Port.{Port}
+use Rattle.ata_types.specs.declared.PortState.TheVariants.{Absent, Dead, Foreign, Ready, Unfit}
+use Rattle.ata_types.specs.declared.request.Outcome.TheVariants as outcome
+use Rattle.hba_regs.specs.declared.reg.PortReg.TheVariants.{Cmd, Is, Serr, Ssts}
+use Rattle.hba_regs.specs.declared.reg.Reg.TheVariants.{Px}
+use Rattle.adapter.specs.Access.Access.{Reading, Writing}
+use Rattle.adapter.specs.Device.{Device}
+use Rattle.adapter.specs.declared.access.DeviceStep.{DeviceStep}
+use Rattle.adapter.specs.declared.access.DeviceStep.TheVariants as asked
+use Rattle.adapter.specs.declared.tape.Entry.TheVariants as entry
+use Rattle.refinement.specs.Acts.{at_slots}
+use Rattle.refinement.specs.Relation.{port_at}
+use Rattle.refinement.specs.Driver.{IsBacked, DriverRelation}
+use Rattle.refinement.specs.Links.{IsPlugging}
+use Rattle.refinement.specs.Slots.{IsEmptySlot}
+use Rattle.block_machine.specs.Events.{AnswersService, Device as Told, HadDisk, Happens, Served, Service, Stepped}
+use Rattle.block_machine.specs.Histories.{Happening, JointState}
+use Rattle.block_machine.specs.Left.{after}
+use Rattle.block_machine.specs.Ports.{AreFit, Evidence, IsInterrupted, IsServiced, Ports, SamePort}
+use Rattle.block_machine.specs.State.{Machine}
+use Rattle.block_machine.specs.Steps.{Answer, Step, Unplug}
+use Rattle.host_boot.specs.Taken.{wanted_of}
+use Rattle.identify.specs.declared.wanted.Wanted.TheVariants.{Any}
+use Rattle.port_control.specs.Engines.{Stops}
+use Rattle.driver_history.specs.Evidence.{Gains, IsEvidencedOf, ShowsChange}
+use Rattle.driver_history.specs.Histories.{IsUnfitOrForeign, TendsPort, CallCorresponds, PortCorresponds, ProbesDisk}
+use Rattle.driver_history.specs.Holds.{HoldsOf}
+use Rattle.driver_history.specs.Trace.{LeavesCommand, LeavesEngine, ResetsLink}
+use Rattle.witnesses.specs.Scene.{having, showing}
+use Rattle.witnesses.specs.Missing.{MissingDiskIsAHistory, passing, looking}
+use Rattle.witnesses.proofs.history.Accepting.{first, submit, submit_happens, submit_ties}
+use Rattle.witnesses.proofs.history.Booting.{rebooted, unfit}
+use Rattle.witnesses.proofs.history.Command.{read_memory}
+use Rattle.witnesses.proofs.history.Devices.{AreServing, IsOf, WritesOf, leaves, serving}
+use Rattle.witnesses.proofs.history.Holding.{IsUnnamed, gained_none, named, named_is, no_slots, unnamed_evidenced, unserved_at}
+use Rattle.witnesses.proofs.history.Issuing.{none_named, nothing}
+use Rattle.witnesses.proofs.history.Members.{nowhere}
+use Rattle.witnesses.proofs.history.Memory.{past_driver}
+use Rattle.witnesses.proofs.history.Pages.{plain_disks}
+use Rattle.witnesses.proofs.history.Ready.{agreeing, begins, fit_ready, free_apart, served_of, starts}
+use Rattle.witnesses.proofs.history.Resetting.{answered, fit, not_dead, not_ready, rebooted_at, reset, unfit_ports}
+use Rattle.witnesses.proofs.history.Resetting as resetting
+use Rattle.witnesses.proofs.history.Looking.{absent, allowed, can_go, does, gained, goes, gone, passed, tape_gone, looked_over, unplugged}
+
+-- ---- the calls
+
+abbrev going : Step
+going = Unplug (port_at 0)
+
+abbrev unplug : Happening Device DeviceStep
+unplug = record {
+  event = record { ask = Told (asked.Unplug (port_at 0)); said = Stepped true; evidence = nothing; steps = going ∷ []; ports = unfit_ports };
+  device = unplugged;
+}
+
+abbrev without : Machine
+without = after answered (going ∷ [])
+
+abbrev unplugged_at : JointState Device
+unplugged_at = record { device = unplugged; moment = record { machine = without; ports = unfit_ports } }
+
+abbrev one_absent : Ports
+one_absent = showing plain_disks.info (true ∷ true ∷ []) (Absent ∷ Unfit 8 ∷ [])
+
+-- port 0 was stopped
+abbrev evidence : Evidence
+evidence = record { faults = []; lost = []; gone = []; failed = []; fatal = []; stopped = port_at 0 ∷ []; stuck = [] }
+
+abbrev service : Happening Device DeviceStep
+service = record {
+  event = record { ask = Service; said = Served []; evidence = evidence; steps = []; ports = one_absent };
+  device = looked_over;
+}
+
+abbrev looked_at : JointState Device
+looked_at = record { device = looked_over; moment = record { machine = without; ports = one_absent } }
+
+-- ---- the ports
+
+not_ready_then : (n : ℕ) → one_absent.state (port_at n) ≡ Ready → ⊥
+not_ready_then zero is = let x : Absent ≡ Ready = is in cc
+not_ready_then (suc zero) is = let x : Unfit 8 ≡ Ready = is in cc
+not_ready_then (suc (suc n)) is = let x : Absent ≡ Ready = is in cc
+
+not_dead_then : (n : ℕ) → one_absent.state (port_at n) ≡ Dead → ⊥
+not_dead_then zero is = let x : Absent ≡ Dead = is in cc
+not_dead_then (suc zero) is = let x : Unfit 8 ≡ Dead = is in cc
+not_dead_then (suc (suc n)) is = let x : Absent ≡ Dead = is in cc
+
+fit_then : AreFit one_absent
+fit_then = record {
+  few = fit.few;
+  absent = λ port is. absent_of port.0 is;
+  slots = λ port is. absurd (not_ready_then port.0 is);
+  causes = λ port cause is. cause_of port.0 cause is;
+}
+  where
+    absent_of : (n : ℕ) → one_absent.served (port_at n) ≡ false → one_absent.state (port_at n) ≡ Absent
+    absent_of zero is = absurd (true≢false is)
+    absent_of (suc zero) is = absurd (true≢false is)
+    absent_of (suc (suc n)) is = refl
+
+    cause_of : (n cause : ℕ) → one_absent.state (port_at n) ≡ Unfit cause → (1 ≤ cause) × (cause ≤ 9)
+    cause_of zero cause is = absurd (let x : Absent ≡ Unfit cause = is in cc)
+    cause_of (suc zero) cause is = let x : Unfit 8 ≡ Unfit cause = is in let same : 8 ≡ cause = cc in (omega (arith, same), omega (arith, same))
+    cause_of (suc (suc n)) cause is = absurd (let x : Absent ≡ Unfit cause = is in cc)
+
+-- a port is as it was, but for the first
+same_past : (n : ℕ) → SamePort unfit_ports one_absent (port_at (suc n))
+same_past zero = (refl, refl, refl, refl, refl, refl)
+same_past (suc n) = (refl, refl, refl, refl, refl, refl)
+
+becomes : (n : ℕ) → IsServiced unfit_ports evidence one_absent (port_at n)
+becomes n = (
+  λ is. absurd (not_dead n is),
+  λ _. (record { served = refl; stuck = (λ is. absurd (not_dead_then n is), λ h. absurd (nowhere (port_at n) h)); keeps = λ is. (refl, refl) }, changes n),
+)
+  where
+    changes : (n : ℕ) → SamePort unfit_ports one_absent (port_at n) ⊎ IsInterrupted evidence (port_at n)
+    changes zero = inr (inl (named 0))
+    changes (suc n) = inl (same_past n)
+
+had_disk : (n : ℕ) → SamePort unfit_ports one_absent (port_at n) ⊎ HadDisk unplugged_at.moment [] looked_at.moment (port_at n)
+had_disk zero = inr (λ shows. absurd shows)
+had_disk (suc n) = inl (same_past n)
+
+-- ---- the disk is taken out
+
+unplug_happens : Happens rebooted_at.moment unplug.event
+unplug_happens = record {
+  may = (tt, refl);
+  belong = (tt, inl tt);
+  last = (tt, λ id handled issued_in. absurd (true≢false (sym handled)));
+  lawful = tt;
+  fit = fit;
+  disks = λ e o here. absurd (nowhere e here);
+  answered = ((tt, tt), λ port. (refl, refl, refl, refl, refl, refl));
+}
+
+-- another port's disk neither goes nor comes
+gains_none : (n : ℕ) → Gains (IsPlugging (suc n)) rebooted unplugged → ⊥
+gains_none n = gained_none (IsPlugging (suc n)) rebooted unplugged gained refl
+    (All-cons (λ e. IsPlugging (suc n) e → ⊥) (entry.Unplug (port_at 0)) [] (λ (is : 0 ≡ suc n). omega (arith, is)) (All-nil (λ e. IsPlugging (suc n) e → ⊥)))
+
+-- a port that isn't the first shows no change
+quiet : (n : ℕ) → ShowsChange (having (unfit 0 ∷ unfit 1 ∷ []) (suc n)) → ⊥
+quiet zero (inl is) = true≢false (sym is)
+quiet zero (inr is) = true≢false (sym is)
+quiet (suc n) (inl is) = true≢false (sym is)
+quiet (suc n) (inr is) = true≢false (sym is)
+
+unplug_part : (n : ℕ) → PortCorresponds rebooted_at unplug [] (port_at n)
+unplug_part n = record {
+  finds = tt;
+  faults = tt;
+  probes = tt;
+  boots = tt;
+  port_error = record {
+    errors = λ ready why. absurd (not_ready n ready);
+    changes = λ tends why. inr (changes n why);
+    fault = λ ready g. absurd (not_ready n ready);
+    fatal = λ ready g. absurd (not_ready n ready);
+    disk = λ ready g. absurd (not_ready n ready);
+  };
+  well = λ why ready. absurd (not_ready n ready);
+  heeds = λ why. ⊎_elim (nowhere (port_at n)) (nowhere (port_at n)) why;
+}
+  where
+    changes : (n : ℕ) → ShowsChange (rebooted.port n) ⊎ Gains (IsPlugging n) rebooted unplugged → ShowsChange (unplugged.port n)
+    changes zero why = inl refl
+    changes (suc n) why = absurd (⊎_elim (quiet n) (gains_none n) why)
+
+unplug_backed : IsBacked rebooted unplugged answered (going ∷ [])
+unplug_backed = record {
+  telling = refl;
+  gained = gained;
+  tape = refl;
+  tells = ([], going ∷ [], [], tt, refl, tt, refl);
+  told = λ _. (tt, tt);
+  plugged = λ port. ([], plugs port, refl);
+}
+  where
+    plugs : (n : ℕ) → (unplugged.port n).plugged ≡ (rebooted.port n).plugged ++ []
+    plugs zero = refl
+    plugs (suc zero) = refl
+    plugs (suc (suc n)) = refl
+
+free : (n k : ℕ) → IsEmptySlot (having (gone ∷ unfit 1 ∷ []) n) k
+free zero k = record { issued = refl; free = refl; unarmed = refl }
+free (suc zero) k = record { issued = refl; free = refl; unarmed = refl }
+free (suc (suc n)) k = record { issued = refl; free = refl; unarmed = refl }
+
+unplug_knows : DriverRelation without (at_slots no_slots unplugged)
+unplug_knows = agreeing without no_slots tape_gone read_memory gone (unfit 1)
+    (record { own_first = refl; own_second = refl; disks = (refl, refl); present = present; ids = refl; sizes = refl; bytes = refl; lasting = (refl, refl); still = refl })
+    free free_apart (λ f b from small. past_driver f b from) (λ n e may at_port. ⊎_elim (λ z. absurd (nowhere e z.0)) (λ z. absurd (nowhere e z)) may)
+  where
+    present : (n : ℕ) → without.present (port_at n) ≡ (having (gone ∷ unfit 1 ∷ []) n).present
+    present zero = refl
+    present (suc zero) = refl
+    present (suc (suc n)) = cond-false (suc (suc n) == 0) false false (ne_eqb (suc (suc n)) 0 (omega arith))
+
+still_unfit : (n : ℕ) → HoldsOf (wanted_of (Any ∷ Any ∷ []) n) no_slots unplugged_at (port_at n) (unfit_ports.served (port_at n)) (unfit_ports.state (port_at n))
+still_unfit zero = record {
+  on = record { ae = refl; no_reset = refl };
+  ends = (
+    record { halted = record { st = refl; cr = refl; ci = λ k. refl; taken = λ k. refl }; sact = λ k. refl },
+    inr (inl (refl, (0xeb140101, ((refl, refl), refl, refl, λ (e : 0xeb140101 ≡ 0x101). omega (arith, e))))),
+  );
+  shown = λ bad. inr refl;
+  slots = record { free = λ k. refl; unparked = refl };
+  waits = λ e here. absurd (nowhere e here);
+  kept = λ e k. absurd (nowhere e k);
+}
+still_unfit (suc zero) = record {
+  on = record { ae = refl; no_reset = refl };
+  ends = (
+    record { halted = record { st = refl; cr = refl; ci = λ k. refl; taken = λ k. refl }; sact = λ k. refl },
+    inr (inl (refl, (0xeb140101, ((refl, refl), refl, refl, λ (e : 0xeb140101 ≡ 0x101). omega (arith, e))))),
+  );
+  shown = λ bad. inl refl;
+  slots = record { free = λ k. refl; unparked = refl };
+  waits = λ e here. absurd (nowhere e here);
+  kept = λ e k. absurd (nowhere e k);
+}
+still_unfit (suc (suc n)) = unserved_at no_slots unplugged_at (suc (suc n)) refl refl (record { free = λ slot. refl; unparked = refl }) (λ e here. absurd (nowhere e here)) (λ e kept. absurd (nowhere e kept))
+
+unplug_evidenced : (n : ℕ) → IsEvidencedOf unplug.event.ask unplug.event.said [] rebooted_at unfit_ports unplugged nothing (port_at n)
+unplug_evidenced n = unnamed_evidenced unplug.event.ask unplug.event.said [] rebooted_at unfit_ports unplugged nothing (port_at n) (none_named (port_at n)) (λ ready. absurd (not_ready n ready)) (All-nil (LeavesEngine (port_at n)))
+
+unfoldable unplug_ties : CallCorresponds (Any ∷ Any ∷ []) rebooted_at unplug
+unplug_ties = record {
+  accesses = [];
+  came = (refl, inl (record { can = can_go; effect = goes }));
+  backed = unplug_backed;
+  evidenced = record { faults = λ f here. absurd (nowhere f here); port = λ port. unplug_evidenced port.0 };
+  grounded = tt;
+  issues = λ port. tt;
+  port = λ port. unplug_part port.0;
+  holds = (
+    no_slots,
+    record {
+      knows = unplug_knows;
+      served = λ port low. served_of tape_gone read_memory (gone ∷ unfit 1 ∷ []) port.0;
+      on = inl (record { ae = refl; no_reset = refl });
+      port = λ port low. still_unfit port.0;
+    },
+  );
+}
+
+-- ---- the service
+
+answers : AnswersService unplugged_at.moment evidence [] [] looked_at.moment
+answers = record {
+  tells = record { answers = []; same = IsPermutation-refl _; ordered = λ i j d less low. absurd (omega (arith, less, low)); told = refl };
+  dead = λ e o here. absurd (nowhere (Answer e o) here);
+  unplugs = record { emptied = λ e other here. absurd (nowhere (Answer e outcome.Unplugged) here); alike = λ e other here. absurd (nowhere (Answer e outcome.Unplugged) here) };
+  issues = λ port ready. absurd (not_ready_then port.0 ready);
+  emptied = λ port other e here. absurd (nowhere e here);
+  ended = λ port ready e here. absurd (nowhere e here);
+  becomes = λ port. becomes port.0;
+  disk = λ port. had_disk port.0;
+}
+
+service_happens : Happens unplugged_at.moment service.event
+service_happens = record {
+  may = tt;
+  belong = tt;
+  last = tt;
+  lawful = tt;
+  fit = fit_then;
+  disks = λ e o here. absurd (nowhere e here);
+  answered = answers;
+}
+
+stops : Stops (port_at 0) (looking ++ passing)
+stops = record {
+  before = Reading (Px (port_at 0) Is) 0x400000 ∷ Reading (Px (port_at 0) Ssts) 0 ∷ Reading (Px (port_at 0) Cmd) 0x4010 ∷ [];
+  cleared = 0x4010;
+  between = [];
+  fallen = 0x4010;
+  later = Writing (Px (port_at 0) Serr) 0xffffffff ∷ Reading (Px (port_at 0) Ssts) 0 ∷ passing;
+  here = refl;
+  clears = refl;
+  only = All-nil (LeavesCommand (port_at 0));
+  shown = refl;
+}
+
+of_first : WritesOf (IsOf (port_at 0)) (looking ++ passing)
+of_first = (refl, (refl, tt))
+
+of_served : AreServing (TendsPort unfit_ports) (looking ++ passing)
+of_served = (tended 0 refl, (tended 0 refl, (tended 0 refl, ((λ is. cc, tended 0 refl), (tended 0 refl, ((λ is. cc, tended 0 refl), (tended 0 refl, (tended 1 refl, (tended 1 refl, tt)))))))))
+  where
+    tended : (n : ℕ) → unfit_ports.served (port_at n) ≡ true → TendsPort unfit_ports (port_at n)
+    tended n served = (served, not_dead n)
+
+unnamed : (n : ℕ) → IsUnnamed evidence (port_at (suc n))
+unnamed n = record {
+  lost = nowhere (port_at (suc n));
+  gone = nowhere (port_at (suc n));
+  failed = nowhere (port_at (suc n));
+  fatal = nowhere (port_at (suc n));
+  stopped = λ h. let same = named_is 0 (suc n) h in omega (arith, same);
+  stuck = nowhere (port_at (suc n));
+}
+
+service_evidenced : (n : ℕ) → IsEvidencedOf Service (Served []) (looking ++ passing) unplugged_at one_absent looked_over evidence (port_at n)
+service_evidenced zero = record {
+  lost = λ h. absurd (nowhere (port_at 0) h);
+  gone_all = λ ready loss. absurd (not_ready 0 ready);
+  gone_only = λ h. absurd (nowhere (port_at 0) h);
+  failed_all = λ ready f. absurd (not_ready 0 ready);
+  failed_only = λ h. absurd (nowhere (port_at 0) h);
+  fatal_all = λ ready f. absurd (not_ready 0 ready);
+  fatal_only = λ h. absurd (nowhere (port_at 0) h);
+  stopped_all = inr (inl (named 0));
+  stopped_only = λ h. inl stops;
+  stuck_only = λ h. absurd (nowhere (port_at 0) h);
+}
+service_evidenced (suc n) = unnamed_evidenced Service (Served []) (looking ++ passing) unplugged_at one_absent looked_over evidence (port_at (suc n)) (unnamed n) (λ ready. absurd (not_ready (suc n) ready))
+    (leaves (IsOf (port_at 0)) (port_at (suc n)) (λ is. apart (ap (λ (p : Port). p.0) is)) (λ is. apart (ap (λ (p : Port). p.0) is)) (looking ++ passing) of_first)
+  where
+    apart : suc n ≡ 0 → ⊥
+    apart e = omega (arith, e)
+
+-- the first port's disk isn't there; the other's is, and shows no change
+probes : (n : ℕ) → ProbesDisk (looking ++ passing) unplugged_at one_absent looked_over (port_at n)
+probes zero = record {
+  shown = λ is. absurd (let x : Unfit 8 ≡ Absent = is in cc);
+  absent = λ is. absurd (let x : Unfit 8 ≡ Absent = is in cc);
+  missing = λ bad none. inl refl;
+  changed = λ bad x. absurd (true≢false (sym x));
+}
+probes (suc zero) = record {
+  shown = λ is. absurd (let x : Unfit 8 ≡ Absent = is in cc);
+  absent = λ is. absurd (let x : Unfit 8 ≡ Absent = is in cc);
+  missing = λ bad none. absurd (none refl);
+  changed = λ bad x. absurd (true≢false (sym x));
+}
+probes (suc (suc n)) = record {
+  shown = λ is there. absurd (let x : 0 ≡ 3 = there in omega (arith, x));
+  absent = λ is there. absurd (let x : 0 ≡ 3 = there in omega (arith, x));
+  missing = λ bad. absurd (not_bad bad);
+  changed = λ bad. absurd (not_bad bad);
+}
+  where
+    not_bad : IsUnfitOrForeign unfit_ports (port_at (suc (suc n))) → ⊥
+    not_bad (inl is) = let x : Absent ≡ Foreign = is in cc
+    not_bad (inr is) = let x : Absent ≡ Unfit is.0 = is.1 in cc
+
+service_part : (n : ℕ) → PortCorresponds unplugged_at service (looking ++ passing) (port_at n)
+service_part n = record {
+  finds = λ ready. absurd (not_ready n ready);
+  faults = λ alone. absurd (not_ready n alone.ready);
+  probes = λ served none. probes n;
+  boots = (λ ready. absurd (not_ready n ready), boots n);
+  port_error = record {
+    errors = λ ready why. absurd (not_ready n ready);
+    changes = λ tends why. changes n why;
+    fault = λ ready g. absurd (not_ready_then n ready);
+    fatal = λ ready g. absurd (not_ready_then n ready);
+    disk = λ ready g. absurd (not_ready_then n ready);
+  };
+  well = λ why ready. absurd (not_ready_then n ready);
+  heeds = λ ready. absurd (not_ready n ready);
+}
+  where
+    boots : (n : ℕ) → SamePort unfit_ports one_absent (port_at n) ⊎ ((one_absent.state (port_at n) ≡ Dead) ⊎ ((one_absent.state (port_at n) ≡ Absent) ⊎ ResetsLink (port_at n) (looking ++ passing)))
+    boots zero = inr (inr (inl refl))
+    boots (suc n) = inl (same_past n)
+
+    quiet_past : (n : ℕ) → ShowsChange (unplugged.port (suc n)) → ⊥
+    quiet_past zero shows = quiet 0 shows
+    quiet_past (suc n) shows = quiet (suc n) shows
+
+    changes : (n : ℕ) → ShowsChange (unplugged.port n) ⊎ Gains (IsPlugging n) unplugged looked_over → IsInterrupted evidence (port_at n) ⊎ ShowsChange (looked_over.port n)
+    changes zero why = inl (inl (named 0))
+    changes (suc n) why = absurd (⊎_elim (quiet_past n) (gained_none (IsPlugging (suc n)) unplugged looked_over [] (sym (append-nil _)) (All-nil (λ e. IsPlugging (suc n) e → ⊥))) why)
+
+service_backed : IsBacked unplugged looked_over without []
+service_backed = record {
+  telling = refl;
+  gained = [];
+  tape = sym (append-nil _);
+  tells = tt;
+  told = λ _. tt;
+  plugged = λ port. ([], plugs port, refl);
+}
+  where
+    plugs : (n : ℕ) → (looked_over.port n).plugged ≡ (unplugged.port n).plugged ++ []
+    plugs zero = refl
+    plugs (suc zero) = refl
+    plugs (suc (suc n)) = refl
+
+free_then : (n k : ℕ) → IsEmptySlot (having (absent ∷ passed ∷ []) n) k
+free_then zero k = record { issued = refl; free = refl; unarmed = refl }
+free_then (suc zero) k = record { issued = refl; free = refl; unarmed = refl }
+free_then (suc (suc n)) k = record { issued = refl; free = refl; unarmed = refl }
+
+service_knows : DriverRelation without (at_slots no_slots looked_over)
+service_knows = agreeing without no_slots tape_gone read_memory absent passed
+    (record { own_first = refl; own_second = refl; disks = (refl, refl); present = present; ids = refl; sizes = refl; bytes = refl; lasting = (refl, refl); still = refl })
+    free_then free_apart (λ f b from small. past_driver f b from) (λ n e may at_port. ⊎_elim (λ z. absurd (nowhere e z.0)) (λ z. absurd (nowhere e z)) may)
+  where
+    present : (n : ℕ) → without.present (port_at n) ≡ (having (absent ∷ passed ∷ []) n).present
+    present zero = refl
+    present (suc zero) = refl
+    present (suc (suc n)) = cond-false (suc (suc n) == 0) false false (ne_eqb (suc (suc n)) 0 (omega arith))
+
+holds_of : (n : ℕ) → HoldsOf (wanted_of (Any ∷ Any ∷ []) n) no_slots looked_at (port_at n) (one_absent.served (port_at n)) (one_absent.state (port_at n))
+holds_of zero = record {
+  on = record { ae = refl; no_reset = refl };
+  ends = (
+    record { halted = record { st = refl; cr = refl; ci = λ k. refl; taken = λ k. refl }; sact = λ k. refl },
+    (λ (e : 0 ≡ 3). omega (arith, e), refl),
+  );
+  shown = λ bad. inr refl;
+  slots = record { free = λ k. refl; unparked = refl };
+  waits = λ e here. absurd (nowhere e here);
+  kept = λ e k. absurd (nowhere e k);
+}
+holds_of (suc zero) = record {
+  on = record { ae = refl; no_reset = refl };
+  ends = (
+    record { halted = record { st = refl; cr = refl; ci = λ k. refl; taken = λ k. refl }; sact = λ k. refl },
+    inr (inl (refl, (0xeb140101, ((refl, refl), refl, refl, λ (e : 0xeb140101 ≡ 0x101). omega (arith, e))))),
+  );
+  shown = λ bad. inl refl;
+  slots = record { free = λ k. refl; unparked = refl };
+  waits = λ e here. absurd (nowhere e here);
+  kept = λ e k. absurd (nowhere e k);
+}
+holds_of (suc (suc n)) = unserved_at no_slots looked_at (suc (suc n)) refl refl (record { free = λ slot. refl; unparked = refl }) (λ e here. absurd (nowhere e here)) (λ e kept. absurd (nowhere e kept))
+
+service_ties : CallCorresponds (Any ∷ Any ∷ []) unplugged_at service
+service_ties = record {
+  accesses = looking ++ passing;
+  came = (does, serving (TendsPort unfit_ports) (looking ++ passing) of_served);
+  backed = service_backed;
+  evidenced = record { faults = λ f here. absurd (nowhere f here); port = λ port. service_evidenced port.0 };
+  grounded = tt;
+  issues = λ port ready. absurd (not_ready_then port.0 ready);
+  port = λ port. service_part port.0;
+  holds = (
+    no_slots,
+    record {
+      knows = service_knows;
+      served = λ port low. served_of tape_gone read_memory (absent ∷ passed ∷ []) port.0;
+      on = inl (record { ae = refl; no_reset = refl });
+      port = λ port low. holds_of port.0;
+    },
+  );
+}
+
+-- ---- the history
+
+pub missing_disk_is_a_history : MissingDiskIsAHistory
+unfolding service_ties unplug_ties
+missing_disk_is_a_history = record {
+  first = first;
+  past = reset ∷ submit ∷ [];
+  unfit = (refl, refl);
+  unplug = unplug;
+  goes = (refl, refl);
+  unseen = refl;
+  service = service;
+  serves = (refl, refl);
+  absent = refl;
+  stays = refl;
+  does = does;
+  allowed = allowed;
+  history = ((((((starts, fit_ready plain_disks), begins plain_disks), submit_happens, submit_ties), resetting.happens, resetting.ties), unplug_happens, unplug_ties), service_happens, service_ties);
+  accesses = refl;
+  unplug_parts = λ port. unplug_part port.0;
+  service_parts = λ port. service_part port.0;
+}

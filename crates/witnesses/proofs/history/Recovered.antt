@@ -1,0 +1,359 @@
+-- What holds after that service, which tells the fault; and it meets all that is asked of it.
+use Rattle.std.proofs.lemmas.Bool.{cases_eq, cond-false, ne_eqb, true≢false}
+use Rattle.adapter.specs.declared.tape.Entry.{Entry}
+use Rattle.std.proofs.lemmas.List.{append_cancel_left}
+use Rattle.std.proofs.Common.{length, length-append, true, subst, ◌∙◌, ℕ, zero, suc, ◌≡◌, false, List, [], ◌∷◌, ◌++◌, inl, inr, ⊎_elim, refl, sym, ap, arith, ◌≢◌, Bool, not, ◌&&◌, ◌==◌}
+use Rattle.std.specs.List.{Contains, All}
+use Rattle.std.proofs.lemmas.List.Elements.{All-nil, All-cons}
+use Rattle.std.proofs.lemmas.List.Sorted.{IsPermutation-refl}
+use Rattle.ata_types.specs.declared.Port.{Port}
+use Rattle.ata_types.specs.declared.PortState.TheVariants.{Absent, Ready}
+use Rattle.ata_types.specs.declared.request.Outcome.TheVariants as outcome
+use Rattle.ata_types.specs.declared.request.Reply.{Reply}
+use Rattle.hba_regs.specs.Bits.{bit}
+use Rattle.hba_regs.specs.declared.reg.Reg.TheVariants.{Px}
+use Rattle.hba_regs.specs.declared.reg.PortReg.TheVariants.{Cmd, Tfd}
+use Rattle.adapter.specs.Access.Access.{Reading}
+use Rattle.adapter.specs.Device.{Device}
+use Rattle.adapter.specs.Memory.{changed}
+use Rattle.adapter.specs.declared.access.DeviceStep.{DeviceStep}
+use Rattle.adapter.specs.declared.command.Operation.TheVariants.{Identify}
+use Rattle.adapter.specs.declared.tape.Entry.TheVariants as entry
+use Rattle.refinement.specs.Relation.{port_at}
+use Rattle.refinement.specs.Acts.{at_slots}
+use Rattle.refinement.specs.Driver.{IsBacked, DriverRelation}
+use Rattle.refinement.specs.Errors.{IsFatalOf}
+use Rattle.refinement.specs.Facts.{IsFaultOf, RunsWell}
+use Rattle.refinement.specs.Links.{IsPlugging}
+use Rattle.refinement.specs.Slots.{IsEmptySlot, IsMove}
+use Rattle.refinement.specs.Witness.{first_id}
+use Rattle.block_machine.specs.Events.{Service, Served, Happens}
+use Rattle.block_machine.specs.Histories.{Happening, JointState}
+use Rattle.block_machine.specs.Left.{after}
+use Rattle.block_machine.specs.State.{Pending, Machine}
+use Rattle.block_machine.specs.Steps.{Step, Answer}
+use Rattle.host_boot.specs.Taken.{wanted_of}
+use Rattle.identify.specs.declared.wanted.Wanted.TheVariants.{Any}
+use Rattle.error_recovery.specs.Evidence.{GainsRunning}
+use Rattle.driver_history.specs.Heeding.{ServesReady}
+use Rattle.driver_history.specs.Evidence.{Gains, IsEvidencedOf, ShowsLoss, ShowsFailure}
+use Rattle.driver_history.specs.Histories.{CallCorresponds, PortCorresponds, FindsDone, IsAnsweredOk, IsIssuedOn, LosesNoPortError, RunsWellAnew, TendsPort}
+use Rattle.driver_history.specs.Holds.{HoldsOf, HoldsWith, IsReadyAt}
+use Rattle.driver_history.specs.Trace.{LeavesCommand}
+use Rattle.port_control.specs.Engines.{Stops}
+use Rattle.witnesses.specs.Recovery.{fault_evidence, recovery_accesses, told_fault, RecoveryTies}
+use Rattle.witnesses.specs.Scene.{having, page_entry}
+use Rattle.witnesses.proofs.history.Command.{read_memory}
+use Rattle.witnesses.proofs.history.Devices.{IsOf, WritesOf, leaves, serving, AreServing}
+use Rattle.witnesses.proofs.history.Finding.{stay_serviced}
+use Rattle.witnesses.proofs.history.Holding.{IsUnnamed, fit_disk, named, named_is, no_slots, requests_none, runs_on, tries_ready, unnamed_evidenced, unserved_at, IsCalm, gained_none, no_trouble, ran_none}
+use Rattle.witnesses.proofs.history.Memory.{past_driver}
+use Rattle.witnesses.proofs.history.Submitting.{issued, second, submitted, pages}
+use Rattle.witnesses.proofs.history.Accepting.{asked, both, first, issuing, submit, submit_happens, submit_parts, submit_ties, submitted_at, waiting, bits_set, leaves_other, no_flags, none_there, not_ended, the_answer}
+use Rattle.witnesses.proofs.history.Pages.{plain_disks}
+use Rattle.witnesses.proofs.history.Ready.{agreeing, begins, calm, fit_ready, free_apart, no_page, not_dead, other_page, second_ready, served_of, served_ready, starts}
+use Rattle.witnesses.proofs.history.Recovering.{allowed, does, fault, from_fall, from_stop, recovered, started, tape_failed, told, until_stop}
+use Rattle.witnesses.proofs.history.Members.{nowhere, only}
+
+-- ---- the machine, and what holds
+
+abbrev answer : Step
+answer = Answer waiting (outcome.DeviceError 0x41 0x40)
+
+abbrev answered : Machine
+answered = after issuing (answer ∷ [])
+
+abbrev recovered_at : JointState Device
+recovered_at = record { device = recovered; moment = record { machine = answered; ports = both } }
+
+free : (n k : ℕ) → IsEmptySlot (having (started ∷ second ∷ []) n) k
+free zero k = record { issued = refl; free = refl; unarmed = refl }
+free (suc zero) k = record { issued = refl; free = refl; unarmed = refl }
+free (suc (suc n)) k = record { issued = refl; free = refl; unarmed = refl }
+
+present : (n : ℕ) → answered.present (port_at n) ≡ (having (started ∷ second ∷ []) n).present
+present zero = refl
+present (suc zero) = refl
+present (suc (suc n)) = refl
+
+knows : DriverRelation answered (at_slots no_slots recovered)
+knows = agreeing answered no_slots tape_failed read_memory started second
+    (record { own_first = refl; own_second = refl; disks = (refl, refl); present = present; ids = refl; sizes = refl; bytes = refl; lasting = (refl, refl); still = refl })
+    free free_apart (λ f b from small. past_driver f b from) (λ n e may at_port. ⊎_elim (λ z. absurd (nowhere e z.0)) (λ z. absurd (nowhere e z)) may)
+
+-- no page came after those of the two ports
+unpaged : (port : ℕ) → All (λ e. IsMove port Identify e → ⊥) (entry.Fault fault ∷ [])
+unpaged port = All-cons (λ e. IsMove port Identify e → ⊥) (entry.Fault fault) [] (λ x. x) (no_page port)
+
+ready : IsReadyAt Any no_slots recovered_at (port_at 0)
+unfolding changed
+ready = record {
+  on = record { ae = refl; no_reset = refl };
+  runs = runs_on 0 recovered refl refl refl refl refl (omega arith) refl refl refl;
+  info = plain_disks.info;
+  disk = fit_disk plain_disks 0 recovered [] (page_entry plain_disks.page 1 ∷ entry.Fault fault ∷ []) refl refl refl refl (other_page plain_disks.page (entry.Fault fault ∷ []) (unpaged 0));
+  shows = record { serial = refl; sectors = refl; trims = refl; mode = refl };
+  slots = requests_none no_slots recovered_at (port_at 0) (both.mode (port_at 0)) (λ slot. refl) refl;
+  kept = λ e k. absurd (nowhere e k);
+}
+
+port_recovered : (n : ℕ) → HoldsOf (wanted_of (Any ∷ Any ∷ []) n) no_slots recovered_at (port_at n) (both.served (port_at n)) (both.state (port_at n))
+port_recovered zero = ready
+port_recovered (suc zero) = second_ready plain_disks no_slots answered (entry.Fault fault ∷ []) read_memory started (unpaged 1) (λ slot. refl) refl refl
+port_recovered (suc (suc n)) = unserved_at no_slots recovered_at (suc (suc n)) refl refl (record { free = λ slot. refl; unparked = refl }) (λ e here. absurd (nowhere e here)) (λ e kept. absurd (nowhere e kept))
+
+holds_recovered : HoldsWith (Any ∷ Any ∷ []) no_slots recovered_at
+holds_recovered = record {
+  knows = knows;
+  served = λ port low. served_of tape_failed read_memory (started ∷ second ∷ []) port.0;
+  on = inl (record { ae = refl; no_reset = refl });
+  port = λ port low. port_recovered port.0;
+}
+
+-- ---- the call
+
+abbrev replies : List Reply
+replies = record { id = first_id; client = waiting.request.asked.client; outcome = outcome.DeviceError 0x41 0x40 } ∷ []
+
+abbrev service : Happening Device DeviceStep
+service = record {
+  event = record { ask = Service; said = Served replies; evidence = fault_evidence; steps = answer ∷ []; ports = both };
+  device = recovered;
+}
+
+stops : Stops (port_at 0) recovery_accesses
+stops = record {
+  before = until_stop ++ Reading (Px (port_at 0) Cmd) 0xc011 ∷ [];
+  cleared = 0xc010;
+  between = [];
+  fallen = 0x4010;
+  later = from_fall;
+  here = refl;
+  clears = refl;
+  only = All-nil (LeavesCommand (port_at 0));
+  shown = refl;
+}
+
+of_first : WritesOf (IsOf (port_at 0)) recovery_accesses
+of_first = (refl, (refl, (refl, (refl, tt))))
+
+gains : Gains (IsFaultOf 0) submitted recovered
+gains = record {
+  gained = entry.Fault fault ∷ [];
+  tape = refl;
+  entry = entry.Fault fault;
+  here = (0, omega arith, refl);
+  is = refl;
+}
+
+unnamed : (n : ℕ) → IsUnnamed fault_evidence (port_at (suc n))
+unnamed n = record {
+  lost = nowhere (port_at (suc n));
+  gone = nowhere (port_at (suc n));
+  failed = λ h. let same = named_is 0 (suc n) h in omega (arith, same);
+  fatal = nowhere (port_at (suc n));
+  stopped = λ h. let same = named_is 0 (suc n) h in omega (arith, same);
+  stuck = nowhere (port_at (suc n));
+}
+
+of_served : AreServing (TendsPort both) recovery_accesses
+of_served = (tended, (tended, (tended, (tended, ((λ is. cc, tended), (tended, ((λ is. cc, tended), ((λ is. cc, tended), (tended, (tended, ((λ is. cc, tended), tt)))))))))))
+  where
+    tended : TendsPort both (port_at 0)
+    tended = (refl, not_dead 0)
+
+quiet : (n : ℕ) → both.state (port_at n) ≡ Ready → (ShowsLoss (port_at n) submitted recovered → ⊥) × (ShowsFailure (submitted.port n) → ⊥)
+quiet = calm submitted.tape read_memory issued refl refl refl (λ place from. refl) recovered
+
+evidenced_of : (n : ℕ) → IsEvidencedOf Service (Served replies) recovery_accesses submitted_at both recovered fault_evidence (port_at n)
+evidenced_of zero = record {
+  lost = λ h. absurd (nowhere (port_at 0) h);
+  gone_all = λ is loss. absurd ((quiet 0 is).0 loss);
+  gone_only = λ h. absurd (nowhere (port_at 0) h);
+  failed_all = λ is f. named 0;
+  failed_only = λ h. (refl, inr (inl gains));
+  fatal_all = λ is f. absurd ((quiet 0 is).1 (inl f));
+  fatal_only = λ h. absurd (nowhere (port_at 0) h);
+  stopped_all = inr (inl (named 0));
+  stopped_only = λ h. inl stops;
+  stuck_only = λ h. absurd (nowhere (port_at 0) h);
+}
+evidenced_of (suc n) = unnamed_evidenced Service (Served replies) recovery_accesses submitted_at both recovered fault_evidence (port_at (suc n)) (unnamed n) (quiet (suc n))
+    (leaves (IsOf (port_at 0)) (port_at (suc n)) (λ is. apart (ap (λ (p : Port). p.0) is)) (λ is. apart (ap (λ (p : Port). p.0) is)) recovery_accesses of_first)
+  where
+    apart : suc n ≡ 0 → ⊥
+    apart e = omega (arith, e)
+
+-- no answer is Ok
+none_ok : (e : Pending) → IsAnsweredOk e (answer ∷ []) → ⊥
+none_ok e a = let same : Answer a.0 outcome.Ok ≡ answer = only answer (Answer a.0 outcome.Ok) a.2 in cc
+
+finds : FindsDone (port_at 0) recovery_accesses submitted_at (answer ∷ [])
+finds = record {
+  ci = 1;
+  sact = 0;
+  reads = record { before = []; later = Reading (Px (port_at 0) Tfd) 0x4041 ∷ from_stop; here = refl; running = All-nil (LeavesCommand (port_at 0)) };
+  exact = λ e slot on s. (λ ok. absurd (none_ok e ok), λ clear. absurd (bits_set 0 issued refl (λ k. refl) (λ k. refl) e slot s clear.0));
+}
+
+service_finds : (n : ℕ) (e : Pending) → IsIssuedOn (port_at n) issuing e → FindsDone (port_at n) recovery_accesses submitted_at (answer ∷ [])
+service_finds zero e on = finds
+service_finds (suc n) e on = absurd (none_there 0 n e on)
+
+heeds : (n : ℕ) → both.state (port_at n) ≡ Ready → ServesReady submitted_at.moment fault_evidence (answer ∷ []) recovered_at.moment (port_at n)
+heeds zero is = record {
+  ended = λ e here at_port ended. absurd (not_ended 0 e here ended);
+  emptied = λ g. absurd (nowhere (port_at 0) g);
+  told = λ g. absurd (nowhere (port_at 0) g);
+  interrupts = λ why. inl (named 0);
+  anew = λ why e here. absurd (nowhere e here);
+  single = omega arith;
+  fatal = λ h. absurd (nowhere (port_at 0) h);
+  disk = λ shows. inl refl;
+  calm = inl (inl (named 0));
+}
+heeds (suc zero) is = leaves_other (outcome.DeviceError 0x41 0x40) fault_evidence recovered_at.moment (unnamed 0) (omega arith) (refl, refl, refl, refl, refl, refl)
+heeds (suc (suc n)) is = absurd (let x : Absent ≡ Ready = is in cc)
+
+-- the fault is the one entry that the tape has gained
+fault_alone : (n : ℕ) → n ≢ 0 → All (IsCalm n) (entry.Fault fault ∷ [])
+fault_alone n ne = All-cons (IsCalm n) (entry.Fault fault) [] (λ (is : 0 ≡ n). ne (sym is), λ x. x, λ x. x) (All-nil (IsCalm n))
+
+-- it came before ST was set again
+too_early : GainsRunning (IsFaultOf 0) 0 submitted recovered → ⊥
+too_early g =
+    let same : g.before ++ (g.entry ∷ g.later) ≡ entry.Fault fault ∷ [] = append_cancel_left pages (g.before ++ (g.entry ∷ g.later)) (entry.Fault fault ∷ []) (sym g.tape) in
+    let long : length (g.before ++ (g.entry ∷ g.later)) ≡ 1 = ap (λ (es : List Entry). length es) same in
+    let parts = length-append g.before (g.entry ∷ g.later) in
+    let since = g.since in
+    omega (arith, since, long, parts)
+
+port_error : (n : ℕ) → LosesNoPortError fault_evidence submitted_at both recovered (port_at n)
+port_error zero = record {
+  errors = λ ready why. inl (inl (named 0));
+  changes = λ tends why. inl (inl (named 0));
+  fault = λ ready g. absurd (too_early g);
+  fatal = λ ready g. absurd (ran_none (IsFatalOf 0) 0 submitted recovered (gained_none (IsFatalOf 0) submitted recovered (entry.Fault fault ∷ []) refl (All-cons (λ e. IsFatalOf 0 e → ⊥) (entry.Fault fault) [] (λ x. x) (All-nil (λ e. IsFatalOf 0 e → ⊥)))) g);
+  disk = λ ready g. absurd (ran_none (IsPlugging 0) 0 submitted recovered (gained_none (IsPlugging 0) submitted recovered (entry.Fault fault ∷ []) refl (All-cons (λ e. IsPlugging 0 e → ⊥) (entry.Fault fault) [] (λ x. x) (All-nil (λ e. IsPlugging 0 e → ⊥)))) g);
+}
+port_error (suc n) = no_trouble fault_evidence submitted_at both recovered (port_at (suc n)) (entry.Fault fault ∷ []) refl (fault_alone (suc n) (omega arith)) (served_ready (suc n)) (quiet (suc n))
+
+-- the bits of PxIS are clear again
+quiet_again : (place : ℕ) → started.is place ≡ false
+unfolding changed
+quiet_again place = ⊎_elim
+    (λ (same : place ≡ 30). subst (λ (k : ℕ). started.is k ≡ false) (sym same) refl)
+    (λ (ne : place ≢ 30). ap (λ (b : Bool). b && not (bit 0xffffffff place)) (cond-false (place == 30) true false (ne_eqb place 30 ne)))
+    (cases_eq place 30)
+
+runs_well : RunsWell started
+runs_well = record {
+  st = refl;
+  cr = refl;
+  det = refl;
+  present = refl;
+  fresh = refl;
+  linked = refl;
+  running = refl;
+  whole = refl;
+  quiet = record { serr_n = refl; serr_x = refl; quiet = λ place from to. quiet_again place };
+}
+
+-- its fault came before ST was set again: port 0 runs well; and no other port was stopped
+well : (n : ℕ) → RunsWellAnew fault_evidence recovery_accesses submitted_at both recovered (port_at n)
+well zero = λ why ready plugs unfailed unbroken how. runs_well
+well (suc n) = λ why. absurd (⊎_elim (unnamed n).stopped (unnamed n).stuck why)
+
+part_of : (n : ℕ) → PortCorresponds submitted_at service recovery_accesses (port_at n)
+part_of n = record {
+  finds = λ is e on. service_finds n e on;
+  faults = λ alone. absurd (true≢false (sym alone.shows.fault ∙ (no_flags n 30)));
+  probes = λ served none. tries_ready recovery_accesses submitted_at both recovered (port_at n) (served_ready n served);
+  boots = (λ is f. absurd (⊎_elim (λ fatal. (quiet n is).1 (inl fatal)) (quiet n is).0 f), inl (refl, refl, refl, refl, refl, refl));
+  port_error = port_error n;
+  well = well n;
+  heeds = heeds n;
+}
+
+backed : IsBacked submitted recovered issuing (answer ∷ [])
+backed = record {
+  telling = refl;
+  gained = entry.Fault fault ∷ [];
+  tape = refl;
+  tells = ([], [], answer ∷ [], tt, refl, (tt, λ d. d), refl);
+  told = λ _. (tt, tt);
+  plugged = λ port. ([], plugs port, refl);
+}
+  where
+    plugs : (n : ℕ) → (recovered.port n).plugged ≡ (submitted.port n).plugged ++ []
+    plugs zero = refl
+    plugs (suc zero) = refl
+    plugs (suc (suc n)) = refl
+
+unplugged_not : (e : Pending) → Contains (answer ∷ []) (Answer e outcome.Unplugged) → ⊥
+unplugged_not e here = let x : outcome.Unplugged ≡ outcome.DeviceError 0x41 0x40 = (the_answer (outcome.DeviceError 0x41 0x40) e outcome.Unplugged here).1 in cc
+
+happens : Happens submitted_at.moment service.event
+happens = record {
+  may = (tt, ((0, omega arith, refl), tt));
+  belong = (tt, inr tt);
+  last = (tt, λ id is none. absurd (true≢false (sym none)));
+  lawful = (
+    tt,
+    (
+      record { pending = waiting; here = (0, omega arith, refl); id_is = refl; issued = refl },
+      refl,
+      (0, omega arith, refl),
+      named 0,
+    ),
+  );
+  fit = fit_ready plain_disks;
+  disks = λ e o here. absurd (nowhere e here);
+  answered = record {
+    tells = record { answers = (waiting, outcome.DeviceError 0x41 0x40) ∷ []; same = IsPermutation-refl _; ordered = λ i j d less low. absurd (omega (arith, less, low)); told = refl };
+    dead = λ e o here is. absurd (not_dead e.request.port.0 is);
+    unplugs = record { emptied = λ e other here. absurd (unplugged_not e here); alike = λ e other here. absurd (unplugged_not e here) };
+    issues = λ port is r at_port due. absurd (nowhere r due.here);
+    emptied = λ port other e here. absurd (nowhere e here);
+    ended = λ port is e here at_port done. absurd (not_ended 0 e here done);
+    becomes = λ port. stay_serviced plain_disks fault_evidence port.0 (nowhere port);
+    disk = λ port. inl (refl, refl, refl, refl, refl, refl);
+  };
+}
+
+ties : CallCorresponds (Any ∷ Any ∷ []) submitted_at service
+ties = record {
+  accesses = recovery_accesses;
+  came = (does, serving (TendsPort both) recovery_accesses of_served);
+  backed = backed;
+  evidenced = record {
+    faults = λ f here. told f (only told_fault f here);
+    port = λ port. evidenced_of port.0;
+  };
+  grounded = (tt, named 0);
+  issues = λ port is r here. absurd (nowhere r here);
+  port = λ port. part_of port.0;
+  holds = (no_slots, holds_recovered);
+}
+
+pub recovery_ties : RecoveryTies
+unfolding ties
+recovery_ties = record {
+  first = first;
+  submit = submit;
+  asked = asked;
+  reads = refl;
+  submits = (refl, refl);
+  ready = refl;
+  service = service;
+  serves = (refl, refl);
+  evidence = refl;
+  still = refl;
+  well = runs_well;
+  does = does;
+  allowed = allowed;
+  history = ((((starts, fit_ready plain_disks), begins plain_disks), submit_happens, submit_ties), happens, ties);
+  accesses = refl;
+  submit_parts = submit_parts;
+  service_parts = λ port. part_of port.0;
+}

@@ -1,0 +1,391 @@
+-- A reset that ends meets all that is asked of it.
+use Rattle.std.proofs.Common.{ℕ, zero, suc, ◌≡◌, ◌≢◌, ◌≤◌, ◌<◌, ◌++◌, ◌⊎◌, true, false, List, [], ◌∷◌, Some, inl, inr, ⊎_elim, refl, sym, ap, arith, append-nil}
+use Rattle.std.proofs.lemmas.Bool.{true≢false}
+use Rattle.std.proofs.lemmas.List.Elements.{All-nil, All-from_recursion}
+use Rattle.std.proofs.lemmas.List.Sorted.{IsPermutation-refl}
+use Rattle.std.specs.List.{All, Contains}
+use Rattle.ata_types.specs.declared.Port.{Port}
+use Rattle.ata_types.specs.declared.PortState.TheVariants.{Absent, Dead, Ready, Unfit}
+use Rattle.ata_types.specs.declared.request.Frame.{Frame}
+use Rattle.ata_types.specs.declared.request.Outcome.{Outcome}
+use Rattle.ata_types.specs.declared.request.Outcome.TheVariants as outcome
+use Rattle.ata_types.specs.declared.request.Reply.{Reply}
+use Rattle.hba_regs.specs.declared.reg.PortReg.{PortReg}
+use Rattle.hba_regs.specs.declared.reg.PortReg.TheVariants.{Clb, Clbu, Fb, Fbu, Is, Cmd, Tfd, Sig, Ssts, Sctl, Serr}
+use Rattle.hba_regs.specs.declared.reg.Reg.{Reg}
+use Rattle.hba_regs.specs.declared.reg.Reg.TheVariants.{Ghc, Px}
+use Rattle.adapter.specs.Access.{Access}
+use Rattle.adapter.specs.Access.Access.{Reading, Writing}
+use Rattle.adapter.specs.Device.{Device}
+use Rattle.adapter.specs.declared.access.DeviceStep.{DeviceStep}
+use Rattle.refinement.specs.Acts.{at_slots}
+use Rattle.refinement.specs.Relation.{port_at}
+use Rattle.refinement.specs.Driver.{IsBacked, DriverRelation}
+use Rattle.refinement.specs.Links.{SparesRegister}
+use Rattle.refinement.specs.Places.{list_of, received_of}
+use Rattle.refinement.specs.Slots.{IsEmptySlot}
+use Rattle.refinement.specs.Witness.{first_id}
+use Rattle.block_machine.specs.Events.{AnswersReset, Happens, Reset, ShowsDisk, WasReset}
+use Rattle.block_machine.specs.Histories.{Happening, JointState}
+use Rattle.block_machine.specs.Left.{after}
+use Rattle.block_machine.specs.Ports.{AreFit, Evidence, IsInterrupted, MayBecome, Ports}
+use Rattle.block_machine.specs.State.{Machine, Pending}
+use Rattle.block_machine.specs.Steps.{Answer, Release, Step}
+use Rattle.host_boot.specs.Taken.{wanted_of}
+use Rattle.identify.specs.declared.wanted.Wanted.TheVariants.{Any}
+use Rattle.driver_history.specs.Evidence.{IsEvidencedOf}
+use Rattle.driver_history.specs.Histories.{IsPortServed, CallCorresponds, PortCorresponds}
+use Rattle.driver_history.specs.Holds.{HoldsOf}
+use Rattle.driver_history.specs.Trace.{IsDriversOwn, IsOfPorts, LeavesEngine, ResetsLink}
+use Rattle.witnesses.specs.Reset.{ResetIsAHistory, adapter_reset, booting, rebooting}
+use Rattle.witnesses.specs.Scene.{having, showing}
+use Rattle.witnesses.proofs.history.Accepting.{asked, both, first, issuing, submit, submit_happens, submit_parts, submit_ties, submitted_at, waiting}
+use Rattle.witnesses.proofs.history.Booting.{allowed, does, rebooted, unfit}
+use Rattle.witnesses.proofs.history.Command.{read_memory}
+use Rattle.witnesses.proofs.history.Devices.{WritesOf, leaves}
+use Rattle.witnesses.proofs.history.Holding.{named, no_slots, unserved_at}
+use Rattle.witnesses.proofs.history.Members.{either, nowhere}
+use Rattle.witnesses.proofs.history.Memory.{past_driver}
+use Rattle.witnesses.proofs.history.Pages.{plain_disks}
+use Rattle.witnesses.proofs.history.Ready.{agreeing, begins, calm, fit_ready, free_apart, served_of, starts}
+use Rattle.witnesses.proofs.history.Submitting.{issued, pages, submitted}
+
+-- ---- the call
+
+abbrev pub unfit_ports : Ports
+unfit_ports = showing plain_disks.info (true ∷ true ∷ []) (Unfit 8 ∷ Unfit 8 ∷ [])
+
+-- both ports were stopped, and port 0 has lost its disk
+abbrev evidence : Evidence
+evidence = record { faults = []; lost = port_at 0 ∷ []; gone = []; failed = []; fatal = []; stopped = port_at 0 ∷ port_at 1 ∷ []; stuck = [] }
+
+abbrev answer : Step
+answer = Answer waiting outcome.Unplugged
+
+abbrev steps : List Step
+steps = answer ∷ Release ∷ []
+
+abbrev replies : List Reply
+replies = record { id = first_id; client = asked.client; outcome = outcome.Unplugged } ∷ []
+
+abbrev pub reset : Happening Device DeviceStep
+reset = record {
+  event = record { ask = Reset; said = WasReset (Some replies); evidence = evidence; steps = steps; ports = unfit_ports };
+  device = rebooted;
+}
+
+abbrev pub answered : Machine
+answered = after issuing steps
+
+abbrev pub rebooted_at : JointState Device
+rebooted_at = record { device = rebooted; moment = record { machine = answered; ports = unfit_ports } }
+
+-- ---- the ports
+
+pub not_ready : (n : ℕ) → unfit_ports.state (port_at n) ≡ Ready → ⊥
+not_ready zero is = let x : Unfit 8 ≡ Ready = is in cc
+not_ready (suc zero) is = let x : Unfit 8 ≡ Ready = is in cc
+not_ready (suc (suc n)) is = let x : Absent ≡ Ready = is in cc
+
+pub not_dead : (n : ℕ) → unfit_ports.state (port_at n) ≡ Dead → ⊥
+not_dead zero is = let x : Unfit 8 ≡ Dead = is in cc
+not_dead (suc zero) is = let x : Unfit 8 ≡ Dead = is in cc
+not_dead (suc (suc n)) is = let x : Absent ≡ Dead = is in cc
+
+pub fit : AreFit unfit_ports
+fit = record {
+  few = (fit_ready plain_disks).few;
+  absent = λ port is. absent_of port.0 is;
+  slots = λ port is. absurd (not_ready port.0 is);
+  causes = λ port cause is. cause_of port.0 cause is;
+}
+  where
+    absent_of : (n : ℕ) → unfit_ports.served (port_at n) ≡ false → unfit_ports.state (port_at n) ≡ Absent
+    absent_of zero is = absurd (true≢false is)
+    absent_of (suc zero) is = absurd (true≢false is)
+    absent_of (suc (suc n)) is = refl
+
+    cause_of : (n cause : ℕ) → unfit_ports.state (port_at n) ≡ Unfit cause → (1 ≤ cause) × (cause ≤ 9)
+    cause_of zero cause is = let x : Unfit 8 ≡ Unfit cause = is in let same : 8 ≡ cause = cc in (omega (arith, same), omega (arith, same))
+    cause_of (suc zero) cause is = let x : Unfit 8 ≡ Unfit cause = is in let same : 8 ≡ cause = cc in (omega (arith, same), omega (arith, same))
+    cause_of (suc (suc n)) cause is = absurd (let x : Absent ≡ Unfit cause = is in cc)
+
+-- each served port is named as stopped, and no other
+pub stopped_served : (n : ℕ) → both.served (port_at n) ≡ true → Contains evidence.stopped (port_at n)
+stopped_served zero is = (0, omega arith, refl)
+stopped_served (suc zero) is = (1, omega arith, refl)
+stopped_served (suc (suc n)) is = absurd (true≢false (sym is))
+
+pub served_stopped : (n : ℕ) → Contains evidence.stopped (port_at n) → both.served (port_at n) ≡ true
+served_stopped zero h = refl
+served_stopped (suc zero) h = refl
+served_stopped (suc (suc n)) h = absurd (⊎_elim
+    (λ (same : port_at (suc (suc n)) ≡ port_at 0). let z : suc (suc n) ≡ 0 = ap (λ (p : Port). p.0) same in omega (arith, z))
+    (λ (same : port_at (suc (suc n)) ≡ port_at 1). let z : suc (suc n) ≡ 1 = ap (λ (p : Port). p.0) same in omega (arith, z))
+    (either (port_at 0) (port_at 1) (port_at (suc (suc n))) h))
+
+becomes : (n : ℕ) → MayBecome both evidence unfit_ports (port_at n)
+becomes n = record {
+  served = refl;
+  stuck = (λ is. absurd (not_dead n is), λ h. absurd (nowhere (port_at n) h));
+  keeps = λ is. (refl, refl);
+}
+
+-- ---- the machine
+
+-- there is one answer
+the_answer : (e : Pending) (o : Outcome) → Contains steps (Answer e o) → (e ≡ waiting) × (o ≡ outcome.Unplugged)
+the_answer e o here = ⊎_elim
+    (λ (same : Answer e o ≡ answer). (cc, cc))
+    (λ (same : Answer e o ≡ Release). absurd cc)
+    (either answer Release (Answer e o) here)
+
+-- a port that isn't served is absent
+had : (n : ℕ) → ShowsDisk (unfit_ports.state (port_at n)) → issuing.present (port_at n) ≡ true
+had zero shows = refl
+had (suc zero) shows = refl
+had (suc (suc n)) shows = absurd shows
+
+answers : AnswersReset submitted_at.moment evidence steps replies rebooted_at.moment
+answers = record {
+  tells = record { answers = (waiting, outcome.Unplugged) ∷ []; same = IsPermutation-refl _; ordered = λ i j d less low. absurd (omega (arith, less, low)); told = refl };
+  releases = record { later = answer ∷ []; earlier = []; split = refl; before = tt; once = refl };
+  unplugs = record {
+    emptied = λ e other here there. absurd (nowhere other there);
+    alike = λ e other here there. absurd (let x : outcome.PortDead ≡ outcome.Unplugged = (the_answer other outcome.PortDead there).1 in cc);
+  };
+  finds = λ e here. (not_dead e.request.port.0, λ ready. absurd (not_ready e.request.port.0 ready));
+  issues = λ port is r at_port due. absurd (nowhere r due.here);
+  emptied = λ port other e here. absurd (nowhere e here);
+  becomes = λ port. becomes port.0;
+  anew = λ port e here. absurd (nowhere e here);
+  stopped = λ port. stopped_served port.0;
+  disk = λ port shows. inl (had port.0 shows);
+}
+
+pub happens : Happens submitted_at.moment reset.event
+happens = record {
+  may = ((tt, tt), ((0, omega arith, refl), tt));
+  belong = ((tt, inr tt), inr tt);
+  last = ((tt, λ id handled issued_in. absurd (true≢false (sym handled))), λ id handled issued_in. absurd (true≢false (sym issued_in)));
+  lawful = (tt, (named 0, (0, omega arith, refl)));
+  fit = fit;
+  disks = λ e o here. absurd (nowhere e here);
+  answered = answers;
+}
+
+-- ---- the accesses
+
+own : All IsDriversOwn rebooting
+own = All-from_recursion IsDriversOwn rebooting (tt, (tt, (tt, (tt, (tt, (tt, (tt, (tt, (tt, (tt, (tt, (tt, (tt, (tt, (tt, (tt, (tt, (tt, (tt, (tt, (tt, (tt, (tt, (tt, (tt, (tt, (tt, (tt, (tt, (tt, (tt, tt)))))))))))))))))))))))))))))))
+
+of_ports : All (IsOfPorts (IsPortServed both)) rebooting
+of_ports = All-from_recursion (IsOfPorts (IsPortServed both)) rebooting (tt, (tt, (tt, (refl, (refl, (refl, (refl, (refl, (refl, (refl, (refl, (refl, (refl, (refl, (refl, (refl, (refl, (refl, (refl, (refl, (refl, (refl, (refl, (refl, (refl, (refl, (refl, (refl, (refl, (refl, (refl, tt)))))))))))))))))))))))))))))))
+
+-- what follows COMRESET
+abbrev after_link : ℕ → List Access
+after_link port =
+    Reading (Px (port_at port) Ssts) 3 ∷ Writing (Px (port_at port) Serr) 0xffffffff ∷ Writing (Px (port_at port) Is) 0xffffffff
+    ∷ Reading (Px (port_at port) Tfd) 0x77 ∷ Reading (Px (port_at port) Sig) 0xeb140101 ∷ []
+
+-- what comes before
+abbrev before_link : ℕ → List Access
+before_link port =
+    Reading (Px (port_at port) Cmd) 0 ∷ Writing (Px (port_at port) Clb) (list_of port) ∷ Writing (Px (port_at port) Clbu) 0
+    ∷ Writing (Px (port_at port) Fb) (received_of port) ∷ Writing (Px (port_at port) Fbu) 0 ∷ Reading (Px (port_at port) Cmd) 0
+    ∷ Writing (Px (port_at port) Cmd) 0x10 ∷ []
+
+-- the number of the port that a register is of
+abbrev number : Reg → ℕ
+number (Px port r) = port.0
+number r = 0
+
+other_port : (r : PortReg) → Px (port_at 1) r ≢ Px (port_at 0) Sctl
+other_port r is = let same : 1 ≡ 0 = ap number is in omega (arith, same)
+
+links : (n : ℕ) → both.served (port_at n) ≡ true → ResetsLink (port_at n) rebooting
+links zero is = record {
+  before = adapter_reset ++ before_link 0;
+  between = [];
+  later = after_link 0 ++ booting 1;
+  sending = 1;
+  ending = 0;
+  here = refl;
+  sends = refl;
+  ends = refl;
+  held = All-nil (SparesRegister (Px (port_at 0) Sctl));
+  left = All-from_recursion (SparesRegister (Px (port_at 0) Sctl)) (after_link 0 ++ booting 1)
+      (tt, (λ is. cc, (λ is. cc, (tt, (tt, (tt, (other_port Clb, (other_port Clbu, (other_port Fb, (other_port Fbu, (tt, (other_port Cmd, (other_port Sctl, (other_port Sctl, (tt, (other_port Serr, (other_port Is, (tt, (tt, tt)))))))))))))))))));
+}
+links (suc zero) is = record {
+  before = adapter_reset ++ (booting 0 ++ before_link 1);
+  between = [];
+  later = after_link 1;
+  sending = 1;
+  ending = 0;
+  here = refl;
+  sends = refl;
+  ends = refl;
+  held = All-nil (SparesRegister (Px (port_at 1) Sctl));
+  left = All-from_recursion (SparesRegister (Px (port_at 1) Sctl)) (after_link 1) (tt, (λ is. cc, (λ is. cc, (tt, (tt, tt)))));
+}
+links (suc (suc n)) is = absurd (true≢false (sym is))
+
+-- ---- what stands behind its evidence
+
+-- the register is of port 0 or 1, or the adapter's
+abbrev IsWritten : Reg → Type 0
+IsWritten r = number r < 2
+
+evidenced : (n : ℕ) → IsEvidencedOf Reset (WasReset (Some replies)) rebooting submitted_at unfit_ports rebooted evidence (port_at n)
+evidenced n =
+    let quiet = calm submitted.tape read_memory issued refl refl refl (λ place from. refl) rebooted n in
+    record {
+      lost = λ h. inr (inr (inr (not_dead n, λ ready. absurd (not_ready n ready))));
+      gone_all = λ is loss. absurd ((quiet is).0 loss);
+      gone_only = λ h. absurd (nowhere (port_at n) h);
+      failed_all = λ is f. absurd ((quiet is).1 f);
+      failed_only = λ h. absurd (nowhere (port_at n) h);
+      fatal_all = λ is f. absurd ((quiet is).1 (inl f));
+      fatal_only = λ h. absurd (nowhere (port_at n) h);
+      stopped_all = engines n;
+      stopped_only = λ h. inr (tt, served_stopped n h);
+      stuck_only = λ h. absurd (nowhere (port_at n) h);
+    }
+  where
+    written : WritesOf IsWritten rebooting
+    written = (omega arith, (omega arith, (omega arith, (omega arith, (omega arith, (omega arith, (omega arith, (omega arith, (omega arith, (omega arith, (omega arith, (omega arith, (omega arith, (omega arith, (omega arith, (omega arith, (omega arith, (omega arith, (omega arith, (omega arith, tt))))))))))))))))))))
+
+    -- a port that isn't served has its engine left
+    engines : (n : ℕ) → All (LeavesEngine (port_at n)) rebooting ⊎ IsInterrupted evidence (port_at n)
+    engines zero = inr (inl (0, omega arith, refl))
+    engines (suc zero) = inr (inl (1, omega arith, refl))
+    engines (suc (suc n)) = inl (leaves IsWritten (port_at (suc (suc n))) (λ below. omega (arith, below)) (λ below. omega (arith, below)) rebooting written)
+
+-- ---- what it owes each port
+
+part_of : (n : ℕ) → PortCorresponds submitted_at reset rebooting (port_at n)
+part_of n = record {
+  finds = tt;
+  faults = tt;
+  probes = tt;
+  boots = λ served. inr (links n served);
+  port_error = record {
+    errors = λ ready why. inl (inl (stopped_served n (was_served n ready)));
+    changes = λ tends why. inl (inl (stopped_served n tends.0));
+    fault = λ ready g. absurd (not_ready n ready);
+    fatal = λ ready g. absurd (not_ready n ready);
+    disk = λ ready g. absurd (not_ready n ready);
+  };
+  well = λ why ready. absurd (not_ready n ready);
+  heeds = tt;
+}
+  where
+    was_served : (n : ℕ) → both.state (port_at n) ≡ Ready → both.served (port_at n) ≡ true
+    was_served zero is = refl
+    was_served (suc zero) is = refl
+    was_served (suc (suc n)) is = absurd (let x : Absent ≡ Ready = is in cc)
+
+backed : IsBacked submitted rebooted issuing steps
+backed = record {
+  telling = refl;
+  gained = [];
+  tape = sym (append-nil _);
+  tells = ((tt, λ d. d), λ d. d);
+  told = λ _. ((tt, tt), tt);
+  plugged = λ port. ([], plugs port, refl);
+}
+  where
+    plugs : (n : ℕ) → (rebooted.port n).plugged ≡ (submitted.port n).plugged ++ []
+    plugs zero = refl
+    plugs (suc zero) = refl
+    plugs (suc (suc n)) = refl
+
+-- ---- what holds after it
+
+free : (n k : ℕ) → IsEmptySlot (having (unfit 0 ∷ unfit 1 ∷ []) n) k
+free zero k = record { issued = refl; free = refl; unarmed = refl }
+free (suc zero) k = record { issued = refl; free = refl; unarmed = refl }
+free (suc (suc n)) k = record { issued = refl; free = refl; unarmed = refl }
+
+knows : DriverRelation answered (at_slots no_slots rebooted)
+knows = agreeing answered no_slots pages read_memory (unfit 0) (unfit 1)
+    (record { own_first = refl; own_second = refl; disks = (refl, refl); present = present; ids = refl; sizes = refl; bytes = refl; lasting = (refl, refl); still = refl })
+    free free_apart (λ f b from small. past_driver f b from) (λ n e may at_port. ⊎_elim (λ z. absurd (nowhere e z.0)) (λ z. absurd (nowhere e z)) may)
+  where
+    present : (n : ℕ) → answered.present (port_at n) ≡ (having (unfit 0 ∷ unfit 1 ∷ []) n).present
+    present zero = refl
+    present (suc zero) = refl
+    present (suc (suc n)) = refl
+
+pub holds_of : (n : ℕ) → HoldsOf (wanted_of (Any ∷ Any ∷ []) n) no_slots rebooted_at (port_at n) (unfit_ports.served (port_at n)) (unfit_ports.state (port_at n))
+holds_of zero = record {
+  on = record { ae = refl; no_reset = refl };
+  ends = (
+    record { halted = record { st = refl; cr = refl; ci = λ k. refl; taken = λ k. refl }; sact = λ k. refl },
+    inr (inl (refl, (0xeb140101, ((refl, refl), refl, refl, λ (e : 0xeb140101 ≡ 0x101). omega (arith, e))))),
+  );
+  shown = λ bad. inl refl;
+  slots = record { free = λ k. refl; unparked = refl };
+  waits = λ e here. absurd (nowhere e here);
+  kept = λ e k. absurd (nowhere e k);
+}
+holds_of (suc zero) = record {
+  on = record { ae = refl; no_reset = refl };
+  ends = (
+    record { halted = record { st = refl; cr = refl; ci = λ k. refl; taken = λ k. refl }; sact = λ k. refl },
+    inr (inl (refl, (0xeb140101, ((refl, refl), refl, refl, λ (e : 0xeb140101 ≡ 0x101). omega (arith, e))))),
+  );
+  shown = λ bad. inl refl;
+  slots = record { free = λ k. refl; unparked = refl };
+  waits = λ e here. absurd (nowhere e here);
+  kept = λ e k. absurd (nowhere e k);
+}
+holds_of (suc (suc n)) = unserved_at no_slots rebooted_at (suc (suc n)) refl refl (record { free = λ slot. refl; unparked = refl }) (λ e here. absurd (nowhere e here)) (λ e kept. absurd (nowhere e kept))
+
+pub ties : CallCorresponds (Any ∷ Any ∷ []) submitted_at reset
+ties = record {
+  accesses = rebooting;
+  came = (does, own, of_ports, record { rest = Reading Ghc 0 ∷ Writing Ghc 0x80000002 ∷ (booting 0 ++ booting 1); here = refl }, (record { ae = refl; no_reset = refl }, refl));
+  backed = backed;
+  evidenced = record { faults = λ f here. absurd (nowhere f here); port = λ port. evidenced port.0 };
+  grounded = tt;
+  issues = λ port is. absurd (not_ready port.0 is);
+  port = λ port. part_of port.0;
+  holds = (
+    no_slots,
+    record {
+      knows = knows;
+      served = λ port low. served_of pages read_memory (unfit 0 ∷ unfit 1 ∷ []) port.0;
+      on = inl (record { ae = refl; no_reset = refl });
+      port = λ port low. holds_of port.0;
+    },
+  );
+}
+
+-- ---- the history
+
+abbrev frame : Frame
+frame = record { 0 = 100 }
+
+pub reset_is_a_history : ResetIsAHistory
+unfolding ties
+reset_is_a_history = record {
+  first = first;
+  submit = submit;
+  asked = asked;
+  submits = (refl, refl);
+  frame = frame;
+  its = refl;
+  lent = refl;
+  reset = reset;
+  resets = (refl, refl);
+  unfit = (refl, refl);
+  freed = refl;
+  does = does;
+  allowed = allowed;
+  history = ((((starts, fit_ready plain_disks), begins plain_disks), submit_happens, submit_ties), happens, ties);
+  accesses = refl;
+  submit_parts = submit_parts;
+  reset_parts = λ port. part_of port.0;
+}

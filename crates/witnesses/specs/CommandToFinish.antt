@@ -1,0 +1,16 @@
+-- An instant at which a history may begin, with a ready port (this project's own).
+use Rattle.std.specs.Prelude.{◌≡◌, [], ◌∷◌, Contains}
+use Rattle.ata_types.specs.declared.PortState.TheVariants.{Ready}
+use Rattle.adapter.specs.Device.{Device}
+use Rattle.refinement.specs.Relation.{port_at}
+use Rattle.block_machine.specs.Histories.{JointState}
+use Rattle.identify.specs.declared.wanted.Wanted.TheVariants.{Any}
+use Rattle.driver_history.specs.Histories.{IsDriverHistory}
+use Rattle.witnesses.specs.Scene.{fit_page, page_entry}
+
+-- Any disk is wanted in ports 0 and 1. Both are ready, and the pages of their disks stand on the tape.
+pub record ReadyPortHasBegun : Type 0 where
+  pub first : JointState Device
+  pub ready : (first.moment.ports.state (port_at 0) ≡ Ready) × (first.moment.ports.state (port_at 1) ≡ Ready)
+  pub asked : Contains first.device.tape (page_entry fit_page 0) × Contains first.device.tape (page_entry fit_page 1)
+  pub begun : IsDriverHistory (Any ∷ Any ∷ []) first []

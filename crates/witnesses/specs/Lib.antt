@@ -1,0 +1,14 @@
+pub mod Runs
+pub mod Scene
+pub mod Allowed
+pub mod CommandToFinish
+pub mod Recovery
+pub mod Loss
+pub mod Dead
+pub mod Queued
+pub mod Restart
+pub mod Fatal
+pub mod Hung
+pub mod Revocation
+pub mod Reset
+pub mod Missing

@@ -1,0 +1,73 @@
+-- A history in which a service finds a read done on one port, and loses the disk of another meanwhile (this project's
+-- own).
+use Rattle.std.specs.Prelude.{true, ◌≡◌, ◌++◌, List, [], ◌∷◌, Ok}
+use Rattle.ata_types.specs.declared.Port.{Port}
+use Rattle.ata_types.specs.declared.PortState.TheVariants.{Absent, Ready}
+use Rattle.ata_types.specs.declared.request.Outcome.TheVariants as outcome
+use Rattle.ata_types.specs.declared.request.Op.TheVariants.{Read}
+use Rattle.ata_types.specs.declared.request.Request.{Request}
+use Rattle.hba_regs.specs.declared.reg.Reg.TheVariants.{Px}
+use Rattle.hba_regs.specs.declared.reg.PortReg.TheVariants.{Cmd, Ssts, Serr, Sact, Ci}
+use Rattle.adapter.specs.Access.{Access, DoesAll}
+use Rattle.adapter.specs.Access.Access.{Reading, Writing}
+use Rattle.adapter.specs.Device.{Device}
+use Rattle.adapter.specs.declared.access.DeviceStep.{DeviceStep}
+use Rattle.refinement.specs.Relation.{port_at}
+use Rattle.refinement.specs.Witness.{first_id}
+use Rattle.block_machine.specs.Events.{Submit, Service, Submitted, Served}
+use Rattle.block_machine.specs.Histories.{JointState, Happening, now}
+use Rattle.block_machine.specs.Ports.{Evidence}
+use Rattle.identify.specs.declared.wanted.Wanted.TheVariants.{Any}
+use Rattle.driver_history.specs.Histories.{IsDriverHistory, PortCorresponds}
+use Rattle.witnesses.specs.Allowed.{AreAllowed}
+
+-- the turn of port 0: the masks are read
+abbrev pub finding_turn : List Access
+finding_turn = Reading (Px (port_at 0) Ci) 0 ∷ Reading (Px (port_at 0) Sact) 0 ∷ []
+
+-- that of port 1: PxSSTS shows no device; the port is stopped, PxSERR is cleared, and PxSSTS is read again
+abbrev pub losing_turn : List Access
+losing_turn =
+    Reading (Px (port_at 1) Ssts) 0 ∷ Reading (Px (port_at 1) Cmd) 0xc011 ∷ Writing (Px (port_at 1) Cmd) 0xc010
+    ∷ Reading (Px (port_at 1) Cmd) 0x4010 ∷ Writing (Px (port_at 1) Serr) 0xffffffff ∷ Reading (Px (port_at 1) Ssts) 0
+    ∷ []
+
+-- what is named: port 1 lost its disk, which is gone, and was stopped
+abbrev pub loss_evidence : Evidence
+loss_evidence = record {
+  faults = [];
+  lost = port_at 1 ∷ [];
+  gone = port_at 1 ∷ [];
+  failed = [];
+  fatal = [];
+  stopped = port_at 1 ∷ [];
+  stuck = [];
+}
+
+-- Both ports are ready when the history begins. A read of port 0 is accepted and issued. The service finds it done, and
+-- answers it Ok, while the disk of port 1 is in; then that is taken out, and the service looks at port 1: it is
+-- stopped, and absent after the call. The service's accesses keep to the adapter's rules. Each port's part in both
+-- calls is done, whether it stays healthy or not.
+pub record LossIsAHistory : Type 0 where
+  pub first : JointState Device
+  pub ready : (first.moment.ports.state (port_at 0) ≡ Ready) × (first.moment.ports.state (port_at 1) ≡ Ready)
+  pub submit : Happening Device DeviceStep
+  pub asked : Request
+  pub reads : asked.op ≡ Read
+  pub submits : (submit.event.ask ≡ Submit asked) × (submit.event.said ≡ Submitted (Ok first_id))
+  pub service : Happening Device DeviceStep
+  pub serves : (service.event.ask ≡ Service)
+      × (service.event.said ≡ Served (record { id = first_id; client = asked.client; outcome = outcome.Ok } ∷ []))
+  pub between : Device
+  pub finding : DoesAll finding_turn submit.device between
+  pub finding_allowed : AreAllowed finding_turn submit.device between finding
+  pub in_then : (between.port 1).present ≡ true
+  pub losing : DoesAll losing_turn between service.device
+  pub losing_allowed : AreAllowed losing_turn between service.device losing
+  pub evidence : service.event.evidence ≡ loss_evidence
+  pub still : service.event.ports.state (port_at 0) ≡ Ready
+  pub absent : service.event.ports.state (port_at 1) ≡ Absent
+  pub history : IsDriverHistory (Any ∷ Any ∷ []) first (service ∷ submit ∷ [])
+  pub turns : history.2.accesses ≡ finding_turn ++ losing_turn
+  pub submit_parts : (port : Port) → PortCorresponds first submit history.0.2.accesses port
+  pub service_parts : (port : Port) → PortCorresponds (now first (submit ∷ [])) service history.2.accesses port

@@ -1,0 +1,66 @@
+-- A history in which a reset of the adapter ends, and both ports are booted (this project's own; AHCI 1.3.1, 10.4.3,
+-- 10.1.2 and 10.4.2).
+use Rattle.std.specs.Prelude.{ℕ, ◌≡◌, ◌++◌, List, [], ◌∷◌, Some, None, Ok}
+use Rattle.ata_types.specs.declared.Port.{Port}
+use Rattle.ata_types.specs.declared.PortState.TheVariants.{Unfit}
+use Rattle.ata_types.specs.declared.request.Frame.{Frame}
+use Rattle.ata_types.specs.declared.request.Outcome.TheVariants.{Unplugged}
+use Rattle.ata_types.specs.declared.request.Request.{Request}
+use Rattle.hba_regs.specs.declared.reg.PortReg.TheVariants.{Clb, Clbu, Fb, Fbu, Is, Cmd, Tfd, Sig, Ssts, Sctl, Serr}
+use Rattle.hba_regs.specs.declared.reg.Reg.TheVariants.{Ghc, Px}
+use Rattle.adapter.specs.Access.{Access, DoesAll}
+use Rattle.adapter.specs.Access.Access.{Reading, Writing}
+use Rattle.adapter.specs.Device.{Device}
+use Rattle.adapter.specs.declared.access.DeviceStep.{DeviceStep}
+use Rattle.refinement.specs.Relation.{port_at}
+use Rattle.refinement.specs.Places.{list_of, received_of}
+use Rattle.refinement.specs.Witness.{first_id}
+use Rattle.block_machine.specs.Events.{Submit, Reset, Submitted, WasReset}
+use Rattle.block_machine.specs.Histories.{JointState, Happening, now}
+use Rattle.identify.specs.declared.wanted.Wanted.TheVariants.{Any}
+use Rattle.driver_history.specs.Histories.{IsDriverHistory, PortCorresponds}
+use Rattle.witnesses.specs.Allowed.{AreAllowed}
+
+-- HR of GHC is set, and is read 0; then AE and IE are set
+abbrev pub adapter_reset : List Access
+adapter_reset = Writing Ghc 0x80000001 ∷ Reading Ghc 0 ∷ Writing Ghc 0x80000002 ∷ []
+
+-- A stopped port gets its places, FRE, and COMRESET; the device shows, is idle, and has another signature than an ATA
+-- disk's.
+abbrev pub booting : ℕ → List Access
+booting port =
+    Reading (Px (port_at port) Cmd) 0 ∷ Writing (Px (port_at port) Clb) (list_of port)
+    ∷ Writing (Px (port_at port) Clbu) 0
+    ∷ Writing (Px (port_at port) Fb) (received_of port) ∷ Writing (Px (port_at port) Fbu) 0
+    ∷ Reading (Px (port_at port) Cmd) 0
+    ∷ Writing (Px (port_at port) Cmd) 0x10 ∷ Writing (Px (port_at port) Sctl) 1 ∷ Writing (Px (port_at port) Sctl) 0
+    ∷ Reading (Px (port_at port) Ssts) 3 ∷ Writing (Px (port_at port) Serr) 0xffffffff ∷ Writing (Px (port_at port) Is)
+    0xffffffff
+    ∷ Reading (Px (port_at port) Tfd) 0x77 ∷ Reading (Px (port_at port) Sig) 0xeb140101 ∷ []
+
+-- all of them, one after another
+abbrev pub rebooting : List Access
+rebooting = adapter_reset ++ (booting 0 ++ booting 1)
+
+-- A read of port 0 is accepted and issued, and its frame is lent. Then the adapter is reset, and the reset ends: each
+-- port is booted, and no ATA disk is found. So both are unfit, the read is answered Unplugged, and its frame is given
+-- back. The reset's accesses keep to the adapter's rules. Each port's part in both calls is done.
+pub record ResetIsAHistory : Type 0 where
+  pub first : JointState Device
+  pub submit : Happening Device DeviceStep
+  pub asked : Request
+  pub submits : (submit.event.ask ≡ Submit asked) × (submit.event.said ≡ Submitted (Ok first_id))
+  pub frame : Frame
+  pub its : asked.frames.items ≡ frame ∷ []
+  pub lent : (now first (submit ∷ [])).moment.machine.lent frame ≡ Some first_id
+  pub reset : Happening Device DeviceStep
+  pub resets : (reset.event.ask ≡ Reset)
+      × (reset.event.said ≡ WasReset (Some (record { id = first_id; client = asked.client; outcome = Unplugged } ∷ [])))
+  pub unfit : (reset.event.ports.state (port_at 0) ≡ Unfit 8) × (reset.event.ports.state (port_at 1) ≡ Unfit 8)
+  pub freed : (now first (reset ∷ submit ∷ [])).moment.machine.lent frame ≡ None
+  pub does : DoesAll rebooting submit.device reset.device
+  pub allowed : AreAllowed rebooting submit.device reset.device does
+  pub history : IsDriverHistory (Any ∷ Any ∷ []) first (reset ∷ submit ∷ [])
+  pub accesses : history.2.accesses ≡ rebooting
+  pub submit_parts : (port : Port) → PortCorresponds first submit history.0.2.accesses port
+  pub reset_parts : (port : Port) → PortCorresponds (now first (submit ∷ [])) reset history.2.accesses port

@@ -1,0 +1,55 @@
+// Laws on runs: the clause is the theorem. Nothing that runs calls these functions.
+ghost use Rattle.std.specs.Prelude.{◌≡◌, ◌≢◌, ◌⊎◌, ◌<◌, Bool, false, List, Some, ℕ};
+ghost use Rattle.adapter.specs.Device.{Device, IsSector};
+ghost use Rattle.adapter.specs.Steps.{Can};
+ghost use Rattle.adapter.specs.Steps.DeviceTransition.{FetchFault as SenselessFetch, Plug};
+ghost use Rattle.witnesses.specs.Runs.{StepComes, ComesSafely, FirstHasFailed, IsBeingReset, IsSafe, TransitionKind, SecondEndsFirst};
+ghost use Rattle.witnesses.specs.Runs.TransitionKind.{FetchFault};
+
+use adapter::laws::{law_kept_bytes_stay, law_saying_is_one};
+
+/// Each kind of step of the device can come, in a state that an idle adapter comes to by accesses, each of which the
+/// rules allow in the state in which it is made: and where its commands stand on bytes that no step changes, but for
+/// the one on bytes that mean no command.
+pub fn law_each_step_can_come()
+    ensures safely { (kind : TransitionKind) → kind ≢ FetchFault → ComesSafely kind }
+    ensures senseless { StepComes FetchFault }
+{
+    law_kept_bytes_stay();
+    law_saying_is_one();
+}
+
+/// Where the commands stand on bytes that no step changes, none is taken for no command.
+pub fn law_safe_commands_make_sense()
+    ensures { (d : Device) (port slot kept_bits : ℕ) (queued : Bool) → IsSafe d
+        → Can (SenselessFetch port slot queued kept_bits) d → ⊥ }
+{}
+
+/// A queued command may end while another, in a lower slot, is taken still.
+pub fn law_a_second_command_ends_first()
+    ensures { SecondEndsFirst }
+{
+    law_kept_bytes_stay();
+}
+
+/// A queued command may fail beside another.
+pub fn law_a_command_fails_beside_another()
+    ensures { FirstHasFailed }
+{
+    law_kept_bytes_stay();
+}
+
+/// A reset of the adapter may be pending while two of its ports are in use.
+pub fn law_two_used_ports_are_reset()
+    ensures { IsBeingReset }
+{}
+
+/// A disk that was taken out may come back with each sector as it was when it last ended a flush, or else when it was
+/// first in, or as it was when it went: its cache may be lost, or a part of it (FLUSH CACHE EXT, ACS-3).
+pub fn law_a_cache_may_be_lost()
+    ensures { (d : Device) (port : ℕ) (last lasting told : ℕ → List ℕ) → (d.port port).present ≡ false
+        → (d.port port).disk.sectors ≡ Some last → (d.port port).lasting.sectors ≡ Some lasting
+        → ((k : ℕ) → (told k ≡ last k) ⊎ (told k ≡ lasting k))
+        → ((k : ℕ) → k < (d.port port).disk.size → IsSector (told k))
+        → Can (Plug port (record (d.port port).disk { sectors = Some told })) d }
+{}
