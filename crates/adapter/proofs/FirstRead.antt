@@ -10,7 +10,7 @@ use Rattle.adapter.specs.FirstRead.{header_bytes, fis_bytes, prd_bytes, first_me
 use Rattle.adapter.specs.Idle.{IsIdlePort, IsSane}
 use Rattle.adapter.specs.OneCommand.{HasOneCommand, SaysCommand, Standing, standing, is_from, is_of_pieces, is_read_alone, is_written, is_unwritten, IsElsewhere}
 use Rattle.adapter.specs.ReadDone.{read_of, IsReadDone}
-use Rattle.adapter.specs.Rules.{IsFree, IsStable}
+use Rattle.adapter.specs.Rules.{IsUnowned, IsStable}
 use Rattle.adapter.specs.Decoding.{DecodesTo, IsWholePieces, piece_addresses}
 use Rattle.adapter.specs.declared.command.Prd.{Prd}
 use Rattle.adapter.proofs.Absurd.{true-false, some-none, some_one}
@@ -220,7 +220,7 @@ elsewhere = record {
     or_no : (a b : Bool) → a ≡ false → b ≡ false → a || b ≡ false
     or_no a b x y = rw (x, y) refl
 
-pub first_free : IsStable (IsFree 0x65000 4096) first_read
+pub first_free : IsStable (IsUnowned 0x65000 4096) first_read
 unfolding first_command
 first_free =
     let P : Standing → Type 0 = λ s. IsElsewhere s 0x65000 4096 first_read in

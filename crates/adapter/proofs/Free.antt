@@ -3,7 +3,7 @@ use Rattle.std.proofs.Common.{ℕ, ◌≡◌, ◌<◌, ◌≤◌, ◌+◌, List,
 use Rattle.adapter.specs.Device.{Bases, Device}
 use Rattle.adapter.specs.Kept.{Keeps, KeepsPort}
 use Rattle.adapter.specs.Steps.{Steps}
-use Rattle.adapter.specs.Rules.{DeviceOwns, IsFree, IsStable, InPlaces}
+use Rattle.adapter.specs.Rules.{DeviceOwns, IsUnowned, IsStable, InDataBlocks}
 use Rattle.adapter.specs.Guarded.{IsGuardedSlot, IsGuarded, IsApart}
 use Rattle.adapter.proofs.Guards.{steps_guard, in_use_before}
 use Rattle.adapter.proofs.KeptLemmas.{law_steps_keep}
@@ -22,14 +22,14 @@ module _ (Tables Kept : ℕ → Type 0) (at n : ℕ) where
   unused_byte d g apart port slot a low high (inl (used, inr (m, places, s, inr place))) =
       let h : IsGuardedSlot Tables Kept d.memory (d.port port).bases.clb slot = (g.port port).slot slot used in
       let e : places ≡ h.places = says_places d.memory (d.port port).bases.clb slot m h.meaning places h.places s h.says in
-      let P : List ℕ → Type 0 = λ l. InPlaces l a in
+      let P : List ℕ → Type 0 = λ l. InDataBlocks l a in
       h.places_avoid a (apart.kept a low high) (subst P e place)
   unused_byte d g apart port slot a low high (inr (inl (t, is, place))) =
       (g.port port).taken slot t is a (apart.kept a low high) place
   unused_byte d g apart port slot a low high (inr (inr (fre, from, to))) =
       (g.port port).received fre a from to (apart.kept a low high)
 
-  apart_free : (d : Device) → IsGuarded Tables Kept d → IsApart Tables Kept at n d → IsFree at n d
+  apart_free : (d : Device) → IsGuarded Tables Kept d → IsApart Tables Kept at n d → IsUnowned at n d
   apart_free d g apart = record { inside = apart.inside; unused = unused_byte d g apart }
 
   apart_stays : (old mid : Device) → IsApart Tables Kept at n old → Steps old mid → IsApart Tables Kept at n mid
@@ -46,6 +46,6 @@ module _ (Tables Kept : ℕ → Type 0) (at n : ℕ) where
       }
 
   -- what `load` and `store` ask
-  pub apart_free_stays : (d : Device) → IsGuarded Tables Kept d → IsApart Tables Kept at n d → IsStable (IsFree at n) d
+  pub apart_free_stays : (d : Device) → IsGuarded Tables Kept d → IsApart Tables Kept at n d → IsStable (IsUnowned at n) d
   apart_free_stays d g apart mid steps =
       apart_free mid (steps_guard Tables Kept d mid g steps).0 (apart_stays d mid apart steps)

@@ -4,7 +4,7 @@ use Rattle.std.proofs.Common.{ℕ, zero, suc, ◌≡◌, ◌<◌, ◌≤◌, ◌
 use Rattle.std.proofs.lemmas.Bool.{cases_eq, cases_lt, le-leb, lt-ltb}
 use Rattle.adapter.specs.Device.{DevicePort, Device}
 use Rattle.adapter.specs.Idle.{IsIdle, IsIdlePort}
-use Rattle.adapter.specs.Rules.{InUse, InPlaces, IsFree, IsStable}
+use Rattle.adapter.specs.Rules.{InUse, InDataBlocks, IsUnowned, IsStable}
 use Rattle.adapter.specs.Guarded.{Passing, Spares, Avoids, IsGuardedSlot, IsGuardedPort, IsGuarded}
 use Rattle.adapter.specs.OneCommand.{Standing, is_from, is_of_pieces, is_read_alone, is_written, is_unwritten, IsFreeSlot, standing, HasOneCommand, NoneHasCommand, IsElsewhere}
 use Rattle.adapter.proofs.Absurd.{true-false, some-none}
@@ -52,7 +52,7 @@ module _ (s : Standing) (at : ℕ) where
   writes_count : s.header + 4 ≤ at → at < s.header + 8 → is_written s at ≡ true
   writes_count low high = first_of (is_from (s.header + 4) 4 at) (is_of_pieces s.places at) (is_from s.received 256 at) (is_from_yes (s.header + 4) 4 at low (omega (arith, high)))
 
-  writes_piece : InPlaces s.places at → is_written s at ≡ true
+  writes_piece : InDataBlocks s.places at → is_written s at ≡ true
   writes_piece w = second_of (is_from (s.header + 4) 4 at) (is_of_pieces s.places at) (is_from s.received 256 at) (is_of_pieces_yes s.places w.number at w.listed w.from w.to)
 
   writes_area : s.received ≤ at → at < s.received + 256 → is_written s at ≡ true
@@ -94,7 +94,7 @@ idle_guarded kept d i = record {
   port = λ q. port_idle (Passing (λ _. false)) (Passing kept) d.memory (d.port q) (i.port q);
 }
 
-pub idle_free : (at n : ℕ) (d : Device) → IsIdle d → at + n ≤ d.size → IsStable (IsFree at n) d
+pub idle_free : (at n : ℕ) (d : Device) → IsIdle d → at + n ≤ d.size → IsStable (IsUnowned at n) d
 idle_free at n d i inside =
     apart_free_stays (Passing (λ _. false)) (Passing (λ _. true)) at n d (idle_guarded (λ _. true) d i)
     (record {
@@ -178,7 +178,7 @@ module _ (d : Device) (port slot : ℕ) (c : HasOneCommand d port slot) where
             ]
       ]
 
-  pub elsewhere_free : (at n : ℕ) → IsElsewhere (standing d port slot c.command) at n d → IsStable (IsFree at n) d
+  pub elsewhere_free : (at n : ℕ) → IsElsewhere (standing d port slot c.command) at n d → IsStable (IsUnowned at n) d
   elsewhere_free at n e =
       apart_free_stays Tables Kept at n d command_is_guarded
       (record {

@@ -1,6 +1,6 @@
 -- The calls of an adapter: what a register shows, what a reading notes beside the state, and what a write does. A call
 -- is any steps of the device, and then its one effect.
-use Rattle.ata_types.specs.declared.limits.TheConstants.{READINGS}
+use Rattle.ata_types.specs.declared.limits.TheConstants.{MOST_READINGS}
 use Rattle.std.specs.Prelude.{ℕ, Bool, true, false, ◌≡◌, ◌+◌, ◌*◌, ◌/◌, ◌%◌, ◌<◌, ◌⊎◌, ◌&&◌, ◌||◌, not, min, List, [], ◌∷◌, length, if◌then◌else◌, nat_eq, nat_le, bit_and}
 use Rattle.std.specs.List.{list_any}
 use Rattle.hba_regs.specs.Bits.{bit}
@@ -85,11 +85,11 @@ Shows _ v d = Unit {0}
 
 -- one more reading in a row, at most as many as a wait has
 abbrev pub counted : Bool → ℕ → ℕ
-counted again n = if again then min READINGS (n + 1) else 0
+counted again n = if again then min MOST_READINGS (n + 1) else 0
 
 -- the count of SSTS: a reading with a device sets it to the most, where it stays
 abbrev pub link_counted : ℕ → ℕ → ℕ
-link_counted det n = if nat_eq det 3 then READINGS else min READINGS (n + 1)
+link_counted det n = if nat_eq det 3 then MOST_READINGS else min MOST_READINGS (n + 1)
 
 -- the counts of SSTS, TFD and CI move only while SCTL.DET is 0
 abbrev pub while_no_comreset : DevicePort → ℕ → ℕ → ℕ

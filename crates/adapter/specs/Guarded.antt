@@ -4,7 +4,7 @@ use Rattle.ata_types.specs.declared.memory.TheConstants.{HEADER_BYTES, PRD_BYTES
 use Rattle.adapter.specs.Commands.{Meaning}
 use Rattle.adapter.specs.Device.{FetchedCommand, DevicePort, Device}
 use Rattle.adapter.specs.Decoding.{DecodesTo}
-use Rattle.adapter.specs.Rules.{InPlaces, InUse}
+use Rattle.adapter.specs.Rules.{InDataBlocks, InUse}
 
 -- the bytes from one address up to another are in the set
 abbrev pub Holds : (ℕ → Type 0) → ℕ → ℕ → Type 0
@@ -16,7 +16,7 @@ Spares Set from to = (at : ℕ) → from ≤ at → at < to → Set at → ⊥
 
 -- no piece has a byte of the set
 abbrev pub Avoids : (ℕ → Type 0) → List ℕ → Type 0
-Avoids Set places = (at : ℕ) → Set at → InPlaces places at → ⊥
+Avoids Set places = (at : ℕ) → Set at → InDataBlocks places at → ⊥
 
 -- A slot says a command. Its header (but for PRDBC) and its table are table bytes; its PRDBC and its pieces aren't
 -- kept.

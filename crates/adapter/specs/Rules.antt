@@ -48,7 +48,7 @@ pub record MayStart (p : DevicePort) : Type 0 where
   pub not_busy : bit p.notes.last_tfd 7 || bit p.notes.last_tfd 3 ≡ false
 
 -- FRE may be set
-pub record MayReceive (p : DevicePort) : Type 0 where
+pub record MaySetFre (p : DevicePort) : Type 0 where
   pub fallen : p.fr ≡ false
   pub fb : p.bases.fb_set ≡ true
   pub fbu : p.bases.fbu_set ≡ true
@@ -59,9 +59,9 @@ pub record MayStopReceiving (p : DevicePort) : Type 0 where
   pub fallen : p.cr ≡ false
 
 -- ST and FRE change where they may; the other bits are written as they were last read.
-pub record MayCommand (p : DevicePort) (v : ℕ) : Type 0 where
+pub record MayWriteCmd (p : DevicePort) (v : ℕ) : Type 0 where
   pub start : bit v 0 ≡ true → (p.st ≡ true) ⊎ MayStart p
-  pub receive : bit v 4 ≡ true → (p.fre ≡ true) ⊎ MayReceive p
+  pub receive : bit v 4 ≡ true → (p.fre ≡ true) ⊎ MaySetFre p
   pub stop_receiving : bit v 4 ≡ false → (p.fre ≡ false) ⊎ (MayStopReceiving p × (bit v 0 ≡ false))
   pub others : (place : ℕ) → place < 32 → place ≢ 0 → place ≢ 4 → bit v place ≡ bit p.notes.last_cmd place
 
@@ -79,7 +79,7 @@ pub record MayIssue (d : Device) (p : DevicePort) (v : ℕ) : Type 0 where
       DecodesTo d.memory p.bases.clb slot meaning places → is_queued meaning.operation ≡ true → p.sact slot ≡ true
 
 abbrev pub MayWritePort : PortReg → ℕ → Device → DevicePort → Type 0
-MayWritePort Cmd v d p = MayCommand p v
+MayWritePort Cmd v d p = MayWriteCmd p v
 MayWritePort Sctl v d p = (p.st ≡ false) × ((v % 16 ≡ 0) ⊎ (v % 16 ≡ 1))
 MayWritePort Clb v d p = (p.cr ≡ false) × (p.st ≡ false) × (v % LIST_BYTES ≡ 0) × (v + LIST_BYTES ≤ d.size)
 MayWritePort Clbu v d p = (p.cr ≡ false) × (p.st ≡ false) × (v ≡ 0)
@@ -107,7 +107,7 @@ MayWrite _ v d = ⊥
 -- ---- loads and stores
 
 -- the byte belongs to a piece of a command
-pub record InPlaces (places : List ℕ) (at : ℕ) : Type 0 where
+pub record InDataBlocks (places : List ℕ) (at : ℕ) : Type 0 where
   pub number : ℕ
   pub listed : number < length places
   pub from : slice_index places number ≤ at
@@ -121,7 +121,7 @@ InUse p slot = (p.ci slot ≡ true) ⊎ ((t : FetchedCommand) × (p.taken slot �
 abbrev pub InCommand : Device → DevicePort → ℕ → ℕ → Type 0
 InCommand d p slot at =
     (meaning : Meaning) × (places : List ℕ) × (s : DecodesTo d.memory p.bases.clb slot meaning places)
-    × (((s.table ≤ at) × (at < s.table + TABLE_HEAD + PRD_BYTES * length s.prds)) ⊎ InPlaces places at)
+    × (((s.table ≤ at) × (at < s.table + TABLE_HEAD + PRD_BYTES * length s.prds)) ⊎ InDataBlocks places at)
 
 -- The device may use the byte: it is of the header, the table or the places of a command in use, of the places of a
 -- taken one, or of the received FIS area.
@@ -130,10 +130,10 @@ DeviceOwns d p slot at =
     (InUse p slot
     × (((p.bases.clb + HEADER_BYTES * slot ≤ at) × (at < p.bases.clb + HEADER_BYTES * slot + HEADER_BYTES))
     ⊎ InCommand d p slot at))
-    ⊎ ((t : FetchedCommand) × (p.taken slot ≡ Some t) × InPlaces t.places at)
+    ⊎ ((t : FetchedCommand) × (p.taken slot ≡ Some t) × InDataBlocks t.places at)
     ⊎ ((p.fre ≡ true) × (p.bases.fb ≤ at) × (at < p.bases.fb + RECEIVED_BYTES))
 
 -- these bytes are inside the memory, and the device may use none of them
-pub record IsFree (at n : ℕ) (d : Device) : Type 0 where
+pub record IsUnowned (at n : ℕ) (d : Device) : Type 0 where
   pub inside : at + n ≤ d.size
   pub unused : (port slot byte : ℕ) → at ≤ byte → byte < at + n → DeviceOwns d (d.port port) slot byte → ⊥

@@ -5,7 +5,7 @@ ghost use Rattle.adapter.specs.Asked.{Asked};
 ghost use Rattle.adapter.specs.Idle.{TellsDisks};
 ghost use Rattle.adapter.specs.Steps.{Steps};
 ghost use Rattle.adapter.specs.Access.{Reads, Writes, Loads, Stores};
-ghost use Rattle.adapter.specs.Rules.{MayRead, MayWrite, IsFree, IsStable};
+ghost use Rattle.adapter.specs.Rules.{MayRead, MayWrite, IsUnowned, IsStable};
 
 use ata_types::{Port, Slot};
 use hba_regs::Reg;
@@ -35,13 +35,13 @@ pub trait Adapter {
 
     /// Copies bytes of memory, from an address on.
     fn load(&mut self, addr: u32, out: &mut [u8])
-        requires { IsStable (IsFree addr (length out.old)) (device self.old) }
+        requires { IsStable (IsUnowned addr (length out.old)) (device self.old) }
         ensures does { Loads addr out.new (device self.old) (device self.new) }
         ensures counted { access_count self.new ≡ access_count self.old + 1 };
 
     /// Puts bytes into memory, from an address on.
     fn store(&mut self, addr: u32, bytes: &[u8])
-        requires { IsStable (IsFree addr (length bytes.now)) (device self.old) }
+        requires { IsStable (IsUnowned addr (length bytes.now)) (device self.old) }
         ensures does { Stores addr bytes.now (device self.old) (device self.new) }
         ensures counted { access_count self.new ≡ access_count self.old + 1 };
 

@@ -19,7 +19,7 @@ ghost use Rattle.adapter.specs.Kept.{Keeps, KeepsControls};
 ghost use Rattle.adapter.specs.OneCommand.{NoneHasCommand, HasOneCommand, IsElsewhere, is_read_alone, is_unwritten, standing};
 ghost use Rattle.adapter.specs.ReadDone.{IsReadDone, MayBeRead, read_of};
 ghost use Rattle.adapter.specs.Pending.{LeavesIe, KeepsIsBit, SetsCause, EnablesAllCauses, interrupts, cleared, flushed, flushing, flush_taken};
-ghost use Rattle.adapter.specs.Rules.{HasPort, IsOn, IsFree, IsStable};
+ghost use Rattle.adapter.specs.Rules.{HasPort, IsOn, IsUnowned, IsStable};
 ghost use Rattle.adapter.specs.Decoding.{DecodesTo, piece_addresses};
 ghost use Rattle.adapter.specs.Seen.{PutAt, SeenAt};
 ghost use Rattle.adapter.specs.Steps.{Can, DeviceTransition, Steps, device_after};
@@ -73,7 +73,7 @@ pub fn law_kept_bytes_stay()
 /// Kept bytes that belong to no table and no header in use may be loaded and stored, whatever the device does first.
 pub fn law_apart_bytes_are_free()
     ensures { (tables kept : ℕ → Bool) (at n : ℕ) (d : Device) → IsGuarded (Passing tables) (Passing kept) d
-        → IsApart (Passing tables) (Passing kept) at n d → IsStable (IsFree at n) d }
+        → IsApart (Passing tables) (Passing kept) at n d → IsStable (IsUnowned at n) d }
 {}
 
 /// A reading of any register leaves kept bytes and guards as the device's steps do.
@@ -172,7 +172,7 @@ pub fn law_an_adapter_without_commands_is_guarded()
 /// whatever the device does first.
 pub fn law_an_idle_adapter_is_guarded()
     ensures guarded { (kept : ℕ → Bool) (d : Device) → IsIdle d → IsGuarded (Passing (λ _. false)) (Passing kept) d }
-    ensures free { (at n : ℕ) (d : Device) → IsIdle d → at + n ≤ d.size → IsStable (IsFree at n) d }
+    ensures free { (at n : ℕ) (d : Device) → IsIdle d → at + n ≤ d.size → IsStable (IsUnowned at n) d }
 {}
 
 /// An adapter with one command is guarded: what the device only reads for it are the tables, and what it doesn't write
@@ -182,7 +182,7 @@ pub fn law_an_adapter_with_a_command_is_guarded()
         → IsGuarded (Passing (is_read_alone (standing d port slot c.command)))
         (Passing (is_unwritten (standing d port slot c.command))) d }
     ensures free { (port slot at n : ℕ) (d : Device) (c : HasOneCommand d port slot)
-        → IsElsewhere (standing d port slot c.command) at n d → IsStable (IsFree at n) d }
+        → IsElsewhere (standing d port slot c.command) at n d → IsStable (IsUnowned at n) d }
 {}
 
 /// A read that may be fetched can be done, on a disk that tells its sectors: some steps of its slot's command lead to
@@ -201,6 +201,6 @@ pub fn law_a_first_read_exists()
     ensures sane { IsSane first_read }
     ensures command { HasOneCommand first_read 0 0 }
     ensures says { DecodesTo first_read.memory 0 0 (read_of 100 8) (piece_addresses 0x64000 8) }
-    ensures free { IsStable (IsFree 0x65000 FRAME_BYTES) first_read }
+    ensures free { IsStable (IsUnowned 0x65000 FRAME_BYTES) first_read }
     ensures done { (new : Device) × IsReadDone first_read new 0 0 100 8 (piece_addresses 0x64000 8) first_read_sector }
 {}

@@ -22,4 +22,4 @@ pub const MOST_REQUEST_FRAMES: usize = 128;
 pub const MOST_UNANSWERED: usize = 128;
 
 /// Readings of a register in one wait. Where none of them shows what is waited for, the wait is in vain.
-pub const READINGS: u32 = 64;
+pub const MOST_READINGS: u32 = 64;

@@ -35,13 +35,13 @@ pub const HEADER_BYTES: u32 = 32;
 pub const RECEIVED_BYTES: u32 = 256;
 
 /// Where a port's received FIS area begins, from its first frame on: behind the command list.
-pub const RECEIVED: u32 = LIST_BYTES;
+pub const RECEIVED_OFFSET: u32 = LIST_BYTES;
 
 /// What the address of a command table is a multiple of (AHCI 1.3.1, 4.2.2).
 pub const TABLE_ALIGNMENT: u32 = 128;
 
 /// Where the command table of a port's slot 0 begins, from the port's first frame on: in the second one.
-pub const TABLES: u32 = FRAME_BYTES;
+pub const TABLES_OFFSET: u32 = FRAME_BYTES;
 
 /// Bytes that each slot has for its command table, one slot's behind the other's.
 pub const TABLE_BYTES: u32 = 2176;
@@ -59,4 +59,4 @@ pub const LONGEST_TABLE: usize = TABLE_HEAD as usize + PRD_BYTES as usize * MOST
 pub const SCRATCH_FRAME: u16 = PORT_FRAMES - 1;
 
 /// Where a port's scratch frame begins, from its first frame on.
-pub const SCRATCH: u32 = FRAME_BYTES * SCRATCH_FRAME as u32;
+pub const SCRATCH_OFFSET: u32 = FRAME_BYTES * SCRATCH_FRAME as u32;

@@ -14,14 +14,14 @@ use Rattle.ata_types.specs.Grant.{Allows}
 use Rattle.block_machine.specs.Rules.{IsNamed, IsAllowedCount, frames_for}
 use Rattle.block_machine.specs.State.{Block, Accepted, Pending, Machine}
 use Rattle.block_machine.specs.Steps.{Step, Accept, Touch, May, IsNew, IsLiving, after_step}
-use Rattle.block_machine.specs.Left.{after, IsLegal, IsStart, IsAccept}
+use Rattle.block_machine.specs.Left.{after, IsLegal, IsInitial, IsAccept}
 use Rattle.block_machine.specs.Confined.{IsGranted, IsConfined, WasAccepted, MovesBytes}
 use Rattle.block_machine.proofs.Members.{contains_none, contains_here, contains_there, contains_cases}
 use Rattle.block_machine.proofs.Trace.{Before, Comes, lives_before, next_grows, runs_lives}
 use Rattle.block_machine.proofs.Runs.{traced, nobody}
 
 -- each request that lives was accepted
-pub living_accepted : (start : Machine) (h : List Step) → IsStart start → IsLegal start h → (e : Pending) → IsLiving (after start h) e → WasAccepted start h e.request
+pub living_accepted : (start : Machine) (h : List Step) → IsInitial start → IsLegal start h → (e : Pending) → IsLiving (after start h) e → WasAccepted start h e.request
 living_accepted start [] s legal e l = absurd (nobody start s e l)
 living_accepted start (step ∷ past) s legal e l = ⊎_elim
     (λ (r : Before (after start past) e). inr (subst (λ (j : Accepted). WasAccepted start past j) (sym r.2) (living_accepted start past s legal.0 r.0 r.1)))
@@ -128,7 +128,7 @@ pub has_frame : (m : Machine) (r : Accepted) → IsNew m r → MovesBytes r.aske
 has_frame m r new moves i lt = framed r.asked.op r.asked.count (length r.asked.frames.items) i (frames_fit m r new) moves lt
 
 -- each touch is confined
-pub law_touch_is_confined : (start : Machine) (h : List Step) (e : Pending) (i : ℕ) (block : Block) → IsStart start → IsLegal start h → May (after start h) (Touch e i block) → IsConfined start h e.request i
+pub law_touch_is_confined : (start : Machine) (h : List Step) (e : Pending) (i : ℕ) (block : Block) → IsInitial start → IsLegal start h → May (after start h) (Touch e i block) → IsConfined start h e.request i
 law_touch_is_confined start h e i block s legal may =
     let l = runs_lives (after start h) e may.0 in
     let accepted = living_accepted start h s legal e l in

@@ -10,7 +10,7 @@ use Rattle.ata_types.specs.declared.limits.TheConstants.{MOST_UNANSWERED}
 use Rattle.block_machine.specs.State.{Accepted, Pending, Machine}
 use Rattle.block_machine.specs.Rules.{DifferInName, is_under}
 use Rattle.block_machine.specs.Steps.{Step, Accept, Revoke, after_step, unanswered_of}
-use Rattle.block_machine.specs.Left.{after, IsLegal, IsStart}
+use Rattle.block_machine.specs.Left.{after, IsLegal, IsInitial}
 use Rattle.block_machine.specs.Confined.{IsGranted, WasAccepted}
 use Rattle.block_machine.proofs.Members.{filter_in, contains_here, contains_there}
 use Rattle.block_machine.proofs.Counting.{count_cons}
@@ -56,7 +56,7 @@ was_granted start (step ∷ past) r (inl c) = granted_by_more (after start past)
 was_granted start (step ∷ past) r (inr w) = was_granted start past r w
 
 -- the client of an accepted request is one that a row may have
-accepted_client : (start : Machine) (h : List Step) (r : Accepted) → IsStart start → WasAccepted start h r → (1 ≤ r.asked.client.0) × (r.asked.client.0 ≤ 8)
+accepted_client : (start : Machine) (h : List Step) (r : Accepted) → IsInitial start → WasAccepted start h r → (1 ≤ r.asked.client.0) × (r.asked.client.0 ≤ 8)
 accepted_client start h r s w =
     let g = was_granted start h r w in
     let row = s.configured g.row g.named.0 in
@@ -111,7 +111,7 @@ total_most es (suc n) few =
     omega (arith, rest, own)
 
 -- 16 of each of 8 clients
-pub all_few : (start : Machine) (h : List Step) → IsStart start → IsLegal start h → ((c : ClientId) → unanswered_of (after start h).book c ≤ 16) → length (after start h).book ≤ MOST_UNANSWERED
+pub all_few : (start : Machine) (h : List Step) → IsInitial start → IsLegal start h → ((c : ClientId) → unanswered_of (after start h).book c ≤ 16) → length (after start h).book ≤ MOST_UNANSWERED
 all_few start h s legal few =
     let all = total_all (after start h).book 8 (λ e i. accepted_client start h e.request s (living_accepted start h s legal e (inl i))) in
     let most = total_most (after start h).book 8 few in

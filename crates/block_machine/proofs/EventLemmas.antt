@@ -9,9 +9,9 @@ use Rattle.ata_types.specs.declared.request.Op.TheVariants.{Read}
 use Rattle.ata_types.specs.declared.request.Outcome.TheVariants.{Ok, DeviceError, Aborted, Unplugged, PortDead, Revoked}
 use Rattle.block_machine.specs.State.{Block, Memory, Pending, Machine, frame_at, is_reader}
 use Rattle.block_machine.specs.Steps.{Step, Accept, Touch, Again, Answer, Release, Store, May, after_step, stays, unlend, is_lent_to, put_bytes, memory_after, AllTouched}
-use Rattle.block_machine.specs.Left.{after, IsLegal, IsStart, AllTold, HoldsLeft}
+use Rattle.block_machine.specs.Left.{after, IsLegal, IsInitial, AllTellSectors, HoldsLeft}
 use Rattle.block_machine.specs.Ports.{Ports, Evidence}
-use Rattle.block_machine.specs.Events.{AbstractState, Ask, Submit, StoreAt, LoadAt, Service, Tick, Reset, RevokeOf, State, Device, CallRecord, AllMay, IsByDevice, IsByServer, Belong, AllLawful, moment_of, IsRun, steps_of, EveryReadHolds}
+use Rattle.block_machine.specs.Events.{AbstractState, Ask, Submit, StoreAt, LoadAt, Service, Tick, Reset, RevokeOf, State, Device, CallRecord, AllMay, IsByDevice, IsByServer, Belong, AllLawful, abstract_after_all, IsRun, steps_of, EveryReadHolds}
 use Rattle.block_machine.proofs.Order.{In}
 use Rattle.block_machine.proofs.Sound.{Sound}
 use Rattle.block_machine.proofs.Trace.{runs_lives}
@@ -30,11 +30,11 @@ legal_more start (step ∷ late) early l a =
     (legal_more start late early l a.0, subst (λ (m : Machine). May m step) (sym (after-append start late early)) a.1)
 
 -- the machine of a run is the one that its steps leave
-pub moment_is : {D : Type 0} (first : AbstractState) (run : List (CallRecord D)) → (moment_of first run).machine ≡ after first.machine (steps_of run)
+pub moment_is : {D : Type 0} (first : AbstractState) (run : List (CallRecord D)) → (abstract_after_all first run).machine ≡ after first.machine (steps_of run)
 moment_is first [] = refl
 moment_is first (event ∷ past) = ap (λ (m : Machine). after m event.steps) (moment_is first past) ∙ sym (after-append first.machine event.steps (steps_of past))
 
-pub run_starts : {D : Type 0} (first : AbstractState) (run : List (CallRecord D)) → IsRun first run → IsStart first.machine
+pub run_starts : {D : Type 0} (first : AbstractState) (run : List (CallRecord D)) → IsRun first run → IsInitial first.machine
 run_starts first [] r = r.0
 run_starts first (event ∷ past) r = run_starts first past r.0
 
@@ -71,7 +71,7 @@ call_whole old evidence ports (step ∷ before) past l w =
 
 pub run_whole : {D : Type 0} (first : AbstractState) (run : List (CallRecord D)) → IsRun first run → AllWhole (steps_of run)
 run_whole first [] r = tt
-run_whole first (event ∷ past) r = call_whole (moment_of first past) event.evidence event.ports event.steps (steps_of past) r.1.lawful (run_whole first past r.0)
+run_whole first (event ∷ past) r = call_whole (abstract_after_all first past) event.evidence event.ports event.steps (steps_of past) r.1.lawful (run_whole first past r.0)
 
 -- the history up to a step of it
 pub up_to : (start : Machine) (late : List Step) (step : Step) (early : List Step) → IsLegal start (late ++ step ∷ early) → AllWhole (late ++ step ∷ early) → IsLegal start early × May (after start early) step × IsWhole step
@@ -195,7 +195,7 @@ stays_step memory m (Store client frame offset bytes) may s q h = absurd q
 stays_step memory m _ may s q h = h
 
 -- a read that is answered Ok has in the last memory what is left
-answer_holds : (start : Machine) (memory : Memory) (past : List Step) (e : Pending) → IsStart start → IsLegal start (Answer e Ok ∷ past) → AllTold start past → IsWhole (Answer e Ok)
+answer_holds : (start : Machine) (memory : Memory) (past : List Step) (e : Pending) → IsInitial start → IsLegal start (Answer e Ok ∷ past) → AllTellSectors start past → IsWhole (Answer e Ok)
     → Stays memory (after start (Answer e Ok ∷ past)) → e.request.asked.op ≡ Read → HoldsLeft start past memory e.request
 answer_holds start memory past e s l told w stays op =
     let m = after start past in
@@ -216,8 +216,8 @@ abbrev answering : List Step → Pending → List Step → List Step
 answering rest e before = rest ++ Answer e Ok ∷ before
 
 -- so has each read that a call answers, at the call's end
-answers_hold : (start : Machine) (memory : Memory) (rest : List Step) (e : Pending) (before past : List Step) → IsStart start → IsLegal start (answering rest e before ++ past)
-    → AllTold start (answering rest e before ++ past) → AllWhole (answering rest e before ++ past) → ((step : Step) → In step (answering rest e before) → IsQuiet step)
+answers_hold : (start : Machine) (memory : Memory) (rest : List Step) (e : Pending) (before past : List Step) → IsInitial start → IsLegal start (answering rest e before ++ past)
+    → AllTellSectors start (answering rest e before ++ past) → AllWhole (answering rest e before ++ past) → ((step : Step) → In step (answering rest e before) → IsQuiet step)
     → Stays memory (after start (answering rest e before ++ past)) → e.request.asked.op ≡ Read → HoldsLeft start (before ++ past) memory e.request
 answers_hold start memory [] e before past s l told w quiet stays = answer_holds start memory (before ++ past) e s l told.0 w.1 stays
 answers_hold start memory (step ∷ rest) e before past s l told w quiet stays = answers_hold start memory rest e before past s l.0 told.0 w.0 (λ x i. quiet x (inr i))
@@ -233,23 +233,23 @@ belongs ask ports (x ∷ xs) b step (inl e) = subst (λ (y : Step). IsByDevice y
 belongs ask ports (x ∷ xs) b step (inr i) = belongs ask ports xs b.0 step i
 
 -- each read of a run that was answered Ok has, at the end of its call, what is left
-pub law_every_read_holds : {D : Type 0} (first : AbstractState) (run : List (CallRecord D)) → IsRun first run → AllTold first.machine (steps_of run) → EveryReadHolds first run
+pub law_every_read_holds : {D : Type 0} (first : AbstractState) (run : List (CallRecord D)) → IsRun first run → AllTellSectors first.machine (steps_of run) → EveryReadHolds first run
 law_every_read_holds {D} first run r told later earlier event rest before e is split op =
-    in_run later (subst (IsRun first) is r) (subst (λ (l : List (CallRecord D)). AllTold first.machine (steps_of l)) is told)
+    in_run later (subst (IsRun first) is r) (subst (λ (l : List (CallRecord D)). AllTellSectors first.machine (steps_of l)) is told)
   where
-    told_before : (late early : List Step) → AllTold first.machine (late ++ early) → AllTold first.machine early
+    told_before : (late early : List Step) → AllTellSectors first.machine (late ++ early) → AllTellSectors first.machine early
     told_before [] early t = t
     told_before (step ∷ late) early t = told_before late early t.0
 
     Held : Type 0
-    Held = HoldsLeft first.machine (before ++ steps_of earlier) (moment_of first (event ∷ earlier)).machine.memory e.request
+    Held = HoldsLeft first.machine (before ++ steps_of earlier) (abstract_after_all first (event ∷ earlier)).machine.memory e.request
 
-    in_call : IsRun first (event ∷ earlier) → AllTold first.machine (steps_of (event ∷ earlier)) → Held
+    in_call : IsRun first (event ∷ earlier) → AllTellSectors first.machine (steps_of (event ∷ earlier)) → Held
     in_call r told = ⊎_elim
-        (λ (q : Quiet event.ask event.ports). answers_hold first.machine (moment_of first (event ∷ earlier)).machine.memory rest e before (steps_of earlier)
+        (λ (q : Quiet event.ask event.ports). answers_hold first.machine (abstract_after_all first (event ∷ earlier)).machine.memory rest e before (steps_of earlier)
         (run_starts first earlier r.0)
         (subst (λ (steps : List Step). IsLegal first.machine (steps ++ steps_of earlier)) split (run_legal first (event ∷ earlier) r))
-        (subst (λ (steps : List Step). AllTold first.machine (steps ++ steps_of earlier)) split told)
+        (subst (λ (steps : List Step). AllTellSectors first.machine (steps ++ steps_of earlier)) split told)
         (subst (λ (steps : List Step). AllWhole (steps ++ steps_of earlier)) split (run_whole first (event ∷ earlier) r))
         (λ step i. ⊎_elim (λ d. (devices_quiet step d).0) (λ h. q step h) (its step i))
         (λ f none b. ap (λ (m : Machine). m.memory f b) (moment_is first (event ∷ earlier)
@@ -261,6 +261,6 @@ law_every_read_holds {D} first run r told later earlier event rest before e is s
         its : (step : Step) → In step (answering rest e before) → IsByDevice step ⊎ IsByServer event.ask event.ports step
         its step i = belongs event.ask event.ports event.steps r.1.belong step (subst (In step) (sym split) i)
 
-    in_run : (later : List (CallRecord D)) → IsRun first (later ++ event ∷ earlier) → AllTold first.machine (steps_of (later ++ event ∷ earlier)) → Held
+    in_run : (later : List (CallRecord D)) → IsRun first (later ++ event ∷ earlier) → AllTellSectors first.machine (steps_of (later ++ event ∷ earlier)) → Held
     in_run [] r told = in_call r told
     in_run (x ∷ later) r told = in_run later r.0 (told_before x.steps (steps_of (later ++ event ∷ earlier)) told)

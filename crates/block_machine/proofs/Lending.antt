@@ -11,7 +11,7 @@ use Rattle.ata_types.specs.declared.memory.TheConstants.{DRIVER_FRAMES}
 use Rattle.block_machine.specs.Confined.{WasAccepted, HasFrame}
 use Rattle.block_machine.specs.State.{Accepted, Pending, Machine, frame_at}
 use Rattle.block_machine.specs.Steps.{Step, Accept, Answer, Release, May, IsLiving, after_step, stays, unlend, is_lent_to}
-use Rattle.block_machine.specs.Left.{after, IsStart, IsLegal}
+use Rattle.block_machine.specs.Left.{after, IsInitial, IsLegal}
 use Rattle.block_machine.specs.Histories.{IsReachable}
 use Rattle.block_machine.proofs.Accepts.{living_accepted, law_one_id_is_one_request}
 use Rattle.block_machine.proofs.Configured.{owners_stay}
@@ -48,7 +48,7 @@ lent_before m (Answer e outcome) f id may h = by (stays e outcome) refl
 lent_before m Release f id may h = inl (as_was (list_any (λ e. is_lent_to e.request.id (m.lent f)) m.kept) (m.lent f) id h)
 lent_before m _ f id may h = inl h
 
-lent_at : (start : Machine) (past : List Step) (f : Frame) (id : RequestId) → IsStart start → IsLegal start past → (after start past).lent f ≡ Some id → DRIVER_FRAMES ≤ f.0
+lent_at : (start : Machine) (past : List Step) (f : Frame) (id : RequestId) → IsInitial start → IsLegal start past → (after start past).lent f ≡ Some id → DRIVER_FRAMES ≤ f.0
 lent_at start [] f id s legal h = some-none h (s.lent f)
 lent_at start (step ∷ past) f id s legal h = ⊎_elim
     (λ (l : (after start past).lent f ≡ Some id). lent_at start past f id s legal.0 l)
@@ -61,7 +61,7 @@ pub lent_clients : (m : Machine) (f : Frame) (id : RequestId) → IsReachable m 
 lent_clients m f id r h = lent_at r.first r.past f id r.starts r.legal (ap (λ (x : Machine). x.lent f) (sym r.is) ∙ h)
 
 -- what is lent, is lent to an accepted request that has it
-pub lent_accepted : (start : Machine) (past : List Step) (f : Frame) (id : RequestId) → IsStart start → IsLegal start past → (after start past).lent f ≡ Some id →
+pub lent_accepted : (start : Machine) (past : List Step) (f : Frame) (id : RequestId) → IsInitial start → IsLegal start past → (after start past).lent f ≡ Some id →
     (r : Accepted) × WasAccepted start past r × (r.id ≡ id) × HasFrame r f
 lent_accepted start [] f id s legal h = some-none h (s.lent f)
 lent_accepted start (step ∷ past) f id s legal h = ⊎_elim

@@ -12,7 +12,7 @@ use Rattle.block_machine.specs.declared.due.Unanswered.{Unanswered}
 use Rattle.block_machine.specs.Due.{IsDue, IsInOrder, is_plain, issued_count}
 use Rattle.block_machine.specs.State.{Accepted, Pending, Machine, frame_at, unanswered}
 use Rattle.block_machine.specs.Steps.{Step, Accept, Issue, Touch, End, Age, Again, Answer, Revoke, Release, Unplug, Replace, Store, Load, May, IsLiving, after_step, at, without, newly_issued, touch, mark_ended, requeued, older, newly_accepted, stays, unanswered_of}
-use Rattle.block_machine.specs.Left.{after, IsLegal, IsStart}
+use Rattle.block_machine.specs.Left.{after, IsLegal, IsInitial}
 use Rattle.block_machine.specs.Confined.{WasAccepted, WithinLimits}
 use Rattle.block_machine.proofs.Members.{contains_none, contains_here, contains_there, contains_cases, map_in, into_map, at_cases, without_in, append_in}
 use Rattle.block_machine.proofs.Sound.{Sound, KeepsRequest}
@@ -73,11 +73,11 @@ order_step m (Again e) may s o = order_map (at e.request.id requeued) m.book (at
 order_step m (Answer e outcome) may s o = order_without e.request.id m.book o
 order_step m _ may s o = o
 
-ordered : (start : Machine) (h : List Step) → IsStart start → IsLegal start h → Ordered (map unanswered (after start h).book)
+ordered : (start : Machine) (h : List Step) → IsInitial start → IsLegal start h → Ordered (map unanswered (after start h).book)
 ordered start [] s legal = subst (λ (es : List Pending). Ordered (map unanswered es)) (sym s.book) tt
 ordered start (step ∷ past) s legal = order_step (after start past) step legal.1 (traced start past s legal.0).sound (ordered start past s legal.0)
 
-pub law_book_in_order : (start : Machine) (h : List Step) → IsStart start → IsLegal start h → IsInOrder (map unanswered (after start h).book)
+pub law_book_in_order : (start : Machine) (h : List Step) → IsInitial start → IsLegal start h → IsInOrder (map unanswered (after start h).book)
 law_book_in_order start h s legal = from_ordered (map unanswered (after start h).book) (ordered start h s legal)
 
 -- Issues.
@@ -149,7 +149,7 @@ counted_step m (Replace port id size disk) may s c x l = c x l
 counted_step m (Store client frame offset bytes) may s c x l = c x l
 counted_step m (Load client frame offset bytes) may s c x l = c x l
 
-all_counted : (start : Machine) (h : List Step) → IsStart start → IsLegal start h → AllCounted (after start h)
+all_counted : (start : Machine) (h : List Step) → IsInitial start → IsLegal start h → AllCounted (after start h)
 all_counted start [] s legal e l = absurd (nobody start s e l)
 all_counted start (step ∷ past) s legal e l = counted_step (after start past) step legal.1 (traced start past s legal.0).sound (all_counted start past s legal.0) e l
 
@@ -188,7 +188,7 @@ few_step m (Again e) may c le = let a = same_count c (at e.request.id requeued) 
 few_step m (Answer e outcome) may c le = let a = fewer_without c e.request.id m.book in omega (arith, a, le)
 few_step m _ may c le = le
 
-few : (start : Machine) (h : List Step) → IsStart start → IsLegal start h → (c : ClientId) → unanswered_of (after start h).book c ≤ 16
+few : (start : Machine) (h : List Step) → IsInitial start → IsLegal start h → (c : ClientId) → unanswered_of (after start h).book c ≤ 16
 few start [] s legal c = subst (λ (es : List Pending). unanswered_of es c ≤ 16) (sym s.book) (omega arith)
 few start (step ∷ past) s legal c = few_step (after start past) step legal.1 c (few start past s legal.0 c)
 
@@ -215,7 +215,7 @@ accepted_owned start (step ∷ past) r (inl c) i lt = owner_step (after start pa
 accepted_owned start (step ∷ past) r (inr w) i lt = owner_step (after start past) step (frame_at r.asked.frames.items i) ∙ accepted_owned start past r w i lt
 
 -- all of these together
-pub law_limits_hold : (start : Machine) (h : List Step) → IsStart start → IsLegal start h → WithinLimits (after start h)
+pub law_limits_hold : (start : Machine) (h : List Step) → IsInitial start → IsLegal start h → WithinLimits (after start h)
 law_limits_hold start h s legal = record {
   few = few start h s legal;
   all = all_few start h s legal (few start h s legal);

@@ -12,7 +12,7 @@ use Rattle.block_machine.specs.Refusals.{IsOpen}
 use Rattle.block_machine.specs.Due.{is_writer}
 use Rattle.block_machine.specs.State.{Block, Memory, Accepted, Pending, Machine, block_of, frame_at, sector_of, is_reader}
 use Rattle.block_machine.specs.Steps.{Step, Accept, Issue, Touch, End, Age, Again, Answer, Revoke, Release, Unplug, Replace, Store, Load, May, after_step, at, IsLiving, MayStillMove, newly_issued, touch, mark_ended, requeued, older, newly_accepted, put_bytes, memory_after}
-use Rattle.block_machine.specs.Left.{plug_count, IsTouch, touches, disk_read, Wrote, IsLast, IsLeft, IsTold}
+use Rattle.block_machine.specs.Left.{plug_count, IsTouch, touches, disk_number_read, Wrote, IsLastWritten, IsLeft, TellsSectors}
 use Rattle.block_machine.proofs.Members.{map_in, at_cases, without_in, append_in}
 use Rattle.block_machine.proofs.Sound.{Sound, KeepsRequest}
 use Rattle.block_machine.proofs.Keeps.{older_keeps, older_issued, older_touched, same_frame}
@@ -38,10 +38,10 @@ good_more : (start : Machine) (h : List Step) (m n : Machine) (step : Step) (req
     → IsGood start h m request i → IsGood start (step ∷ h) n request i
 good_more start h m n step request i same own others good =
     let k : ℕ = request.asked.first.0 + i in
-    let found : disk_read request k (step ∷ h) ≡ disk_read request k h = cond-false (touches request.id k step) (plug_count request.port h) (disk_read request k h) own in (
+    let found : disk_number_read request k (step ∷ h) ≡ disk_number_read request k h = cond-false (touches request.id k step) (plug_count request.port h) (disk_number_read request k h) own in (
       good.0,
-      subst (λ (x : ℕ). IsLast start request.port k x request.id.0 (step ∷ h) good.0) (sym found)
-          (last_from start request.port k (disk_read request k h) request.id.0 request.id.0 step h good.0 (read_number request k h) others (λ w o. o.earlier) (λ w o. o.earlier) good.1),
+      subst (λ (x : ℕ). IsLastWritten start request.port k x request.id.0 (step ∷ h) good.0) (sym found)
+          (last_from start request.port k (disk_number_read request k h) request.id.0 request.id.0 step h good.0 (read_number request k h) others (λ w o. o.earlier) (λ w o. o.earlier) good.1),
       λ b lt. same b lt ∙ good.2 b lt,
     )
 
@@ -52,9 +52,9 @@ good_now : (start : Machine) (h : List Step) (m n : Machine) (e : Pending) (i : 
 good_now start h m n e i block s seen holds r lt reads now =
     let k : ℕ = e.request.asked.first.0 + i in
     let mine : touches e.request.id k (Touch e i block) ≡ true = and_from _ _ (eq-eqb e.request.id.0 e.request.id.0 refl) (eq-eqb k k refl) in
-    let found : disk_read e.request k (Touch e i block ∷ h) ≡ plug_count e.request.port h = cond-true (touches e.request.id k (Touch e i block)) (plug_count e.request.port h) (disk_read e.request k h) mine in (
+    let found : disk_number_read e.request k (Touch e i block ∷ h) ≡ plug_count e.request.port h = cond-true (touches e.request.id k (Touch e i block)) (plug_count e.request.port h) (disk_number_read e.request k h) mine in (
       m.disks e.request.port k,
-      subst (λ (x : ℕ). IsLast start e.request.port k x e.request.id.0 (Touch e i block ∷ h) (m.disks e.request.port k)) (sym found)
+      subst (λ (x : ℕ). IsLastWritten start e.request.port k x e.request.id.0 (Touch e i block ∷ h) (m.disks e.request.port k)) (sym found)
           (last_from start e.request.port k (plug_count e.request.port h) m.next e.request.id.0 (Touch e i block) h (m.disks e.request.port k) (le_refl _)
           (λ w writes _ _ t. reader_is_no_writer e.request.asked.op reads (subst (λ (j : Accepted). is_writer j.asked.op ≡ true) (sym t.0) writes))
           earlier
@@ -203,7 +203,7 @@ traced_at m n id f b kt kj x hx i touched =
 traced_same : (m n : Machine) → n.book ≡ m.book → IsTraced m n
 traced_same m n b x hx i touched = (x, subst (λ (es : List Pending). Contains es x) b hx, refl, touched, λ h. h)
 
-touch_good : (start : Machine) (h : List Step) (m : Machine) (e : Pending) (i : ℕ) (block : Block) → IsTold m (Touch e i block) → Sound m → AllSeen m h → Holds start h m → MayStillMove m e → i < e.request.asked.count
+touch_good : (start : Machine) (h : List Step) (m : Machine) (e : Pending) (i : ℕ) (block : Block) → TellsSectors m (Touch e i block) → Sound m → AllSeen m h → Holds start h m → MayStillMove m e → i < e.request.asked.count
     → AllGood start h m → AllGood start (Touch e i block ∷ h) (after_step m (Touch e i block))
 touch_good start h m e i block told s seen holds r li good x hx reads k lt touched =
     let q = map_in (at e.request.id (touch i)) m.book x hx in
@@ -287,7 +287,7 @@ touch_good start h m e i block told s seen holds r li good x hx reads k lt touch
               g.1,
         )
 
-pub good_step : (start : Machine) (h : List Step) (m : Machine) (step : Step) → May m step → IsTold m step → Sound m → AllSeen m h → Holds start h m → AllGood start h m → AllGood start (step ∷ h) (after_step m step)
+pub good_step : (start : Machine) (h : List Step) (m : Machine) (step : Step) → May m step → TellsSectors m step → Sound m → AllSeen m h → Holds start h m → AllGood start h m → AllGood start (step ∷ h) (after_step m step)
 good_step start h m (Accept request) may told s seen holds g = quiet_good start h m (after_step m (Accept request)) (Accept request) s
     (λ x hx i t. ⊎_elim (λ p. (x, p, refl, t, λ q. q)) (λ p. absurd (false≢true (subst (λ (y : Pending). y.touched i ≡ true) p t))) (append_in m.book (newly_accepted request) x hx))
     (λ o ho i b li lb. refl) (λ id k. refl) (λ w k t. t) g

@@ -16,7 +16,7 @@ use Rattle.ata_types.specs.declared.memory.TheConstants.{DRIVER_FRAMES}
 use Rattle.block_machine.specs.Rules.{DifferInName, HasRow, IsAllowedCount, frames_for}
 use Rattle.block_machine.specs.Refusals.{Situation, IsAcceptable}
 use Rattle.block_machine.specs.State.{Memory, Machine}
-use Rattle.block_machine.specs.Left.{IsRow, IsStart}
+use Rattle.block_machine.specs.Left.{IsRow, IsInitial}
 use Rattle.block_machine.proofs.Fitting.{fit_acceptable}
 use Rattle.block_machine.proofs.Members.{contains_none, contains_cases}
 
@@ -90,7 +90,7 @@ differ = AllPairs-cons DifferInName (row 0) (row 1 ∷ [])
     apart named = let same = named.1 in omega (arith, same)
 
 -- it is a start, whatever its frames hold
-pub filled_starts : (memory : Memory) → IsStart (record empty { memory = memory })
+pub filled_starts : (memory : Memory) → IsInitial (record empty { memory = memory })
 filled_starts memory = record {
   book = refl;
   kept = refl;
@@ -118,7 +118,7 @@ filled_starts memory = record {
         none_some : (c : ClientId) → None ≡ Some c → ⊥
         none_some c e = cc
 
-pub empty_starts : IsStart empty
+pub empty_starts : IsInitial empty
 empty_starts = filled_starts (λ f b. 0)
 
 abbrev pub is_trim : Op → Bool

@@ -4,7 +4,7 @@ use Rattle.std.proofs.Common.{◌≡◌, ℕ, ◌/◌, ◌<◌, List, length, So
 use Rattle.ata_types.specs.declared.request.Op.TheVariants.{Flush}
 use Rattle.block_machine.specs.State.{Pending, Machine, frame_at}
 use Rattle.block_machine.specs.Steps.{Step, MayStillMove}
-use Rattle.block_machine.specs.Left.{after, IsLegal, IsStart}
+use Rattle.block_machine.specs.Left.{after, IsLegal, IsInitial}
 use Rattle.block_machine.specs.Confined.{MovesBytes, IsHeld}
 use Rattle.block_machine.specs.Histories.{IsReachable}
 use Rattle.block_machine.proofs.Sound.{Sound}
@@ -19,7 +19,7 @@ pub record Standing (m : Machine) : Type 0 where
   pub held : (e : Pending) → MayStillMove m e → IsHeld m e.request
   pub flush : (e : Pending) → MayStillMove m e → e.request.asked.op ≡ Flush → e.request.asked.count ≡ 0
 
-standing_at : (start : Machine) (h : List Step) → IsStart start → IsLegal start h → Standing (after start h)
+standing_at : (start : Machine) (h : List Step) → IsInitial start → IsLegal start h → Standing (after start h)
 standing_at start h s legal =
     let t = traced start h s legal in
     record {

@@ -4,7 +4,7 @@ use Rattle.std.proofs.lemmas.Bool.{false≢true}
 use Rattle.std.specs.List.{Contains}
 use Rattle.block_machine.specs.State.{Pending, Machine}
 use Rattle.block_machine.specs.Steps.{Step, Accept, Issue, Touch, End, Age, Again, Answer, Revoke, Release, Unplug, Replace, Store, Load, May, MayStillMove, after_step, newly_issued, touch, mark_ended, requeued, older, newly_accepted}
-use Rattle.block_machine.specs.Left.{after, IsLegal, IsStart}
+use Rattle.block_machine.specs.Left.{after, IsLegal, IsInitial}
 use Rattle.block_machine.specs.Histories.{IsReachable}
 use Rattle.block_machine.proofs.Keeps.{older_ended, older_issued}
 use Rattle.block_machine.proofs.Members.{map_in, at_cases, without_in, append_in}
@@ -62,7 +62,7 @@ started_step m (Replace p id size disk) may s all e h = all e h
 started_step m (Store c f o b) may s all e h = all e h
 started_step m (Load c f o b) may s all e h = all e h
 
-started_at : (start : Machine) (h : List Step) → IsStart start → IsLegal start h → (e : Pending) → Contains (after start h).book e → IsStarted e
+started_at : (start : Machine) (h : List Step) → IsInitial start → IsLegal start h → (e : Pending) → Contains (after start h).book e → IsStarted e
 started_at start [] s legal e h = absurd (nobody start s e (inl h))
 started_at start (step ∷ past) s legal e h =
     started_step (after start past) step legal.1 (traced start past s legal.0).sound (started_at start past s legal.0) e h

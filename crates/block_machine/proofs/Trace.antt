@@ -6,7 +6,7 @@ use Rattle.ata_types.specs.declared.Port.{Port}
 use Rattle.block_machine.specs.State.{Block, DiskBytes, Accepted, Pending, Machine, waiting, sector_of}
 use Rattle.block_machine.specs.Due.{must_keep_order, is_writer}
 use Rattle.block_machine.specs.Steps.{Step, Accept, Issue, Touch, End, Age, Again, Answer, Revoke, Release, Unplug, Replace, Store, Load, May, IsNew, after_step, at, IsLiving, MayStillMove, newly_issued, touch, mark_ended, requeued, older, newly_accepted}
-use Rattle.block_machine.specs.Left.{IsAccept, plugs, disk_put_in, plug_count, bytes_when_plugged, IsTouch, touches, HasTouched, disk_read, Wrote, IsLast}
+use Rattle.block_machine.specs.Left.{IsAccept, plugs, plugged_disk, plug_count, bytes_when_plugged, IsTouch, touches, HasTouched, disk_number_read, Wrote, IsLastWritten}
 use Rattle.block_machine.proofs.Members.{contains_none, contains_cases, map_in, without_in, append_in}
 use Rattle.block_machine.proofs.Sound.{Sound, KeepsRequest}
 use Rattle.block_machine.proofs.Keeps.{at_keeps, older_keeps}
@@ -133,17 +133,17 @@ touched_number w k n [] t = absurd t
 touched_number w k n (step ∷ past) (inl t) = let g = number_grows w.port step past in let e = t.1 in omega (arith, g, e)
 touched_number w k n (step ∷ past) (inr t) = let g = number_grows w.port step past in let r = touched_number w k n past t in omega (arith, g, r)
 
-pub read_number : (request : Accepted) (k : ℕ) (h : List Step) → disk_read request k h ≤ plug_count request.port h
+pub read_number : (request : Accepted) (k : ℕ) (h : List Step) → disk_number_read request k h ≤ plug_count request.port h
 read_number request k [] = le_refl _
 read_number request k (step ∷ past) =
     let g = number_grows request.port step past in
     let r = read_number request k past in
-    let low : disk_read request k past ≤ plug_count request.port (step ∷ past) = omega (arith, g, r) in
-    elim (touches request.id k step) as (λ b. cond b (plug_count request.port past) (disk_read request k past) ≤ plug_count request.port (step ∷ past)) [ true ↦ g | false ↦ low ]
+    let low : disk_number_read request k past ≤ plug_count request.port (step ∷ past) = omega (arith, g, r) in
+    elim (touches request.id k step) as (λ b. cond b (plug_count request.port past) (disk_number_read request k past) ≤ plug_count request.port (step ∷ past)) [ true ↦ g | false ↦ low ]
 
 plugged_more : (start : Machine) (port : Port) (n : ℕ) (step : Step) (past : List Step) → n ≤ plug_count port past → bytes_when_plugged start port n (step ∷ past) ≡ bytes_when_plugged start port n past
 plugged_more start port n step past le =
-    cond-false (plugs port step && suc (plug_count port past) == n) (disk_put_in step) (bytes_when_plugged start port n past)
+    cond-false (plugs port step && suc (plug_count port past) == n) (plugged_disk step) (bytes_when_plugged start port n past)
     (and_right _ _ (ne_eqb (suc (plug_count port past)) n (λ e. let f : ⊥ = omega (arith, le, e) in f)))
 
 -- what was last stays last after a step that is no touch of its kind
@@ -152,7 +152,7 @@ pub last_from : (start : Machine) (port : Port) (k n limit limit' : ℕ) (step :
     → ((w : Accepted) → is_writer w.asked.op ≡ true → w.port ≡ port → w.id.0 < limit' → IsTouch step w k → ⊥)
     → ((w : Accepted) → Wrote port k n limit past w → w.id.0 < limit')
     → ((w : Accepted) → Wrote port k n limit' past w → w.id.0 < limit)
-    → IsLast start port k n limit past block → IsLast start port k n limit' (step ∷ past) block
+    → IsLastWritten start port k n limit past block → IsLastWritten start port k n limit' (step ∷ past) block
 last_from start port k n limit limit' step past block le untouched up down last = go last
   where
     older : (w : Accepted) → Wrote port k n limit' (step ∷ past) w → HasTouched w k n past
@@ -164,6 +164,6 @@ last_from start port k n limit limit' step past block le untouched up down last 
     now_too : (w : Accepted) → Wrote port k n limit past w → Wrote port k n limit' (step ∷ past) w
     now_too w o = record { writes = o.writes; here = o.here; earlier = up w o; touched = inr o.touched }
 
-    go : IsLast start port k n limit past block → IsLast start port k n limit' (step ∷ past) block
+    go : IsLastWritten start port k n limit past block → IsLastWritten start port k n limit' (step ∷ past) block
     go (inl r) = inl (r.0, now_too r.0 r.1, λ other o. r.2 other (past_too other o), r.3)
     go (inr r) = inr (λ w o. r.0 w (past_too w o), r.1 ∙ ap (λ (d : DiskBytes). d k) (sym (plugged_more start port n step past le)))

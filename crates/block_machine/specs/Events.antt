@@ -21,7 +21,7 @@ use Rattle.block_machine.specs.Due.{NoneDue}
 use Rattle.block_machine.specs.Ports.{Ports, AreFit, SamePort, SamePorts, SameDisk, Evidence, IsInterrupted, MayBecome, IsServiced, IsStuck}
 use Rattle.block_machine.specs.State.{Accepted, Pending, Machine, unanswered}
 use Rattle.block_machine.specs.Steps.{Step, Accept, Issue, Touch, End, Age, Again, Answer, Revoke, Release, Unplug, Replace, Store, Load, May, AllTouched, unanswered_of}
-use Rattle.block_machine.specs.Left.{after, IsStart, HoldsLeft}
+use Rattle.block_machine.specs.Left.{after, IsInitial, HoldsLeft}
 
 -- machine and ports between two calls
 pub record AbstractState : Type 0 where
@@ -438,8 +438,8 @@ IsAnswered ask said old evidence steps new = ⊥
 -- ---- events, and runs of them
 
 -- the moment after the event
-abbrev pub moment_after : {D : Type 0} → AbstractState → CallRecord D → AbstractState
-moment_after old event = record { machine = after old.machine event.steps; ports = event.ports }
+abbrev pub abstract_after : {D : Type 0} → AbstractState → CallRecord D → AbstractState
+abstract_after old event = record { machine = after old.machine event.steps; ports = event.ports }
 
 -- The event may happen at the old moment.
 pub record Happens {D : Type 0} (old : AbstractState) (event : CallRecord D) : Type 0 where
@@ -448,18 +448,18 @@ pub record Happens {D : Type 0} (old : AbstractState) (event : CallRecord D) : T
   pub last : IssuesLast event.steps
   pub lawful : AllLawful old event.evidence event.ports event.steps
   pub fit : AreFit event.ports
-  pub disks : KeepsDisks old (moment_after old event)
-  pub answered : IsAnswered event.ask event.said old event.evidence event.steps (moment_after old event)
+  pub disks : KeepsDisks old (abstract_after old event)
+  pub answered : IsAnswered event.ask event.said old event.evidence event.steps (abstract_after old event)
 
 -- the moment after a run of events
-abbrev pub moment_of : {D : Type 0} → AbstractState → List (CallRecord D) → AbstractState
-moment_of first [] = first
-moment_of first (event ∷ past) = moment_after (moment_of first past) event
+abbrev pub abstract_after_all : {D : Type 0} → AbstractState → List (CallRecord D) → AbstractState
+abstract_after_all first [] = first
+abstract_after_all first (event ∷ past) = abstract_after (abstract_after_all first past) event
 
 -- each event of the run happened at the moment that the events before it left
 abbrev pub IsRun : {D : Type 0} → AbstractState → List (CallRecord D) → Type 0
-IsRun first [] = IsStart first.machine × AreFit first.ports
-IsRun first (event ∷ past) = IsRun first past × Happens (moment_of first past) event
+IsRun first [] = IsInitial first.machine × AreFit first.ports
+IsRun first (event ∷ past) = IsRun first past × Happens (abstract_after_all first past) event
 
 -- ---- what a run gives
 
@@ -510,4 +510,4 @@ abbrev pub EveryReadHolds : {D : Type 0} → AbstractState → List (CallRecord 
 EveryReadHolds {D} first run = (later earlier : List (CallRecord D)) (event : CallRecord D)
     (late early : List Step) (read : Pending) → run ≡ later ++ event ∷ earlier
     → event.steps ≡ late ++ Answer read outcome.Ok ∷ early → read.request.asked.op ≡ Read → HoldsLeft first.machine
-    (early ++ steps_of earlier) (moment_of first (event ∷ earlier)).machine.memory read.request
+    (early ++ steps_of earlier) (abstract_after_all first (event ∷ earlier)).machine.memory read.request

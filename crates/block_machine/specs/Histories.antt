@@ -7,13 +7,13 @@ use Rattle.std.specs.Prelude.{◌≡◌, List, [], ◌∷◌, map}
 use Rattle.block_machine.specs.State.{Machine}
 use Rattle.block_machine.specs.Ports.{AreFit}
 use Rattle.block_machine.specs.Steps.{Step}
-use Rattle.block_machine.specs.Left.{after, IsStart, IsLegal}
-use Rattle.block_machine.specs.Events.{AbstractState, CallRecord, AllMay, Happens, moment_after}
+use Rattle.block_machine.specs.Left.{after, IsInitial, IsLegal}
+use Rattle.block_machine.specs.Events.{AbstractState, CallRecord, AllMay, Happens, abstract_after}
 
 -- device, machine and ports between two calls
 pub record JointState (D : Type 0) : Type 0 where
   pub device : D
-  pub moment : AbstractState
+  pub abstract : AbstractState
 
 -- a call, and the device after it
 pub record Happening (D E : Type 0) : Type 0 where
@@ -23,7 +23,7 @@ pub record Happening (D E : Type 0) : Type 0 where
 -- the instant after these calls
 abbrev pub now : {D E : Type 0} → JointState D → List (Happening D E) → JointState D
 now first [] = first
-now first (h ∷ past) = record { device = h.device; moment = moment_after (now first past).moment h.event }
+now first (h ∷ past) = record { device = h.device; abstract = abstract_after (now first past).abstract h.event }
 
 -- the calls without the device
 abbrev pub events_of : {D E : Type 0} → List (Happening D E) → List (CallRecord E)
@@ -32,9 +32,9 @@ events_of past = map (λ h. h.event) past
 -- calls that happened one after the other, from what a new server left on
 abbrev pub IsHistory : {D E : Type 0} → (JointState D → Type 0) → (JointState D → Happening D E → Type 0) → JointState D
     → List (Happening D E) → Type 0
-IsHistory Begins Relation first [] = (IsStart first.moment.machine × AreFit first.moment.ports) × Begins first
+IsHistory Begins Relation first [] = (IsInitial first.abstract.machine × AreFit first.abstract.ports) × Begins first
 IsHistory Begins Relation first (h ∷ past) =
-    IsHistory Begins Relation first past × Happens (now first past).moment h.event × Relation (now first past) h
+    IsHistory Begins Relation first past × Happens (now first past).abstract h.event × Relation (now first past) h
 
 -- The history leads to a server's state: `Stands` says when a state is at an instant. What a call adds is said of every
 -- history that leads to the server, and that there is one is said where a server is made: so none of it is empty.
@@ -47,7 +47,7 @@ pub record Leads {D E S : Type 0} (Begins : JointState D → Type 0) (Relation :
 pub record IsReachable (m : Machine) : Type 0 where
   pub first : Machine
   pub past : List Step
-  pub starts : IsStart first
+  pub starts : IsInitial first
   pub legal : IsLegal first past
   pub is : m ≡ after first past
 

@@ -35,7 +35,7 @@ pub record IsRow (row : GrantRow) : Type 0 where
 -- A machine to begin with: no request is there, no frame is lent, and no id was handed out. There are at most 64 rows,
 -- which differ in name, and each is one that a configuration may give. The clients, 1 to 8, own frames behind the
 -- driver's, which are nobody's.
-pub record IsStart (m : Machine) : Type 0 where
+pub record IsInitial (m : Machine) : Type 0 where
   pub book : m.book ≡ []
   pub kept : m.kept ≡ []
   pub lent : (frame : Frame) → m.lent frame ≡ None
@@ -52,9 +52,9 @@ plugs port (Replace p id size disk) = p.0 == port.0
 plugs port _ = false
 
 -- what the disk holds that the step puts in
-abbrev pub disk_put_in : Step → DiskBytes
-disk_put_in (Replace p id size disk) = disk
-disk_put_in _ = λ k b. 0
+abbrev pub plugged_disk : Step → DiskBytes
+plugged_disk (Replace p id size disk) = disk
+plugged_disk _ = λ k b. 0
 
 -- How many disks were put in at the port. Disk number n of the port is the one that was put in n-th; the one that was
 -- there at the start has number 0. One that is put in again counts as another.
@@ -66,7 +66,7 @@ plug_count port (step ∷ past) = if plugs port step then suc (plug_count port p
 abbrev pub bytes_when_plugged : Machine → Port → ℕ → List Step → DiskBytes
 bytes_when_plugged start p n [] = start.disks p
 bytes_when_plugged start p n (step ∷ past) =
-    if plugs p step && suc (plug_count p past) == n then disk_put_in step else bytes_when_plugged start p n past
+    if plugs p step && suc (plug_count p past) == n then plugged_disk step else bytes_when_plugged start p n past
 
 -- the step accepts the request
 abbrev pub IsAccept : Step → Accepted → Type 0
@@ -99,22 +99,22 @@ IsEnd (End e) r = e.request ≡ r
 IsEnd _ r = ⊥
 
 -- a step of this kind came, and the request was not issued since
-abbrev pub HasSince : (Step → Type 0) → Accepted → List Step → Type 0
-HasSince IsKind r [] = ⊥
-HasSince IsKind r (step ∷ past) = IsKind step ⊎ ((IsIssue step r → ⊥) × HasSince IsKind r past)
+abbrev pub HasSinceIssue : (Step → Type 0) → Accepted → List Step → Type 0
+HasSinceIssue IsKind r [] = ⊥
+HasSinceIssue IsKind r (step ∷ past) = IsKind step ⊎ ((IsIssue step r → ⊥) × HasSinceIssue IsKind r past)
 
 -- the request touched sector k, and was not issued since
-abbrev pub HasTouchedSince : Accepted → ℕ → List Step → Type 0
-HasTouchedSince r k past = HasSince (λ step. IsTouch step r k) r past
+abbrev pub HasTouchedSinceIssue : Accepted → ℕ → List Step → Type 0
+HasTouchedSinceIssue r k past = HasSinceIssue (λ step. IsTouch step r k) r past
 
 -- the device ended the request, and it was not issued since
-abbrev pub HasEndedSince : Accepted → List Step → Type 0
-HasEndedSince r past = HasSince (λ step. IsEnd step r) r past
+abbrev pub HasEndedSinceIssue : Accepted → List Step → Type 0
+HasEndedSinceIssue r past = HasSinceIssue (λ step. IsEnd step r) r past
 
 -- the number of the disk that was in at the last touch of sector k by this request
-abbrev pub disk_read : Accepted → ℕ → List Step → ℕ
-disk_read r k [] = 0
-disk_read r k (step ∷ past) = if touches r.id k step then plug_count r.port past else disk_read r k past
+abbrev pub disk_number_read : Accepted → ℕ → List Step → ℕ
+disk_number_read r k [] = 0
+disk_number_read r k (step ∷ past) = if touches r.id k step then plug_count r.port past else disk_number_read r k past
 
 -- a write or trim of the port, accepted before this id, touched sector k while disk number n was in
 pub record Wrote (port : Port) (k n before : ℕ) (history : List Step) (writer : Accepted) : Type 0 where
@@ -124,8 +124,8 @@ pub record Wrote (port : Port) (k n before : ℕ) (history : List Step) (writer 
   pub touched : HasTouched writer k n history
 
 -- The last of these in order of acceptance put the block there. If there is none, disk number n came with it.
-abbrev pub IsLast : Machine → Port → ℕ → ℕ → ℕ → List Step → Block → Type 0
-IsLast start port k n before history block = ((writer : Accepted) × Wrote port k n before history writer
+abbrev pub IsLastWritten : Machine → Port → ℕ → ℕ → ℕ → List Step → Block → Type 0
+IsLastWritten start port k n before history block = ((writer : Accepted) × Wrote port k n before history writer
     × ((other : Accepted) → Wrote port k n before history other → other.id.0 ≤ writer.id.0)
     × (block ≡ written_by writer.asked.op writer.held (k - writer.asked.first.0)))
     ⊎ (((writer : Accepted) → Wrote port k n before history writer → ⊥)
@@ -133,7 +133,8 @@ IsLast start port k n before history block = ((writer : Accepted) × Wrote port 
 
 -- what the writes and trims accepted before this read left on sector k, on the disk that the read last found there
 abbrev pub IsLeft : Machine → List Step → Accepted → ℕ → Block → Type 0
-IsLeft start history read k block = IsLast start read.port k (disk_read read k history) read.id.0 history block
+IsLeft start history read k block = IsLastWritten start read.port k
+    (disk_number_read read k history) read.id.0 history block
 
 -- The read has in this memory, sector by sector, what is left; the rest of its frames is as it was at acceptance.
 pub record HoldsLeft (start : Machine) (history : List Step) (memory : Memory) (read : Accepted) : Type 0 where
@@ -146,13 +147,13 @@ pub record HoldsLeft (start : Machine) (history : List Step) (memory : Memory) (
 -- some moment since a flush was last ended on it, or, if none was, since it was first in: what its cache held may be
 -- lost (FLUSH CACHE EXT, ACS-3). (A disk over a store that doesn't tell what it holds may move any bytes, and come back
 -- with any.)
-abbrev pub IsTold : Machine → Step → Type 0
-IsTold old (Touch e i block) = e.request.asked.op ≡ Read
+abbrev pub TellsSectors : Machine → Step → Type 0
+TellsSectors old (Touch e i block) = e.request.asked.op ≡ Read
     → (b : ℕ) → b < 512 → block b ≡ old.disks e.request.port (sector_of e.request i) b
-IsTold old (Replace port id size disk) = id ≡ old.disk_ids port → (k : ℕ) → k < size → HasHeld old port k (disk k)
-IsTold old _ = Unit {0}
+TellsSectors old (Replace port id size disk) = id ≡ old.disk_ids port → (k : ℕ) → k < size → HasHeld old port k (disk k)
+TellsSectors old _ = Unit {0}
 
 -- so it is with each step of the history
-abbrev pub AllTold : Machine → List Step → Type 0
-AllTold start [] = Unit {0}
-AllTold start (step ∷ past) = AllTold start past × IsTold (after start past) step
+abbrev pub AllTellSectors : Machine → List Step → Type 0
+AllTellSectors start [] = Unit {0}
+AllTellSectors start (step ∷ past) = AllTellSectors start past × TellsSectors (after start past) step

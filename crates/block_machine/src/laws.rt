@@ -13,9 +13,9 @@ ghost use Rattle.block_machine.specs.declared.due.Unanswered.{Unanswered};
 ghost use Rattle.block_machine.specs.Due.{IsDue, IsInOrder, is_plain, issued_count, is_due, ahead, due_ahead, free_slots, with_issued, with_waiting, without_request, of_port, due_of, AreAllDueInOrder};
 ghost use Rattle.block_machine.specs.State.{Block, Accepted, Pending, Machine, unanswered};
 ghost use Rattle.block_machine.specs.Steps.{Step, Touch, End, Issue, Again, Answer, Age, after_step, May, IsNew, IsLiving, AllTouched};
-ghost use Rattle.block_machine.specs.Left.{IsStart, IsLegal, AllTold, HoldsLeft, after};
+ghost use Rattle.block_machine.specs.Left.{IsInitial, IsLegal, AllTellSectors, HoldsLeft, after};
 ghost use Rattle.block_machine.specs.Confined.{IsGranted, IsConfined, IsHeld, HasFrame, KeepsRules, WasAccepted, WithinLimits};
-ghost use Rattle.block_machine.specs.Events.{AbstractState, CallRecord, AllMay, IsRun, EveryReadHolds, moment_of, steps_of};
+ghost use Rattle.block_machine.specs.Events.{AbstractState, CallRecord, AllMay, IsRun, EveryReadHolds, abstract_after_all, steps_of};
 ghost use Rattle.block_machine.specs.Histories.{IsReachable};
 
 /// Over every run of calls whose reads moved their disks' bytes: each read that is answered Ok has, at the end of the
@@ -23,15 +23,15 @@ ghost use Rattle.block_machine.specs.Histories.{IsReachable};
 /// is as it was when it was accepted.
 pub fn law_every_read_holds<D>()
     ensures { (first : AbstractState) (run : List (CallRecord D)) → IsRun first run
-        → AllTold first.machine (steps_of run)
+        → AllTellSectors first.machine (steps_of run)
         → EveryReadHolds first run }
 {}
 
 /// After every history, a read with all its sectors touched since its last issue has what is left.
 pub fn law_read_holds_left()
-    ensures { (start : Machine) (history : List Step) (read : Pending) → IsStart start
+    ensures { (start : Machine) (history : List Step) (read : Pending) → IsInitial start
         → IsLegal start history
-        → AllTold start history → Contains (after start history).book read → AllTouched read
+        → AllTellSectors start history → Contains (after start history).book read → AllTouched read
         → read.request.asked.op ≡ Read → HoldsLeft start history
         (after start history).memory read.request }
 {}
@@ -49,8 +49,8 @@ pub fn law_rows_shrink_and_owners_stay()
 /// when it is issued, and its frames are lent to it.
 pub fn law_runs_are_legal<D>()
     ensures legal { (first : AbstractState) (run : List (CallRecord D)) → IsRun first run
-        → IsStart first.machine × IsLegal first.machine (steps_of run)
-        × ((moment_of first run).machine ≡ after first.machine (steps_of run)) }
+        → IsInitial first.machine × IsLegal first.machine (steps_of run)
+        × ((abstract_after_all first run).machine ≡ after first.machine (steps_of run)) }
     ensures touches { (first : AbstractState) (run : List (CallRecord D)) (late early : List Step) (e : Pending) (i : ℕ)
         (block : Block)
         → IsRun first run → steps_of run ≡ late ++ Touch e i block ∷ early
@@ -97,7 +97,7 @@ pub fn law_lent_frame_is_its_own()
 /// Each touch of a sector is of an accepted request's own sector, at a frame that is lent to it.
 pub fn law_touch_is_confined()
     ensures { (start : Machine) (history : List Step) (e : Pending) (i : ℕ) (block : Block)
-        → IsStart start
+        → IsInitial start
         → IsLegal start history → May (after start history) (Touch e i block)
         → IsConfined start history e.request i }
 {}
@@ -105,7 +105,7 @@ pub fn law_touch_is_confined()
 /// Each request that is issued was accepted, when it broke no rule. By the rows as they are when it is issued it breaks
 /// none on its grant, nor on how many sectors and frames it has; and its frames are lent to it.
 pub fn law_issues_keep_the_rules()
-    ensures { (start : Machine) (history : List Step) (mode : QueueMode) (e : Pending) → IsStart start
+    ensures { (start : Machine) (history : List Step) (mode : QueueMode) (e : Pending) → IsInitial start
         → IsLegal start history → May (after start history) (Issue mode e)
         → WasAccepted start history e.request × KeepsRules (after start history) e.request }
 {}
@@ -117,14 +117,14 @@ pub fn law_accepted_is_granted()
 
 /// Each request that is unanswered or kept was accepted.
 pub fn law_living_was_accepted()
-    ensures { (start : Machine) (history : List Step) (e : Pending) → IsStart start
+    ensures { (start : Machine) (history : List Step) (e : Pending) → IsInitial start
         → IsLegal start history
         → IsLiving (after start history) e → WasAccepted start history e.request }
 {}
 
 /// A frame that is lent is lent to an accepted request, and is one of its own.
 pub fn law_lent_was_accepted()
-    ensures { (start : Machine) (history : List Step) (frame : Frame) (id : RequestId) → IsStart start
+    ensures { (start : Machine) (history : List Step) (frame : Frame) (id : RequestId) → IsInitial start
         → IsLegal start history → (after start history).lent frame ≡ Some id
         → (r : Accepted) × WasAccepted start history r × (r.id ≡ id) × HasFrame r frame }
 {}
@@ -139,20 +139,20 @@ pub fn law_one_id_is_one_request()
 /// The frames of a request that is unanswered or kept hold what they held when it was accepted, but for the sectors of
 /// a read: so the device moves a write's own bytes.
 pub fn law_frames_keep_bytes()
-    ensures { (start : Machine) (history : List Step) (e : Pending) → IsStart start
+    ensures { (start : Machine) (history : List Step) (e : Pending) → IsInitial start
         → IsLegal start history
         → IsLiving (after start history) e → IsHeld (after start history) e.request }
 {}
 
 /// The limits hold after every history.
 pub fn law_limits_hold()
-    ensures { (start : Machine) (history : List Step) → IsStart start → IsLegal start history
+    ensures { (start : Machine) (history : List Step) → IsInitial start → IsLegal start history
         → WithinLimits (after start history) }
 {}
 
 /// The book stands in order of acceptance.
 pub fn law_book_in_order()
-    ensures { (start : Machine) (history : List Step) → IsStart start → IsLegal start history
+    ensures { (start : Machine) (history : List Step) → IsInitial start → IsLegal start history
         → IsInOrder (map unanswered (after start history).book) }
 {}
 

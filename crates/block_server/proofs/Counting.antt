@@ -6,7 +6,7 @@ use Rattle.adapter.specs.declared.access.DeviceStep.{DeviceStep}
 use Rattle.host_boot.specs.Costs.{BOOT_AGAIN_ACCESSES}
 use Rattle.port_control.specs.Costs.{STOP_ACCESSES}
 use Rattle.port_control.specs.declared.events.PortError.{PortError}
-use Rattle.port_control.specs.declared.events.PortError.TheVariants.{BusError, TaskFileError, TimedOut, LinkChanged}
+use Rattle.port_control.specs.declared.events.PortError.TheVariants.{FatalError, TaskFileError, TimedOut, LinkChanged}
 
 -- one more call
 pub most_more : (calls : List (Call DeviceStep)) (call : Call DeviceStep) → most_of_all (calls ++ call ∷ []) ≡ most_of_all calls + most_of call
@@ -22,13 +22,13 @@ most_taken (suc n) (call ∷ calls) = let rest = most_taken n calls in omega (ar
 -- to mend any trouble a port may be stopped
 pub mending_stops : (port_error : PortError) → STOP_ACCESSES ≤ handling_accesses port_error
 mending_stops TaskFileError = omega arith
-mending_stops BusError = omega arith
+mending_stops FatalError = omega arith
 mending_stops LinkChanged = omega arith
 mending_stops TimedOut = omega arith
 
 -- and after any it may be booted
 pub booting_boots : (port_error : PortError) → BOOT_AGAIN_ACCESSES ≤ booting_accesses port_error
 booting_boots TaskFileError = omega arith
-booting_boots BusError = omega arith
+booting_boots FatalError = omega arith
 booting_boots LinkChanged = omega arith
 booting_boots TimedOut = omega arith

@@ -18,7 +18,7 @@ use Rattle.adapter.specs.declared.tape.Entry.{Entry}
 use Rattle.refinement.specs.Acts.{InSlots}
 use Rattle.refinement.specs.Facts.{IsDisturbance, RunsWell, Undisturbed}
 use Rattle.refinement.specs.Slots.{ServesRequest}
-use Rattle.block_machine.specs.Events.{Ask, CallResult, Service as AskService, Tick, Reset, RevokeOf, WasRevoked, AbstractState, EveryReadHolds, IsAnswered, HasTimedOut, IsRun, WasIssued, moment_after, steps_of}
+use Rattle.block_machine.specs.Events.{Ask, CallResult, Service as AskService, Tick, Reset, RevokeOf, WasRevoked, AbstractState, EveryReadHolds, IsAnswered, HasTimedOut, IsRun, WasIssued, abstract_after, steps_of}
 use Rattle.block_machine.specs.Histories.{Happening, JointState, events_of, now}
 use Rattle.block_machine.specs.Ports.{AreFit, Evidence, Ports}
 use Rattle.block_machine.specs.State.{Pending}
@@ -52,8 +52,8 @@ use Rattle.ata_types.specs.declared.request.Reply.{Reply}
 -- What the laws of histories say, each of every history.
 pub record HistoryLaws : Type 0 where
   pub seen : (wanted : List Wanted) (first : JointState Device) (past : List (Happening Device DeviceStep)) (h : Happening Device DeviceStep) (port : Port) (slot : ℕ) (id : RequestId)
-      → IsDriverHistory wanted first (h ∷ past) → h.event.ask ≡ AskService → (now first past).moment.ports.state port ≡ Ready
-      → ServesRequest (now first past).moment.machine (now first past).device.memory ((now first past).device.port port.0) port.0 slot id
+      → IsDriverHistory wanted first (h ∷ past) → h.event.ask ≡ AskService → (now first past).abstract.ports.state port ≡ Ready
+      → ServesRequest (now first past).abstract.machine (now first past).device.memory ((now first past).device.port port.0) port.0 slot id
       → ((now first past).device.port port.0).ci slot ≡ false → ((now first past).device.port port.0).sact slot ≡ false
       → (done : Pending) × (done.request.id ≡ id) × Contains h.event.steps (Answer done Ok)
   pub well : (wanted : List Wanted) (first : JointState Device) (past : List (Happening Device DeviceStep)) (h : Happening Device DeviceStep) (port : Port)
@@ -63,13 +63,13 @@ pub record HistoryLaws : Type 0 where
       → AnswerRests (now first past) h history.2.accesses e told
   pub moves : (wanted : List Wanted) (first : JointState Device) (past : List (Happening Device DeviceStep)) (h : Happening Device DeviceStep)
       → IsDriverHistory wanted first (h ∷ past)
-      → KeepsMoves first.moment.machine (steps_of (events_of past)) h.event.steps (now first past).device h.device
+      → KeepsMoves first.abstract.machine (steps_of (events_of past)) h.event.steps (now first past).device h.device
   pub run : (wanted : List Wanted) (first : JointState Device) (past : List (Happening Device DeviceStep)) → IsDriverHistory wanted first past
-      → IsRun first.moment (events_of past)
+      → IsRun first.abstract (events_of past)
   pub reads : (wanted : List Wanted) (first : JointState Device) (past : List (Happening Device DeviceStep)) → IsDriverHistory wanted first past
-      → first.device.telling ≡ true → EveryReadHolds first.moment (events_of past)
+      → first.device.telling ≡ true → EveryReadHolds first.abstract (events_of past)
   pub lasts : (wanted : List Wanted) (first : JointState Device) (past : List (Happening Device DeviceStep)) → IsDriverHistory wanted first past
-      → first.device.telling ≡ true → EveryPlugFinds first.moment.machine (steps_of (events_of past))
+      → first.device.telling ≡ true → EveryPlugFinds first.abstract.machine (steps_of (events_of past))
 
 -- What is known of ports that were found ready as an adapter was taken over.
 abbrev pub ReadyRunWell : Type 0
@@ -99,12 +99,12 @@ mapped f one two a b p q =
 
 -- the call is no reset, nor a tick that finds a request of the port so old that it is restarted
 abbrev Spares : JointState Device → Port → Calls → Happening Device DeviceStep → Type 0
-Spares first port before h = (h.event.ask ≢ Reset) × (h.event.ask ≡ Tick → HasTimedOut (now first before).moment port → ⊥)
+Spares first port before h = (h.event.ask ≢ Reset) × (h.event.ask ≡ Tick → HasTimedOut (now first before).abstract port → ⊥)
 
 -- ---- between two calls
 
 module _ (wanted : Wanted) (s : InSlots) (i : JointState Device) (port : Port) where
-  in_state : (served : Bool) (state : PortState) → i.moment.ports.state port ≡ state → HoldsOf wanted s i port served state → IsInState wanted i port served state
+  in_state : (served : Bool) (state : PortState) → i.abstract.ports.state port ≡ state → HoldsOf wanted s i port served state → IsInState wanted i port served state
   in_state false state e h = sym e ∙ h.absent
   in_state true Ready e h = (h.on, h.info, h.disk, h.shows)
   in_state true Dead e h = h.why
@@ -112,7 +112,7 @@ module _ (wanted : Wanted) (s : InSlots) (i : JointState Device) (port : Port) w
   in_state true Foreign e h = h.ends
   in_state true (Unfit cause) e h = h.ends
 
-  none_waits : (served : Bool) (state : PortState) → HoldsOf wanted s i port served state → state ≢ Ready → IsOn i.device → NoneWaits i.moment.machine port
+  none_waits : (served : Bool) (state : PortState) → HoldsOf wanted s i port served state → state ≢ Ready → IsOn i.device → NoneWaits i.abstract.machine port
   none_waits false state h unready on = h.waits
   none_waits true Ready h unready on = absurd (unready refl)
   none_waits true Dead h unready on = h.waits on
@@ -123,8 +123,8 @@ module _ (wanted : Wanted) (s : InSlots) (i : JointState Device) (port : Port) w
 holds_between : (wanted : List Wanted) (i : JointState Device) → HoldsAt wanted i → HoldsBetween wanted i
 holds_between wanted i (s, h) = record {
   served = h.served;
-  state = λ port low. in_state (wanted_of wanted port.0) s i port (i.moment.ports.served port) (i.moment.ports.state port) refl (h.port port low);
-  waits = λ port low on unready. none_waits (wanted_of wanted port.0) s i port (i.moment.ports.served port) (i.moment.ports.state port) (h.port port low) unready on;
+  state = λ port low. in_state (wanted_of wanted port.0) s i port (i.abstract.ports.served port) (i.abstract.ports.state port) refl (h.port port low);
+  waits = λ port low on unready. none_waits (wanted_of wanted port.0) s i port (i.abstract.ports.served port) (i.abstract.ports.state port) (h.port port low) unready on;
   memory = h.knows.agrees.memory;
   disk = h.knows.agrees.disk;
   sectors = h.knows.agrees.sectors;
@@ -198,11 +198,11 @@ module _ (laws : HistoryLaws) where
         goes,
         record {
           same = goes.spared.same;
-          answers = λ e told here own. told_well h.event.ask h.event.said old.moment h.event.evidence h.event.steps (moment_after old.moment h.event) e told history.1.answered here
+          answers = λ e told here own. told_well h.event.ask h.event.said old.abstract h.event.evidence h.event.steps (abstract_after old.abstract h.event) e told history.1.answered here
               (goes.spared.told e told here own)
               (λ ok. subst (AnswerRests old h history.2.accesses e) ok (laws.rest wanted first past h history e told here));
           ended = λ asks.
-              (subst (λ (ask : Ask DeviceStep). HeedsAt port ask old.moment h.event.evidence h.event.steps (moment_after old.moment h.event)) asks heeds healthy.ready).ended;
+              (subst (λ (ask : Ask DeviceStep). HeedsAt port ask old.abstract h.event.evidence h.event.steps (abstract_after old.abstract h.event)) asks heeds healthy.ready).ended;
           issues = goes.issues;
         },
       )
@@ -250,13 +250,13 @@ module _ (laws : HistoryLaws) where
         (leads : LeadsToServer first past (server_of device old)) (here : LeadsToServer first (h ∷ past) (server_of device new)) (port : Port) where
       -- a call on which nothing goes wrong on a port that runs well
       goes_well : state_of (probe_result_of old.ports port.0) ≡ Ready → StaysHealthy port.0 (device old.adapter) (device new.adapter)
-          → (h.event.ask ≢ Reset) × (h.event.ask ≡ Tick → HasTimedOut (now first past).moment port → ⊥)
+          → (h.event.ask ≢ Reset) × (h.event.ask ≡ Tick → HasTimedOut (now first past).abstract port → ⊥)
           → IsServedWell port (now first past) h × (state_of (probe_result_of new.ports port.0) ≡ Ready) × RunsWell ((device new.adapter).port port.0)
       goes_well ready stays spared =
           let stays_in : StaysHealthy port.0 (now first past).device h.device =
           subst (λ (d : Device). StaysHealthy port.0 d h.device) (sym leads.stands.device_is)
           (subst (StaysHealthy port.0 (device old.adapter)) (sym here.stands.device_is) stays) in
-          let is_ready : (now first past).moment.ports.state port ≡ Ready = ap (λ (p : Ports). p.state port) leads.stands.ports_are ∙ ready in
+          let is_ready : (now first past).abstract.ports.state port ≡ Ready = ap (λ (p : Ports). p.state port) leads.stands.ports_are ∙ ready in
           let served = served_well new.wanted first past h port here.history
           (record { ready = is_ready; healthy = stays_in; no_reset = spared.0; young = spared.1 }) in (
             served,
@@ -318,8 +318,8 @@ module _ (laws : HistoryLaws) where
             wanted = b.clients.wanted ∙ a.clients.wanted;
             from = a.clients.from;
             to = subst (λ (l : Calls). IsSeenAt (visible_of device new) (now first l)) whole b.clients.to;
-            run = subst (λ (l : Calls). IsRun first.moment (events_of l)) whole b.clients.run;
-            reads = subst (λ (l : Calls). first.device.telling ≡ true → EveryReadHolds first.moment (events_of l)) whole b.clients.reads;
+            run = subst (λ (l : Calls). IsRun first.abstract (events_of l)) whole b.clients.run;
+            reads = subst (λ (l : Calls). first.device.telling ≡ true → EveryReadHolds first.abstract (events_of l)) whole b.clients.reads;
             begins = a.clients.begins;
             backed = all_backed new.wanted first past (two ++ one) leads.history;
           };

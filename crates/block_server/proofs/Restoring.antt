@@ -9,7 +9,7 @@ use Rattle.std.proofs.lemmas.List.Sorted.{length_permutation}
 use Rattle.ata_types.specs.declared.Port.{Port}
 use Rattle.ata_types.specs.declared.PortState.TheVariants.{Absent, Ready as ReadyState}
 use Rattle.ata_types.specs.declared.request.Reply.{Reply}
-use Rattle.ata_types.specs.declared.limits.TheConstants.{READINGS}
+use Rattle.ata_types.specs.declared.limits.TheConstants.{MOST_READINGS}
 use Rattle.adapter.specs.Device.{Device}
 use Rattle.refinement.specs.Driven.{AnyUse, IsSimulated}
 use Rattle.block_machine.specs.declared.due.QueueMode.{QueueMode}
@@ -38,7 +38,7 @@ use Rattle.server_history.specs.Served.{IssuesAll, done_reply}
 use Rattle.server_history.specs.Server.{ServerState, InCallInvariant, SettledInvariant, kept_at, mode_at, mode_found, mode_in, no_slots, plain_mode, slots_at, state_of}
 use Rattle.server_history.specs.Turns.{HasPart, InRestart, ServesPort}
 use Rattle.port_control.specs.declared.events.PortError.{PortError}
-use Rattle.port_control.specs.declared.events.PortError.TheVariants.{BusError, TaskFileError, TimedOut, LinkChanged}
+use Rattle.port_control.specs.declared.events.PortError.TheVariants.{FatalError, TaskFileError, TimedOut, LinkChanged}
 use Rattle.slots.specs.Uses.{PortSlots, use_at}
 use Rattle.block_server.specs.Dispositions.{HavePlaces, BookIsSound, holding}
 use Rattle.block_server.specs.Ports.{LendsFound, with_part}
@@ -48,7 +48,7 @@ use Rattle.block_server.proofs.Sending.{served_ready, slots_said}
 -- what laws say of what comes after a recovery
 pub record RestoringLaws : Type 0 where
   pub bootable : (s mid : ServerState) (device : Device) (port : Port) (token : Stopped) → InCallInvariant s → state_of (probe_result_of s.ports port.0) ≡ ReadyState → (r : IsErrorHandled port s mid device)
-      → IsSimulated (IsLooking port) AnyUse s.device r.seen → r.result.next ≡ Restart token → IsBootable port device × IsStopped (device.port port.0) × ((device.port port.0).notes.link_count ≡ READINGS)
+      → IsSimulated (IsLooking port) AnyUse s.device r.seen → r.result.next ≡ Restart token → IsBootable port device × IsStopped (device.port port.0) × ((device.port port.0).notes.link_count ≡ MOST_READINGS)
   pub mode : (s mid : ServerState) (device : Device) (port : Port) → InCallInvariant s → state_of (probe_result_of s.ports port.0) ≡ ReadyState → (r : IsErrorHandled port s mid device)
       → IsSimulated (IsLooking port) AnyUse s.device r.seen → mode_in s port ≡ mode_found device.cap (probe_result_of s.ports port.0)
   pub places : (s : ServerState) (port : Port) → InCallInvariant s → state_of (probe_result_of s.ports port.0) ≡ ReadyState
@@ -63,14 +63,14 @@ pub record RestoringLaws : Type 0 where
 -- a port whose disk wasn't lost is booted anew, whatever shows
 pub boots_other : (port_error : PortError) (wanted : Wanted) (port : Port) (booted : Booted) (old new : Device) → port_error ≢ LinkChanged → BootsAgain wanted port booted old new → BootsAfter port_error wanted port booted old new
 boots_other LinkChanged wanted port booted old new other boots = absurd (other refl)
-boots_other BusError wanted port booted old new other boots = boots
+boots_other FatalError wanted port booted old new other boots = boots
 boots_other TaskFileError wanted port booted old new other boots = boots
 boots_other TimedOut wanted port booted old new other boots = boots
 
 -- it is booted, or absent
 pub boots_or_absent : (port_error : PortError) (wanted : Wanted) (port : Port) (booted : Booted) (old new : Device) → BootsAfter port_error wanted port booted old new → BootsAgain wanted port booted old new ⊎ (booted.found ≡ Unready Absent)
 boots_or_absent LinkChanged wanted port booted old new b = ⊎_elim (λ boots. inl boots.0) (λ absent. inr absent.0) b
-boots_or_absent BusError wanted port booted old new b = inl b
+boots_or_absent FatalError wanted port booted old new b = inl b
 boots_or_absent TaskFileError wanted port booted old new b = inl b
 boots_or_absent TimedOut wanted port booted old new b = inl b
 
@@ -167,9 +167,9 @@ module _ (x : Recovery) where
   pub token_of : (stopped : Stopped) → x.next ≡ Restart stopped → stopped.port ≡ x.port
   token_of stopped is = (subst (λ (way : Next). EndsIn x.rest.error_handled.queued x.port way x.rest.mid.device x.one) (x.rest.next_is ∙ is) x.rest.error_handled.handling.leaves.ends).0
 
-  pub bootable : (stopped : Stopped) → x.next ≡ Restart stopped → IsBootable stopped.port x.one × IsStopped (x.one.port stopped.port.0) × ((x.one.port stopped.port.0).notes.link_count ≡ READINGS)
+  pub bootable : (stopped : Stopped) → x.next ≡ Restart stopped → IsBootable stopped.port x.one × IsStopped (x.one.port stopped.port.0) × ((x.one.port stopped.port.0).notes.link_count ≡ MOST_READINGS)
   bootable stopped is =
-      subst (λ (q : Port). IsBootable q x.one × IsStopped (x.one.port q.0) × ((x.one.port q.0).notes.link_count ≡ READINGS)) (sym (token_of stopped is))
+      subst (λ (q : Port). IsBootable q x.one × IsStopped (x.one.port q.0) × ((x.one.port q.0).notes.link_count ≡ MOST_READINGS)) (sym (token_of stopped is))
       (x.laws.bootable x.s x.rest.mid x.one x.port stopped x.sees.kept x.sees.ready x.rest.error_handled x.rest.followed (x.rest.next_is ∙ is))
 
   pub sound : BookIsSound x.t x.b
@@ -284,7 +284,7 @@ module _ (x : Recovery) where
       goes_on : (its_trouble : PortError) → x.rest.error_handled.port_error ≡ its_trouble → SettledInvariant (with_part (then x y) o.three o.book o.slots x.port)
       unfolding settled_after recovers_port
       goes_on TaskFileError is = (x.laws.error_handled x.s (with_part (then x y) o.three o.book o.slots x.port) x.port o.its o.settled x.sees.ready recovers_port (λ hung. let z : TaskFileError ≡ TimedOut = sym is ∙ hung in cc) x.rest.followed).1
-      goes_on BusError is = (x.laws.error_handled x.s (with_part (then x y) o.three o.book o.slots x.port) x.port o.its o.settled x.sees.ready recovers_port (λ hung. let z : BusError ≡ TimedOut = sym is ∙ hung in cc) x.rest.followed).1
+      goes_on FatalError is = (x.laws.error_handled x.s (with_part (then x y) o.three o.book o.slots x.port) x.port o.its o.settled x.sees.ready recovers_port (λ hung. let z : FatalError ≡ TimedOut = sym is ∙ hung in cc) x.rest.followed).1
       goes_on LinkChanged is = (x.laws.error_handled x.s (with_part (then x y) o.three o.book o.slots x.port) x.port o.its o.settled x.sees.ready recovers_port (λ hung. let z : LinkChanged ≡ TimedOut = sym is ∙ hung in cc) x.rest.followed).1
       goes_on TimedOut is = (x.laws.restarted x.s (with_part (then x y) o.three o.book o.slots x.port) x.port o.its o.settled x.sees.ready recovers_port is).1
 

@@ -18,7 +18,7 @@ use Rattle.server_history.specs.ErrorHandling.{IsFoundOut}
 use Rattle.server_history.specs.Served.{HasNone, IsMaskOf, is_used}
 use Rattle.server_history.specs.Server.{ServerState, InCallInvariant, slots_at, state_of}
 use Rattle.port_control.specs.declared.events.PortError.{PortError}
-use Rattle.port_control.specs.declared.events.PortError.TheVariants.{BusError, TaskFileError, TimedOut, LinkChanged}
+use Rattle.port_control.specs.declared.events.PortError.TheVariants.{FatalError, TaskFileError, TimedOut, LinkChanged}
 use Rattle.slots.specs.Uses.{PortSlots, IsTaken, use_at}
 use Rattle.slots.specs.declared.SlotUse.{SlotUse}
 use Rattle.block_server.specs.Recovery.{error_of}
@@ -32,8 +32,8 @@ pub found_out : (told : PortEvent) (port_error : PortError) (port : Port) (old s
     → IsFoundOut port port_error old seen × (port_error ≢ TimedOut)
 found_out look.TaskFileError port_error port old seen is looks =
     subst (λ (its : PortError). IsFoundOut port its old seen × (its ≢ TimedOut)) (same_Some TaskFileError port_error is) (looks, λ hung. let z : TaskFileError ≡ TimedOut = hung in cc)
-found_out look.BusError port_error port old seen is looks =
-    subst (λ (its : PortError). IsFoundOut port its old seen × (its ≢ TimedOut)) (same_Some BusError port_error is) (looks, λ hung. let z : BusError ≡ TimedOut = hung in cc)
+found_out look.FatalError port_error port old seen is looks =
+    subst (λ (its : PortError). IsFoundOut port its old seen × (its ≢ TimedOut)) (same_Some FatalError port_error is) (looks, λ hung. let z : FatalError ≡ TimedOut = hung in cc)
 found_out look.LinkChanged port_error port old seen is looks =
     subst (λ (its : PortError). IsFoundOut port its old seen × (its ≢ TimedOut)) (same_Some LinkChanged port_error is) (looks, λ hung. let z : LinkChanged ≡ TimedOut = hung in cc)
 found_out look.NoEvent port_error port old seen is looks = let z : None ≡ Some port_error = is in absurd cc
@@ -42,7 +42,7 @@ found_out look.NoEvent port_error port old seen is looks = let z : None ≡ Some
 pub undisturbed : (told : PortEvent) (result : Option PortError) (port : Port) (old seen : Device) → result ≡ error_of told → ((port_error : PortError) → result ≡ Some port_error → ⊥)
     → LooksAt port told old seen → LooksAt port look.NoEvent old seen
 undisturbed look.TaskFileError result port old seen is none looks = absurd (none TaskFileError is)
-undisturbed look.BusError result port old seen is none looks = absurd (none BusError is)
+undisturbed look.FatalError result port old seen is none looks = absurd (none FatalError is)
 undisturbed look.LinkChanged result port old seen is none looks = absurd (none LinkChanged is)
 undisturbed look.NoEvent result port old seen is none looks = looks
 

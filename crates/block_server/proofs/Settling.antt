@@ -16,7 +16,7 @@ use Rattle.ata_types.specs.declared.limits.TheConstants.{MOST_UNANSWERED}
 use Rattle.std.specs.List.{All, AllPairs, Contains}
 use Rattle.block_server.proofs.Finishing as finishing
 use Rattle.request_queue.specs.Entries.{HasFewIssues, Held, IsAccepted, IsEarlier, BookIsInOrder, at_entry, ids_where, requeued_entry, without_entry}
-use Rattle.request_queue.specs.Dispositions.{EndsLoan, Holdings, AreResolved, IsResolved, disposition_of, disposition_on, quarantines_loan, reply_to}
+use Rattle.request_queue.specs.Dispositions.{EndsLoan, Holdings, AreResolved, IsResolved, disposition_of, disposition_on, keeps_loan, reply_to}
 use Rattle.request_queue.specs.declared.PendingRequest.{PendingRequest}
 use Rattle.request_queue.specs.declared.disposition.Disposition.{Disposition}
 use Rattle.request_queue.specs.declared.disposition.Disposition.TheVariants.{Complete, Requeue, Wait}
@@ -26,7 +26,7 @@ use Rattle.request_queue.specs.declared.disposition.Revalidation.TheVariants.{De
 use Rattle.block_server.specs.Dispositions.{HasPlaces, HavePlaces, BookIsSound, holding}
 
 -- a loan is kept of an issued request alone
-pub kept_issued : (outcome : Outcome) (e : PendingRequest) → quarantines_loan outcome e ≡ true → e.issued ≡ true
+pub kept_issued : (outcome : Outcome) (e : PendingRequest) → keeps_loan outcome e ≡ true → e.issued ≡ true
 kept_issued PortDead e is = is
 kept_issued Ok e is = absurd (false≢true is)
 kept_issued (DeviceError status error) e is = absurd (false≢true is)
@@ -94,7 +94,7 @@ module _ (request : Held) (outcome : Outcome) (book later : List Held) (old new 
   frames_are : loan.frames ≡ request.frames
   frames_are = ap (λ (e : Held). e.frames) its
 
-  pub ends_kept : (disposition : Disposition) → disposition ≡ Complete outcome → quarantines_loan outcome request.entry ≡ true → more ≡ kept ++ loan ∷ [] → new ≡ old
+  pub ends_kept : (disposition : Disposition) → disposition ≡ Complete outcome → keeps_loan outcome request.entry ≡ true → more ≡ kept ++ loan ∷ [] → new ≡ old
       → IsResolved request disposition (reply_to request outcome ∷ []) (holding book old kept) (holding later new more)
   ends_kept disposition is keeps more_is same = subst (λ (f : Disposition). IsResolved request f (reply_to request outcome ∷ []) (holding book old kept) (holding later new more)) (sym is) (
     refl,
@@ -103,7 +103,7 @@ module _ (request : Held) (outcome : Outcome) (book later : List Held) (old new 
         (more_is ∙ (λ i. kept ++ record { frames = frames_are i; request = whose i } ∷ []), same),
   )
 
-  pub ends_back : (disposition : Disposition) → disposition ≡ Complete outcome → quarantines_loan outcome request.entry ≡ false → more ≡ kept → LendsOnly old new loan.frames None
+  pub ends_back : (disposition : Disposition) → disposition ≡ Complete outcome → keeps_loan outcome request.entry ≡ false → more ≡ kept → LendsOnly old new loan.frames None
       → IsResolved request disposition (reply_to request outcome ∷ []) (holding book old kept) (holding later new more)
   ends_back disposition is keeps same lends = subst (λ (f : Disposition). IsResolved request f (reply_to request outcome ∷ []) (holding book old kept) (holding later new more)) (sym is) (
     refl,

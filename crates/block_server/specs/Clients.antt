@@ -42,10 +42,10 @@ pub record Visible : Type 0 where
 -- so the server is seen at the instant
 pub record IsSeenAt (v : Visible) (i : JointState Device) : Type 0 where
   pub device_is : i.device ≡ v.device
-  pub rows : i.moment.machine.rows ≡ v.rows
-  pub owner : (frame : Frame) → i.moment.machine.owner frame ≡ v.owner frame
-  pub lent : (frame : Frame) → i.moment.machine.lent frame ≡ v.lent frame
-  pub state : (port : Port) → i.moment.ports.state port ≡ v.state port
+  pub rows : i.abstract.machine.rows ≡ v.rows
+  pub owner : (frame : Frame) → i.abstract.machine.owner frame ≡ v.owner frame
+  pub lent : (frame : Frame) → i.abstract.machine.lent frame ≡ v.lent frame
+  pub state : (port : Port) → i.abstract.ports.state port ≡ v.state port
 
 -- ---- between two calls
 
@@ -57,7 +57,7 @@ pub record IsSeenAt (v : Visible) (i : JointState Device) : Type 0 where
 abbrev pub IsInState : Wanted → JointState Device → Port → Bool → PortState → Type 0
 IsInState wanted i p false state = state ≡ Absent
 IsInState wanted i p true Ready = IsOn i.device × (info : DiskInfo) × HasFitDisk (serial_of wanted) p.0 i.device info
-    × ShowsDiskInfo i.moment.ports p i.device.cap info
+    × ShowsDiskInfo i.abstract.ports p i.device.cap info
 IsInState wanted i p true Dead = EndsAs (serial_of wanted) Dead p.0 i.device ⊎ (IsOn i.device → ⊥)
 IsInState wanted i p true state = EndsAs (serial_of wanted) state p.0 i.device
 
@@ -66,13 +66,13 @@ IsInState wanted i p true state = EndsAs (serial_of wanted) state p.0 i.device
 -- Clients' frames hold what the machine's do. The disk of each port is the machine's; and where the adapter's disks
 -- tell their sectors, these hold the same.
 pub record HoldsBetween (wanted : List Wanted) (i : JointState Device) : Type 0 where
-  pub served : (p : Port) → p.0 < 4 → (i.moment.ports.served p ≡ true) ↔ IsServed (wanted_of wanted p.0) p.0 i.device
+  pub served : (p : Port) → p.0 < 4 → (i.abstract.ports.served p ≡ true) ↔ IsServed (wanted_of wanted p.0) p.0 i.device
   pub state : (p : Port) → p.0 < 4
-      → IsInState (wanted_of wanted p.0) i p (i.moment.ports.served p) (i.moment.ports.state p)
-  pub waits : (p : Port) → p.0 < 4 → IsOn i.device → IsEmptied i.moment p
-  pub memory : SameMemory i.moment.machine i.device.memory
-  pub disk : (port : ℕ) → IsDiskOf i.moment.machine (i.device.port port) port
-  pub sectors : i.device.telling ≡ true → (port : ℕ) → SameSectors i.moment.machine (i.device.port port).disk port
+      → IsInState (wanted_of wanted p.0) i p (i.abstract.ports.served p) (i.abstract.ports.state p)
+  pub waits : (p : Port) → p.0 < 4 → IsOn i.device → IsEmptied i.abstract p
+  pub memory : SameMemory i.abstract.machine i.device.memory
+  pub disk : (port : ℕ) → IsDiskOf i.abstract.machine (i.device.port port) port
+  pub sectors : i.device.telling ≡ true → (port : ℕ) → SameSectors i.abstract.machine (i.device.port port).disk port
 
 -- ---- the promise
 
@@ -83,7 +83,7 @@ pub record IsBackedCall (wanted : List Wanted) (first : JointState Device) (past
     (h : Happening Device DeviceStep) : Type 0 where
   pub gained : List Entry
   pub tape : h.device.tape ≡ (now first past).device.tape ++ gained
-  pub tells : TellsAmong (now first past).moment.machine gained h.event.steps
+  pub tells : TellsAmong (now first past).abstract.machine gained h.event.steps
   pub plugged : (p : ℕ) → (disks : List Disk) × PutsInDisks p disks h.event.steps
       × ((h.device.port p).plugged ≡ ((now first past).device.port p).plugged ++ disks)
   pub holds : HoldsBetween wanted (now first (h ∷ past))
@@ -100,8 +100,8 @@ pub record ServesClients (first : JointState Device) (past added : List (Happeni
   pub wanted : new.wanted ≡ old.wanted
   pub from : IsSeenAt old (now first past)
   pub to : IsSeenAt new (now first (added ++ past))
-  pub run : IsRun first.moment (events_of (added ++ past))
-  pub reads : first.device.telling ≡ true → EveryReadHolds first.moment (events_of (added ++ past))
+  pub run : IsRun first.abstract (events_of (added ++ past))
+  pub reads : first.device.telling ≡ true → EveryReadHolds first.abstract (events_of (added ++ past))
   pub begins : HoldsBetween old.wanted (now first past)
   pub backed : EachAfter (IsBackedCall new.wanted first) past added
 
@@ -109,7 +109,7 @@ pub record ServesClients (first : JointState Device) (past added : List (Happeni
 -- requests that were accepted when they broke no rule.
 abbrev pub ConfinesMoves : JointState Device → List (Happening Device DeviceStep) → List (Happening Device DeviceStep)
     → Type 0
-ConfinesMoves first past added = EachAfter (λ before h. KeepsMoves first.moment.machine (steps_of (events_of before))
+ConfinesMoves first past added = EachAfter (λ before h. KeepsMoves first.abstract.machine (steps_of (events_of before))
     h.event.steps (now first before).device h.device) past added
 
 -- What is promised to clients of disks that are pulled out. Of a write or trim that was answered Ok before a flush of
@@ -117,4 +117,4 @@ ConfinesMoves first past added = EachAfter (λ before h. KeepsMoves first.moment
 -- the flush, and no other one put in since: where that disk comes back it has, in each sector of it, the bytes that it
 -- put there, or those of a write or trim accepted later, where the adapter's disks tell their sectors.
 pub record OutlivesUnplugs (first : JointState Device) (calls : List (Happening Device DeviceStep)) : Type 0 where
-  pub finds : first.device.telling ≡ true → EveryPlugFinds first.moment.machine (steps_of (events_of calls))
+  pub finds : first.device.telling ≡ true → EveryPlugFinds first.abstract.machine (steps_of (events_of calls))

@@ -13,7 +13,7 @@ use Rattle.adapter.specs.Device.{Device}
 use Rattle.adapter.specs.declared.access.DeviceStep.{DeviceStep}
 use Rattle.refinement.specs.Facts.{RunsWell}
 use Rattle.refinement.specs.Slots.{ServesRequest}
-use Rattle.block_machine.specs.Events.{CallRecord, Ask, AbstractState, Reset, RevokeOf, Service, Tick, AnswersEnded, HasTimedOut, WasIssued, moment_after}
+use Rattle.block_machine.specs.Events.{CallRecord, Ask, AbstractState, Reset, RevokeOf, Service, Tick, AnswersEnded, HasTimedOut, WasIssued, abstract_after}
 use Rattle.block_machine.specs.Histories.{Happening, JointState, now}
 use Rattle.block_machine.specs.Ports.{SamePort}
 use Rattle.block_machine.specs.State.{Machine, Pending}
@@ -45,19 +45,19 @@ pub record ServesClientsOf (port : Port) (old : AbstractState) (call : CallRecor
   pub answers : (e : Pending) (told : Outcome) → Contains call.steps (Answer e told) → e.request.port ≡ port
       → IsToldWell call.ask old.machine e told
   pub ended : call.ask ≡ Service → AnswersEnded old.machine call.steps port
-  pub issues : Issues call.ask call.steps (moment_after old call).machine call.ports port
+  pub issues : Issues call.ask call.steps (abstract_after old call).machine call.ports port
 
 -- The call goes well for the port, with its engine running all the time and after it, and serves the port's clients.
 abbrev pub IsServedWell : Port → JointState Device → Happening Device DeviceStep → Type 0
-IsServedWell port old h = GoesWellFor old h port × ServesClientsOf port old.moment h.event
+IsServedWell port old h = GoesWellFor old h port × ServesClientsOf port old.abstract h.event
 
 -- In a call after these ones, a service answers each request of a port that is ready when it begins of which the bits
 -- of PxCI and PxSACT were clear then; and each port is served well that the call is healthy for.
 pub record ServesPorts (first : JointState Device) (past : List (Happening Device DeviceStep))
     (h : Happening Device DeviceStep) : Type 0 where
   pub seen : (port : Port) (slot : ℕ) (id : RequestId) → h.event.ask ≡ Service
-      → (now first past).moment.ports.state port ≡ Ready
-      → ServesRequest (now first past).moment.machine (now first past).device.memory
+      → (now first past).abstract.ports.state port ≡ Ready
+      → ServesRequest (now first past).abstract.machine (now first past).device.memory
       ((now first past).device.port port.0) port.0 slot id
       → ((now first past).device.port port.0).ci slot ≡ false → ((now first past).device.port port.0).sact slot ≡ false
       → (done : Pending) × (done.request.id ≡ id) × Contains h.event.steps (Answer done outcome.Ok)
@@ -77,7 +77,7 @@ pub record DrivesDevice {A : Type 0} (device : A → Device) (first : JointState
   pub healthy : (port : Port) → state_of (probe_result_of old.ports port.0) ≡ Ready
       → StaysHealthy port.0 (device old.adapter) (device new.adapter)
       → EachAfter (λ before h. (h.event.ask ≢ Reset)
-      × (h.event.ask ≡ Tick → HasTimedOut (now first before).moment port → ⊥))
+      × (h.event.ask ≡ Tick → HasTimedOut (now first before).abstract port → ⊥))
       past added
       → EachAfter (λ before h. IsServedWell port (now first before) h) past added
       × (state_of (probe_result_of new.ports port.0) ≡ Ready) × RunsWell ((device new.adapter).port port.0)

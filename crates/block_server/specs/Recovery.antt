@@ -17,14 +17,14 @@ use Rattle.server_history.specs.ErrorHandling.{IsFailed, IsFoundOut, IsErrorHand
 use Rattle.server_history.specs.Served.{done_reply}
 use Rattle.server_history.specs.Server.{ServerState, InCallInvariant, slots_at, state_of}
 use Rattle.port_control.specs.declared.events.PortError.{PortError}
-use Rattle.port_control.specs.declared.events.PortError.TheVariants.{BusError, TaskFileError, LinkChanged}
+use Rattle.port_control.specs.declared.events.PortError.TheVariants.{FatalError, TaskFileError, LinkChanged}
 use Rattle.slots.specs.Uses.{PortSlots}
 use Rattle.block_server.specs.Ports.{with_answers}
 
 -- the trouble that a look tells
 abbrev pub error_of : PortEvent → Option PortError
 error_of look.TaskFileError = Some TaskFileError
-error_of look.BusError = Some BusError
+error_of look.FatalError = Some FatalError
 error_of look.LinkChanged = Some LinkChanged
 error_of look.NoEvent = None
 

@@ -53,7 +53,7 @@ fn resolve_one(
         Disposition::Wait => {}
         Disposition::Requeue => book.requeue(id),
         Disposition::Complete(outcome) => {
-            if entry.quarantines_loan(outcome) {
+            if entry.keeps_loan(outcome) {
                 let (_, loan) = book.answer(id);
                 kept.keep(loan);
             } else {

@@ -25,7 +25,7 @@ ghost use Rattle.block_server.specs.Costs.{booting_accesses, handling_accesses};
 use super::answering::answer_done;
 use super::modes::{PLAIN, mode_of};
 use adapter::Adapter;
-use ata_types::{DRIVER_BYTES, MOST_UNANSWERED, Port, PortState, READINGS, Replies};
+use ata_types::{DRIVER_BYTES, MOST_READINGS, MOST_UNANSWERED, Port, PortState, Replies};
 use block_machine::QueueMode;
 use commands::done;
 use dma_frames::FrameTable;
@@ -44,7 +44,7 @@ pub(crate) fn error_of(look: PortEvent) -> Option<PortError>
 {
     match look {
         PortEvent::TaskFileError => Some(PortError::TaskFileError),
-        PortEvent::BusError => Some(PortError::BusError),
+        PortEvent::FatalError => Some(PortError::FatalError),
         PortEvent::LinkChanged => Some(PortError::LinkChanged),
         PortEvent::NoEvent => None,
     }
@@ -168,7 +168,7 @@ fn boot_after<A: Adapter>(
 ) -> Booted
     requires bootable { IsBootable stopped.port (A.device adapter.old) }
     requires stopped { IsStopped ((A.device adapter.old).port stopped.port.0) }
-    requires saw { ((A.device adapter.old).port stopped.port.0).notes.link_count ≡ READINGS }
+    requires saw { ((A.device adapter.old).port stopped.port.0).notes.link_count ≡ MOST_READINGS }
     ensures on { IsOn (A.device adapter.new) }
     ensures boots { BootsAfter port_error wanted.now stopped.port result (A.device adapter.old) (A.device adapter.new) }
     ensures cost { MakesAtMost (booting_accesses port_error) (A.access_count adapter.old) (A.access_count adapter.new) }
@@ -194,7 +194,7 @@ pub(crate) fn revalidate_port<A: Adapter>(
     requires bootable { (stopped : stopped_token.Stopped) → next ≡ Next.Restart stopped
         → IsBootable stopped.port (A.device adapter.old)
         × IsStopped ((A.device adapter.old).port stopped.port.0)
-        × (((A.device adapter.old).port stopped.port.0).notes.link_count ≡ READINGS) }
+        × (((A.device adapter.old).port stopped.port.0).notes.link_count ≡ MOST_READINGS) }
     ensures on { IsOn (A.device adapter.new) }
     ensures found { (port : Port) → ((stopped : stopped_token.Stopped) → next ≡ Next.Restart stopped
         → stopped.port ≡ port) → IsRevalidated wanted.now port port_error was.now next (A.device adapter.old)

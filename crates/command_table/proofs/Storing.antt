@@ -12,7 +12,7 @@ use Rattle.adapter.specs.Commands.{IsMeaning, Meaning, command_of, pieces_moved,
 use Rattle.adapter.specs.Decoding.{IsWholePieces, pieces}
 use Rattle.adapter.specs.Device.{Device}
 use Rattle.adapter.specs.Memory.{patched, bytes_at}
-use Rattle.adapter.specs.Rules.{IsOn, IsFree, IsStable}
+use Rattle.adapter.specs.Rules.{IsOn, IsUnowned, IsStable}
 use Rattle.adapter.specs.Encoding.{EncodesCommand, EncodesHeader, EncodesPrd}
 use Rattle.adapter.specs.declared.command.Command.{Command}
 use Rattle.adapter.specs.declared.command.Operation.{Operation}
@@ -45,7 +45,7 @@ may_store uses port slot at bytes below small free here = inl (record { port = p
 
 -- whatever the device does first
 pub store_free : (uses : SlotStates) (d : Device) (port slot at : ℕ) (bytes : List ℕ) → IsRelated uses d → DRIVER_BYTES ≤ d.size → port < 4 → slot < 32 → IsUnused port slot uses → IsTableStore port slot (Storing at bytes) →
-    IsStable (IsFree at (length bytes)) d
+    IsStable (IsUnowned at (length bytes)) d
 store_free uses d port slot at bytes a room below small free here =
     stores_are_free uses a.machine d a.reached a.knows.agrees at (length bytes)
     (elim here [ inl h ↦ let place = h.0 in let size = h.1 in omega (arith, room, place, size, below, small) | inr table ↦ let t = table.1 in omega (arith, room, t) ])
@@ -145,7 +145,7 @@ may_store_block : (uses : SlotStates) (port at : ℕ) (block : List ℕ) → por
 may_store_block uses port at block below is size free = inr (record { port = port; below = below; free = free; from = omega (arith, is); to = omega (arith, is, size) })
 
 pub block_free : (uses : SlotStates) (d : Device) (port at : ℕ) (block : List ℕ) → IsRelated uses d → DRIVER_BYTES ≤ d.size → port < 4 → at ≡ scratch_of port → length block ≡ 512 → IsUnused port 0 uses →
-    IsStable (IsFree at (length block)) d
+    IsStable (IsUnowned at (length block)) d
 block_free uses d port at block a room below is size free =
     stores_are_free uses a.machine d a.reached a.knows.agrees at (length block) (omega (arith, room, below, is, size)) (may_store_block uses port at block below is size free)
 

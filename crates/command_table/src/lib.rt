@@ -11,7 +11,7 @@ ghost use Rattle.adapter.specs.Decoding.{pieces, IsWholePieces};
 ghost use Rattle.adapter.specs.Encoding.{AreZero, EncodesHeader, EncodesPrd, IsAllowedPrd};
 ghost use Rattle.adapter.specs.Commands.{IsMeaning, Meaning, command_of, pieces_moved, reads_memory};
 ghost use Rattle.adapter.specs.Memory.{bytes_at};
-ghost use Rattle.adapter.specs.Rules.{IsFree, IsOn, IsStable};
+ghost use Rattle.adapter.specs.Rules.{IsUnowned, IsOn, IsStable};
 ghost use Rattle.adapter.specs.declared.command.Operation.{Operation};
 ghost use Rattle.adapter.specs.declared.command.Prd.{Prd};
 ghost use Rattle.refinement.specs.Driven.{IsSimulated};
@@ -31,7 +31,7 @@ use arrayvec::ArrayVec;
 use ata_types::{
     DATA_SET_MANAGEMENT, DRIVER_BYTES, FRAME_BYTES, Frame, HEADER_BYTES, LONGEST_TABLE,
     MOST_REQUEST_FRAMES, PORT_BYTES, PORT_FRAMES, PRD_BYTES, Port, SCRATCH_FRAME, Slot,
-    TABLE_ALIGNMENT, TABLE_BYTES, TABLE_HEAD, TABLES, WRITE_DMA_EXT, WRITE_FPDMA_QUEUED,
+    TABLE_ALIGNMENT, TABLE_BYTES, TABLE_HEAD, TABLES_OFFSET, WRITE_DMA_EXT, WRITE_FPDMA_QUEUED,
 };
 use fis::encode_h2d;
 use refinement::fragments::law_other_ports_are_left;
@@ -159,7 +159,7 @@ fn is_write(command: &Command) -> bool
 /// Stores a command table at a place that is free, in one store: what follows its last PRD isn't stored. Most tables
 /// have few PRDs, and for those no buffer is cleared that has room for as many as a request can have frames.
 fn store_table<A: Adapter>(adapter: &mut A, at: u32, command: &Command, prds: &[Prd])
-    requires free { IsStable (IsFree at (TABLE_HEAD + PRD_BYTES * length prds.now)) (A.device adapter.old) }
+    requires free { IsStable (IsUnowned at (TABLE_HEAD + PRD_BYTES * length prds.now)) (A.device adapter.old) }
     requires lba { command.now.lba < 2 ^ 48 }
     requires few { length prds.now ≤ MOST_REQUEST_FRAMES }
     requires allowed { All IsAllowedPrd prds.now }
@@ -200,7 +200,7 @@ pub fn write_table<A: Adapter>(
     ensures cost { MakesAtMost TABLE_ACCESSES (A.access_count adapter.old) (A.access_count adapter.new) }
 {
     let list = PORT_BYTES * u32::from(port.0);
-    let table = list + TABLES + TABLE_BYTES * u32::from(slot.0);
+    let table = list + TABLES_OFFSET + TABLE_BYTES * u32::from(slot.0);
     store_table(adapter, table, command, prds);
     let head = header(is_write(command), prds.len() as u16, table);
     adapter.store(list + HEADER_BYTES * u32::from(slot.0), &head);

@@ -12,7 +12,7 @@ use Rattle.adapter.specs.ReadDone.{read_of}
 use Rattle.adapter.specs.Decoding.{DecodesTo, piece_addresses}
 use Rattle.block_machine.specs.Confined.{WasAccepted}
 use Rattle.block_machine.specs.Due.{is_plain}
-use Rattle.block_machine.specs.Left.{IsLegal, IsStart, after}
+use Rattle.block_machine.specs.Left.{IsLegal, IsInitial, after}
 use Rattle.block_machine.specs.Rules.{frames_for}
 use Rattle.block_machine.specs.State.{Accepted, Machine, Pending}
 use Rattle.block_machine.specs.Steps.{Issue, May, Step}
@@ -35,7 +35,7 @@ frames_fit start (step ∷ past) r was = ⊎_elim
 -- given what the laws say of the first read, and of requests that are issued
 module _ (known : PreparedIsKnown) (one : (memory : ℕ → ℕ) (list slot : ℕ) (m n : Meaning) (xs ys : List ℕ) → DecodesTo memory list slot m xs → DecodesTo memory list slot n ys → (m ≡ n) × (xs ≡ ys))
     (says : DecodesTo first_read.memory 0 0 (read_of 100 8) (piece_addresses 0x64000 8))
-    (issued : (start : Machine) (history : List Step) (mode : QueueMode) (e : Pending) → IsStart start → IsLegal start history → May (after start history) (Issue mode e) → WasAccepted start history e.request) where
+    (issued : (start : Machine) (history : List Step) (mode : QueueMode) (e : Pending) → IsInitial start → IsLegal start history → May (after start history) (Issue mode e) → WasAccepted start history e.request) where
   prepared : IsPrepared (idle prepared_read).uses known.machine prepared_read 0 0 known.mode known.request 1
   prepared = known.prepared
 

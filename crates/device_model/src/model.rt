@@ -5,7 +5,7 @@ ghost use Rattle.adapter.specs.Commands.{is_ranged, reads_memory};
 ghost use Rattle.adapter.specs.Device.{Disk, IsSector, FetchedCommand};
 ghost use Rattle.adapter.specs.Access.{Reads, Writes, Loads, Stores, Shows, written};
 ghost use Rattle.adapter.specs.Memory.{bytes_at, patched};
-ghost use Rattle.adapter.specs.Rules.{MayRead, MayWrite, IsFree, IsStable};
+ghost use Rattle.adapter.specs.Rules.{MayRead, MayWrite, IsUnowned, IsStable};
 ghost use Rattle.adapter.specs.Steps.{Steps, disk_after, disk_cleared, next_place};
 ghost use Rattle.adapter.specs.Asked.{Asked};
 ghost use Rattle.sector_store.specs.Stores.{FailsOn};
@@ -759,7 +759,7 @@ impl<S: SectorStore> Adapter for Model<S> {
     }
 
     fn load(&mut self, addr: u32, out: &mut [u8])
-        requires { IsStable (IsFree addr (length out.old)) (device_at S.size S.told self.old) }
+        requires { IsStable (IsUnowned addr (length out.old)) (device_at S.size S.told self.old) }
         ensures loads { Loads addr out.new (device_at S.size S.told self.old) (device_at S.size S.told self.new) }
         ensures counted { self.new.accesses.count.made ≡ self.old.accesses.count.made + 1 }
         ensures alone { BeginsAccess S.size S.told S.failures self.old self.new }
@@ -769,7 +769,7 @@ impl<S: SectorStore> Adapter for Model<S> {
     }
 
     fn store(&mut self, addr: u32, bytes: &[u8])
-        requires { IsStable (IsFree addr (length bytes.now)) (device_at S.size S.told self.old) }
+        requires { IsStable (IsUnowned addr (length bytes.now)) (device_at S.size S.told self.old) }
         ensures stores { Stores addr bytes.now (device_at S.size S.told self.old) (device_at S.size S.told self.new) }
         ensures counted { self.new.accesses.count.made ≡ self.old.accesses.count.made + 1 }
         ensures alone { DoesThen S.size S.told S.failures (λ d. record d { memory = patched d.memory addr bytes.now })

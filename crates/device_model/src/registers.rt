@@ -9,7 +9,7 @@ use crate::bits::{bit_if, with_bit_as, without_ones};
 use crate::interrupts::enables_others;
 use crate::port::PortModel;
 use adapter::FatalError;
-use ata_types::READINGS;
+use ata_types::MOST_READINGS;
 use hba_regs::{PortReg, is_set};
 
 /// One more reading in a row.
@@ -17,7 +17,7 @@ fn counted(again: bool, count: u32) -> u32
     ensures { result ≡ count_after again count }
 {
     if again {
-        count.min(READINGS - 1) + 1
+        count.min(MOST_READINGS - 1) + 1
     } else {
         0
     }
@@ -28,9 +28,9 @@ fn link_counted(det: u32, count: u32) -> u32
     ensures { result ≡ link_count_after det count }
 {
     if det == 3 {
-        READINGS
+        MOST_READINGS
     } else {
-        count.min(READINGS - 1) + 1
+        count.min(MOST_READINGS - 1) + 1
     }
 }
 

@@ -5,7 +5,7 @@ use Rattle.std.proofs.lemmas.List.{length-append}
 use Rattle.std.specs.List.{All}
 use Rattle.ata_types.specs.declared.Port.{Port}
 use Rattle.ata_types.specs.declared.memory.TheConstants.{DRIVER_BYTES, PORT_FRAMES, SCRATCH_FRAME}
-use Rattle.ata_types.specs.declared.limits.TheConstants.{READINGS}
+use Rattle.ata_types.specs.declared.limits.TheConstants.{MOST_READINGS}
 use Rattle.hba_regs.specs.Bits.{bit}
 use Rattle.hba_regs.specs.declared.reg.Reg.{Reg}
 use Rattle.hba_regs.specs.declared.reg.Reg.TheVariants.{Ghc, Px}
@@ -16,7 +16,7 @@ use Rattle.adapter.specs.Commands.{Meaning, command_of, is_ranged, pieces_moved}
 use Rattle.adapter.specs.Device.{Bases, Notes, DevicePort, Device}
 use Rattle.adapter.specs.Device.Halt.{NotHalted}
 use Rattle.adapter.specs.Kept.{Keeps, KeepsControls, KeepsPort}
-use Rattle.adapter.specs.Rules.{IsOn, HasPort, IsFree, IsStable, MayWrite}
+use Rattle.adapter.specs.Rules.{IsOn, HasPort, IsUnowned, IsStable, MayWrite}
 use Rattle.adapter.specs.Decoding.{pieces, IsWholePieces}
 use Rattle.adapter.specs.declared.command.Command.{Command}
 use Rattle.adapter.specs.declared.command.Operation.{Operation}
@@ -59,7 +59,7 @@ pub record IsPending (port : Port) (start : Device) (n : ℕ) (d : Device) : Typ
   pub told : IsSimulatedAlong (AreInVain port n) (IsAsking port) AnyUse start d
   pub waiting : (o : Operation) (since : ℕ) (uses : SlotStates) (begun : Device) → IsPageAwaited port o since uses begun start → IsPageAwaited port o since uses begun d
   pub low : n ≤ (d.port port.0).notes.command_count
-  pub high : 0 < n → (d.port port.0).notes.command_count ≤ READINGS
+  pub high : 0 < n → (d.port port.0).notes.command_count ≤ MOST_READINGS
 
 -- and one without it
 pub record IsFoundOver (port : Port) (start d : Device) : Type 0 where
@@ -281,7 +281,7 @@ module _ (laws : Laws) where
   asked_then port next old mid new a b = (laws.fragments.both (Asking port) (Awaiting port) next (λ uses. uses) (λ access may. may) (λ uses free. tt) old mid new a b).followed
 
   -- in vain, as is told of the accesses
-  pub asked_in_vain : (port : Port) (next : SlotStates → SlotStates) (old mid new : Device) → IsSimulatedTo (IsAsking port) (IsUnused port.0 0) next old mid → IsSimulatedAlong (AreInVain port READINGS) (IsAsking port) AnyUse mid new →
+  pub asked_in_vain : (port : Port) (next : SlotStates → SlotStates) (old mid new : Device) → IsSimulatedTo (IsAsking port) (IsUnused port.0 0) next old mid → IsSimulatedAlong (AreInVain port MOST_READINGS) (IsAsking port) AnyUse mid new →
       IsSimulatedAlongTo (WaitsInVain port) (IsAsking port) (IsUnused port.0 0) next old new
   asked_in_vain port next old mid new a b =
       let both = laws.fragments.both (Asking port) (Awaiting port) next (λ uses. uses) (λ access may. may) (λ uses free. tt) old mid new a b.followed in
@@ -381,7 +381,7 @@ module _ (laws : Laws) where
   }
 
   -- one more reading with the bit
-  pub pending_again : (port : Port) (start : Device) (n : ℕ) (v : ℕ) (d e : Device) → n < READINGS → IsPending port start n d → Reads (Px port Ci) v d e → bit v 0 ≡ true → IsPending port start (n + 1) e
+  pub pending_again : (port : Port) (start : Device) (n : ℕ) (v : ℕ) (d e : Device) → n < MOST_READINGS → IsPending port start n d → Reads (Px port Ci) v d e → bit v 0 ≡ true → IsPending port start (n + 1) e
   pending_again port start n v d e small p call set =
       let count : (e.port port.0).notes.command_count ≡ counted true (d.port port.0).notes.command_count =
       count_read port v d e p.on call p.det ∙ ap (λ (b : Bool). counted b (d.port port.0).notes.command_count) set in
@@ -421,7 +421,7 @@ module _ (laws : Laws) where
   )
 
   module _ (port : Port) (o : Operation) (since : ℕ) (uses : SlotStates) (begun old : Device) (below : port.0 < 4) (w : IsPageAwaited port o since uses begun old) (clear : IsClear (old.port port.0) 0) where
-    pub page_free : IsStable (IsFree (scratch_of port.0) 512) old
+    pub page_free : IsStable (IsUnowned (scratch_of port.0) 512) old
     page_free =
         let a = w.agreed in
         let room = w.room in

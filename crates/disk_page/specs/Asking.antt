@@ -1,7 +1,7 @@
 -- Pages that a disk sends to the driver itself (ACS-3: IDENTIFY DEVICE, READ LOG EXT), and how they are asked for.
 use Rattle.std.specs.Prelude.{ℕ, true, false, ◌≡◌, ◌≢◌, ◌≤◌, ◌++◌, List, All, length, Option, None, Some, IfSome}
 use Rattle.ata_types.specs.declared.Port.{Port}
-use Rattle.ata_types.specs.declared.limits.TheConstants.{READINGS}
+use Rattle.ata_types.specs.declared.limits.TheConstants.{MOST_READINGS}
 use Rattle.ata_types.specs.declared.memory.TheConstants.{DRIVER_BYTES}
 use Rattle.hba_regs.specs.Bits.{bit}
 use Rattle.hba_regs.specs.declared.reg.Reg.TheVariants.{Px}
@@ -85,7 +85,7 @@ pub record WaitsInVain (port : Port) (accesses : List Access) : Type 0 where
   pub waits : List Access
   pub later : List Access
   pub here : accesses ≡ before ++ (waits ++ later)
-  pub vain : AreInVain port READINGS waits
+  pub vain : AreInVain port MOST_READINGS waits
 
 -- What is said of the page: it is the last that the port's command of this operation has moved, the command came after
 -- the tape was so long, and it is over.
@@ -99,7 +99,7 @@ pub record BringsLastPage (port : ℕ) (o : Operation) (since : ℕ) (bytes : Li
 abbrev pub ReadsPage : Port → Operation → Option (List ℕ) → Device → Device → Type 0
 ReadsPage port o (Some bytes) old new = BringsLastPage port.0 o (length old.tape) bytes new
     × IsSimulated (IsAsking port) (IsUnused port.0 0) old new
-ReadsPage port o None old new = ((new.port port.0).notes.command_count ≡ READINGS)
+ReadsPage port o None old new = ((new.port port.0).notes.command_count ≡ MOST_READINGS)
     × IsSimulatedAlongTo (WaitsInVain port) (IsAsking port) (IsUnused port.0 0)
     (λ uses. put uses port.0 0 (Own o)) old new
 

@@ -1,5 +1,5 @@
 -- How many accesses the calls make, at most.
-use Rattle.ata_types.specs.declared.limits.TheConstants.{READINGS}
+use Rattle.ata_types.specs.declared.limits.TheConstants.{MOST_READINGS}
 use Rattle.std.specs.Prelude.{ℕ, ◌+◌}
 use Rattle.command_table.specs.Costs.{TABLE_ACCESSES}
 
@@ -9,4 +9,4 @@ ASK_ACCESSES = TABLE_ACCESSES + 1
 
 -- and then PxCI is read until the command isn't issued any more, and the page is loaded
 abbrev pub PAGE_ACCESSES : ℕ
-PAGE_ACCESSES = ASK_ACCESSES + READINGS + 1
+PAGE_ACCESSES = ASK_ACCESSES + MOST_READINGS + 1

@@ -14,7 +14,7 @@ use Rattle.adapter.specs.Device.{Device, DevicePort}
 use Rattle.adapter.specs.declared.tape.Entry.{Entry}
 use Rattle.refinement.specs.Facts.{FindsOwnPage, IsClear, IsRecorded}
 use Rattle.hba_regs.specs.declared.reg.Reg.TheVariants.{Ghc, Px}
-use Rattle.adapter.specs.Rules.{HasPort, IsFree, IsOn, MayWrite, IsStable}
+use Rattle.adapter.specs.Rules.{HasPort, IsUnowned, IsOn, MayWrite, IsStable}
 use Rattle.disk_page.specs.Asking.{IsAsking}
 use Rattle.refinement.specs.Driver.{IsOwnPrepared}
 use Rattle.block_machine.specs.Histories.{IsReachable}
@@ -103,7 +103,7 @@ pub record Laws : Type 0 where
       × (bytes ≡ b.move.bytes.value)
   pub page_is_free : (uses : SlotStates) (m : Machine) (d : Device) → IsReachable m → StateRelation uses m d
       → (port : ℕ) → port < 4
-      → scratch_of port + 512 ≤ d.size → IsOver (d.port port) 0 → IsStable (IsFree (scratch_of port) 512) d
+      → scratch_of port + 512 ≤ d.size → IsOver (d.port port) 0 → IsStable (IsUnowned (scratch_of port) 512) d
   pub agrees_released : (uses : SlotStates) (port : ℕ) (o : Operation) (d : Device) → uses port 0 ≡ Free
       → IsOver (d.port port) 0 → IsRelated (put uses port 0 (Own o)) d → IsRelated uses d
   pub halt_is_issued : (uses : SlotStates) (m : Machine) (port : Port) (o : Operation) (v : ℕ) (old new : Device)

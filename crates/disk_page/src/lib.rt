@@ -23,8 +23,8 @@ pub mod laws;
 
 use adapter::{Adapter, Command};
 use ata_types::{
-    DRIVER_BYTES, FRAME_BYTES, Frame, IDENTIFY_DEVICE, PORT_FRAMES, Port, READ_LOG_EXT, READINGS,
-    SCRATCH_FRAME, Slot,
+    DRIVER_BYTES, FRAME_BYTES, Frame, IDENTIFY_DEVICE, MOST_READINGS, PORT_FRAMES, Port,
+    READ_LOG_EXT, SCRATCH_FRAME, Slot,
 };
 use command_table::{prds, write_table};
 use hba_regs::{PortReg, Reg, is_set};
@@ -88,14 +88,14 @@ fn wait<A: Adapter>(adapter: &mut A, port: Port) -> bool
     ensures over { result ≡ true → (o : Operation) (since : ℕ) (uses : SlotStates) (start : Device)
         → IsPageAwaited port o since uses start (A.device adapter.old)
         → IsClear ((A.device adapter.new).port port.0) 0 }
-    ensures still { result ≡ false → ((A.device adapter.new).port port.0).notes.command_count ≡ READINGS }
+    ensures still { result ≡ false → ((A.device adapter.new).port port.0).notes.command_count ≡ MOST_READINGS }
     ensures vain { result ≡ false
-        → IsSimulatedAlong (AreInVain port READINGS) (IsAsking port) AnyUse (A.device adapter.old)
+        → IsSimulatedAlong (AreInVain port MOST_READINGS) (IsAsking port) AnyUse (A.device adapter.old)
         (A.device adapter.new) }
-    ensures cost { MakesAtMost READINGS (A.access_count adapter.old) (A.access_count adapter.new) }
+    ensures cost { MakesAtMost MOST_READINGS (A.access_count adapter.old) (A.access_count adapter.new) }
 {
     law_base();
-    for _reading in 0..READINGS {
+    for _reading in 0..MOST_READINGS {
         let issued = adapter.read(Reg::Px(port, PortReg::Ci));
         if !is_set(issued, 0) {
             return true;

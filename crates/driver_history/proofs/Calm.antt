@@ -14,7 +14,7 @@ use Rattle.refinement.specs.Errors.{IsFatalOf}
 use Rattle.refinement.specs.Facts.{Undisturbed, IsDisturbance, IsFaultOf, ShowsNoTrouble}
 use Rattle.refinement.specs.Links.{IsPlugging}
 use Rattle.refinement.specs.Tape.{TellsAmong}
-use Rattle.block_machine.specs.Events.{Ask, AbstractState, Submit, StoreAt, LoadAt, Service, Tick, Reset, RevokeOf, State, Device as Told, CallResult, Submitted, Stored, Loaded, Served, WasReset, WasRevoked, Shown, Stepped, IsAnswered, HasTimedOut, RestartsTimedOut, changes_disk, moment_after}
+use Rattle.block_machine.specs.Events.{Ask, AbstractState, Submit, StoreAt, LoadAt, Service, Tick, Reset, RevokeOf, State, Device as Told, CallResult, Submitted, Stored, Loaded, Served, WasReset, WasRevoked, Shown, Stepped, IsAnswered, HasTimedOut, RestartsTimedOut, changes_disk, abstract_after}
 use Rattle.block_machine.specs.Histories.{JointState, Happening}
 use Rattle.block_machine.specs.Ports.{Ports, Evidence, IsInterrupted}
 use Rattle.block_machine.specs.State.{Machine}
@@ -140,20 +140,20 @@ module _ (told : EntryIsTold) (wanted : List Wanted) (old : JointState Device) (
 
   changes : list_any (changes_disk port) h.event.steps ≡ true → ⊥
   changes is =
-      let x = told port old.moment.machine t.backed.gained h.event.steps t.backed.tells is in
+      let x = told port old.abstract.machine t.backed.gained h.event.steps t.backed.tells is in
       no_plugging port old h.device healthy (record { gained = t.backed.gained; tape = t.backed.tape; entry = x.0; here = x.1; is = x.2 })
 
   undisturbed : IsDisturbed h.event.evidence h.event.steps port → ⊥
   undisturbed d = ⊎_elim (λ failed. no_errors port old h.device healthy (ev.failed_only failed)) (λ rest. ⊎_elim (λ g. not_gone port old h.device healthy (ev.gone_only g)) changes rest) d
 
-  module _ (asks : h.event.ask ≡ Service) (ready : old.moment.ports.state port ≡ Ready) where
-    serves : ServesReady old.moment h.event.evidence h.event.steps (moment_after old.moment h.event) port
+  module _ (asks : h.event.ask ≡ Service) (ready : old.abstract.ports.state port ≡ Ready) where
+    serves : ServesReady old.abstract h.event.evidence h.event.steps (abstract_after old.abstract h.event) port
     serves =
-        let Heeded : Ask DeviceStep → Type 0 = λ ask. HeedsAt port ask old.moment h.event.evidence h.event.steps (moment_after old.moment h.event) in
+        let Heeded : Ask DeviceStep → Type 0 = λ ask. HeedsAt port ask old.abstract h.event.evidence h.event.steps (abstract_after old.abstract h.event) in
         let its : Heeded Service = subst Heeded asks (t.port port).heeds in
         its ready
 
-    alone : IsLeftAlone old.moment.ports h.event.evidence h.event.steps h.event.ports port
+    alone : IsLeftAlone old.abstract.ports h.event.evidence h.event.steps h.event.ports port
     alone = ⊎_elim (λ d. absurd (undisturbed d)) (λ a. a) serves.calm
 
     pub spared : IsSpared old h t.accesses port
@@ -164,9 +164,9 @@ module _ (told : EntryIsTold) (wanted : List Wanted) (old : JointState Device) (
     }
 
   -- nothing stopped it, unless it is a tick that restarts it, or a reset
-  no_interrupt : (ask : Ask DeviceStep) → HeedsAt port ask old.moment h.event.evidence h.event.steps (moment_after old.moment h.event) → ask ≢ Reset
-      → (ask ≡ Tick → IsInterrupted h.event.evidence port → ⊥) → old.moment.ports.state port ≡ Ready → IsInterrupted h.event.evidence port → ⊥
-  no_interrupt Service heeds other spares ready i = ⊎_elim undisturbed (λ (a : IsLeftAlone old.moment.ports h.event.evidence h.event.steps h.event.ports port). a.uninterrupted i) (heeds ready).calm
+  no_interrupt : (ask : Ask DeviceStep) → HeedsAt port ask old.abstract h.event.evidence h.event.steps (abstract_after old.abstract h.event) → ask ≢ Reset
+      → (ask ≡ Tick → IsInterrupted h.event.evidence port → ⊥) → old.abstract.ports.state port ≡ Ready → IsInterrupted h.event.evidence port → ⊥
+  no_interrupt Service heeds other spares ready i = ⊎_elim undisturbed (λ (a : IsLeftAlone old.abstract.ports h.event.evidence h.event.steps h.event.ports port). a.uninterrupted i) (heeds ready).calm
   no_interrupt Tick heeds other spares ready i = spares refl i
   no_interrupt Reset heeds other spares ready i = other refl
   no_interrupt (Submit r) heeds other spares ready i = heeds i
@@ -176,7 +176,7 @@ module _ (told : EntryIsTold) (wanted : List Wanted) (old : JointState Device) (
   no_interrupt (State at) heeds other spares ready i = heeds i
   no_interrupt (Told step) heeds other spares ready i = heeds i
 
-  pub engine_left : h.event.ask ≢ Reset → (h.event.ask ≡ Tick → IsInterrupted h.event.evidence port → ⊥) → old.moment.ports.state port ≡ Ready → All (LeavesEngine port) t.accesses
+  pub engine_left : h.event.ask ≢ Reset → (h.event.ask ≡ Tick → IsInterrupted h.event.evidence port → ⊥) → old.abstract.ports.state port ≡ Ready → All (LeavesEngine port) t.accesses
   engine_left other spares ready = ⊎_elim (λ a. a) (λ i. absurd (no_interrupt h.event.ask (t.port port).heeds other spares ready i)) ev.stopped_all
 
 tick_restarts : (said : CallResult) (old : AbstractState) (evidence : Evidence) (steps : List Step) (new : AbstractState) → IsAnswered {D = DeviceStep} Tick said old evidence steps new → RestartsTimedOut old evidence steps new

@@ -5,7 +5,7 @@ use Rattle.ata_types.specs.declared.Port.{Port}
 use Rattle.ata_types.specs.declared.request.Outcome.{Outcome}
 use Rattle.adapter.specs.Device.{Device}
 use Rattle.adapter.specs.declared.access.DeviceStep.{DeviceStep}
-use Rattle.block_machine.specs.Events.{Ask, Submit, StoreAt, LoadAt, Service, Tick, Reset, RevokeOf, State, Device as Told, CallResult, Submitted, Stored, Loaded, WasRevoked, Shown, Stepped, AbstractState, IsAnswered, HasTimedOut, IsByServer, moment_after}
+use Rattle.block_machine.specs.Events.{Ask, Submit, StoreAt, LoadAt, Service, Tick, Reset, RevokeOf, State, Device as Told, CallResult, Submitted, Stored, Loaded, WasRevoked, Shown, Stepped, AbstractState, IsAnswered, HasTimedOut, IsByServer, abstract_after}
 use Rattle.block_machine.specs.Histories.{JointState, Happening, now}
 use Rattle.block_machine.specs.Ports.{Ports, Evidence, SamePort}
 use Rattle.block_machine.specs.State.{Pending}
@@ -80,20 +80,20 @@ module _ (told : EntryIsTold) (steps : KeepsWell) (wanted : List Wanted) (first 
 
     engine : All (LeavesEngine port) t.accesses
     engine = engine_left told wanted old h t port healthy.healthy healthy.no_reset
-        (tick_spares h.event.ask h.event.said old.moment h.event.evidence h.event.steps (moment_after old.moment h.event) port history.1.answered healthy.young) healthy.ready
+        (tick_spares h.event.ask h.event.said old.abstract h.event.evidence h.event.steps (abstract_after old.abstract h.event) port history.1.answered healthy.young) healthy.ready
 
     left_alone : Kind h.event.ask → IsSpared old h t.accesses port
     left_alone (service asks) = spared told wanted old h t port healthy.healthy asks healthy.ready
     left_alone (reset asks) = absurd (healthy.no_reset asks)
     left_alone (tick asks) =
-        let r = restarts_of h.event.ask h.event.said old.moment h.event.evidence h.event.steps (moment_after old.moment h.event) history.1.answered asks in
+        let r = restarts_of h.event.ask h.event.said old.abstract h.event.evidence h.event.steps (abstract_after old.abstract h.event) history.1.answered asks in
         record {
           same = ⊎_elim (λ (calm : _ × _). calm.1) (λ (hung : _ × _). absurd (healthy.young asks hung.0)) (r.ports port);
-          told = λ e o here own. absurd (healthy.young asks (subst (HasTimedOut old.moment) own (r.answer e o here)));
+          told = λ e o here own. absurd (healthy.young asks (subst (HasTimedOut old.abstract) own (r.answer e o here)));
           engine = engine;
         }
     left_alone (other one two three) = record {
-      same = same_port h.event.ask h.event.said old.moment h.event.evidence h.event.steps (moment_after old.moment h.event) port history.1.answered one two three;
+      same = same_port h.event.ask h.event.said old.abstract h.event.evidence h.event.steps (abstract_after old.abstract h.event) port history.1.answered one two three;
       told = λ e o here own. ⊎_elim (λ (d : ⊥). absurd d) (λ s. tells_calmly h.event.ask h.event.ports e o s one two three) (belongs_of h.event.ask h.event.ports h.event.steps history.1.belong (Answer e o) here);
       engine = engine;
     }

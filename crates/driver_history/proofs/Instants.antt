@@ -22,35 +22,35 @@ use Rattle.driver_history.specs.Holds.{HoldsAt, HoldsOf, HoldsWith, IsReadyAt}
 
 -- the ports of a history are fit
 pub history_fit : {D E : Type 0} (Begins : JointState D → Type 0) (Relation : JointState D → Happening D E → Type 0) (first : JointState D) (past : List (Happening D E))
-    → histories.IsHistory Begins Relation first past → AreFit (now first past).moment.ports
+    → histories.IsHistory Begins Relation first past → AreFit (now first past).abstract.ports
 history_fit Begins Relation first [] h = h.0.1
 history_fit Begins Relation first (x ∷ past) h = h.1.fit
 
 -- a port that is ready is served, and one of the four
-pub ready_low : (i : JointState Device) (port : Port) → AreFit i.moment.ports → i.moment.ports.state port ≡ Ready → (i.moment.ports.served port ≡ true) × (port.0 < 4)
+pub ready_low : (i : JointState Device) (port : Port) → AreFit i.abstract.ports → i.abstract.ports.state port ≡ Ready → (i.abstract.ports.served port ≡ true) × (port.0 < 4)
 ready_low i port fit ready = ⊎_elim
-    (λ (served : i.moment.ports.served port ≡ true). (served, fit.few port served))
-    (λ (other : i.moment.ports.served port ≡ false). let z : Absent ≡ Ready = sym (fit.absent port other) ∙ ready in absurd cc)
-    (cases_Bool (i.moment.ports.served port))
+    (λ (served : i.abstract.ports.served port ≡ true). (served, fit.few port served))
+    (λ (other : i.abstract.ports.served port ≡ false). let z : Absent ≡ Ready = sym (fit.absent port other) ∙ ready in absurd cc)
+    (cases_Bool (i.abstract.ports.served port))
 
-pub ready_at : (wanted : List Wanted) (i : JointState Device) (port : Port) → AreFit i.moment.ports → (s : InSlots) → HoldsWith wanted s i → i.moment.ports.state port ≡ Ready
+pub ready_at : (wanted : List Wanted) (i : JointState Device) (port : Port) → AreFit i.abstract.ports → (s : InSlots) → HoldsWith wanted s i → i.abstract.ports.state port ≡ Ready
     → IsReadyAt (wanted_of wanted port.0) s i port
 ready_at wanted i port fit s holds ready =
     let low = ready_low i port fit ready in
     subst (λ (state : PortState). HoldsOf (wanted_of wanted port.0) s i port true state) ready
-    (subst (λ (b : Bool). HoldsOf (wanted_of wanted port.0) s i port b (i.moment.ports.state port)) low.0 (holds.port port low.1))
+    (subst (λ (b : Bool). HoldsOf (wanted_of wanted port.0) s i port b (i.abstract.ports.state port)) low.0 (holds.port port low.1))
 
 module _ (wanted : List Wanted) where
   pub holds_at : (first : JointState Device) (past : List (Happening Device DeviceStep)) → IsDriverHistory wanted first past → HoldsAt wanted (now first past)
   holds_at first [] h = h.1.0
   holds_at first (x ∷ past) h = h.2.holds
 
-  pub fit_at : (first : JointState Device) (past : List (Happening Device DeviceStep)) → IsDriverHistory wanted first past → AreFit (now first past).moment.ports
+  pub fit_at : (first : JointState Device) (past : List (Happening Device DeviceStep)) → IsDriverHistory wanted first past → AreFit (now first past).abstract.ports
   fit_at first [] h = h.0.1
   fit_at first (x ∷ past) h = h.1.fit
 
-  module _ (first : JointState Device) (past : List (Happening Device DeviceStep)) (e : Pending) (h : IsDriverHistory wanted first past) (is_ready : (now first past).moment.ports.state e.request.port ≡ Ready)
-      (here : Contains (now first past).moment.machine.book e) (issued : e.issued ≡ true) where
+  module _ (first : JointState Device) (past : List (Happening Device DeviceStep)) (e : Pending) (h : IsDriverHistory wanted first past) (is_ready : (now first past).abstract.ports.state e.request.port ≡ Ready)
+      (here : Contains (now first past).abstract.machine.book e) (issued : e.issued ≡ true) where
     abbrev i : JointState Device
     i = now first past
 
@@ -69,18 +69,18 @@ module _ (wanted : List Wanted) where
         (λ has. has)
         (holds.knows.have e.request.port.0 e (inl (here, issued)) refl)
 
-    usable : slot.0 < (i.moment.ports.mode e.request.port).usable
+    usable : slot.0 < (i.abstract.ports.mode e.request.port).usable
     usable = ⊎_elim
         (λ low. low)
         (λ high. let z : Free ≡ Serves e.request.id = sym (ready.slots.low slot.0 high) ∙ slot.1 in absurd cc)
-        (cases_lt slot.0 (i.moment.ports.mode e.request.port).usable)
+        (cases_lt slot.0 (i.abstract.ports.mode e.request.port).usable)
 
-    pub has_slot : (slot : ℕ) × (slot < (i.moment.ports.mode e.request.port).usable)
-        × ServesRequest i.moment.machine i.device.memory (i.device.port e.request.port.0) e.request.port.0 slot e.request.id
+    pub has_slot : (slot : ℕ) × (slot < (i.abstract.ports.mode e.request.port).usable)
+        × ServesRequest i.abstract.machine i.device.memory (i.device.port e.request.port.0) e.request.port.0 slot e.request.id
         × ((i.device.port e.request.port.0).st ≡ true)
     has_slot = (
       slot.0,
       usable,
-      subst (λ (u : SlotState). RelatesSlot i.moment.machine i.device.memory i.device.tape (i.device.port e.request.port.0) e.request.port.0 slot.0 u) slot.1 (holds.knows.agrees.slot e.request.port.0 slot.0),
+      subst (λ (u : SlotState). RelatesSlot i.abstract.machine i.device.memory i.device.tape (i.device.port e.request.port.0) e.request.port.0 slot.0 u) slot.1 (holds.knows.agrees.slot e.request.port.0 slot.0),
       ready.runs.st,
     )

@@ -219,9 +219,9 @@ module _ (laws : Laws) (port : Port) where
       since = laws.tape.grows_more t.start t.end new middle last
 
   module _ (old : JointState Device) (begun : AbstractState) (ended ports : Ports) (new : Device) (turn call : Evidence) (ask : Ask DeviceStep) (said : CallResult)
-      (on : IsOn old.device) (linked : (old.moment.ports.state port ≡ Ready) ⊎ Contains turn.lost port → (old.device.port port.0).link_due ≡ false) (t : HasTurnIn port old.device new) (on_then : IsOn t.end)
-      (was : SamePort old.moment.ports begun.ports port) (stays : SamePort ended ports port) (alike : NamesAlike port turn call)
-      (its : IsEvidencedOf ask said t.turn (record { device = t.start; moment = begun }) ended t.end turn port) where
+      (on : IsOn old.device) (linked : (old.abstract.ports.state port ≡ Ready) ⊎ Contains turn.lost port → (old.device.port port.0).link_due ≡ false) (t : HasTurnIn port old.device new) (on_then : IsOn t.end)
+      (was : SamePort old.abstract.ports begun.ports port) (stays : SamePort ended ports port) (alike : NamesAlike port turn call)
+      (its : IsEvidencedOf ask said t.turn (record { device = t.start; abstract = begun }) ended t.end turn port) where
     first : IsLeft old.device t.start
     first = others_leave t.before old.device t.start on t.first t.others
 
@@ -280,13 +280,13 @@ module _ (laws : Laws) (port : Port) where
         (gains_or_none (IsFaultOf port.0) (is_fault port.0) old.device t.start first.grows)
 
     -- ready then, ready now
-    ready : old.moment.ports.state port ≡ Ready → begun.ports.state port ≡ Ready
+    ready : old.abstract.ports.state port ≡ Ready → begun.ports.state port ≡ Ready
     ready is = was.1 ∙ is
 
-    ready_then : begun.ports.state port ≡ Ready → old.moment.ports.state port ≡ Ready
+    ready_then : begun.ports.state port ≡ Ready → old.abstract.ports.state port ≡ Ready
     ready_then is = sym was.1 ∙ is
 
-    lost : (old.device.port port.0).link_due ≡ false → IsLost port (record { device = t.start; moment = begun }) ended t.end → IsLost port old ports new
+    lost : (old.device.port port.0).link_due ≡ false → IsLost port (record { device = t.start; abstract = begun }) ended t.end → IsLost port old ports new
     lost undue (inl shown) = ⊎_elim (λ change. inl change) (λ g. inr (inr (inl g))) (changes undue shown)
     lost undue (inr (inl gone)) = ⊎_elim (λ out. inr (inl out)) (λ g. inr (inr (inl g))) (missing undue gone)
     lost undue (inr (inr (inl g))) = inr (inr (inl (within (IsPlugging port.0) g)))
@@ -295,18 +295,18 @@ module _ (laws : Laws) (port : Port) where
       (λ is same. end.1 (sym stays.1 ∙ is) (sym stays.2 ∙ same.0 ∙ sym was.2, sym stays.3 ∙ same.1 ∙ sym was.3)),
     )))
 
-    gone_only : IsGone port (record { device = t.start; moment = begun }) t.end → IsGone port old new
+    gone_only : IsGone port (record { device = t.start; abstract = begun }) t.end → IsGone port old new
     gone_only (is, inl shown) = (ready_then is, ⊎_elim (λ change. inl change) (λ g. inr (inr g)) (changes (linked (inl (ready_then is))) shown))
     gone_only (is, inr (inl gone)) = (ready_then is, ⊎_elim (λ out. inr (inl out)) (λ g. inr (inr g)) (missing (linked (inl (ready_then is))) gone))
     gone_only (is, inr (inr g)) = (ready_then is, inr (inr (within (IsPlugging port.0) g)))
 
-    errors : HasErrors port (record { device = t.start; moment = begun }) t.end → HasErrors port old new
+    errors : HasErrors port (record { device = t.start; abstract = begun }) t.end → HasErrors port old new
     errors (is, inl (inl shown)) = (ready_then is, ⊎_elim (λ f. inl (inl f)) (λ g. inr (inr g)) (fatal shown))
     errors (is, inl (inr shown)) = (ready_then is, ⊎_elim (λ f. inl (inr f)) (λ g. inr (inl g)) (failed shown))
     errors (is, inr (inl g)) = (ready_then is, inr (inl (within (IsFaultOf port.0) g)))
     errors (is, inr (inr g)) = (ready_then is, inr (inr (within (IsFatalOf port.0) g)))
 
-    fatal_errors : HasFatalErrors port (record { device = t.start; moment = begun }) t.end → HasFatalErrors port old new
+    fatal_errors : HasFatalErrors port (record { device = t.start; abstract = begun }) t.end → HasFatalErrors port old new
     fatal_errors (is, inl shown) = (ready_then is, ⊎_elim (λ f. inl f) (λ g. inr g) (fatal shown))
     fatal_errors (is, inr g) = (ready_then is, inr (within (IsFatalOf port.0) g))
 

@@ -121,16 +121,16 @@ legal_before start (step ∷ late) early legal = legal_before start late early l
 
 module _ (wanted : List Wanted) (first : JointState Device) (past : List (Happening Device DeviceStep)) (h : Happening Device DeviceStep) (history : IsHistory (Begins wanted) (CallCorresponds wanted) first (h ∷ past)) where
   abbrev start : Machine
-  start = first.moment.machine
+  start = first.abstract.machine
 
   abbrev early : List Step
   early = steps_of (events_of past)
 
-  run : IsRun first.moment (events_of (h ∷ past))
+  run : IsRun first.abstract (events_of (h ∷ past))
   run = history_runs wanted first (h ∷ past) history
 
   abbrev m : Machine
-  m = (now first past).moment.machine
+  m = (now first past).abstract.machine
 
   confined : (op : Op) (move : tape_move.Move) → IsAmong m h.event.steps op move → IsConfinedMove start early h.event.steps op move
   confined op move a = record {
@@ -140,8 +140,8 @@ module _ (wanted : List Wanted) (first : JointState Device) (past : List (Happen
     here = a.here;
     touch = then;
     confined =
-        let s = step_of_run first.moment (events_of (h ∷ past)) a.later (Touch then.pending then.number (slice_index move.bytes.value)) (a.before ++ early) run split in
-        law_touch_is_confined start (a.before ++ early) then.pending then.number (slice_index move.bytes.value) (run_starts first.moment (events_of (h ∷ past)) run) s.0 s.1;
+        let s = step_of_run first.abstract (events_of (h ∷ past)) a.later (Touch then.pending then.number (slice_index move.bytes.value)) (a.before ++ early) run split in
+        law_touch_is_confined start (a.before ++ early) then.pending then.number (slice_index move.bytes.value) (run_starts first.abstract (events_of (h ∷ past)) run) s.0 s.1;
   }
     where
       then : MovesSector (after start (a.before ++ early)) op move (a.step ∷ [])
@@ -165,8 +165,8 @@ module _ (wanted : List Wanted) (first : JointState Device) (past : List (Happen
     before = c.before;
     here = c.here;
     clears = then;
-    accepted = living_accepted start (c.before ++ early) (run_starts first.moment (events_of (h ∷ past)) run)
-        (legal_before start (c.later ++ c.touches) (c.before ++ early) (subst (IsLegal start) split (run_legal first.moment (events_of (h ∷ past)) run)))
+    accepted = living_accepted start (c.before ++ early) (run_starts first.abstract (events_of (h ∷ past)) run)
+        (legal_before start (c.later ++ c.touches) (c.before ++ early) (subst (IsLegal start) split (run_legal first.abstract (events_of (h ∷ past)) run)))
         then.pending (runs_lives (after start (c.before ++ early)) then.pending then.moves);
   }
     where

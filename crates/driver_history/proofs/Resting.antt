@@ -11,7 +11,7 @@ use Rattle.ata_types.specs.declared.request.Outcome.{Outcome}
 use Rattle.ata_types.specs.declared.request.Outcome.TheVariants as outcome
 use Rattle.adapter.specs.Device.{Device}
 use Rattle.adapter.specs.declared.access.DeviceStep.{DeviceStep}
-use Rattle.block_machine.specs.Events.{Ask, Submit, StoreAt, LoadAt, Service, Tick, Reset, RevokeOf, State, Device as Told, CallResult, AbstractState, AllLawful, AllMay, Belong, Happens, IsByDevice, IsLawful, IsByServer, moment_after}
+use Rattle.block_machine.specs.Events.{Ask, Submit, StoreAt, LoadAt, Service, Tick, Reset, RevokeOf, State, Device as Told, CallResult, AbstractState, AllLawful, AllMay, Belong, Happens, IsByDevice, IsLawful, IsByServer, abstract_after}
 use Rattle.block_machine.specs.Histories.{JointState, Happening}
 use Rattle.block_machine.specs.Ports.{Ports, Evidence, AreFit}
 use Rattle.block_machine.specs.State.{Pending, Machine}
@@ -26,13 +26,13 @@ use Rattle.driver_history.specs.Histories.{CallCorresponds}
 use Rattle.driver_history.specs.Holds.{HoldsAt, HoldsOf, IsDeadAt}
 
 -- a dead port is one of the four, and dead
-dead_at : (wanted : List Wanted) (i : JointState Device) (port : Port) → AreFit i.moment.ports → HoldsAt wanted i → i.moment.ports.state port ≡ Dead → IsDeadAt (wanted_of wanted port.0) i port
+dead_at : (wanted : List Wanted) (i : JointState Device) (port : Port) → AreFit i.abstract.ports → HoldsAt wanted i → i.abstract.ports.state port ≡ Dead → IsDeadAt (wanted_of wanted port.0) i port
 dead_at wanted i port fit (s, holds) dead = ⊎_elim
-    (λ (served : i.moment.ports.served port ≡ true).
+    (λ (served : i.abstract.ports.served port ≡ true).
     subst (λ (state : PortState). HoldsOf (wanted_of wanted port.0) s i port true state) dead
-    (subst (λ (b : Bool). HoldsOf (wanted_of wanted port.0) s i port b (i.moment.ports.state port)) served (holds.port port (fit.few port served))))
-    (λ (other : i.moment.ports.served port ≡ false). let z : Absent ≡ Dead = sym (fit.absent port other) ∙ dead in absurd cc)
-    (cases_Bool (i.moment.ports.served port))
+    (subst (λ (b : Bool). HoldsOf (wanted_of wanted port.0) s i port b (i.abstract.ports.state port)) served (holds.port port (fit.few port served))))
+    (λ (other : i.abstract.ports.served port ≡ false). let z : Absent ≡ Dead = sym (fit.absent port other) ∙ dead in absurd cc)
+    (cases_Bool (i.abstract.ports.served port))
 
 -- ---- a step of a call
 
@@ -85,16 +85,16 @@ grant_gone shrink m (step ∷ before) e may h has =
     (λ i. grant_gone shrink m before e may.0 i had)
     (contains_cases step before (Answer e outcome.Revoked) h)
 
-module _ (wanted : List Wanted) (old : JointState Device) (h : Happening Device DeviceStep) (x : Happens old.moment h.event) (t : CallCorresponds wanted old h) where
-  lawful : (e : Pending) (o : Outcome) → Contains h.event.steps (Answer e o) → IsLawful old.moment h.event.evidence h.event.ports e o
-  lawful e o here = lawful_of old.moment h.event.evidence h.event.ports h.event.steps x.lawful e o here
+module _ (wanted : List Wanted) (old : JointState Device) (h : Happening Device DeviceStep) (x : Happens old.abstract h.event) (t : CallCorresponds wanted old h) where
+  lawful : (e : Pending) (o : Outcome) → Contains h.event.steps (Answer e o) → IsLawful old.abstract h.event.evidence h.event.ports e o
+  lawful e o here = lawful_of old.abstract h.event.evidence h.event.ports h.event.steps x.lawful e o here
 
   -- a port of which Unplugged is told was lost
   pub lost_then : (e : Pending) → Contains h.event.steps (Answer e outcome.Unplugged) → IsLost e.request.port old h.event.ports h.device
   lost_then e here = (t.evidenced.port e.request.port).lost (lawful e outcome.Unplugged here).0
 
   module _ (shrink : RowsShrink) where
-    rests : (e : Pending) (o : Outcome) → Contains h.event.steps (Answer e o) → IsLawful old.moment h.event.evidence h.event.ports e o → AnswerRests old h t.accesses e o
+    rests : (e : Pending) (o : Outcome) → Contains h.event.steps (Answer e o) → IsLawful old.abstract h.event.evidence h.event.ports e o → AnswerRests old h t.accesses e o
     rests e outcome.Ok here l = l
     rests e (outcome.DeviceError status error) here l = (
       t.evidenced.faults _ l.2,
@@ -109,10 +109,10 @@ module _ (wanted : List Wanted) (old : JointState Device) (h : Happening Device 
     rests e outcome.PortDead here l = (
       l,
       ⊎_elim (λ ends. inl ends.1) (λ off. inr off)
-          (dead_at wanted (record { device = h.device; moment = moment_after old.moment h.event }) e.request.port x.fit t.holds l).why,
+          (dead_at wanted (record { device = h.device; abstract = abstract_after old.abstract h.event }) e.request.port x.fit t.holds l).why,
     )
     rests e outcome.Revoked here l = (
-      grant_gone shrink old.moment.machine h.event.steps e x.may here,
+      grant_gone shrink old.abstract.machine h.event.steps e x.may here,
       ⊎_elim
           (λ waits. inl waits)
           (λ again. inr (⊎_elim (λ stops. inl stops) (λ ends. inr ends.0) ((t.evidenced.port e.request.port).stopped_only again.1)))

@@ -19,7 +19,7 @@ use Rattle.refinement.specs.Relation.{StateRelation, port_at}
 use Rattle.refinement.specs.Facts.{IsStill}
 use Rattle.refinement.specs.Links.{IsPlugging, PlugsNone}
 use Rattle.refinement.specs.Slots.{ServesRequest, Stage, SlotStates}
-use Rattle.block_machine.specs.Events.{Ask, Service, moment_after}
+use Rattle.block_machine.specs.Events.{Ask, Service, abstract_after}
 use Rattle.block_machine.specs.Histories.{JointState, Happening, IsReachable, now}
 use Rattle.block_machine.specs.Ports.{SameDisk}
 use Rattle.block_machine.specs.State.{Accepted, Machine, Pending}
@@ -37,14 +37,14 @@ abbrev pub UnlentIsStill : Type 0
 UnlentIsStill = (uses : SlotStates) (m : Machine) (d : Device) (frame : Frame) → IsReachable m → StateRelation uses m d → m.lent frame ≡ None → DRIVER_FRAMES ≤ frame.0 → IsStable (IsStill frame) d
 
 -- the machine of a history is reached
-pub history_reached : (wanted : List Wanted) (first : JointState Device) (past : List (Happening Device DeviceStep)) → IsDriverHistory wanted first past → IsReachable (now first past).moment.machine
+pub history_reached : (wanted : List Wanted) (first : JointState Device) (past : List (Happening Device DeviceStep)) → IsDriverHistory wanted first past → IsReachable (now first past).abstract.machine
 history_reached wanted first past history = history_reaches (Begins wanted) (CallCorresponds wanted) first past history
 
 pub unlent_still : UnlentIsStill → (wanted : List Wanted) (first : JointState Device) (past : List (Happening Device DeviceStep)) (frame : Frame) → IsDriverHistory wanted first past
-    → DRIVER_FRAMES ≤ frame.0 → (now first past).moment.machine.lent frame ≡ None → IsStable (IsStill frame) (now first past).device
+    → DRIVER_FRAMES ≤ frame.0 → (now first past).abstract.machine.lent frame ≡ None → IsStable (IsStill frame) (now first past).device
 unlent_still law wanted first past frame history low free =
     let h = holds_at wanted first past history in
-    law h.0.uses (now first past).moment.machine (now first past).device frame (history_reached wanted first past history) h.1.knows.agrees free low
+    law h.0.uses (now first past).abstract.machine (now first past).device frame (history_reached wanted first past history) h.1.knows.agrees free low
 
 -- ---- what is seen
 
@@ -62,8 +62,8 @@ ended_of memory p port slot e c places (inr (inr (inl ended))) st ci sact = ende
 ended_of memory p port slot e c places (inr (inr (inr dropped))) st ci sact = absurd (false≢true (sym dropped.stopped ∙ st))
 
 pub seen_answered : (wanted : List Wanted) (first : JointState Device) (past : List (Happening Device DeviceStep)) (h : Happening Device DeviceStep) (port : Port) (slot : ℕ) (id : RequestId)
-    → IsDriverHistory wanted first (h ∷ past) → h.event.ask ≡ Service → (now first past).moment.ports.state port ≡ Ready
-    → ServesRequest (now first past).moment.machine (now first past).device.memory ((now first past).device.port port.0) port.0 slot id
+    → IsDriverHistory wanted first (h ∷ past) → h.event.ask ≡ Service → (now first past).abstract.ports.state port ≡ Ready
+    → ServesRequest (now first past).abstract.machine (now first past).device.memory ((now first past).device.port port.0) port.0 slot id
     → ((now first past).device.port port.0).ci slot ≡ false → ((now first past).device.port port.0).sact slot ≡ false
     → (done : Pending) × (done.request.id ≡ id) × Contains h.event.steps (Answer done outcome.Ok)
 seen_answered wanted first past h port slot id history asks asked serves ci sact =
@@ -72,9 +72,9 @@ seen_answered wanted first past h port slot id history asks asked serves ci sact
     let holds = holds_at wanted first past history.0 in
     let at = ready_at wanted old port (fit_at wanted first past history.0) holds.0 holds.1 asked in
     let same_port : serves.pending.request.port ≡ port = ap port_at serves.port_is in
-    let booked : Contains old.moment.machine.book serves.pending = ⊎_elim (λ b. b.0) (λ k. absurd (at.kept serves.pending k same_port)) serves.moves in
+    let booked : Contains old.abstract.machine.book serves.pending = ⊎_elim (λ b. b.0) (λ k. absurd (at.kept serves.pending k same_port)) serves.moves in
     let ended : serves.pending.ended ≡ true = ended_of old.device.memory (old.device.port port.0) port.0 slot serves.pending serves.command serves.places serves.stage at.runs.st ci sact in
-    let Heeded : Ask DeviceStep → Type 0 = λ ask. HeedsAt port ask old.moment h.event.evidence h.event.steps (moment_after old.moment h.event) in
+    let Heeded : Ask DeviceStep → Type 0 = λ ask. HeedsAt port ask old.abstract h.event.evidence h.event.steps (abstract_after old.abstract h.event) in
     let served : Heeded Service = subst Heeded asks (t.port port).heeds in
     let answer = (served asked).ended serves.pending booked same_port ended in
     (answer.0, ap (λ (r : Accepted). r.id) answer.1 ∙ serves.id_is, answer.2)
@@ -90,7 +90,7 @@ none_of port old new u g =
 pub unplugged_refused : (wanted : List Wanted) (first : JointState Device) (past : List (Happening Device DeviceStep)) (h : Happening Device DeviceStep) (e : Pending)
     → IsDriverHistory wanted first (h ∷ past) → (ShowsChange ((now first past).device.port e.request.port.0) → ⊥) → ((now first past).device.port e.request.port.0).ssts_det ≡ 3
     → PlugsNone e.request.port.0 (now first past).device h.device
-    → (h.event.ports.state e.request.port ≡ Dead) ⊎ ((h.event.ports.state e.request.port ≡ Ready) × SameDisk (now first past).moment.ports h.event.ports e.request.port)
+    → (h.event.ports.state e.request.port ≡ Dead) ⊎ ((h.event.ports.state e.request.port ≡ Ready) × SameDisk (now first past).abstract.ports h.event.ports e.request.port)
     → Contains h.event.steps (Answer e outcome.Unplugged) → ⊥
 unplugged_refused wanted first past h e history quiet det none ends here =
     let lost = lost_then wanted (now first past) h history.1 history.2 e here in

@@ -5,7 +5,7 @@ use Rattle.adapter.specs.declared.access.DeviceStep.{DeviceStep}
 use Rattle.refinement.proofs.steps.FollowedSteps.{told_append}
 use Rattle.block_machine.specs.Events.{CallRecord, AbstractState, IsRun, EveryReadHolds, steps_of}
 use Rattle.block_machine.specs.Histories.{JointState, Happening, IsHistory, now, events_of}
-use Rattle.block_machine.specs.Left.{after, AllTold}
+use Rattle.block_machine.specs.Left.{after, AllTellSectors}
 use Rattle.block_machine.specs.State.{Machine}
 use Rattle.block_machine.proofs.EventLemmas.{moment_is}
 use Rattle.block_machine.proofs.HistoryLemmas.{history_is_run, history_reads, now_is}
@@ -14,7 +14,7 @@ use Rattle.identify.specs.declared.wanted.Wanted.{Wanted}
 use Rattle.driver_history.specs.Histories.{Begins, CallCorresponds}
 
 module _ (wanted : List Wanted) where
-  pub history_runs : (first : JointState Device) (past : List (Happening Device DeviceStep)) → IsHistory (Begins wanted) (CallCorresponds wanted) first past → IsRun first.moment (events_of past)
+  pub history_runs : (first : JointState Device) (past : List (Happening Device DeviceStep)) → IsHistory (Begins wanted) (CallCorresponds wanted) first past → IsRun first.abstract (events_of past)
   history_runs = history_is_run (Begins wanted) (CallCorresponds wanted)
 
   -- disks go on to tell their sectors, if they did
@@ -22,18 +22,18 @@ module _ (wanted : List Wanted) where
   telling_stays first [] h = refl
   telling_stays first (x ∷ past) h = h.2.backed.telling ∙ telling_stays first past h.0
 
-  pub machine_is : (first : JointState Device) (past : List (Happening Device DeviceStep)) → (now first past).moment.machine ≡ after first.moment.machine (steps_of (events_of past))
-  machine_is first past = ap (λ (m : AbstractState). m.machine) (now_is first past) ∙ moment_is first.moment (events_of past)
+  pub machine_is : (first : JointState Device) (past : List (Happening Device DeviceStep)) → (now first past).abstract.machine ≡ after first.abstract.machine (steps_of (events_of past))
+  machine_is first past = ap (λ (m : AbstractState). m.machine) (now_is first past) ∙ moment_is first.abstract (events_of past)
 
-  all_told : (first : JointState Device) (past : List (Happening Device DeviceStep)) → IsHistory (Begins wanted) (CallCorresponds wanted) first past → first.device.telling ≡ true → AllTold first.moment.machine (steps_of (events_of past))
+  all_told : (first : JointState Device) (past : List (Happening Device DeviceStep)) → IsHistory (Begins wanted) (CallCorresponds wanted) first past → first.device.telling ≡ true → AllTellSectors first.abstract.machine (steps_of (events_of past))
   all_told first [] h tells = tt
-  all_told first (x ∷ past) h tells = told_append first.moment.machine x.event.steps (steps_of (events_of past)) (all_told first past h.0 tells)
-      (subst (λ (m : Machine). AllTold m x.event.steps) (machine_is first past) (h.2.backed.told (telling_stays first past h.0 ∙ tells)))
+  all_told first (x ∷ past) h tells = told_append first.abstract.machine x.event.steps (steps_of (events_of past)) (all_told first past h.0 tells)
+      (subst (λ (m : Machine). AllTellSectors m x.event.steps) (machine_is first past) (h.2.backed.told (telling_stays first past h.0 ∙ tells)))
 
-  pub law_every_read_holds : (first : JointState Device) (past : List (Happening Device DeviceStep)) → IsHistory (Begins wanted) (CallCorresponds wanted) first past → first.device.telling ≡ true → EveryReadHolds first.moment (events_of past)
+  pub law_every_read_holds : (first : JointState Device) (past : List (Happening Device DeviceStep)) → IsHistory (Begins wanted) (CallCorresponds wanted) first past → first.device.telling ≡ true → EveryReadHolds first.abstract (events_of past)
   law_every_read_holds first past h tells = history_reads (Begins wanted) (CallCorresponds wanted) first past h (all_told first past h tells)
 
   -- what is said of the runs of disks that tell
-  pub law_every_plug_finds : ((first : AbstractState) (run : List (CallRecord DeviceStep)) → IsRun first run → AllTold first.machine (steps_of run) → EveryPlugFinds first.machine (steps_of run))
-      → (first : JointState Device) (past : List (Happening Device DeviceStep)) → IsHistory (Begins wanted) (CallCorresponds wanted) first past → first.device.telling ≡ true → EveryPlugFinds first.moment.machine (steps_of (events_of past))
-  law_every_plug_finds finds first past h tells = finds first.moment (events_of past) (history_runs first past h) (all_told first past h tells)
+  pub law_every_plug_finds : ((first : AbstractState) (run : List (CallRecord DeviceStep)) → IsRun first run → AllTellSectors first.machine (steps_of run) → EveryPlugFinds first.machine (steps_of run))
+      → (first : JointState Device) (past : List (Happening Device DeviceStep)) → IsHistory (Begins wanted) (CallCorresponds wanted) first past → first.device.telling ≡ true → EveryPlugFinds first.abstract.machine (steps_of (events_of past))
+  law_every_plug_finds finds first past h tells = finds first.abstract (events_of past) (history_runs first past h) (all_told first past h tells)

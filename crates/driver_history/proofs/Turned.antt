@@ -82,7 +82,7 @@ module _ (laws : Laws) (port : Port) where
     since = laws.tape.grows_more t.start t.end new middle last.grows
 
     abbrev began : JointState Device
-    began = record { device = t.start; moment = begun }
+    began = record { device = t.start; abstract = begun }
 
     -- ---- what didn't come in the call didn't in the turn
 
@@ -105,7 +105,7 @@ module _ (laws : Laws) (port : Port) where
       reset_in_turn : ResetsLink port (all_of t) → ResetsLink port t.turn
       reset_in_turn r = reset_before port t.turn t.later (spares_other t.later t.others_later) (reset_after port t.before (t.turn ++ t.later) (spares_other t.before t.others) r)
 
-      pub boots_are_the_calls : (one other : CallResult) → (old.moment.ports.state port ≡ Ready → (old.device.port port.0).link_due ≡ false) → SamePort old.moment.ports begun.ports port → BootsAnew Service one t.turn began ended t.end port
+      pub boots_are_the_calls : (one other : CallResult) → (old.abstract.ports.state port ≡ Ready → (old.device.port port.0).link_due ≡ false) → SamePort old.abstract.ports begun.ports port → BootsAnew Service one t.turn began ended t.end port
           → BootsAnew Service other (all_of t) old ports new port
       boots_are_the_calls one other undue was its = (
         λ ready port_error. booted (its.0 (was.1 ∙ ready) (⊎_elim
@@ -137,14 +137,14 @@ module _ (laws : Laws) (port : Port) where
           let b = laws.tape.comes_parts port.0 t.start t.end new middle.0 last.grows.0 middle.1 last.grows.1 a.1 in
           (a.0, b.0, b.1)
 
-      bad_then : SamePort old.moment.ports begun.ports port → IsUnfitOrForeign old.moment.ports port → IsUnfitOrForeign begun.ports port
+      bad_then : SamePort old.abstract.ports begun.ports port → IsUnfitOrForeign old.abstract.ports port → IsUnfitOrForeign begun.ports port
       bad_then was bad = ⊎_elim (λ foreign. inl (was.1 ∙ foreign)) (λ unfit. inr (unfit.0, was.1 ∙ unfit.1)) bad
 
       -- X that was shown is shown still
       x_then : (old.device.port port.0).serr_x ≡ true → (t.start.port port.0).serr_x ≡ true
       x_then x = (first.trouble_shown links).still x
 
-      pub linked_is_the_calls : SamePort old.moment.ports begun.ports port → EndsLinked port began ended t.end → EndsLinked port old ports new
+      pub linked_is_the_calls : SamePort old.abstract.ports begun.ports port → EndsLinked port began ended t.end → EndsLinked port old ports new
       linked_is_the_calls was linked bad x none =
           let parts = comes none in
           ⊎_elim
@@ -156,7 +156,7 @@ module _ (laws : Laws) (port : Port) where
       fresh_still : NoneComes port.0 t.end new → IsFreshOrUnshown (t.end.port port.0) → IsFreshOrUnshown (new.port port.0)
       fresh_still none fresh = fresh_or_gone (new.port port.0) (stays_over IsFreshIfShown (laws.fresh port) t.later t.end new t.last none (fresh_if_shown (t.end.port port.0) fresh))
 
-      pub tries_are_the_calls : SamePort old.moment.ports begun.ports port → (IsUnfitOrForeign old.moment.ports port → HasDeviceOrNone (old.device.port port.0)) → EndsLinked port began ended t.end
+      pub tries_are_the_calls : SamePort old.abstract.ports begun.ports port → (IsUnfitOrForeign old.abstract.ports port → HasDeviceOrNone (old.device.port port.0)) → EndsLinked port began ended t.end
           → (NoneComes port.0 t.start t.end → ProbesDisk t.turn began ended t.end port) → NoneComes port.0 old.device new → ProbesDisk (all_of t) old ports new port
       tries_are_the_calls was there linked tried none = record {
         shown = λ absent shows. ⊎_elim
@@ -201,7 +201,7 @@ module _ (laws : Laws) (port : Port) where
               (stays_over IsFreshIfShown (laws.fresh port) t.later t.end new t.last parts.2 (stays_over IsFreshIfShown (laws.fresh port) t.turn t.start t.end t.then parts.1 fresh))
 
           -- where no disk was in, none is when the turn begins
-          vacant_then : IsUnfitOrForeign old.moment.ports port → (old.device.port port.0).ssts_det ≢ 3 → IsVacant (t.start.port port.0)
+          vacant_then : IsUnfitOrForeign old.abstract.ports port → (old.device.port port.0).ssts_det ≢ 3 → IsVacant (t.start.port port.0)
           vacant_then bad out = stays_over IsVacant (laws.vacant port) t.before old.device t.start t.first parts.0
               (⊎_elim (λ (shows : (old.device.port port.0).ssts_det ≡ 3). absurd (out shows)) (λ gone. record { out = gone; det = out }) (there bad))
 
@@ -240,7 +240,7 @@ module _ (laws : Laws) (port : Port) where
               (parts_at middle.0 last.grows.0 o.0 later e o.2))
               (parts_at first.grows.0 (middle.0 ++ last.grows.0) before later e (append_cancel_left old.device.tape (first.grows.0 ++ (middle.0 ++ last.grows.0)) (before ++ e ∷ later) (sym whole_tape ∙ tape)))
 
-        module _ (was : SamePort old.moment.ports begun.ports port) (set_since : ended.state port ≡ Ready → IsInterrupted turn port → length t.start.tape ≤ (t.end.port port.0).notes.st_set_at)
+        module _ (was : SamePort old.abstract.ports begun.ports port) (set_since : ended.state port ≡ Ready → IsInterrupted turn port → length t.start.tape ≤ (t.end.port port.0).notes.st_set_at)
             (stops : (begun.ports.state port ≡ Ready) ⊎ (ended.state port ≡ Ready) → ShowsFailure (t.start.port port.0) ⊎ ShowsChange (t.start.port port.0) → IsInterrupted turn port) (its : LosesNoPortError turn began ended t.end port) where
           -- trouble that came before the turn stopped a ready port in it
           stopped : (begun.ports.state port ≡ Ready) ⊎ (ended.state port ≡ Ready) → (kind : TroubleKind) → Gains (IsOne kind port.0) old.device t.start → IsInterrupted turn port
@@ -331,7 +331,7 @@ module _ (laws : Laws) (port : Port) (old : JointState Device) (begun : Abstract
       shown)
 
   -- where TFES alone is shown, with no other trouble in the call, so it is in its turn
-  pub alone_then : HasFaultAlone port (record { device = t.start; moment = begun }) t.end
+  pub alone_then : HasFaultAlone port (record { device = t.start; abstract = begun }) t.end
   alone_then =
       let middle = grows_over laws port t.turn t.start t.end t.then in
       let last = grows_over laws port t.later t.end new t.last in

@@ -4,13 +4,13 @@ use Rattle.ata_types.specs.declared.Port.{Port}
 use Rattle.ata_types.specs.declared.PortState.TheVariants.{Ready, Dead}
 use Rattle.ata_types.specs.declared.request.Outcome.{Outcome}
 use Rattle.ata_types.specs.declared.request.Outcome.TheVariants as outcome
-use Rattle.ata_types.specs.declared.limits.TheConstants.{READINGS}
+use Rattle.ata_types.specs.declared.limits.TheConstants.{MOST_READINGS}
 use Rattle.adapter.specs.Access.{Access}
 use Rattle.adapter.specs.Device.{Device}
 use Rattle.adapter.specs.Rules.{IsOn}
 use Rattle.adapter.specs.declared.access.DeviceStep.{DeviceStep}
 use Rattle.refinement.specs.Facts.{RunsWell}
-use Rattle.block_machine.specs.Events.{Ask, Reset, RevokeOf, Service, Tick, AnswersEnded, HasTimedOut, NoneKeepsIssue, WasIssued, moment_after}
+use Rattle.block_machine.specs.Events.{Ask, Reset, RevokeOf, Service, Tick, AnswersEnded, HasTimedOut, NoneKeepsIssue, WasIssued, abstract_after}
 use Rattle.block_machine.specs.Histories.{JointState, Happening}
 use Rattle.block_machine.specs.Ports.{IsInterrupted, SamePort}
 use Rattle.block_machine.specs.State.{Pending}
@@ -31,7 +31,7 @@ IsCalmlyTold ask o = o ≡ outcome.Ok
 -- neither PxCMD nor PxSCTL of it is written.
 pub record IsSpared (old : JointState Device) (h : Happening Device DeviceStep) (accesses : List Access)
     (port : Port) : Type 0 where
-  pub same : SamePort old.moment.ports h.event.ports port
+  pub same : SamePort old.abstract.ports h.event.ports port
   pub told : (e : Pending) (o : Outcome) → Contains h.event.steps (Answer e o) → e.request.port ≡ port
       → IsCalmlyTold h.event.ask o
   pub engine : All (LeavesEngine port) accesses
@@ -43,15 +43,15 @@ pub record IsSpared (old : JointState Device) (h : Happening Device DeviceStep) 
 -- request wasn't issued, or the port was stopped.
 abbrev pub AnswerRests : JointState Device → Happening Device DeviceStep → List Access → Pending → Outcome → Type 0
 AnswerRests old h accesses e outcome.Ok =
-    WasIssued old.moment.machine e.request.id × (e.issued ≡ true) × AllTouched e × (e.ended ≡ true)
+    WasIssued old.abstract.machine e.request.id × (e.issued ≡ true) × AllTouched e × (e.ended ≡ true)
 AnswerRests old h accesses e (outcome.DeviceError status error) =
     IsFaultTold old h.device accesses (record { id = e.request.id; status = status; error = error })
     × Stops e.request.port accesses
 AnswerRests old h accesses e outcome.Aborted = (e.issues ≡ 4) × (h.event.ports.state e.request.port ≡ Ready)
 AnswerRests old h accesses e outcome.Unplugged = IsLost e.request.port old h.event.ports h.device
 AnswerRests old h accesses e outcome.PortDead = (h.event.ports.state e.request.port ≡ Dead)
-    × (((h.device.port e.request.port.0).notes.engine_count ≡ READINGS) ⊎ (IsOn h.device → ⊥))
-AnswerRests old h accesses e outcome.Revoked = (HasGrant (moment_after old.moment h.event).machine e → ⊥)
+    × (((h.device.port e.request.port.0).notes.engine_count ≡ MOST_READINGS) ⊎ (IsOn h.device → ⊥))
+AnswerRests old h accesses e outcome.Revoked = (HasGrant (abstract_after old.abstract h.event).machine e → ⊥)
     × ((e.issued ≡ false) ⊎ (Stops e.request.port accesses ⊎ IsEndedReset h.event.ask h.event.said))
 
 -- ---- healthy calls
@@ -59,20 +59,20 @@ AnswerRests old h accesses e outcome.Revoked = (HasGrant (moment_after old.momen
 -- A call is healthy for a port that is ready, runs well when it begins, and on which nothing goes wrong meanwhile; it
 -- isn't a reset, nor a tick that brings a request of the port to its age of three.
 pub record IsHealthyFor (old : JointState Device) (h : Happening Device DeviceStep) (port : Port) : Type 0 where
-  pub ready : old.moment.ports.state port ≡ Ready
+  pub ready : old.abstract.ports.state port ≡ Ready
   pub healthy : StaysHealthy port.0 old.device h.device
   pub no_reset : h.event.ask ≢ Reset
-  pub young : h.event.ask ≡ Tick → HasTimedOut old.moment port → ⊥
+  pub young : h.event.ask ≡ Tick → HasTimedOut old.abstract port → ⊥
 
 -- Such a call goes well for it: the port is left alone, and runs well after it; a service has read the masks, and
 -- answered exactly what they show done; and what is due is issued.
 pub record GoesWellFor (old : JointState Device) (h : Happening Device DeviceStep) (port : Port) : Type 0 where
   pub accesses : List Access
-  pub came : CameBy old.moment h.event.ask h.event.said accesses old.device h.device
+  pub came : CameBy old.abstract h.event.ask h.event.said accesses old.device h.device
   pub spared : IsSpared old h accesses port
   pub well : RunsWell (h.device.port port.0)
   pub finds : FindsIn h.event.ask accesses old h.event.steps port
-  pub issues : Issues h.event.ask h.event.steps (moment_after old.moment h.event).machine h.event.ports port
+  pub issues : Issues h.event.ask h.event.steps (abstract_after old.abstract h.event).machine h.event.ports port
 
 -- ---- failures
 
@@ -82,9 +82,9 @@ pub record GoesWellFor (old : JointState Device) (h : Happening Device DeviceSte
 -- call, and no disk that goes or comes, a plain one that was outstanding, and hadn't ended, is told its fault, unless
 -- the port ends dead. So it isn't tried again.
 pub record HeedsFailure (port : Port) (old : JointState Device) (h : Happening Device DeviceStep) : Type 0 where
-  pub ended : AnswersEnded old.moment.machine h.event.steps port
+  pub ended : AnswersEnded old.abstract.machine h.event.steps port
   pub stopped : IsInterrupted h.event.evidence port
-  pub anew : NoneKeepsIssue h.event.steps (moment_after old.moment h.event).machine port
+  pub anew : NoneKeepsIssue h.event.steps (abstract_after old.abstract h.event).machine port
   pub single : count_by (tells_fault port) h.event.steps ≤ 1
   pub fatal : ShowsFatal (old.device.port port.0) → count_by (tells_fault port) h.event.steps ≡ 0
   pub told : TellsPlainFaults Service old h.event.ports h.device h.event.steps port
@@ -95,7 +95,7 @@ pub record HeedsFailure (port : Port) (old : JointState Device) (h : Happening D
 -- and each of its other requests is answered, too, all with Unplugged, or all with PortDead. The port was stopped, or
 -- got stuck.
 pub record HeedsLoss (port : Port) (old : JointState Device) (h : Happening Device DeviceStep) : Type 0 where
-  pub ended : AnswersEnded old.moment.machine h.event.steps port
-  pub emptied : (e : Pending) → Contains (moment_after old.moment h.event).machine.book e → e.request.port ≢ port
+  pub ended : AnswersEnded old.abstract.machine h.event.steps port
+  pub emptied : (e : Pending) → Contains (abstract_after old.abstract h.event).machine.book e → e.request.port ≢ port
   pub told : AreTold outcome.Unplugged h.event.steps port ⊎ AreTold outcome.PortDead h.event.steps port
   pub stopped : IsInterrupted h.event.evidence port

@@ -3,7 +3,7 @@
 use Rattle.std.specs.Prelude.{ℕ, true, false, ◌≡◌, ◌≢◌, ◌⊎◌, ◌++◌, List, All, Contains, Some, None}
 use Rattle.ata_types.specs.declared.Port.{Port}
 use Rattle.ata_types.specs.declared.PortState.TheVariants.{Ready, Dead}
-use Rattle.ata_types.specs.declared.limits.TheConstants.{READINGS}
+use Rattle.ata_types.specs.declared.limits.TheConstants.{MOST_READINGS}
 use Rattle.adapter.specs.Access.{Access}
 use Rattle.adapter.specs.Commands.{is_queued}
 use Rattle.adapter.specs.Device.{DevicePort, Device}
@@ -51,7 +51,7 @@ ShowsFailure p = ShowsFatal p ⊎ (p.is 30 ≡ true)
 -- A plain request is the one of its port that is issued, and status and error are those of such a fault of its slot.
 pub record FailsPlain (old : JointState Device) (new : Device) (accesses : List Access) (e : Pending) (slot : ℕ)
     (told : RequestFault) : Type 0 where
-  pub alone : (other : Pending) → Contains old.moment.machine.book other → other.request.port ≡ e.request.port
+  pub alone : (other : Pending) → Contains old.abstract.machine.book other → other.request.port ≡ e.request.port
       → other.issued ≡ true → other.request.id ≡ e.request.id
   pub fault : tape_fault.Fault
   pub failed : HasFailed e.request.port accesses old.device new fault
@@ -72,11 +72,11 @@ pub record FailsQueued (old : JointState Device) (new : Device) (accesses : List
 pub record IsFaultTold (old : JointState Device) (new : Device) (accesses : List Access)
     (told : RequestFault) : Type 0 where
   pub pending : Pending
-  pub here : Contains old.moment.machine.book pending
+  pub here : Contains old.abstract.machine.book pending
   pub issued : pending.issued ≡ true
   pub id_is : pending.request.id ≡ told.id
   pub slot : ℕ
-  pub serves : ServesRequest old.moment.machine old.device.memory (old.device.port pending.request.port.0)
+  pub serves : ServesRequest old.abstract.machine old.device.memory (old.device.port pending.request.port.0)
       pending.request.port.0 slot told.id
   pub plain : is_queued serves.command.operation ≡ false → FailsPlain old new accesses pending slot told
   pub queued : is_queued serves.command.operation ≡ true → FailsQueued old new accesses pending slot told
@@ -90,7 +90,7 @@ IsLost port old ports new =
     ShowsChange (old.device.port port.0)
     ⊎ (((old.device.port port.0).ssts_det ≢ 3)
     ⊎ (Gains (IsPlugging port.0) old.device new
-    ⊎ ((ports.state port ≢ Dead) × (ports.state port ≡ Ready → SameDisk old.moment.ports ports port → ⊥))))
+    ⊎ ((ports.state port ≢ Dead) × (ports.state port ≡ Ready → SameDisk old.abstract.ports ports port → ⊥))))
 
 -- It showed a change when the call began; or no device, and no disk came in the call.
 abbrev pub ShowsLoss : Port → Device → Device → Type 0
@@ -98,20 +98,20 @@ ShowsLoss port old new = ShowsChange (old.port port.0) ⊎ (((old.port port.0).s
 
 -- It was ready, and showed that when the call began, or a disk went or came in it.
 abbrev pub IsGone : Port → JointState Device → Device → Type 0
-IsGone port old new = (old.moment.ports.state port ≡ Ready)
+IsGone port old new = (old.abstract.ports.state port ≡ Ready)
     × (ShowsChange (old.device.port port.0)
     ⊎ (((old.device.port port.0).ssts_det ≢ 3)
     ⊎ Gains (IsPlugging port.0) old.device new))
 
 -- It was ready, and showed an error when the call began, or had one in it.
 abbrev pub HasErrors : Port → JointState Device → Device → Type 0
-HasErrors port old new = (old.moment.ports.state port ≡ Ready)
+HasErrors port old new = (old.abstract.ports.state port ≡ Ready)
     × (ShowsFailure (old.device.port port.0)
     ⊎ (Gains (IsFaultOf port.0) old.device new ⊎ Gains (IsFatalOf port.0) old.device new))
 
 -- It was ready, and showed a fatal error then, or had one in the call.
 abbrev pub HasFatalErrors : Port → JointState Device → Device → Type 0
-HasFatalErrors port old new = (old.moment.ports.state port ≡ Ready)
+HasFatalErrors port old new = (old.abstract.ports.state port ≡ Ready)
     × (ShowsFatal (old.device.port port.0) ⊎ Gains (IsFatalOf port.0) old.device new)
 
 -- ---- resets
@@ -136,20 +136,20 @@ pub record IsEvidencedOf (ask : Ask DeviceStep) (said : CallResult) (accesses : 
     (ports : Ports) (new : Device)
     (evidence : Evidence) (port : Port) : Type 0 where
   pub lost : Contains evidence.lost port → IsLost port old ports new
-  pub gone_all : old.moment.ports.state port ≡ Ready → ShowsLoss port old.device new → Contains evidence.gone port
+  pub gone_all : old.abstract.ports.state port ≡ Ready → ShowsLoss port old.device new → Contains evidence.gone port
   pub gone_only : Contains evidence.gone port → IsGone port old new
-  pub failed_all : old.moment.ports.state port ≡ Ready → ShowsFailure (old.device.port port.0)
+  pub failed_all : old.abstract.ports.state port ≡ Ready → ShowsFailure (old.device.port port.0)
       → Contains evidence.failed port
   pub failed_only : Contains evidence.failed port → HasErrors port old new
-  pub fatal_all : old.moment.ports.state port ≡ Ready → ShowsFatal (old.device.port port.0)
+  pub fatal_all : old.abstract.ports.state port ≡ Ready → ShowsFatal (old.device.port port.0)
       → Contains evidence.fatal port
   pub fatal_only : Contains evidence.fatal port → HasFatalErrors port old new
   pub stopped_all : All (LeavesEngine port) accesses ⊎ IsInterrupted evidence port
   pub stopped_only : Contains evidence.stopped port → Stops port accesses
-      ⊎ (IsEndedReset ask said × (old.moment.ports.served port ≡ true))
+      ⊎ (IsEndedReset ask said × (old.abstract.ports.served port ≡ true))
   pub stuck_only : Contains evidence.stuck port
-      → (Sticks port accesses × ((new.port port.0).notes.engine_count ≡ READINGS))
-      ⊎ (IsStuckReset ask said × (old.moment.ports.served port ≡ true))
+      → (Sticks port accesses × ((new.port port.0).notes.engine_count ≡ MOST_READINGS))
+      ⊎ (IsStuckReset ask said × (old.abstract.ports.served port ≡ true))
 
 -- Each fault that is named was told by the device, and so it is with each port.
 pub record IsEvidenced (ask : Ask DeviceStep) (said : CallResult) (accesses : List Access) (old : JointState Device)

@@ -21,7 +21,7 @@ use Rattle.refinement.specs.Errors.{IsFatalOf, NoneComes, NoneFatal}
 use Rattle.refinement.specs.Facts.{RunsWell, IsFaultOf}
 use Rattle.refinement.specs.Links.{IsPlugging, PlugsNone}
 use Rattle.refinement.specs.Slots.{ServesRequest}
-use Rattle.block_machine.specs.Events.{Ask, Submit, StoreAt, LoadAt, Service, Tick, Reset, RevokeOf, Device as Told, CallResult, Submitted, Stored, Loaded, Served, WasReset, WasRevoked, Stepped, AbstractState, HasTimedOut, IsIssuedIn, issues_it, moment_after}
+use Rattle.block_machine.specs.Events.{Ask, Submit, StoreAt, LoadAt, Service, Tick, Reset, RevokeOf, Device as Told, CallResult, Submitted, Stored, Loaded, Served, WasReset, WasRevoked, Stepped, AbstractState, HasTimedOut, IsIssuedIn, issues_it, abstract_after}
 use Rattle.block_machine.specs.Due.{IsDue}
 use Rattle.block_machine.specs.Histories.{JointState, Happening}
 use Rattle.block_machine.specs.Histories as histories
@@ -131,16 +131,16 @@ pub record FindsDone (port : Port) (accesses : List Access) (old : JointState De
   pub ci : ℕ
   pub sact : ℕ
   pub reads : ReadsMasks port ci sact accesses
-  pub exact : (e : Pending) (slot : ℕ) → IsIssuedOn port old.moment.machine e
-      → ServesRequest old.moment.machine old.device.memory (old.device.port port.0) port.0 slot e.request.id
+  pub exact : (e : Pending) (slot : ℕ) → IsIssuedOn port old.abstract.machine e
+      → ServesRequest old.abstract.machine old.device.memory (old.device.port port.0) port.0 slot e.request.id
       → IsAnsweredOk e steps ↔ ((bit ci slot ≡ false) × (bit sact slot ≡ false))
 
 -- A service finds what is done on each port that was ready and has something issued; a tick does on each that is hung.
 abbrev pub FindsIn : Ask DeviceStep → List Access → JointState Device → List Step → Port → Type 0
 FindsIn Service accesses old steps port =
-    old.moment.ports.state port ≡ Ready → (e : Pending) → IsIssuedOn port old.moment.machine e
+    old.abstract.ports.state port ≡ Ready → (e : Pending) → IsIssuedOn port old.abstract.machine e
     → FindsDone port accesses old steps
-FindsIn Tick accesses old steps port = HasTimedOut old.moment port → FindsDone port accesses old steps
+FindsIn Tick accesses old steps port = HasTimedOut old.abstract port → FindsDone port accesses old steps
 FindsIn ask accesses old steps port = Unit {0}
 
 -- ---- a plain request's fault
@@ -154,7 +154,7 @@ pub record ShowsFaultAlone (p : DevicePort) : Type 0 where
 
 -- so it was of a ready port when the call began, and no fatal error came in it, nor a disk, nor went one
 pub record HasFaultAlone (port : Port) (old : JointState Device) (new : Device) : Type 0 where
-  pub ready : old.moment.ports.state port ≡ Ready
+  pub ready : old.abstract.ports.state port ≡ Ready
   pub shows : ShowsFaultAlone (old.device.port port.0)
   pub fatal : NoneFatal port.0 old.device new
   pub plugged : PlugsNone port.0 old.device new
@@ -167,8 +167,8 @@ IsAnsweredFaulty e steps = (done : Pending) × (status : ℕ) × (error : ℕ)
 -- Then a plain request that is outstanding is answered with its fault, unless the port ends dead: it isn't tried again.
 abbrev pub TellsPlainFaults : Ask DeviceStep → JointState Device → Ports → Device → List Step → Port → Type 0
 TellsPlainFaults Service old ports new steps port = HasFaultAlone port old new
-    → (e : Pending) (slot : ℕ) → IsIssuedOn port old.moment.machine e → e.ended ≡ false
-    → (s : ServesRequest old.moment.machine old.device.memory (old.device.port port.0) port.0 slot e.request.id)
+    → (e : Pending) (slot : ℕ) → IsIssuedOn port old.abstract.machine e → e.ended ≡ false
+    → (s : ServesRequest old.abstract.machine old.device.memory (old.device.port port.0) port.0 slot e.request.id)
     → is_queued s.command.operation ≡ false → IsAnsweredFaulty e steps ⊎ (ports.state port ≡ Dead)
 TellsPlainFaults ask old ports new steps port = Unit {0}
 
@@ -188,19 +188,19 @@ IsUnfitOrForeign ports port = (ports.state port ≡ Foreign) ⊎ ((cause : ℕ) 
 -- the call ends, or no device shows.
 pub record ProbesDisk (accesses : List Access) (old : JointState Device) (ports : Ports) (new : Device)
     (port : Port) : Type 0 where
-  pub shown : old.moment.ports.state port ≡ Absent → (old.device.port port.0).ssts_det ≡ 3
+  pub shown : old.abstract.ports.state port ≡ Absent → (old.device.port port.0).ssts_det ≡ 3
       → (ports.state port ≡ Dead) ⊎ (ResetsLink port accesses ⊎ Gains (IsPlugging port.0) old.device new)
-  pub absent : old.moment.ports.state port ≡ Absent → (old.device.port port.0).ssts_det ≡ 3
+  pub absent : old.abstract.ports.state port ≡ Absent → (old.device.port port.0).ssts_det ≡ 3
       → (old.device.port port.0).fresh ≡ false → (ports.state port ≡ Dead) ⊎ IsFreshOrUnshown (new.port port.0)
-  pub missing : IsUnfitOrForeign old.moment.ports port → (old.device.port port.0).ssts_det ≢ 3
+  pub missing : IsUnfitOrForeign old.abstract.ports port → (old.device.port port.0).ssts_det ≢ 3
       → (ports.state port ≡ Absent) ⊎ (ports.state port ≡ Dead)
-  pub changed : IsUnfitOrForeign old.moment.ports port → (old.device.port port.0).serr_x ≡ true
+  pub changed : IsUnfitOrForeign old.abstract.ports port → (old.device.port port.0).serr_x ≡ true
       → (ports.state port ≡ Absent) ⊎ ((ports.state port ≡ Dead)
       ⊎ (ResetsLink port accesses × ((new.port port.0).serr_x ≡ false) × IsFreshOrUnshown (new.port port.0)))
 
 abbrev pub Probes : Ask DeviceStep → List Access → JointState Device → Ports → Device → Port → Type 0
 Probes Service accesses old ports new port =
-    old.moment.ports.served port ≡ true → NoneComes port.0 old.device new → ProbesDisk accesses old ports new port
+    old.abstract.ports.served port ≡ true → NoneComes port.0 old.device new → ProbesDisk accesses old ports new port
 Probes ask accesses old ports new port = Unit {0}
 
 -- ---- boots are made anew
@@ -210,13 +210,13 @@ Probes ask accesses old ports new port = Unit {0}
 -- shows anew, but as absent or dead.
 abbrev pub BootsAnew : Ask DeviceStep → CallResult → List Access → JointState Device → Ports → Device → Port → Type 0
 BootsAnew Reset (WasReset (Some replies)) accesses old ports new port =
-    old.moment.ports.served port ≡ true → (ports.state port ≡ Dead) ⊎ ResetsLink port accesses
+    old.abstract.ports.served port ≡ true → (ports.state port ≡ Dead) ⊎ ResetsLink port accesses
 BootsAnew Tick said accesses old ports new port =
-    HasTimedOut old.moment port → (ports.state port ≡ Dead) ⊎ ResetsLink port accesses
+    HasTimedOut old.abstract port → (ports.state port ≡ Dead) ⊎ ResetsLink port accesses
 BootsAnew Service said accesses old ports new port =
-    (old.moment.ports.state port ≡ Ready → ShowsFatal (old.device.port port.0) ⊎ ShowsLoss port old.device new
+    (old.abstract.ports.state port ≡ Ready → ShowsFatal (old.device.port port.0) ⊎ ShowsLoss port old.device new
     → (ports.state port ≡ Dead) ⊎ ((ports.state port ≡ Absent) ⊎ ResetsLink port accesses))
-    × (SamePort old.moment.ports ports port
+    × (SamePort old.abstract.ports ports port
     ⊎ ((ports.state port ≡ Dead) ⊎ ((ports.state port ≡ Absent) ⊎ ResetsLink port accesses)))
 BootsAnew ask said accesses old ports new port = Unit {0}
 
@@ -228,11 +228,11 @@ BootsAnew ask said accesses old ports new port = Unit {0}
 -- came.
 pub record LosesNoPortError (evidence : Evidence) (old : JointState Device) (ports : Ports) (new : Device)
     (port : Port) : Type 0 where
-  pub errors : old.moment.ports.state port ≡ Ready
+  pub errors : old.abstract.ports.state port ≡ Ready
       → ShowsFailure (old.device.port port.0)
       ⊎ (Gains (IsFaultOf port.0) old.device new ⊎ Gains (IsFatalOf port.0) old.device new)
       → IsInterrupted evidence port ⊎ ShowsFailure (new.port port.0)
-  pub changes : TendsPort old.moment.ports port → ShowsChange (old.device.port port.0)
+  pub changes : TendsPort old.abstract.ports port → ShowsChange (old.device.port port.0)
       ⊎ Gains (IsPlugging port.0) old.device new
       → IsInterrupted evidence port ⊎ ShowsChange (new.port port.0)
   pub fault : ports.state port ≡ Ready → GainsRunning (IsFaultOf port.0) port.0 old.device new
@@ -264,7 +264,7 @@ pub record PortCorresponds (old : JointState Device) (h : Happening Device Devic
   pub boots : BootsAnew h.event.ask h.event.said accesses old h.event.ports h.device port
   pub port_error : LosesNoPortError h.event.evidence old h.event.ports h.device port
   pub well : RunsWellAnew h.event.evidence accesses old h.event.ports h.device port
-  pub heeds : HeedsAt port h.event.ask old.moment h.event.evidence h.event.steps (moment_after old.moment h.event)
+  pub heeds : HeedsAt port h.event.ask old.abstract h.event.evidence h.event.steps (abstract_after old.abstract h.event)
 
 -- The device's part in a call. Its accesses led there, and the tape backs the machine's steps. What stands behind the
 -- evidence is so, and what rests on it is grounded. It has issued what is due. Of each port it has done its part. And
@@ -272,14 +272,15 @@ pub record PortCorresponds (old : JointState Device) (h : Happening Device Devic
 pub record CallCorresponds (wanted : List Wanted) (old : JointState Device)
     (h : Happening Device DeviceStep) : Type 0 where
   pub accesses : List Access
-  pub came : CameBy old.moment h.event.ask h.event.said accesses old.device h.device
-  pub backed : IsBacked old.device h.device old.moment.machine h.event.steps
+  pub came : CameBy old.abstract h.event.ask h.event.said accesses old.device h.device
+  pub backed : IsBacked old.device h.device old.abstract.machine h.event.steps
   pub evidenced : IsEvidenced h.event.ask h.event.said accesses old h.event.ports h.device h.event.evidence
   pub grounded : IsGrounded h.event.ask h.event.evidence h.event.steps
-  pub issues : (port : Port) → Issues h.event.ask h.event.steps (moment_after old.moment h.event).machine h.event.ports
+  pub issues : (port : Port)
+      → Issues h.event.ask h.event.steps (abstract_after old.abstract h.event).machine h.event.ports
       port
   pub port : (port : Port) → PortCorresponds old h accesses port
-  pub holds : HoldsAt wanted (record { device = h.device; moment = moment_after old.moment h.event })
+  pub holds : HoldsAt wanted (record { device = h.device; abstract = abstract_after old.abstract h.event })
 
 -- What a new server leaves is what holds at each instant, with the adapter on. (Its book is empty, since the machine is
 -- a start.)

@@ -4,7 +4,7 @@ use Rattle.ata_types.specs.declared.Port.{Port}
 use Rattle.ata_types.specs.declared.PortState.{PortState}
 use Rattle.ata_types.specs.declared.PortState.TheVariants.{Absent, Ready, Foreign, Unfit, Dead}
 use Rattle.ata_types.specs.declared.request.RequestId.{RequestId}
-use Rattle.ata_types.specs.declared.limits.TheConstants.{READINGS}
+use Rattle.ata_types.specs.declared.limits.TheConstants.{MOST_READINGS}
 use Rattle.hba_regs.specs.Bits.{bit}
 use Rattle.adapter.specs.Commands.{Meaning, is_queued}
 use Rattle.adapter.specs.Device.{Device}
@@ -52,7 +52,7 @@ pub record Runs (port : ℕ) (d : Device) : Type 0 where
   pub cr : (d.port port).cr ≡ true
   pub fre : (d.port port).fre ≡ true
   pub bases : (d.port port).bases ≡ programmed port
-  pub saw : (d.port port).notes.link_count ≡ READINGS
+  pub saw : (d.port port).notes.link_count ≡ MOST_READINGS
   pub recorded : HasFaults d.tape (d.port port) port
 
 -- the slot is free, or serves a client's request
@@ -61,7 +61,7 @@ IsClients u = (u ≡ Free) ⊎ ((id : RequestId) × (u ≡ Serves id))
 
 -- the slot serves an unanswered request
 pub record ServesIn (s : InSlots) (i : JointState Device) (port : Port) (slot : ℕ) (e : Pending) : Type 0 where
-  pub here : Contains i.moment.machine.book e
+  pub here : Contains i.abstract.machine.book e
   pub serves : s.uses port.0 slot ≡ Serves e.request.id
 
 -- the command that header and table of the slot say is queued exactly if the request isn't plain
@@ -98,9 +98,9 @@ pub record IsReadyAt (wanted : Wanted) (s : InSlots) (i : JointState Device) (po
   pub runs : Runs port.0 i.device
   pub info : DiskInfo
   pub disk : HasFitDisk (serial_of wanted) port.0 i.device info
-  pub shows : ShowsDiskInfo i.moment.ports port i.device.cap info
-  pub slots : HasRequests s i port (i.moment.ports.mode port)
-  pub kept : NoneKept i.moment.machine port
+  pub shows : ShowsDiskInfo i.abstract.ports port i.device.cap info
+  pub slots : HasRequests s i port (i.abstract.ports.mode port)
+  pub kept : NoneKept i.abstract.machine port
 
 -- ---- the other states
 
@@ -112,22 +112,22 @@ pub record IsStoppedAt (wanted : Wanted) (s : InSlots) (i : JointState Device) (
   pub ends : EndsAs (serial_of wanted) state port.0 i.device
   pub shown : FoundBadDisk state → HasDeviceOrNone (i.device.port port.0)
   pub slots : HasNothing s port.0
-  pub waits : NoneWaits i.moment.machine port
-  pub kept : NoneKept i.moment.machine port
+  pub waits : NoneWaits i.abstract.machine port
+  pub kept : NoneKept i.abstract.machine port
 
 -- A dead port: its engine was awaited in vain; or the adapter isn't on, since its last reset wasn't seen to end. Nobody
 -- waits for it, but between such a reset and the service that tells it.
 pub record IsDeadAt (wanted : Wanted) (i : JointState Device) (port : Port) : Type 0 where
   pub why : EndsAs (serial_of wanted) Dead port.0 i.device ⊎ (IsOn i.device → ⊥)
-  pub waits : IsOn i.device → NoneWaits i.moment.machine port
+  pub waits : IsOn i.device → NoneWaits i.abstract.machine port
 
 -- A port that isn't served is idle, with nothing in its slots, and absent to clients: nobody waits for it.
 pub record IsUnservedAt (s : InSlots) (i : JointState Device) (port : Port) : Type 0 where
-  pub absent : i.moment.ports.state port ≡ Absent
+  pub absent : i.abstract.ports.state port ≡ Absent
   pub idle : IsIdlePort (i.device.port port.0)
   pub slots : HasNothing s port.0
-  pub waits : NoneWaits i.moment.machine port
-  pub kept : NoneKept i.moment.machine port
+  pub waits : NoneWaits i.abstract.machine port
+  pub kept : NoneKept i.abstract.machine port
 
 -- what holds of a port, whether it is served, and in which state
 abbrev pub HoldsOf : Wanted → InSlots → JointState Device → Port → Bool → PortState → Type 0
@@ -143,12 +143,12 @@ HoldsOf wanted s i port true (Unfit cause) = IsStoppedAt wanted s i port (Unfit 
 -- What holds at each instant of a history, of the device, the ports as clients see them, the machine, and what the
 -- driver has in its slots. (A server has ports 0 to 3.)
 pub record HoldsWith (wanted : List Wanted) (s : InSlots) (i : JointState Device) : Type 0 where
-  pub knows : DriverRelation i.moment.machine (at_slots s i.device)
-  pub served : (port : Port) → port.0 < 4 → (i.moment.ports.served port ≡ true)
+  pub knows : DriverRelation i.abstract.machine (at_slots s i.device)
+  pub served : (port : Port) → port.0 < 4 → (i.abstract.ports.served port ≡ true)
       ↔ IsServed (wanted_of wanted port.0) port.0 i.device
-  pub on : IsOn i.device ⊎ ((port : Port) → i.moment.ports.served port ≡ true → i.moment.ports.state port ≡ Dead)
+  pub on : IsOn i.device ⊎ ((port : Port) → i.abstract.ports.served port ≡ true → i.abstract.ports.state port ≡ Dead)
   pub port : (port : Port) → port.0 < 4
-      → HoldsOf (wanted_of wanted port.0) s i port (i.moment.ports.served port) (i.moment.ports.state port)
+      → HoldsOf (wanted_of wanted port.0) s i port (i.abstract.ports.served port) (i.abstract.ports.state port)
 
 -- with something in the slots
 abbrev pub HoldsAt : List Wanted → JointState Device → Type 0

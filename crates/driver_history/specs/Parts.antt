@@ -44,6 +44,6 @@ pub record NamesAlike (port : Port) (one other : Evidence) : Type 0 where
 -- Where a port with a disk that isn't served showed X, and no disk of it came since, no link of it is due any more,
 -- unless it is absent or dead. (While one is due, X rises when it comes up, and the tape tells of no disk.)
 abbrev pub EndsLinked : Port → JointState Device → Ports → Device → Type 0
-EndsLinked port old ports new = IsUnfitOrForeign old.moment.ports port → (old.device.port port.0).serr_x ≡ true
+EndsLinked port old ports new = IsUnfitOrForeign old.abstract.ports port → (old.device.port port.0).serr_x ≡ true
     → NoneComes port.0 old.device new → (ports.state port ≡ Absent)
     ⊎ ((ports.state port ≡ Dead) ⊎ ((new.port port.0).link_due ≡ false))

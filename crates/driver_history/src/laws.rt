@@ -44,13 +44,13 @@ use refinement::laws::law_disks_are_told;
 /// others.
 pub fn law_histories_are_runs()
     ensures { (wanted : List Wanted) (first : JointState Device) (past : List (Happening Device DeviceStep))
-        → IsDriverHistory wanted first past → IsRun first.moment (events_of past) }
+        → IsDriverHistory wanted first past → IsRun first.abstract (events_of past) }
 {}
 
 /// The machine of a history is reached.
 pub fn law_histories_reach_their_machines()
     ensures { (wanted : List Wanted) (first : JointState Device) (past : List (Happening Device DeviceStep))
-        → IsDriverHistory wanted first past → IsReachable (now first past).moment.machine }
+        → IsDriverHistory wanted first past → IsReachable (now first past).abstract.machine }
 {}
 
 /// Where the adapter's disks tell their sectors, each read of a history that was answered Ok has, at the end of the
@@ -58,7 +58,7 @@ pub fn law_histories_reach_their_machines()
 pub fn law_reads_hold()
     ensures { (wanted : List Wanted) (first : JointState Device) (past : List (Happening Device DeviceStep))
         → IsDriverHistory wanted first past → first.device.telling ≡ true
-        → EveryReadHolds first.moment (events_of past) }
+        → EveryReadHolds first.abstract (events_of past) }
 {}
 
 /// Where the adapter's disks tell their sectors, each disk that comes back in a history has the writes that were
@@ -66,7 +66,7 @@ pub fn law_reads_hold()
 pub fn law_plugs_find()
     ensures { (wanted : List Wanted) (first : JointState Device) (past : List (Happening Device DeviceStep))
         → IsDriverHistory wanted first past → first.device.telling ≡ true
-        → EveryPlugFinds first.moment.machine (steps_of (events_of past)) }
+        → EveryPlugFinds first.abstract.machine (steps_of (events_of past)) }
 {
     law_every_plug_finds::<DeviceStep>();
 }
@@ -79,7 +79,7 @@ pub fn law_moves_keep_to_their_places()
     ensures { (wanted : List Wanted) (first : JointState Device) (past : List (Happening Device DeviceStep))
         (h : Happening Device DeviceStep)
         → IsDriverHistory wanted first (h ∷ past)
-        → KeepsMoves first.moment.machine (steps_of (events_of past)) h.event.steps (now first past).device h.device }
+        → KeepsMoves first.abstract.machine (steps_of (events_of past)) h.event.steps (now first past).device h.device }
 {}
 
 /// At each instant of a history there holds what holds between two calls; and the ports are fit: at most four are
@@ -88,7 +88,7 @@ pub fn law_each_instant_holds()
     ensures holds { (wanted : List Wanted) (first : JointState Device) (past : List (Happening Device DeviceStep))
         → IsDriverHistory wanted first past → HoldsAt wanted (now first past) }
     ensures fit { (wanted : List Wanted) (first : JointState Device) (past : List (Happening Device DeviceStep))
-        → IsDriverHistory wanted first past → AreFit (now first past).moment.ports }
+        → IsDriverHistory wanted first past → AreFit (now first past).abstract.ports }
 {}
 
 /// At each instant of a history, a request that is issued on a ready port has a usable slot of that port, on which ST
@@ -97,10 +97,10 @@ pub fn law_each_instant_holds()
 pub fn law_issued_requests_have_their_slots()
     ensures { (wanted : List Wanted) (first : JointState Device) (past : List (Happening Device DeviceStep))
         (e : Pending)
-        → IsDriverHistory wanted first past → (now first past).moment.ports.state e.request.port ≡ Ready
-        → Contains (now first past).moment.machine.book e → e.issued ≡ true
-        → (slot : ℕ) × (slot < ((now first past).moment.ports.mode e.request.port).usable)
-        × ServesRequest (now first past).moment.machine (now first past).device.memory
+        → IsDriverHistory wanted first past → (now first past).abstract.ports.state e.request.port ≡ Ready
+        → Contains (now first past).abstract.machine.book e → e.issued ≡ true
+        → (slot : ℕ) × (slot < ((now first past).abstract.ports.mode e.request.port).usable)
+        × ServesRequest (now first past).abstract.machine (now first past).device.memory
         ((now first past).device.port e.request.port.0)
         e.request.port.0 slot e.request.id
         × (((now first past).device.port e.request.port.0).st ≡ true) }
@@ -112,7 +112,7 @@ pub fn law_healthy_ports_are_left_alone()
     ensures { (wanted : List Wanted) (first : JointState Device) (past : List (Happening Device DeviceStep))
         (h : Happening Device DeviceStep)
         (port : Port) → (history : IsDriverHistory wanted first (h ∷ past)) → h.event.ask ≡ Service
-        → (now first past).moment.ports.state port ≡ Ready
+        → (now first past).abstract.ports.state port ≡ Ready
         → StaysHealthy port.0 (now first past).device h.device → IsSpared (now first past) h history.2.accesses port }
 {
     law_disks_are_told();
@@ -123,9 +123,9 @@ pub fn law_healthy_ports_are_left_alone()
 pub fn law_calls_leave_ports_well()
     ensures { (wanted : List Wanted) (first : JointState Device) (past : List (Happening Device DeviceStep))
         (h : Happening Device DeviceStep)
-        (port : Port) → IsDriverHistory wanted first (h ∷ past) → (now first past).moment.ports.state port ≡ Ready
+        (port : Port) → IsDriverHistory wanted first (h ∷ past) → (now first past).abstract.ports.state port ≡ Ready
         → h.event.ask ≢ Reset
-        → (h.event.ask ≡ Tick → HasTimedOut (now first past).moment port → ⊥)
+        → (h.event.ask ≡ Tick → HasTimedOut (now first past).abstract port → ⊥)
         → StaysHealthy port.0 (now first past).device h.device → RunsWell (h.device.port port.0) }
 {
     law_disks_are_told();
@@ -150,7 +150,7 @@ pub fn law_answers_rest()
 pub fn law_unlent_frames_are_still()
     ensures { (wanted : List Wanted) (first : JointState Device) (past : List (Happening Device DeviceStep))
         (frame : Frame) → IsDriverHistory wanted first past
-        → DRIVER_FRAMES ≤ frame.0 → (now first past).moment.machine.lent frame ≡ None
+        → DRIVER_FRAMES ≤ frame.0 → (now first past).abstract.machine.lent frame ≡ None
         → IsStable (IsStill frame) (now first past).device }
 {
     law_frames_are_still();
@@ -167,7 +167,7 @@ pub fn law_false_unplugged_is_refused()
         → ((now first past).device.port e.request.port.0).ssts_det ≡ 3
         → PlugsNone e.request.port.0 (now first past).device h.device → (h.event.ports.state e.request.port ≡ Dead)
         ⊎ ((h.event.ports.state e.request.port ≡ Ready)
-        × SameDisk (now first past).moment.ports h.event.ports e.request.port)
+        × SameDisk (now first past).abstract.ports h.event.ports e.request.port)
         → Contains h.event.steps (Answer e outcome.Unplugged) → ⊥ }
 {}
 
@@ -177,8 +177,8 @@ pub fn law_seen_are_answered()
     ensures { (wanted : List Wanted) (first : JointState Device) (past : List (Happening Device DeviceStep))
         (h : Happening Device DeviceStep)
         (port : Port) (slot : ℕ) (id : RequestId) → IsDriverHistory wanted first (h ∷ past) → h.event.ask ≡ Service
-        → (now first past).moment.ports.state port ≡ Ready
-        → ServesRequest (now first past).moment.machine (now first past).device.memory
+        → (now first past).abstract.ports.state port ≡ Ready
+        → ServesRequest (now first past).abstract.machine (now first past).device.memory
         ((now first past).device.port port.0) port.0 slot id
         → ((now first past).device.port port.0).ci slot ≡ false → ((now first past).device.port port.0).sact slot
         ≡ false
@@ -190,8 +190,8 @@ pub fn law_ticks_end_issues()
     ensures { (wanted : List Wanted) (first : JointState Device) (past : List (Happening Device DeviceStep))
         (h : Happening Device DeviceStep)
         (port : Port) → IsDriverHistory wanted first (h ∷ past) → h.event.ask ≡ Tick
-        → HasTimedOut (now first past).moment port
-        → NoneKeepsIssue h.event.steps (now first (h ∷ past)).moment.machine port }
+        → HasTimedOut (now first past).abstract port
+        → NoneKeepsIssue h.event.steps (now first (h ∷ past)).abstract.machine port }
 {}
 
 /// Composition on healthy ports: each call of a history that is healthy for a port goes well for it, whatever was
@@ -215,7 +215,7 @@ pub fn law_due_are_issued()
     ensures { (wanted : List Wanted) (first : JointState Device) (past : List (Happening Device DeviceStep))
         (h : Happening Device DeviceStep)
         (port : Port) → IsDriverHistory wanted first (h ∷ past)
-        → Issues h.event.ask h.event.steps (now first (h ∷ past)).moment.machine h.event.ports port }
+        → Issues h.event.ask h.event.steps (now first (h ∷ past)).abstract.machine h.event.ports port }
 {}
 
 /// What stands behind a port's evidence in its own turn of a call stands behind it in the whole call, where the turn's
@@ -228,10 +228,11 @@ pub fn law_a_turns_evidence_is_the_calls()
         (new : Device)
         (turn call : Evidence)
         (ask : Ask DeviceStep) (said : CallResult) → IsOn old.device
-        → ((old.moment.ports.state port ≡ Ready) ⊎ Contains turn.lost port → (old.device.port port.0).link_due ≡ false)
-        → (t : HasTurnIn port old.device new) → IsOn t.end → SamePort old.moment.ports begun.ports port
+        → ((old.abstract.ports.state port ≡ Ready) ⊎ Contains turn.lost port → (old.device.port port.0).link_due
+        ≡ false)
+        → (t : HasTurnIn port old.device new) → IsOn t.end → SamePort old.abstract.ports begun.ports port
         → SamePort ended ports port → NamesAlike port turn call
-        → IsEvidencedOf ask said t.turn (record { device = t.start; moment = begun }) ended t.end turn port
+        → IsEvidencedOf ask said t.turn (record { device = t.start; abstract = begun }) ended t.end turn port
         → IsEvidencedOf ask said (all_of t) old ports new call port }
     ensures failed { (port : Port) (old new : Device) (fault : Fault) → IsOn old → (t : HasTurnIn port old new)
         → HasFailed port t.turn t.start t.end fault → HasFailed port (all_of t) old new fault }

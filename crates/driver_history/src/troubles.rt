@@ -35,7 +35,7 @@ pub fn law_shown_faults_are_heeded()
     ensures { (wanted : List Wanted) (first : JointState Device) (past : List (Happening Device DeviceStep))
         (h : Happening Device DeviceStep)
         (port : Port) → IsDriverHistory wanted first (h ∷ past) → h.event.ask ≡ Service
-        → (now first past).moment.ports.state port ≡ Ready
+        → (now first past).abstract.ports.state port ≡ Ready
         → ShowsFailure ((now first past).device.port port.0) → HeedsFailure port (now first past) h }
 {}
 
@@ -46,7 +46,7 @@ pub fn law_shown_losses_are_heeded()
     ensures { (wanted : List Wanted) (first : JointState Device) (past : List (Happening Device DeviceStep))
         (h : Happening Device DeviceStep)
         (port : Port) → IsDriverHistory wanted first (h ∷ past) → h.event.ask ≡ Service
-        → (now first past).moment.ports.state port ≡ Ready
+        → (now first past).abstract.ports.state port ≡ Ready
         → ShowsLoss port (now first past).device h.device → HeedsLoss port (now first past) h }
 {}
 
@@ -70,7 +70,7 @@ pub fn law_a_fault_alone_in_a_call_is_alone_in_a_turn()
     ensures { (port : Port) (old : JointState Device) (begun : AbstractState) (new : Device) → IsOn old.device
         → (old.device.port port.0).link_due ≡ false → (t : HasTurnIn port old.device new) → IsOn t.end
         → begun.ports.state port ≡ Ready → HasFaultAlone port old new
-        → HasFaultAlone port (record { device = t.start; moment = begun }) t.end }
+        → HasFaultAlone port (record { device = t.start; abstract = begun }) t.end }
 {
     law_base();
 }
@@ -85,20 +85,20 @@ pub fn law_a_turns_errors_are_the_calls()
         (new : Device)
         (turn call : Evidence) → IsOn old.device
         → (t : HasTurnIn port old.device new) → IsOn t.end → SamePort ended ports port → NamesAlike port turn call
-        → SamePort old.moment.ports begun.ports port
+        → SamePort old.abstract.ports begun.ports port
         → (ended.state port ≡ Ready → IsInterrupted turn port
         → length t.start.tape ≤ (t.end.port port.0).notes.st_set_at)
         → ((begun.ports.state port ≡ Ready) ⊎ (ended.state port ≡ Ready) → ShowsFailure (t.start.port port.0)
         ⊎ ShowsChange (t.start.port port.0)
         → IsInterrupted turn port)
-        → LosesNoPortError turn (record { device = t.start; moment = begun }) ended t.end port
+        → LosesNoPortError turn (record { device = t.start; abstract = begun }) ended t.end port
         → LosesNoPortError call old ports new port }
     ensures boots { (port : Port) (old : JointState Device) (begun : AbstractState) (ended ports : Ports) (new : Device)
         (one other : CallResult) → IsOn old.device
-        → (old.moment.ports.state port ≡ Ready → (old.device.port port.0).link_due ≡ false)
+        → (old.abstract.ports.state port ≡ Ready → (old.device.port port.0).link_due ≡ false)
         → (t : HasTurnIn port old.device new) → IsOn t.end → SamePort ended ports port
-        → SamePort old.moment.ports begun.ports port
-        → BootsAnew Service one t.turn (record { device = t.start; moment = begun }) ended t.end port
+        → SamePort old.abstract.ports begun.ports port
+        → BootsAnew Service one t.turn (record { device = t.start; abstract = begun }) ended t.end port
         → BootsAnew Service other (all_of t) old ports new port }
     ensures well { (port : Port) (old : JointState Device) (begun : AbstractState) (ended ports : Ports) (new : Device)
         (turn call : Evidence) → IsOn old.device
@@ -106,7 +106,7 @@ pub fn law_a_turns_errors_are_the_calls()
         → (ended.state port ≡ Ready → ((old.device.port port.0).link_due ≡ false) ⊎ ResetsLink port t.turn)
         → SamePort ended ports port → NamesAlike port turn call
         → (ended.state port ≡ Ready → (t.end.port port.0).notes.st_set_at ≤ length t.end.tape)
-        → RunsWellAnew turn t.turn (record { device = t.start; moment = begun }) ended t.end port
+        → RunsWellAnew turn t.turn (record { device = t.start; abstract = begun }) ended t.end port
         → RunsWellAnew call (all_of t) old ports new port }
 {
     law_base();
@@ -119,16 +119,17 @@ pub fn law_a_turn_that_probes_a_disk_is_the_calls()
     ensures probes { (port : Port) (old : JointState Device) (begun : AbstractState) (ended ports : Ports)
         (new : Device)
         → IsOn old.device → (t : HasTurnIn port old.device new) → IsOn t.end → SamePort ended ports port
-        → SamePort old.moment.ports begun.ports port
-        → (IsUnfitOrForeign old.moment.ports port → HasDeviceOrNone (old.device.port port.0))
-        → EndsLinked port (record { device = t.start; moment = begun }) ended t.end
-        → (NoneComes port.0 t.start t.end → ProbesDisk t.turn (record { device = t.start; moment = begun }) ended t.end
+        → SamePort old.abstract.ports begun.ports port
+        → (IsUnfitOrForeign old.abstract.ports port → HasDeviceOrNone (old.device.port port.0))
+        → EndsLinked port (record { device = t.start; abstract = begun }) ended t.end
+        → (NoneComes port.0 t.start t.end
+        → ProbesDisk t.turn (record { device = t.start; abstract = begun }) ended t.end
         port)
         → NoneComes port.0 old.device new → ProbesDisk (all_of t) old ports new port }
     ensures linked { (port : Port) (old : JointState Device) (begun : AbstractState) (ended ports : Ports)
         (new : Device)
         → IsOn old.device → (t : HasTurnIn port old.device new) → IsOn t.end → SamePort ended ports port
-        → SamePort old.moment.ports begun.ports port → EndsLinked port (record { device = t.start; moment = begun })
+        → SamePort old.abstract.ports begun.ports port → EndsLinked port (record { device = t.start; abstract = begun })
         ended t.end → EndsLinked port old ports new }
 {
     law_base();

@@ -9,7 +9,7 @@ use Rattle.ata_types.specs.declared.request.Outcome.TheVariants.{Ok, DeviceError
 use Rattle.block_machine.specs.State.{Block, DiskBytes, Accepted, Pending, Machine, sector_of, written_by}
 use Rattle.block_machine.specs.Due.{is_flush, is_writer}
 use Rattle.block_machine.specs.Steps.{Step, Accept, Issue, Touch, End, Age, Again, Answer, Release, Revoke, Unplug, Replace, Store, Load, May, MayStillMove, after_step, at, newly_issued, touch, mark_ended, requeued, older, newly_accepted, put_sector, SameBytes, HasHeld}
-use Rattle.block_machine.specs.Left.{after, IsLegal, IsStart, IsAccept, IsTouch, HasTouched, plug_count}
+use Rattle.block_machine.specs.Left.{after, IsLegal, IsInitial, IsAccept, IsTouch, HasTouched, plug_count}
 use Rattle.durability.specs.Durable.{IsOk, takes_out, brings_other, WriteAccepted, WriteAnswered, FlushAccepted, FlushAnswered, IsSince, FindsFlushed, EveryPlugFinds}
 use Rattle.block_machine.proofs.Members.{map_in, at_cases, without_in, append_in}
 use Rattle.block_machine.proofs.Sound.{Sound}
@@ -219,7 +219,7 @@ none_other m step port may here = false_from_ne_true _ (λ t. both_ways _ (other
 absent_here : (m : Machine) (port : Port) → m.present port ≡ true → m.present port ≡ false → ⊥
 absent_here m port a b = both_ways _ b a
 
-stage_step : (start : Machine) (step : Step) (past : List Step) (w : Accepted) (k : ℕ) → IsStart start → IsLegal start (step ∷ past) → is_writer w.asked.op ≡ true
+stage_step : (start : Machine) (step : Step) (past : List Step) (w : Accepted) (k : ℕ) → IsInitial start → IsLegal start (step ∷ past) → is_writer w.asked.op ≡ true
     → takes_out w.port step ≡ false → Stage start past w k → Stage start (step ∷ past) w k
 stage_step start step past w k s legal writes out g = record {
   here = stays_in (after start past) step w.port legal.1 out g.here;
@@ -280,7 +280,7 @@ came m (Store client frame offset bytes) may s x i hx t = inl (x, hx, refl, t)
 came m (Load client frame offset bytes) may s x i hx t = inl (x, hx, refl, t)
 
 -- a writer that touches its sector number i now
-stage_now : (start : Machine) (step : Step) (past : List Step) (w : Accepted) (i : ℕ) → IsStart start → IsLegal start (step ∷ past) → is_writer w.asked.op ≡ true → takes_out w.port step ≡ false
+stage_now : (start : Machine) (step : Step) (past : List Step) (w : Accepted) (i : ℕ) → IsInitial start → IsLegal start (step ∷ past) → is_writer w.asked.op ≡ true → takes_out w.port step ≡ false
     → IsTouchAt step w i → Stage start (step ∷ past) w (w.asked.first.0 + i)
 stage_now start (Touch e n block) past w i s legal writes out t =
     let k : ℕ = w.asked.first.0 + i in
@@ -334,7 +334,7 @@ new_entry m step w may s t x hx same =
     (append_in m.book (newly_accepted w) x (subst (λ (y : Step). Contains (after_step m y).book x) e hx))
 
 -- Each sector that an accepted writer touched is at its stage, while no disk was taken out.
-accepted_stage : (start : Machine) (h : List Step) (w : Accepted) → IsStart start → IsLegal start h → is_writer w.asked.op ≡ true → WriteAccepted w h
+accepted_stage : (start : Machine) (h : List Step) (w : Accepted) → IsInitial start → IsLegal start h → is_writer w.asked.op ≡ true → WriteAccepted w h
     → (x : Pending) → Contains (after start h).book x → x.request ≡ w → (i : ℕ) → x.touched i ≡ true → Stage start h w (w.asked.first.0 + i)
 accepted_stage start [] w s legal writes a x hx same i t = absurd a
 accepted_stage start (step ∷ past) w s legal writes (inl a) x hx same i t =
@@ -346,7 +346,7 @@ accepted_stage start (step ∷ past) w s legal writes (inr a) x hx same i t = �
     (λ (q : IsTouchAt step x.request i). stage_now start step past w i s legal writes a.0 (subst (λ (j : Accepted). IsTouchAt step j i) same q))
     (came (after start past) step legal.1 (traced start past s legal.0).sound x i hx t)
 
-stored_stage : (start : Machine) (h : List Step) (w : Accepted) → IsStart start → IsLegal start h → AllWhole h → is_writer w.asked.op ≡ true → WriteAnswered w h → (i : ℕ) → i < w.asked.count → Stage start h w (w.asked.first.0 + i)
+stored_stage : (start : Machine) (h : List Step) (w : Accepted) → IsInitial start → IsLegal start h → AllWhole h → is_writer w.asked.op ≡ true → WriteAnswered w h → (i : ℕ) → i < w.asked.count → Stage start h w (w.asked.first.0 + i)
 stored_stage start [] w s legal whole writes a i lt = absurd a
 stored_stage start (step ∷ past) w s legal whole writes (inl a) i lt =
     let e = ok_entry (after start past) step w legal.1 whole.1 a.0 in
@@ -354,7 +354,7 @@ stored_stage start (step ∷ past) w s legal whole writes (inl a) i lt =
     (accepted_stage start past w s legal.0 writes a.1 e.0 e.1 e.2 i (e.3 i lt))
 stored_stage start (step ∷ past) w s legal whole writes (inr a) i lt = stage_step start step past w (w.asked.first.0 + i) s legal writes a.0 (stored_stage start past w s legal.0 whole.0 writes a.1 i lt)
 
-asked_stage : (start : Machine) (h : List Step) (w flush : Accepted) → IsStart start → IsLegal start h → AllWhole h → is_writer w.asked.op ≡ true → FlushAccepted w flush h → (i : ℕ) → i < w.asked.count → Stage start h w (w.asked.first.0 + i)
+asked_stage : (start : Machine) (h : List Step) (w flush : Accepted) → IsInitial start → IsLegal start h → AllWhole h → is_writer w.asked.op ≡ true → FlushAccepted w flush h → (i : ℕ) → i < w.asked.count → Stage start h w (w.asked.first.0 + i)
 asked_stage start [] w flush s legal whole writes a i lt = absurd a
 asked_stage start (step ∷ past) w flush s legal whole writes (inl a) i lt = stage_step start step past w (w.asked.first.0 + i) s legal writes (accept_out w.port step flush a.0) (stored_stage start past w s legal.0 whole.0 writes a.1 i lt)
 asked_stage start (step ∷ past) w flush s legal whole writes (inr a) i lt = stage_step start step past w (w.asked.first.0 + i) s legal writes a.0 (asked_stage start past w flush s legal.0 whole.0 writes a.1 i lt)
@@ -383,7 +383,7 @@ same_disk start past (Replace p i n d) port k id size disk may back other inside
     (subst (λ (x : Port). HeldSince start x k (d k) past) t.0 (back named' k (omega (arith, large, inside))))
 same_disk start past _ port k id size disk may back other inside t = absurd t
 
-lasts_step : (start : Machine) (step : Step) (past : List Step) (w : Accepted) (k : ℕ) → IsStart start → IsLegal start (step ∷ past) → is_writer w.asked.op ≡ true
+lasts_step : (start : Machine) (step : Step) (past : List Step) (w : Accepted) (k : ℕ) → IsInitial start → IsLegal start (step ∷ past) → is_writer w.asked.op ≡ true
     → ComesBack start past step → brings_other (after start past) w.port step ≡ false → Lasts start past w k → Lasts start (step ∷ past) w k
 lasts_step start step past w k s legal writes back other g = record {
   inside = subst (λ (n : ℕ). k < n) (sym (sizes_stay (after start past) step w.port legal.1 other)) g.inside;
@@ -462,7 +462,7 @@ lasts_end start (End e) past w flush k port op t g = record {
 }
 lasts_end start _ past w flush k port op t g = absurd t
 
-asked_lasts : (start : Machine) (h : List Step) (w flush : Accepted) → IsStart start → IsLegal start h → AllWhole h → IsVolatile start h → is_writer w.asked.op ≡ true → flush.port ≡ w.port → flush.asked.op ≡ Flush
+asked_lasts : (start : Machine) (h : List Step) (w flush : Accepted) → IsInitial start → IsLegal start h → AllWhole h → IsVolatile start h → is_writer w.asked.op ≡ true → flush.port ≡ w.port → flush.asked.op ≡ Flush
     → FlushAccepted w flush h → (x : Pending) → Contains (after start h).book x → x.request ≡ flush → x.ended ≡ true → (i : ℕ) → i < w.asked.count → Lasts start h w (w.asked.first.0 + i)
 asked_lasts start [] w flush s legal whole back writes port op a x hx same t i lt = absurd a
 asked_lasts start (step ∷ past) w flush s legal whole back writes port op (inl a) x hx same t i lt =
@@ -480,7 +480,7 @@ asked_lasts start (step ∷ past) w flush s legal whole back writes port op (inr
 ok_other : (m : Machine) (port : Port) (step : Step) (w : Accepted) → IsOk step w → brings_other m port step ≡ false
 ok_other m port step w ok = let r = answer_ok step w ok in ap (brings_other m port) r.1
 
-flushed_lasts : (start : Machine) (h : List Step) (w flush : Accepted) → IsStart start → IsLegal start h → AllWhole h → IsVolatile start h → is_writer w.asked.op ≡ true → flush.port ≡ w.port → flush.asked.op ≡ Flush
+flushed_lasts : (start : Machine) (h : List Step) (w flush : Accepted) → IsInitial start → IsLegal start h → AllWhole h → IsVolatile start h → is_writer w.asked.op ≡ true → flush.port ≡ w.port → flush.asked.op ≡ Flush
     → FlushAnswered start w flush h → (i : ℕ) → i < w.asked.count → Lasts start h w (w.asked.first.0 + i)
 flushed_lasts start [] w flush s legal whole back writes port op a i lt = absurd a
 flushed_lasts start (step ∷ past) w flush s legal whole back writes port op (inl a) i lt =
@@ -491,7 +491,7 @@ flushed_lasts start (step ∷ past) w flush s legal whole back writes port op (i
     lasts_step start step past w (w.asked.first.0 + i) s legal writes back.1 a.0 (flushed_lasts start past w flush s legal.0 whole.0 back.0 writes port op a.1 i lt)
 
 -- a disk that comes back has the writes that were flushed
-finds : (start : Machine) (past : List Step) (step : Step) → IsStart start → IsLegal start (step ∷ past) → AllWhole past → IsVolatile start (step ∷ past) → FindsFlushed start past step
+finds : (start : Machine) (past : List Step) (step : Step) → IsInitial start → IsLegal start (step ∷ past) → AllWhole past → IsVolatile start (step ∷ past) → FindsFlushed start past step
 finds start past (Replace port id size disk) s legal whole back = λ same w flush here f i lt.
     let lasts = flushed_lasts start past w flush s legal.0 whole back.0 f.writes f.port f.flush_is f.answered i lt in
     let inside : sector_of w i < (after start past).sizes port = subst (λ (p : Port). sector_of w i < (after start past).sizes p) here lasts.inside in
@@ -499,7 +499,7 @@ finds start past (Replace port id size disk) s legal whole back = λ same w flus
     lasts.since (disk (sector_of w i)) (subst (λ (p : Port). HeldSince start p (sector_of w i) (disk (sector_of w i)) past) (sym here) (back.1 same (sector_of w i) (omega (arith, inside, large))))
 finds start past _ s legal whole back = tt
 
-pub law_every_plug_finds : (start : Machine) (h : List Step) → IsStart start → IsLegal start h → AllWhole h → IsVolatile start h → EveryPlugFinds start h
+pub law_every_plug_finds : (start : Machine) (h : List Step) → IsInitial start → IsLegal start h → AllWhole h → IsVolatile start h → EveryPlugFinds start h
 law_every_plug_finds start [] s legal whole back = tt
 law_every_plug_finds start (step ∷ past) s legal whole back = (law_every_plug_finds start past s legal.0 whole.0 back.0, finds start past step s legal whole.0 back)
 

@@ -1,7 +1,7 @@
 -- What recovery asks, and what it promises (this project's own; recovery: AHCI 1.3.1, 6.2.2; log 10h: ACS-3, A.14).
 use Rattle.std.specs.Prelude.{ℕ, Bool, true, false, ◌≡◌, ◌≢◌, ◌⊎◌, ◌<◌, ◌≤◌, ◌%◌, ◌++◌, List, All, Option, None, Some, length}
 use Rattle.ata_types.specs.declared.Port.{Port}
-use Rattle.ata_types.specs.declared.limits.TheConstants.{READINGS}
+use Rattle.ata_types.specs.declared.limits.TheConstants.{MOST_READINGS}
 use Rattle.hba_regs.specs.Bits.{bit}
 use Rattle.hba_regs.specs.declared.reg.PortReg.{PortReg}
 use Rattle.hba_regs.specs.declared.reg.PortReg.TheVariants.{Ci}
@@ -145,7 +145,7 @@ pub record WaitsAnew (port : Port) (accesses : List Access) (new : Device) : Typ
   pub here : accesses ≡ early ++ late
   pub stopped : Stops port early
   pub vain : WaitsInVain port late
-  pub still : (new.port port.0).notes.command_count ≡ READINGS
+  pub still : (new.port port.0).notes.command_count ≡ MOST_READINGS
 
 -- Why a port has to be booted: BSY or DRQ is what was read last of PxTFD, and no command was issued of which they could
 -- be. Or, where queued commands are outstanding, the log named none of them: once the port had stopped, the last 64

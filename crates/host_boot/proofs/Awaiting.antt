@@ -1,5 +1,5 @@
 -- The adapter is reset, and GHC is read until the reset is done.
-use Rattle.ata_types.specs.declared.limits.TheConstants.{READINGS}
+use Rattle.ata_types.specs.declared.limits.TheConstants.{MOST_READINGS}
 use Rattle.std.proofs.Common.{ℕ, Bool, true, false, ◌≡◌, ◌+◌, ◌<◌, ◌≤◌, ◌++◌, List, [], ◌∷◌, refl, ◌∙◌, ap, arith}
 use Rattle.std.specs.Prelude.{All, length}
 use Rattle.std.proofs.lemmas.List.{length-append}
@@ -41,7 +41,7 @@ module _ (n v : ℕ) (early late : List Access) (a : AsksAgain n early) (is : la
   asks_shown : (hr : Bool) → bit v 0 ≡ hr → AwaitsHr hr (early ++ late)
   asks_shown hr shows = record { asked = a.asked; shown = v; here = joined; only = a.only; pending = shows }
 
-  asked_few : n < READINGS → length (early ++ late) ≤ READINGS + 1
+  asked_few : n < MOST_READINGS → length (early ++ late) ≤ MOST_READINGS + 1
   asked_few few =
       let here = ap length joined in let long = a.long in let more = length-append a.asked (Reading Ghc v ∷ []) in
       omega (arith, few, here, long, more)
@@ -82,14 +82,14 @@ module _ (laws : Laws) (start : Device) where
       same = same;
     }
 
-    pub resetting_ends : n < READINGS → bit v 0 ≡ false → Resets start e
+    pub resetting_ends : n < MOST_READINGS → bit v 0 ≡ false → Resets start e
     resetting_ends few clear =
         let told = with_reading (λ accesses. AwaitsHr false accesses × (length accesses ≤ 65))
         (λ early late a is. (asks_shown n v early late a is false clear, asked_few n v early late a is few)) in
         record { followed = told.followed; awaited = told.tells.0; often = told.tells.1; idle = laws.reset_idle v d e w.pending call clear; same = same }
 
   -- it was read 64 times
-  pub resetting_sticks : (n : ℕ) (d : Device) → n ≡ READINGS → IsResetting start n d → StaysReset start d
+  pub resetting_sticks : (n : ℕ) (d : Device) → n ≡ MOST_READINGS → IsResetting start n d → StaysReset start d
   resetting_sticks n d all w = record {
     followed = w.told.followed;
     awaited = w.told.tells.last (omega (arith, all));

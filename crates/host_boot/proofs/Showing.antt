@@ -4,7 +4,7 @@ use Rattle.std.proofs.lemmas.Bool.{cases_eq}
 use Rattle.ata_types.specs.declared.Port.{Port}
 use Rattle.ata_types.specs.declared.PortState.{PortState}
 use Rattle.ata_types.specs.declared.PortState.TheVariants.{Absent, Ready, Foreign, Unfit, Dead}
-use Rattle.ata_types.specs.declared.limits.TheConstants.{READINGS}
+use Rattle.ata_types.specs.declared.limits.TheConstants.{MOST_READINGS}
 use Rattle.hba_regs.specs.declared.reg.Reg.TheVariants.{Ghc, Px}
 use Rattle.hba_regs.specs.declared.reg.PortReg.{PortReg}
 use Rattle.hba_regs.specs.declared.reg.PortReg.TheVariants.{Ci, Is, Sctl, Serr, Sig, Ssts, Tfd}
@@ -94,7 +94,7 @@ module _ (laws : Laws) where
     looks_shown : (fault : PortFault) (old new : Device) → fault ≢ NoDevice → IsOn old → Looks port fault old new → Shown new
     looks_shown NoDevice old new other on l = absurd (other refl)
     looks_shown Busy old new other on l =
-        gently l.linked new (link_on old l.linked on l.links) (without_gentle port Tfd ShowsIdle READINGS l.linked new l.waits) (link_shown old l.linked on l.links)
+        gently l.linked new (link_on old l.linked on l.links) (without_gentle port Tfd ShowsIdle MOST_READINGS l.linked new l.waits) (link_shown old l.linked on l.links)
     looks_shown (NotAta signature) old new other on l = signature_shown signature old new on l
     looks_shown EngineStuck old new other on l = absurd l
 

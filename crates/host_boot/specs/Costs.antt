@@ -1,5 +1,5 @@
 -- How many accesses the calls make, at most.
-use Rattle.ata_types.specs.declared.limits.TheConstants.{PORTS, READINGS}
+use Rattle.ata_types.specs.declared.limits.TheConstants.{PORTS, MOST_READINGS}
 use Rattle.std.specs.Prelude.{ℕ, ◌+◌, ◌*◌}
 use Rattle.port_boot.specs.Costs.{BOOT_ACCESSES}
 use Rattle.port_control.specs.Costs.{SHOW_ACCESSES, STOP_ACCESSES}
@@ -22,4 +22,4 @@ BOOT_IF_THERE_ACCESSES = 1 + SHOW_ACCESSES + BOOT_ACCESSES
 
 -- GHC is written, and read until HR is 0
 abbrev pub RESET_ACCESSES : ℕ
-RESET_ACCESSES = 1 + READINGS
+RESET_ACCESSES = 1 + MOST_READINGS

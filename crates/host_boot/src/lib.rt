@@ -22,7 +22,7 @@ ghost use Rattle.port_boot.specs.Costs.{BOOT_ACCESSES};
 ghost use Rattle.host_boot.specs.Costs.{BOOT_AGAIN_ACCESSES, BOOT_IF_THERE_ACCESSES, FIRST_BOOT_ACCESSES, TAKE_OVER_ACCESSES};
 
 use adapter::Adapter;
-use ata_types::{DRIVER_BYTES, PORTS, Port, PortState, READINGS};
+use ata_types::{DRIVER_BYTES, MOST_READINGS, PORTS, Port, PortState};
 use hba_regs::{Capabilities, GlobalControl, Reg, is_set};
 use identify::{DiskInfo, Wanted};
 use lawful::law_base;
@@ -197,7 +197,7 @@ pub fn reboot_port<A: Adapter>(adapter: &mut A, stopped: Stopped, wanted: &Wante
 pub fn reboot_if_present<A: Adapter>(adapter: &mut A, stopped: Stopped, wanted: &Wanted) -> Booted
     requires bootable { IsBootable stopped.port (A.device adapter.old) }
     requires stopped { IsStopped ((A.device adapter.old).port stopped.port.0) }
-    requires saw { ((A.device adapter.old).port stopped.port.0).notes.link_count ≡ READINGS }
+    requires saw { ((A.device adapter.old).port stopped.port.0).notes.link_count ≡ MOST_READINGS }
     ensures on { IsOn (A.device adapter.new) }
     ensures boots { BootsIfThere wanted.now stopped.port result (A.device adapter.old) (A.device adapter.new) }
     ensures cost { MakesAtMost BOOT_IF_THERE_ACCESSES (A.access_count adapter.old) (A.access_count adapter.new) }

@@ -6,7 +6,7 @@ ghost use Rattle.host_boot.specs.Costs.{RESET_ACCESSES};
 
 use super::lawful::law_base;
 use adapter::Adapter;
-use ata_types::{AdapterStuck, READINGS};
+use ata_types::{AdapterStuck, MOST_READINGS};
 use hba_regs::{GlobalControl, Reg};
 
 /// Resets the adapter, and waits until the reset is done, for 64 readings of GHC at most (that many are this project's
@@ -19,7 +19,7 @@ pub fn reset<A: Adapter>(adapter: &mut A) -> Result<(), AdapterStuck>
 {
     law_base();
     adapter.write(Reg::Ghc, GlobalControl::AE.0 | GlobalControl::HR.0);
-    for _reading in 0..READINGS {
+    for _reading in 0..MOST_READINGS {
         let shown = GlobalControl(adapter.read(Reg::Ghc));
         if !shown.is_resetting() {
             return Ok(());

@@ -10,7 +10,7 @@ use crate::divergence::Divergence;
 use crate::peer::{Peer, PeerFault};
 use adapter::laws::{law_steps_compose, law_steps_keep};
 use adapter::{Adapter, DeviceStep, Entry, FatalError, Stepped};
-use ata_types::{DRIVER_BYTES, PORT_BYTES, PORTS, Port, SCRATCH, Slot};
+use ata_types::{DRIVER_BYTES, PORT_BYTES, PORTS, Port, SCRATCH_OFFSET, Slot};
 use device_model::{Shown, Watched};
 use hba_regs::{
     GlobalControl, PortCommand, PortInterrupts, PortReg, Reg, SataStatus, TaskFile, is_set,
@@ -658,7 +658,7 @@ fn lowest(slots: u32) -> Option<u32>
 /// Whether two pages of IDENTIFY DEVICE, in a port's scratch frame, tell the server the same: it decides by what
 /// `identify` reads in them, and by nothing else.
 fn tell_same(address: u32, shown: &[u8], said: &[u8]) -> bool {
-    if address >= DRIVER_BYTES || address % PORT_BYTES != SCRATCH {
+    if address >= DRIVER_BYTES || address % PORT_BYTES != SCRATCH_OFFSET {
         return false;
     }
     let (Ok(shown), Ok(said)) = (

@@ -59,8 +59,8 @@ fn touches(read: &Filled, sector: u64, happened: &Happened) -> bool
 }
 
 /// The number of the disk that was in when the read last touched the sector.
-fn disk_read(read: &Filled, sector: u64, history: &[Happened]) -> usize
-    ensures { result ≡ left.disk_read (accepted_of read.now) sector (history_of history.now) }
+fn disk_number_read(read: &Filled, sector: u64, history: &[Happened]) -> usize
+    ensures { result ≡ left.disk_number_read (accepted_of read.now) sector (history_of history.now) }
 {
     match history.split_first() {
         None => 0,
@@ -68,7 +68,7 @@ fn disk_read(read: &Filled, sector: u64, history: &[Happened]) -> usize
             if touches(read, sector, newest) {
                 plug_count(read.port, past)
             } else {
-                disk_read(read, sector, past)
+                disk_number_read(read, sector, past)
             }
         }
     }
@@ -162,7 +162,7 @@ pub fn left(start: u8, history: &[Happened], read: &Filled, sector: u64) -> u8
         (accepted_of read.now) sector block
         × ((b : ℕ) → block b ≡ result) }
 {
-    let disk = disk_read(read, sector, history);
+    let disk = disk_number_read(read, sector, history);
     match last_writer(read, sector, disk, history) {
         Some(writer) => written(writer, sector),
         None => byte_of(fill_when_plugged(start, read.port, disk, history), sector),

@@ -9,7 +9,7 @@ use Rattle.ata_types.specs.declared.refusal.MemFault.TheVariants as fault
 use Rattle.block_machine.specs.Due.{is_writer}
 use Rattle.block_machine.specs.State.{Block, DiskBytes, Memory, Machine, frame_at, sector_of, is_reader, written_by}
 use Rattle.block_machine.specs.Steps.{Step, Touch, Replace, Store, after_step, put_bytes, put_sector, disks_after}
-use Rattle.block_machine.specs.Left.{after, IsLegal, IsStart}
+use Rattle.block_machine.specs.Left.{after, IsLegal, IsInitial}
 use Rattle.block_machine.specs.Confined.{MayChangeByte, MayChangeSector}
 use Rattle.block_machine.proofs.Keeps.{same_port, same_frame}
 use Rattle.block_machine.proofs.Trace.{runs_lives}
@@ -34,7 +34,7 @@ put_there f g offset n b bytes memory ne = go ((g.0 == f.0) && (leb offset b && 
         (sym (same_frame g f (eqb-true g.0 f.0 p.0)), leb-true offset b q.0, ltb-true b (offset + n) q.1)
     go false t = absurd (ne (cond-false ((g.0 == f.0) && (leb offset b && ltb b (offset + n))) (bytes (b - offset)) (memory g b) t))
 
-pub law_bytes_change_by : (start : Machine) (h : List Step) (step : Step) (f : Frame) (b : ℕ) → IsStart start → IsLegal start (step ∷ h)
+pub law_bytes_change_by : (start : Machine) (h : List Step) (step : Step) (f : Frame) (b : ℕ) → IsInitial start → IsLegal start (step ∷ h)
     → (after start (step ∷ h)).memory f b ≢ (after start h).memory f b → MayChangeByte (after start h) step f b
 law_bytes_change_by start h (Touch e i block) f b s legal ne = by (is_reader e.request.asked.op) refl
   where

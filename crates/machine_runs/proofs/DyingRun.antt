@@ -12,7 +12,7 @@ use Rattle.ata_types.specs.declared.request.Outcome.TheVariants as outcome
 use Rattle.block_machine.specs.Ports.{Evidence}
 use Rattle.block_machine.specs.State.{Accepted, Pending, unanswered}
 use Rattle.block_machine.specs.Steps.{Accept, Issue, Answer, newly_accepted, newly_issued}
-use Rattle.block_machine.specs.Events.{Submit, Service, Submitted, Served, CallRecord, Happens, Tells, IsToldBefore, reply_of, moment_of, situation_of}
+use Rattle.block_machine.specs.Events.{Submit, Service, Submitted, Served, CallRecord, Happens, Tells, IsToldBefore, reply_of, abstract_after_all, situation_of}
 use Rattle.machine_runs.specs.Worked.{DiesInAService}
 use Rattle.block_machine.proofs.Members.{contains_none, contains_here, contains_there, contains_cases}
 use Rattle.block_machine.proofs.Setting.{port, frame, empty_starts, acceptable, granted}
@@ -22,7 +22,7 @@ use Rattle.machine_runs.proofs.ResetRun.{dead_not_ready, dead_here}
 
 -- a write of another sector
 abbrev other : Accepted
-other = one_sector 0 (moment_of first run1).machine 2 Write 101 101
+other = one_sector 0 (abstract_after_all first run1).machine 2 Write 101 101
 
 abbrev submit : CallRecord (Unit {0})
 submit = call (Submit other.asked) (Submitted (Ok (id 2))) (Issue mode (newly_accepted other) ∷ Accept other ∷ [])
@@ -49,21 +49,21 @@ service = record { ask = Service; said = Served (map reply_of told); evidence = 
 abbrev run3 : List (CallRecord (Unit {0}))
 run3 = service ∷ run2
 
-quiet : IsQuiet 0 (moment_of first run1)
+quiet : IsQuiet 0 (abstract_after_all first run1)
 quiet = record { rows = refl; mine = row_zero; ready = refl; size = refl; room = omega arith; few = omega arith }
 
 second : {X : Type 0} (a b : X) → Contains (a ∷ b ∷ []) b
 second a b = contains_there a (b ∷ []) b (contains_here b [] b refl)
 
-happens2 : Happens (moment_of first run1) submit
+happens2 : Happens (abstract_after_all first run1) submit
 happens2 = record {
-  may = ((tt, new 0 (moment_of first run1) other quiet (write_at 0 (moment_of first run1) 101 101 quiet (omega arith) (omega arith) refl refl) refl refl refl), (second one (newly_accepted other), record { here = second (unanswered one) (unanswered (newly_accepted other)); clear = refl; slot = λ _. omega arith }, λ e h. absurd (contains_none e h), granted 0 row_zero refl));
+  may = ((tt, new 0 (abstract_after_all first run1) other quiet (write_at 0 (abstract_after_all first run1) 101 101 quiet (omega arith) (omega arith) refl refl) refl refl refl), (second one (newly_accepted other), record { here = second (unanswered one) (unanswered (newly_accepted other)); clear = refl; slot = λ _. omega arith }, λ e h. absurd (contains_none e h), granted 0 row_zero refl));
   belong = ((tt, inr refl), inr (refl, refl));
   last = ((tt, λ id h i. false≢true i), λ id h i. false≢true i);
   lawful = tt;
   fit = ports_fit Ready refl;
   disks = λ e o h i same. (refl, refl);
-  answered = (acceptable 0 (situation_of (moment_of first run1)) other.asked (write_at 0 (moment_of first run1) 101 101 quiet (omega arith) (omega arith) refl refl), (other, refl, refl), λ p. (refl, refl, refl, refl, refl, refl), λ p _. none_waits _ refl p);
+  answered = (acceptable 0 (situation_of (abstract_after_all first run1)) other.asked (write_at 0 (abstract_after_all first run1) 101 101 quiet (omega arith) (omega arith) refl refl), (other, refl, refl), λ p. (refl, refl, refl, refl, refl, refl), λ p _. none_waits _ refl p);
 }
 
 tells : Tells service.steps (map reply_of told)
@@ -78,7 +78,7 @@ tells = record {
     go zero (suc zero) d lt below = inr (refl, omega arith)
     go i j d lt below = absurd (omega (arith, lt, below))
 
-happens3 : Happens (moment_of first run2) service
+happens3 : Happens (abstract_after_all first run2) service
 happens3 = record {
   may = ((tt, (contains_here one (two ∷ []) one refl, tt)), (contains_here two [] two refl, tt));
   belong = ((tt, inr tt), inr tt);
@@ -89,10 +89,10 @@ happens3 = record {
   answered = record {
     tells = tells;
     dead = λ e o h dead. none_dead e.request.port dead;
-    unplugs = none_unplugged service.steps (moment_of first run3).machine refl;
+    unplugs = none_unplugged service.steps (abstract_after_all first run3).machine refl;
     issues = λ p ready. dead_not_ready p ready;
     emptied = λ p ne e h. absurd (contains_none e h);
-    ended = λ p _. none_ended (moment_of first run2).machine service.steps refl p;
+    ended = λ p _. none_ended (abstract_after_all first run2).machine service.steps refl p;
     becomes = λ p. (λ dead. none_dead p dead, λ _. (record { served = refl; stuck = (dead_here p, λ h. dies p h); keeps = λ _. (refl, refl) }, changed_here Ready Dead seen (inl (contains_here port [] port refl)) p));
     disk = λ p. inr (λ shows. shows_none Dead (λ s. s) p shows);
   };

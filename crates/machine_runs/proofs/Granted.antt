@@ -13,7 +13,7 @@ use Rattle.block_machine.specs.Rules.{HasRow, IsUnder, is_under}
 use Rattle.block_machine.specs.State.{Accepted, Pending, Machine}
 use Rattle.block_machine.specs.Steps.{Step, Accept, Issue, Touch, End, Age, Again, Answer, Revoke, HasGrant, May, MayStillMove, after_step, at, newly_issued, touch, mark_ended, requeued, older, newly_accepted}
 use Rattle.block_machine.specs.Left.{after}
-use Rattle.block_machine.specs.Events.{AbstractState, Ask, RevokeOf, CallResult, WasRevoked, CallRecord, AllMay, Belong, IsAnswered, IsByDevice, IsRun, IsByServer, moment_of, steps_of}
+use Rattle.block_machine.specs.Events.{AbstractState, Ask, RevokeOf, CallResult, WasRevoked, CallRecord, AllMay, Belong, IsAnswered, IsByDevice, IsRun, IsByServer, abstract_after_all, steps_of}
 use Rattle.block_machine.proofs.Accepts.{law_accepted_is_granted}
 use Rattle.block_machine.proofs.EventLemmas.{moment_is, run_legal, run_starts}
 use Rattle.block_machine.proofs.Keeps.{keeps, older_issued}
@@ -188,8 +188,8 @@ granted_event (RevokeOf client number) (WasRevoked None) old evidence steps port
 granted_event (RevokeOf client number) said old evidence steps ports a s may b g e h waits = absurd a
 granted_event ask said old evidence steps ports a s may b g e h waits = granted_after old.machine steps s may (all_leave ask ports steps refl b) g e h waits
 
-pub law_what_waits_has_its_grant : {D : Type 0} (first : AbstractState) (run : List (CallRecord D)) (e : Pending) → IsRun first run → Contains (moment_of first run).machine.book e → e.issued ≡ false → HasGrant (moment_of first run).machine e
+pub law_what_waits_has_its_grant : {D : Type 0} (first : AbstractState) (run : List (CallRecord D)) (e : Pending) → IsRun first run → Contains (abstract_after_all first run).machine.book e → e.issued ≡ false → HasGrant (abstract_after_all first run).machine e
 law_what_waits_has_its_grant first [] e r h waits = absurd (nobody first.machine r.0 e (inl h))
 law_what_waits_has_its_grant first (event ∷ past) e r h waits =
     let sound = subst Sound (sym (moment_is first past)) (traced first.machine (steps_of past) (run_starts first past r.0) (run_legal first past r.0)).sound in
-    granted_event event.ask event.said (moment_of first past) event.evidence event.steps event.ports r.1.answered sound r.1.may r.1.belong (λ x i w. law_what_waits_has_its_grant first past x r.0 i w) e h waits
+    granted_event event.ask event.said (abstract_after_all first past) event.evidence event.steps event.ports r.1.answered sound r.1.may r.1.belong (λ x i w. law_what_waits_has_its_grant first past x r.0 i w) e h waits

@@ -12,9 +12,9 @@ use Rattle.ata_types.specs.declared.request.Outcome.TheVariants.{Aborted, Ok}
 use Rattle.block_machine.specs.Ports.{Ports, Evidence}
 use Rattle.block_machine.specs.State.{Accepted, Pending, Machine, Memory}
 use Rattle.block_machine.specs.Steps.{Step, Accept, Issue, Touch, End, Age, Again, Answer, Release, Revoke, Unplug, Replace, Store, Load, May, after_step, at, newly_issued, touch, mark_ended, requeued, older}
-use Rattle.block_machine.specs.Left.{after, IsLegal, IsStart, HoldsLeft}
+use Rattle.block_machine.specs.Left.{after, IsLegal, IsInitial, HoldsLeft}
 use Rattle.block_machine.specs.Confined.{WithinLimits}
-use Rattle.block_machine.specs.Events.{AbstractState, CallRecord, AllLawful, EveryReadHolds, IsLawful, IsRun, issues_it, moment_of, steps_of}
+use Rattle.block_machine.specs.Events.{AbstractState, CallRecord, AllLawful, EveryReadHolds, IsLawful, IsRun, issues_it, abstract_after_all, steps_of}
 use Rattle.block_machine.proofs.Members.{contains_none, contains_here, contains_there, contains_cases, map_in, into_map, at_cases, without_in, append_in}
 use Rattle.block_machine.proofs.Keeps.{older_keeps, older_issued}
 use Rattle.block_machine.proofs.Limits.{law_limits_hold, older_issues}
@@ -47,8 +47,8 @@ lawful_in old evidence ports (x ∷ before) l step h =
     (contains_cases x before step h)
 
 pub law_answers_are_lawful : {D : Type 0} (first : AbstractState) (past : List (CallRecord D)) (event : CallRecord D) (e : Pending) (outcome : Outcome) → IsRun first (event ∷ past) → Contains event.steps (Answer e outcome)
-    → IsLawful (moment_of first past) event.evidence event.ports e outcome
-law_answers_are_lawful first past event e outcome r h = lawful_in (moment_of first past) event.evidence event.ports event.steps r.1.lawful (Answer e outcome) h
+    → IsLawful (abstract_after_all first past) event.evidence event.ports e outcome
+law_answers_are_lawful first past event e outcome r h = lawful_in (abstract_after_all first past) event.evidence event.ports event.steps r.1.lawful (Answer e outcome) h
 
 -- How often an id was issued: not yet where it is still to come, as often as its unanswered request says, and four times at most.
 record IsCounted (m : Machine) (id : RequestId) (n : ℕ) : Type 0 where
@@ -151,7 +151,7 @@ counted_step m (Replace p i size disk) id n may s limits c = counted_on m (after
 counted_step m (Store k f o b) id n may s limits c = counted_on m (after_step m (Store k f o b)) id n refl (λ e h. came_same issues_of m e e h refl) c
 counted_step m (Load k f o b) id n may s limits c = counted_on m (after_step m (Load k f o b)) id n refl (λ e h. came_same issues_of m e e h refl) c
 
-counted : (start : Machine) (h : List Step) (id : RequestId) → IsStart start → IsLegal start h → IsCounted (after start h) id (count_by (issues_it id) h)
+counted : (start : Machine) (h : List Step) (id : RequestId) → IsInitial start → IsLegal start h → IsCounted (after start h) id (count_by (issues_it id) h)
 counted start [] id s legal = record { most = omega arith; none = λ le. refl; here = λ e h same. absurd (nobody start s e (inl h)) }
 counted start (step ∷ past) id s legal = subst (IsCounted (after start (step ∷ past)) id) (sym (count_cons (issues_it id) step past))
     (counted_step (after start past) step id (count_by (issues_it id) past) legal.1 (traced start past s legal.0).sound (law_limits_hold start (step ∷ past) s legal) (counted start past id s legal.0))
@@ -251,14 +251,14 @@ balanced_step m (Replace p i size disk) id issues waits may s b = balanced_on m 
 balanced_step m (Store k f o x) id issues waits may s b = balanced_on m (after_step m (Store k f o x)) id issues waits refl (λ e h. came_same issued_of m e e h refl) b
 balanced_step m (Load k f o x) id issues waits may s b = balanced_on m (after_step m (Load k f o x)) id issues waits refl (λ e h. came_same issued_of m e e h refl) b
 
-balanced : (start : Machine) (h : List Step) (id : RequestId) → IsStart start → IsLegal start h → IsBalanced (after start h) id (count_by (issues_it id) h) (count_by (waits_again id) h)
+balanced : (start : Machine) (h : List Step) (id : RequestId) → IsInitial start → IsLegal start h → IsBalanced (after start h) id (count_by (issues_it id) h) (count_by (waits_again id) h)
 balanced start [] id s legal = record { none = λ le. (refl, refl); here = λ e h same. absurd (nobody start s e (inl h)) }
 balanced start (step ∷ past) id s legal =
     subst (IsBalanced (after start (step ∷ past)) id (count_by (issues_it id) (step ∷ past))) (sym (count_cons (waits_again id) step past))
     (subst (λ (n : ℕ). IsBalanced (after start (step ∷ past)) id n (cond (waits_again id step) 1 0 + count_by (waits_again id) past)) (sym (count_cons (issues_it id) step past))
     (balanced_step (after start past) step id (count_by (issues_it id) past) (count_by (waits_again id) past) legal.1 (traced start past s legal.0).sound (balanced start past id s legal.0)))
 
-pub law_issues_are_counted : (start : Machine) (history : List Step) (e : Pending) → IsStart start → IsLegal start history → Contains (after start history).book e
+pub law_issues_are_counted : (start : Machine) (history : List Step) (e : Pending) → IsInitial start → IsLegal start history → Contains (after start history).book e
     → (count_by (issues_it e.request.id) history ≡ e.issues) × (count_by (issues_it e.request.id) history ≡ count_by (waits_again e.request.id) history + cond e.issued 1 0)
 law_issues_are_counted start history e starts legal here =
     ((counted start history e.request.id starts legal).here e here refl, (balanced start history e.request.id starts legal).here e here refl)
@@ -287,10 +287,10 @@ aborted_after_four first run late early e r split =
     omega (arith, four, count, most, all, count_append issues late (Answer e Aborted ∷ early), count_cons issues (Answer e Aborted) early)
 
 -- one id is one request, at each moment of a run
-pub one_of_run : {D : Type 0} (first : AbstractState) (run : List (CallRecord D)) (a b : Pending) → IsRun first run → Contains (moment_of first run).machine.book a → Contains (moment_of first run).machine.book b
+pub one_of_run : {D : Type 0} (first : AbstractState) (run : List (CallRecord D)) (a b : Pending) → IsRun first run → Contains (abstract_after_all first run).machine.book a → Contains (abstract_after_all first run).machine.book b
     → a.request.id.0 ≡ b.request.id.0 → a ≡ b
 one_of_run first run a b r h k same =
-    let there : (x : Pending) → Contains (moment_of first run).machine.book x → Contains (after first.machine (steps_of run)).book x = λ x i. subst (λ (m : Machine). Contains m.book x) (moment_is first run) i in
+    let there : (x : Pending) → Contains (abstract_after_all first run).machine.book x → Contains (after first.machine (steps_of run)).book x = λ x i. subst (λ (m : Machine). Contains m.book x) (moment_is first run) i in
     (traced first.machine (steps_of run) (run_starts first run r) (run_legal first run r)).sound.one a b (there a h) (there b k) same
 
 pub counted_more : {X : Type 0} (p : X → Bool) (x : X) (xs : List X) → count_by p (x ∷ xs) ≡ cond (p x) 1 0 + count_by p xs

@@ -13,7 +13,7 @@ use Rattle.block_machine.specs.Ports.{Ports, Evidence, AreFit, SamePorts, IsStuc
 use Rattle.block_machine.specs.State.{Pending, Machine, unanswered}
 use Rattle.block_machine.specs.Steps.{Step, Accept, Issue, Touch, End, Age, Again, Answer, Store, Load, after_step, at, touch, mark_ended}
 use Rattle.block_machine.specs.Left.{after}
-use Rattle.block_machine.specs.Events.{AbstractState, Ask, Submit, StoreAt, LoadAt, Service, Tick, Reset, RevokeOf, State, Device, CallResult, Submitted, Stored, Loaded, Served, WasReset, WasRevoked, Shown, Stepped, CallRecord, AllIssued, IsAnswered, IsByDevice, IsByServer, Belong, IsRun, moment_of}
+use Rattle.block_machine.specs.Events.{AbstractState, Ask, Submit, StoreAt, LoadAt, Service, Tick, Reset, RevokeOf, State, Device, CallResult, Submitted, Stored, Loaded, Served, WasReset, WasRevoked, Shown, Stepped, CallRecord, AllIssued, IsAnswered, IsByDevice, IsByServer, Belong, IsRun, abstract_after_all}
 use Rattle.block_machine.proofs.Members.{contains_none, contains_here, contains_there, at_cases, map_in, into_map}
 use Rattle.machine_runs.proofs.RunLaws.{is_ready, run_fit}
 use Rattle.machine_runs.proofs.Issuing.{counted_more, one_of_run}
@@ -111,9 +111,9 @@ issued_event (RevokeOf c n) (WasRevoked None) old evidence steps ports a b fit a
     issued_still old (left old steps ports) (ap (λ (xs : List Step). map unanswered (after old.machine xs).book) a.1) a.2 all
 issued_event ask said old evidence steps ports a b fit all = absurd a
 
-pub law_none_due_between : {D : Type 0} (first : AbstractState) (run : List (CallRecord D)) → IsRun first run → AllIssued (moment_of first run)
+pub law_none_due_between : {D : Type 0} (first : AbstractState) (run : List (CallRecord D)) → IsRun first run → AllIssued (abstract_after_all first run)
 law_none_due_between first [] r = λ port ready x here due. contains_none x (subst (λ (es : List Pending). Contains (map unanswered es) x) r.0.book due.here)
-law_none_due_between first (event ∷ past) r = issued_event event.ask event.said (moment_of first past) event.evidence event.steps event.ports r.1.answered r.1.belong r.1.fit (law_none_due_between first past r.0)
+law_none_due_between first (event ∷ past) r = issued_event event.ask event.said (abstract_after_all first past) event.evidence event.steps event.ports r.1.answered r.1.belong r.1.fit (law_none_due_between first past r.0)
 
 -- The only unanswered request waits for nothing: so where its port is ready, it is issued.
 
@@ -152,15 +152,15 @@ clear_from true held i h = absurd (false≢true (sym i))
 clear_from false true i h = absurd (false≢true (sym h))
 clear_from false false i h = refl
 
-pub lone_is_issued : {D : Type 0} (first : AbstractState) (run : List (CallRecord D)) (e : Pending) → IsRun first run → Contains (moment_of first run).machine.book e
-    → (moment_of first run).ports.state e.request.port ≡ Ready → ((o : Pending) → Contains (moment_of first run).machine.book o → o.request.id ≡ e.request.id) → e.issued ≡ true
+pub lone_is_issued : {D : Type 0} (first : AbstractState) (run : List (CallRecord D)) (e : Pending) → IsRun first run → Contains (abstract_after_all first run).machine.book e
+    → (abstract_after_all first run).ports.state e.request.port ≡ Ready → ((o : Pending) → Contains (abstract_after_all first run).machine.book o → o.request.id ≡ e.request.id) → e.issued ≡ true
 lone_is_issued first run e r h ready alone = true_from_ne_false e.issued due
   where
     book : List Pending
-    book = (moment_of first run).machine.book
+    book = (abstract_after_all first run).machine.book
 
     mode : QueueMode
-    mode = (moment_of first run).ports.mode e.request.port
+    mode = (abstract_after_all first run).ports.mode e.request.port
 
     -- each of the book is this one
     same : (u : Unanswered) → Contains (map unanswered book) u → u ≡ unanswered e

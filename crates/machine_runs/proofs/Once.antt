@@ -10,9 +10,9 @@ use Rattle.ata_types.specs.declared.request.Reply.{Reply}
 use Rattle.block_machine.specs.Ports.{Ports, Evidence}
 use Rattle.block_machine.specs.State.{Accepted, Pending, Machine}
 use Rattle.block_machine.specs.Steps.{Step, Accept, Answer, May, after_step}
-use Rattle.block_machine.specs.Left.{after, IsLegal, IsStart}
+use Rattle.block_machine.specs.Left.{after, IsLegal, IsInitial}
 use Rattle.block_machine.specs.Confined.{WasAccepted}
-use Rattle.block_machine.specs.Events.{AbstractState, Ask, Submit, Service, Tick, Reset, RevokeOf, CallResult, Submitted, Served, WasReset, WasRevoked, CallRecord, AllMay, Belong, Tells, IsAnswered, IsRun, accepts_it, answers_it, accepts_of, answers_of, reply_of, replies_of, all_replies, gives_id, WasGiven, moment_of, steps_of}
+use Rattle.block_machine.specs.Events.{AbstractState, Ask, Submit, Service, Tick, Reset, RevokeOf, CallResult, Submitted, Served, WasReset, WasRevoked, CallRecord, AllMay, Belong, Tells, IsAnswered, IsRun, accepts_it, answers_it, accepts_of, answers_of, reply_of, replies_of, all_replies, gives_id, WasGiven, abstract_after_all, steps_of}
 use Rattle.block_machine.proofs.Members.{contains_none, contains_here, contains_there, contains_cases, map_in, without_in, append_in}
 use Rattle.block_machine.proofs.Sound.{Sound}
 use Rattle.block_machine.proofs.Runs.{traced, nobody}
@@ -41,7 +41,7 @@ fresh_step m (Accept r) id n may f = go (r.id.0 == id.0) refl
     go false e = let most = f.most in record { most = omega (arith, most); none = λ le. let zero = f.none (omega (arith, le)) in omega (arith, zero) }
 fresh_step m step id n may f = let most = f.most in record { most = omega (arith, most); none = λ le. let zero = f.none le in omega (arith, zero) }
 
-fresh : (start : Machine) (h : List Step) (id : RequestId) → IsStart start → IsLegal start h → IsFresh (after start h) id (count_by (accepts_it id) h)
+fresh : (start : Machine) (h : List Step) (id : RequestId) → IsInitial start → IsLegal start h → IsFresh (after start h) id (count_by (accepts_it id) h)
 fresh start [] id s legal = record { most = omega arith; none = λ le. refl }
 fresh start (step ∷ past) id s legal = subst (IsFresh (after start (step ∷ past)) id) (sym (count_cons (accepts_it id) step past))
     (fresh_step (after start past) step id (count_by (accepts_it id) past) legal.1 (fresh start past id s legal.0))
@@ -93,7 +93,7 @@ untold_step m step id n may s f =
           (came m step x i);
     }
 
-untold : (start : Machine) (h : List Step) (id : RequestId) → IsStart start → IsLegal start h → IsUntold (after start h) id (count_by (answers_it id) h)
+untold : (start : Machine) (h : List Step) (id : RequestId) → IsInitial start → IsLegal start h → IsUntold (after start h) id (count_by (answers_it id) h)
 untold start [] id s legal = record { most = omega arith; none = λ le. refl; here = λ e i q. refl }
 untold start (step ∷ past) id s legal = subst (IsUntold (after start (step ∷ past)) id) (sym (count_cons (answers_it id) step past))
     (untold_step (after start past) step id (count_by (answers_it id) past) legal.1 (traced start past s legal.0).sound (untold start past id s legal.0))
@@ -149,7 +149,7 @@ run_replies first [] id r = omega arith
 run_replies first (event ∷ past) id r =
     let rest = run_replies first past id r.0 in
     let now = replies_few id event.steps (replies_of event.said)
-    (⊎_elim (λ t. inl t.0) (λ e. inr e) (told_or_none event.ask event.said (moment_of first past) event.evidence event.steps _ r.1.answered)) in
+    (⊎_elim (λ t. inl t.0) (λ e. inr e) (told_or_none event.ask event.said (abstract_after_all first past) event.evidence event.steps _ r.1.answered)) in
     omega (arith, rest, now, count_append (λ (reply : Reply). reply.id.0 == id.0) (replies_of event.said) (all_replies past), count_append (answers_it id) event.steps (steps_of past))
 
 pub law_replied_once : {D : Type 0} (first : AbstractState) (run : List (CallRecord D)) (id : RequestId) → IsRun first run → count_by (λ (reply : Reply). reply.id.0 == id.0) (all_replies run) ≤ 1
@@ -176,7 +176,7 @@ run_gives : {D : Type 0} (first : AbstractState) (run : List (CallRecord D)) (id
 run_gives first [] id r = omega arith
 run_gives {D} first (event ∷ past) id r =
     let rest = run_gives first past id r.0 in
-    let now = gives_accepted id event.ask event.said (moment_of first past) event.evidence event.steps _ r.1.answered in
+    let now = gives_accepted id event.ask event.said (abstract_after_all first past) event.evidence event.steps _ r.1.answered in
     omega (arith, rest, now, count_cons (λ (x : CallRecord D). gives_id id x.said) event past, count_append (accepts_it id) event.steps (steps_of past))
 
 pub law_given_once : {D : Type 0} (first : AbstractState) (run : List (CallRecord D)) (id : RequestId) → IsRun first run → count_by (λ (event : CallRecord D). gives_id id event.said) run ≤ 1
@@ -195,23 +195,23 @@ accepts_asked r (Submit q) said old evidence steps ports new b a h = absurd a
 accepts_asked r ask said old evidence steps ports new b a h = absurd (contains_none r (subst (λ (xs : List Accepted). Contains xs r) (none_accepted ask steps refl (all_fit ask ports steps b)) h))
 
 -- it was there before its last call, or that asked for it
-pub came_from : {D : Type 0} (first : AbstractState) (past : List (CallRecord D)) (event : CallRecord D) (e : Pending) → IsRun first (event ∷ past) → Contains (moment_of first (event ∷ past)).machine.book e
-    → CameFrom (moment_of first past).machine event.steps e ⊎ ((event.ask ≡ Submit e.request.asked) × (event.said ≡ Submitted (Ok e.request.id)))
+pub came_from : {D : Type 0} (first : AbstractState) (past : List (CallRecord D)) (event : CallRecord D) (e : Pending) → IsRun first (event ∷ past) → Contains (abstract_after_all first (event ∷ past)).machine.book e
+    → CameFrom (abstract_after_all first past).machine event.steps e ⊎ ((event.ask ≡ Submit e.request.asked) × (event.said ≡ Submitted (Ok e.request.id)))
 came_from first past event e r h = ⊎_elim
-    (λ (s : Since (moment_of first past).machine event.steps e). inl (record {
+    (λ (s : Since (abstract_after_all first past).machine event.steps e). inl (record {
       before = s.old;
       here = s.here;
       same = s.same;
       issued = λ t. ⊎_elim (λ anew. inl anew.0) (λ kept. inr kept.1) (s.issued t);
     }))
     (λ (a : IsAccepted event.steps e). inr
-    (accepts_asked e.request event.ask event.said (moment_of first past) event.evidence event.steps event.ports _ r.1.belong r.1.answered a.0))
-    (since (moment_of first past).machine event.steps e h)
+    (accepts_asked e.request event.ask event.said (abstract_after_all first past) event.evidence event.steps event.ports _ r.1.belong r.1.answered a.0))
+    (since (abstract_after_all first past).machine event.steps e h)
 
-was_asked : {D : Type 0} (first : AbstractState) (run : List (CallRecord D)) (e : Pending) → IsRun first run → Contains (moment_of first run).machine.book e → WasAsked e.request run
+was_asked : {D : Type 0} (first : AbstractState) (run : List (CallRecord D)) (e : Pending) → IsRun first run → Contains (abstract_after_all first run).machine.book e → WasAsked e.request run
 was_asked first [] e r h = absurd (nobody first.machine r.0 e (inl h))
 was_asked first (event ∷ past) e r h = ⊎_elim
-    (λ (c : CameFrom (moment_of first past).machine event.steps e). inr
+    (λ (c : CameFrom (abstract_after_all first past).machine event.steps e). inr
     (subst (λ (x : Accepted). WasAsked x past) c.same (was_asked first past c.before r.0 c.here)))
     (λ asked. inl asked)
     (came_from first past event e r h)
@@ -227,7 +227,7 @@ accepted_in start (step ∷ steps) past r (inr w) = accepted_in start steps past
 pub law_accepted_was_asked : {D : Type 0} (first : AbstractState) (run : List (CallRecord D)) (r : Accepted) → IsRun first run → WasAccepted first.machine (steps_of run) r → WasAsked r run
 law_accepted_was_asked first [] r run w = w
 law_accepted_was_asked first (event ∷ past) r run w = ⊎_elim
-    (λ (i : Contains (accepts_of event.steps) r). inl (accepts_asked r event.ask event.said (moment_of first past) event.evidence event.steps event.ports _ run.1.belong run.1.answered i))
+    (λ (i : Contains (accepts_of event.steps) r). inl (accepts_asked r event.ask event.said (abstract_after_all first past) event.evidence event.steps event.ports _ run.1.belong run.1.answered i))
     (λ was. inr (law_accepted_was_asked first past r run.0 was))
     (accepted_in first.machine event.steps (steps_of past) r w)
 
@@ -274,12 +274,12 @@ law_replied_was_asked first past event reply r h = ⊎_elim
     (λ (t : Tells event.steps (replies_of event.said) × (is_submit event.ask ≡ false)).
     let a = map_in reply_of t.0.answers reply (subst (λ (xs : List Reply). Contains xs reply) t.0.told h) in
     let i = Contains-permutation t.0.answers (answers_of event.steps) a.0 t.0.same a.1 in
-    let waited = was_open (moment_of first past).machine event.steps a.0 r.1.may (none_accepted event.ask event.steps t.1 (all_fit event.ask event.ports event.steps r.1.belong)) i in
+    let waited = was_open (abstract_after_all first past).machine event.steps a.0 r.1.may (none_accepted event.ask event.steps t.1 (all_fit event.ask event.ports event.steps r.1.belong)) i in
     let asked : WasAsked a.0.0.request past = subst (λ (x : Accepted). WasAsked x past) waited.2 (was_asked first past waited.0 r.0 waited.1) in
     let told : IsRepliedBy (reply_of a.0) event past = (a.0.0, answers_in event.steps a.0 i, refl, refl, asked) in
     subst (λ (x : Reply). IsRepliedBy x event past) (sym a.2) told)
     (λ e. absurd (contains_none reply (subst (λ (xs : List Reply). Contains xs reply) e h)))
-    (told_or_none event.ask event.said (moment_of first past) event.evidence event.steps _ r.1.answered)
+    (told_or_none event.ask event.said (abstract_after_all first past) event.evidence event.steps _ r.1.answered)
 
 pub law_replied_was_given : {D : Type 0} (first : AbstractState) (past : List (CallRecord D)) (event : CallRecord D) (reply : Reply) → IsRun first (event ∷ past) → Contains (replies_of event.said) reply
     → WasGiven reply.id reply.client past

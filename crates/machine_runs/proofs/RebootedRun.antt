@@ -8,7 +8,7 @@ use Rattle.ata_types.specs.declared.request.Outcome.TheVariants as outcome
 use Rattle.block_machine.specs.Ports.{MayBecome}
 use Rattle.block_machine.specs.State.{Pending, Machine, unanswered}
 use Rattle.block_machine.specs.Steps.{Issue, Again, Answer, Release, newly_accepted, newly_issued, requeued}
-use Rattle.block_machine.specs.Events.{AbstractState, Reset, WasReset, CallRecord, Happens, IsIssuedIn, reply_of, moment_of, moment_after}
+use Rattle.block_machine.specs.Events.{AbstractState, Reset, WasReset, CallRecord, Happens, IsIssuedIn, reply_of, abstract_after_all, abstract_after}
 use Rattle.machine_runs.specs.Worked.{GoesAgainInResets}
 use Rattle.block_machine.proofs.Setting.{port, empty_starts, two_rows, granted}
 use Rattle.machine_runs.proofs.Scene.{mode, ports, first, one_issued, one_told, none_told, none_unplugged, finds_none, emptied_of, only_one, of_two, ports_fit, none_dead, row_zero}
@@ -53,7 +53,7 @@ again m n rows present few = record {
   answered = record {
     tells = none_told (retry n).steps refl;
     releases = record { later = Issue mode (requeued (tried n)) ∷ Again (tried n) ∷ []; earlier = []; split = refl; before = tt; once = refl };
-    unplugs = none_unplugged (retry n).steps (moment_after (before m n) (retry n)).machine refl;
+    unplugs = none_unplugged (retry n).steps (abstract_after (before m n) (retry n)).machine refl;
     finds = finds_none (retry n).steps ports ports refl;
     issues = λ p _. none_due p;
     emptied = λ p. emptied_of (tried (suc n) ∷ waits ∷ []) (of_two (tried (suc n)) waits (λ e. e.request.port ≡ port) refl refl) p;
@@ -64,7 +64,7 @@ again m n rows present few = record {
   };
 }
 
-happens6 : Happens (moment_of first run5) abort
+happens6 : Happens (abstract_after_all first run5) abort
 happens6 = record {
   may = (
     ((tt, tt), ((0, omega arith, refl), granted 0 row_zero refl)),
@@ -78,7 +78,7 @@ happens6 = record {
   answered = record {
     tells = one_told (tried 4) outcome.Aborted abort.steps refl (reply_of (tried 4, outcome.Aborted)) refl;
     releases = record { later = Issue mode waits ∷ Answer (tried 4) outcome.Aborted ∷ []; earlier = []; split = refl; before = tt; once = refl };
-    unplugs = none_unplugged abort.steps (moment_after (moment_of first run5) abort).machine refl;
+    unplugs = none_unplugged abort.steps (abstract_after (abstract_after_all first run5) abort).machine refl;
     finds = finds_none abort.steps ports ports refl;
     issues = λ p _. one_issued (unanswered (newly_issued waits)) refl p;
     emptied = λ p. emptied_of (newly_issued waits ∷ []) (only_one (newly_issued waits) (λ x. x.request.port ≡ port) refl) p;
@@ -97,7 +97,7 @@ goes_again_in_resets = record {
   two = retry 2;
   three = retry 3;
   four = abort;
-  runs = (((((((empty_starts, ports_fit Ready refl), happens1), happens2), again (moment_of first run2).machine 1 refl (λ p. refl) (omega arith)), again (moment_of first (retry 1 ∷ run2)).machine 2 refl (λ p. refl) (omega arith)), again (moment_of first (retry 2 ∷ retry 1 ∷ run2)).machine 3 refl (λ p. refl) (omega arith)), happens6);
+  runs = (((((((empty_starts, ports_fit Ready refl), happens1), happens2), again (abstract_after_all first run2).machine 1 refl (λ p. refl) (omega arith)), again (abstract_after_all first (retry 1 ∷ run2)).machine 2 refl (λ p. refl) (omega arith)), again (abstract_after_all first (retry 2 ∷ retry 1 ∷ run2)).machine 3 refl (λ p. refl) (omega arith)), happens6);
   resets = (refl, refl, refl, refl);
   issued = tried 1;
   waits = waits;

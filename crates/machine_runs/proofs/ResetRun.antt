@@ -9,7 +9,7 @@ use Rattle.ata_types.specs.declared.request.Outcome.TheVariants as outcome
 use Rattle.block_machine.specs.Ports.{Evidence, SamePorts}
 use Rattle.block_machine.specs.State.{Pending, unanswered}
 use Rattle.block_machine.specs.Steps.{Step, Issue, Age, Again, Answer, Release, newly_accepted, newly_issued, requeued}
-use Rattle.block_machine.specs.Events.{AbstractState, Service, Tick, Reset, Served, WasReset, CallRecord, TellsDead, AgesOnce, HasTimedOut, IsIssuedIn, RestartsTimedOut, Happens, is_age, reply_of, moment_of}
+use Rattle.block_machine.specs.Events.{AbstractState, Service, Tick, Reset, Served, WasReset, CallRecord, TellsDead, AgesOnce, HasTimedOut, IsIssuedIn, RestartsTimedOut, Happens, is_age, reply_of, abstract_after_all}
 use Rattle.machine_runs.specs.Worked.{EndsWithAReset}
 use Rattle.block_machine.proofs.Members.{contains_none, contains_here, contains_cases}
 use Rattle.block_machine.proofs.Keeps.{same_port}
@@ -111,7 +111,7 @@ ticks old young new same = record {
   anew = λ p hung. absurd (not_hung old young p hung);
 }
 
-pub happens2 : Happens (moment_of first run1) (tick [])
+pub happens2 : Happens (abstract_after_all first run1) (tick [])
 happens2 = record {
   may = (tt, tt);
   belong = (tt, inr tt);
@@ -122,14 +122,14 @@ happens2 = record {
   answered = record {
     tells = none_told (Age aging ∷ []) refl;
     ages = ages_once [] refl;
-    restarts = ticks (moment_of first run1) (only_one (aged 0) (λ e. e.age < 2) (omega arith)) (moment_of first run2) (λ p. (refl, refl, refl, refl, refl, refl));
-    unplugs = none_unplugged (Age aging ∷ []) (moment_of first run2).machine refl;
+    restarts = ticks (abstract_after_all first run1) (only_one (aged 0) (λ e. e.age < 2) (omega arith)) (abstract_after_all first run2) (λ p. (refl, refl, refl, refl, refl, refl));
+    unplugs = none_unplugged (Age aging ∷ []) (abstract_after_all first run2).machine refl;
     issues = λ p _. one_issued (unanswered (aged 1)) refl p;
     emptied = λ p _ ne e h. emptied_one (aged 1) refl p ne e h;
   };
 }
 
-pub happens3 : Happens (moment_of first run2) (tick [])
+pub happens3 : Happens (abstract_after_all first run2) (tick [])
 happens3 = record {
   may = (tt, tt);
   belong = (tt, inr tt);
@@ -140,8 +140,8 @@ happens3 = record {
   answered = record {
     tells = none_told (Age aging ∷ []) refl;
     ages = ages_once [] refl;
-    restarts = ticks (moment_of first run2) (only_one (aged 1) (λ e. e.age < 2) (omega arith)) (moment_of first run3) (λ p. (refl, refl, refl, refl, refl, refl));
-    unplugs = none_unplugged (Age aging ∷ []) (moment_of first run3).machine refl;
+    restarts = ticks (abstract_after_all first run2) (only_one (aged 1) (λ e. e.age < 2) (omega arith)) (abstract_after_all first run3) (λ p. (refl, refl, refl, refl, refl, refl));
+    unplugs = none_unplugged (Age aging ∷ []) (abstract_after_all first run3).machine refl;
     issues = λ p _. one_issued (unanswered (aged 2)) refl p;
     emptied = λ p _ ne e h. emptied_one (aged 2) refl p ne e h;
   };
@@ -149,7 +149,7 @@ happens3 = record {
 
 -- the third restarts it
 
-pub hung : HasTimedOut (moment_of first run3) port
+pub hung : HasTimedOut (abstract_after_all first run3) port
 hung = record { ready = refl; pending = aged 2; here = contains_here (aged 2) [] (aged 2) refl; port_is = refl; issued = refl; old_enough = omega arith }
 
 abbrev again_of : Step → Option Pending
@@ -170,20 +170,20 @@ each_step P a b c step h = ⊎_elim
     (contains_cases (Again (aged 3)) (Age aging ∷ []) step n))
     (contains_cases (Issue mode waits) (Again (aged 3) ∷ Age aging ∷ []) step h)
 
-restarted : RestartsTimedOut (moment_of first run3) halted restarting.steps (moment_of first run4)
+restarted : RestartsTimedOut (abstract_after_all first run3) halted restarting.steps (abstract_after_all first run4)
 restarted = record {
-  ports = restarts_here (moment_of first run3).machine halted refl hung;
-  again = λ e h. each_step (λ step. (x : Pending) → again_of step ≡ Some x → HasTimedOut (moment_of first run3) x.request.port)
+  ports = restarts_here (abstract_after_all first run3).machine halted refl hung;
+  again = λ e h. each_step (λ step. (x : Pending) → again_of step ≡ Some x → HasTimedOut (abstract_after_all first run3) x.request.port)
       (λ x q. absurd (none_some x q))
-      (λ x q. let same : aged 3 ≡ x = some_same x q in subst (λ (y : Pending). HasTimedOut (moment_of first run3) y.request.port) same hung)
+      (λ x q. let same : aged 3 ≡ x = some_same x q in subst (λ (y : Pending). HasTimedOut (abstract_after_all first run3) y.request.port) same hung)
       (λ x q. absurd (none_some x q))
       (Again e) h e refl;
   answer = λ e o h. absurd (false≢true (sym (each_step (λ step. is_answer step ≡ false) refl refl refl (Answer e o) h)));
-  ended = λ p _. none_ended (moment_of first run3).machine restarting.steps refl p;
+  ended = λ p _. none_ended (abstract_after_all first run3).machine restarting.steps refl p;
   interrupts = λ p. (
     λ h. inl (contains_here port [] p (ready_port p h.ready)),
     λ i. ⊎_elim
-        (λ h. ⊎_elim (λ (same : p ≡ port). subst (λ (x : Port). HasTimedOut (moment_of first run3) x) (sym same) hung) (λ n. absurd (contains_none p n)) (contains_cases port [] p h))
+        (λ h. ⊎_elim (λ (same : p ≡ port). subst (λ (x : Port). HasTimedOut (abstract_after_all first run3) x) (sym same) hung) (λ n. absurd (contains_none p n)) (contains_cases port [] p h))
         (λ h. absurd (contains_none p h))
         i,
   );
@@ -201,7 +201,7 @@ restarted = record {
     some_same : (x : Pending) → Some (aged 3) ≡ Some x → aged 3 ≡ x
     some_same x q = cc
 
-happens4 : Happens (moment_of first run3) restarting
+happens4 : Happens (abstract_after_all first run3) restarting
 happens4 = record {
   may = (
     ((tt, tt), (contains_here (aged 3) [] (aged 3) refl, refl, omega arith, granted 0 row_zero refl)),
@@ -216,7 +216,7 @@ happens4 = record {
     tells = none_told restarting.steps refl;
     ages = ages_once restarts refl;
     restarts = restarted;
-    unplugs = none_unplugged restarting.steps (moment_of first run4).machine refl;
+    unplugs = none_unplugged restarting.steps (abstract_after_all first run4).machine refl;
     issues = λ p _. one_issued (unanswered again) refl p;
     emptied = λ p _ ne e h. emptied_one again refl p ne e h;
   };
@@ -238,7 +238,7 @@ dead_here p e = contains_here port [] p (same_port p port (eqb-true p.0 0 (go (p
     go true e = refl
     go false e = absurd (false≢true (ap is_dead e))
 
-happens5 : Happens (moment_of first run4) stuck
+happens5 : Happens (abstract_after_all first run4) stuck
 happens5 = record {
   may = tt;
   belong = tt;
@@ -253,13 +253,13 @@ abbrev outcome_of : Step → Outcome
 outcome_of (Answer e o) = o
 outcome_of _ = outcome.Ok
 
-told_dead : TellsDead (moment_of first run5) service.steps
+told_dead : TellsDead (abstract_after_all first run5) service.steps
 told_dead e o h dead = ⊎_elim
     (λ same. ap outcome_of same)
     (λ n. absurd (contains_none (Answer e o) n))
     (contains_cases (Answer again outcome.PortDead) [] (Answer e o) h)
 
-happens6 : Happens (moment_of first run5) service
+happens6 : Happens (abstract_after_all first run5) service
 happens6 = record {
   may = (tt, (contains_here again [] again refl, tt));
   belong = (tt, inr tt);
@@ -270,16 +270,16 @@ happens6 = record {
   answered = record {
     tells = one_told again outcome.PortDead service.steps refl (reply_of (again, outcome.PortDead)) refl;
     dead = told_dead;
-    unplugs = none_unplugged service.steps (moment_of first run6).machine refl;
+    unplugs = none_unplugged service.steps (abstract_after_all first run6).machine refl;
     issues = λ p ready. dead_not_ready p ready;
     emptied = λ p ne e h. absurd (contains_none e h);
-    ended = λ p _. none_ended (moment_of first run5).machine service.steps refl p;
+    ended = λ p _. none_ended (abstract_after_all first run5).machine service.steps refl p;
     becomes = λ p. (λ _. (refl, refl, refl, refl, refl, refl), λ alive. (record { served = refl; stuck = (λ dead. absurd (alive dead), λ h. absurd (contains_none p h)); keeps = λ _. (refl, refl) }, inl (refl, refl, refl, refl, refl, refl)));
     disk = λ p. inl (refl, refl, refl, refl, refl, refl);
   };
 }
 
-happens7 : Happens (moment_of first run6) reset
+happens7 : Happens (abstract_after_all first run6) reset
 happens7 = record {
   may = (tt, tt);
   belong = (tt, inr tt);
@@ -290,7 +290,7 @@ happens7 = record {
   answered = record {
     tells = none_told reset.steps refl;
     releases = record { later = []; earlier = []; split = refl; before = tt; once = refl };
-    unplugs = none_unplugged reset.steps (moment_of first run7).machine refl;
+    unplugs = none_unplugged reset.steps (abstract_after_all first run7).machine refl;
     finds = finds_none reset.steps (ports_in Dead) ports refl;
     issues = λ p _. none_there p;
     emptied = λ p ne e h. absurd (contains_none e h);

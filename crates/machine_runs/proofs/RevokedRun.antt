@@ -9,7 +9,7 @@ use Rattle.ata_types.specs.declared.request.Reply.{Reply}
 use Rattle.block_machine.specs.Rules.{HasRow, IsUnder}
 use Rattle.block_machine.specs.State.{Pending, frame_at, unanswered}
 use Rattle.block_machine.specs.Steps.{Step, Touch, End, Answer, Revoke, newly_accepted, newly_issued, touch}
-use Rattle.block_machine.specs.Events.{RevokeOf, Service, Served, WasRevoked, CallRecord, Happens, reply_of, moment_of}
+use Rattle.block_machine.specs.Events.{RevokeOf, Service, Served, WasRevoked, CallRecord, Happens, reply_of, abstract_after_all}
 use Rattle.machine_runs.specs.Revoked.{IsTakenBack}
 use Rattle.block_machine.proofs.Members.{contains_none, contains_here, contains_there, contains_cases}
 use Rattle.block_machine.proofs.Setting.{client, row, empty_starts, granted, port}
@@ -43,7 +43,7 @@ abbrev told_of : Step → Pending
 told_of (Answer e o) = e
 told_of _ = newly_accepted write
 
-happens3 : Happens (moment_of first run2) event3
+happens3 : Happens (abstract_after_all first run2) event3
 happens3 = record {
   may = ((tt, granted 0 row_zero refl), (contains_there (newly_issued (newly_accepted write)) (newly_accepted read ∷ []) (newly_accepted read) (contains_here (newly_accepted read) [] (newly_accepted read) refl), no_row));
   belong = ((tt, inr (refl, refl)), inr refl);
@@ -61,7 +61,7 @@ happens3 = record {
   };
 }
   where
-    waiting_told : (e : Pending) → Contains (moment_of first run2).machine.book e → e.issued ≡ false → IsUnder client 0 e.request.asked.client e.request.asked.grant → Contains event3.steps (Answer e outcome.Revoked)
+    waiting_told : (e : Pending) → Contains (abstract_after_all first run2).machine.book e → e.issued ≡ false → IsUnder client 0 e.request.asked.client e.request.asked.grant → Contains event3.steps (Answer e outcome.Revoked)
     waiting_told e h waits under = ⊎_elim
         (λ (same : e ≡ newly_issued (newly_accepted write)). absurd (false≢true (sym waits ∙ ap (λ (x : Pending). x.issued) same)))
         (λ i. ⊎_elim
@@ -70,7 +70,7 @@ happens3 = record {
         (contains_cases (newly_accepted read) [] e i))
         (contains_cases (newly_issued (newly_accepted write)) (newly_accepted read ∷ []) e h)
 
-    told : (e : Pending) → Contains event3.steps (Answer e outcome.Revoked) → Contains (moment_of first run2).machine.book e × (e.issued ≡ false) × IsUnder client 0 e.request.asked.client e.request.asked.grant
+    told : (e : Pending) → Contains event3.steps (Answer e outcome.Revoked) → Contains (abstract_after_all first run2).machine.book e × (e.issued ≡ false) × IsUnder client 0 e.request.asked.client e.request.asked.grant
     told e h = ⊎_elim
         (λ (same : Answer e outcome.Revoked ≡ Answer (newly_accepted read) outcome.Revoked).
         let its : e ≡ newly_accepted read = ap told_of same in (
@@ -84,7 +84,7 @@ happens3 = record {
         (contains_cases (Revoke client 0) [] (Answer e outcome.Revoked) i))
         (contains_cases (Answer (newly_accepted read) outcome.Revoked) (Revoke client 0 ∷ []) (Answer e outcome.Revoked) h)
 
-happens4 : Happens (moment_of first run3) event4
+happens4 : Happens (abstract_after_all first run3) event4
 happens4 = record {
   may = (((tt, (inl (contains_here (newly_issued (newly_accepted write)) [] (newly_issued (newly_accepted write)) refl, refl), omega arith, refl, omega arith, λ _ b lt. refl)), (inl (contains_here (touch 0 (newly_issued (newly_accepted write))) [] (touch 0 (newly_issued (newly_accepted write))) refl, refl), one_touched, refl)), (contains_here (done write) [] (done write) refl, tt));
   belong = (((tt, inl tt), inl tt), inr tt);
@@ -92,7 +92,7 @@ happens4 = record {
   lawful = (tt, (record { pending = newly_issued (newly_accepted write); here = contains_here (newly_issued (newly_accepted write)) [] (newly_issued (newly_accepted write)) refl; id_is = refl; issued = refl }, refl, one_touched, refl));
   fit = ports_fit Ready refl;
   disks = λ e o h i same. (refl, refl);
-  answered = plain_service (moment_of first run3).machine (moment_of first run4).machine event4.steps (reply 1 ∷ []) (one_told (done write) outcome.Ok event4.steps refl (reply 1) refl) refl (none_ended (moment_of first run3).machine event4.steps refl) (λ p. none_there p) (λ e h. absurd (contains_none e h));
+  answered = plain_service (abstract_after_all first run3).machine (abstract_after_all first run4).machine event4.steps (reply 1 ∷ []) (one_told (done write) outcome.Ok event4.steps refl (reply 1) refl) refl (none_ended (abstract_after_all first run3).machine event4.steps refl) (λ p. none_there p) (λ e h. absurd (contains_none e h));
 }
 
 -- ---- where the port fails first
@@ -107,7 +107,7 @@ failure = record { faults = []; lost = []; gone = []; failed = port ∷ []; fata
 abbrev failed : CallRecord (Unit {0})
 failed = record (call Service (Served (reply_of (running, outcome.Revoked) ∷ [])) (Answer running outcome.Revoked ∷ [])) { evidence = failure }
 
-happens_failed : Happens (moment_of first run3) failed
+happens_failed : Happens (abstract_after_all first run3) failed
 happens_failed = record {
   may = (tt, (contains_here running [] running refl, no_row));
   belong = (tt, inr tt);
@@ -118,10 +118,10 @@ happens_failed = record {
   answered = record {
     tells = one_told running outcome.Revoked failed.steps refl (reply_of (running, outcome.Revoked)) refl;
     dead = λ e o i dead. none_dead e.request.port dead;
-    unplugs = none_unplugged failed.steps (moment_of first (failed ∷ run3)).machine refl;
+    unplugs = none_unplugged failed.steps (abstract_after_all first (failed ∷ run3)).machine refl;
     issues = λ p _. none_there p;
     emptied = λ p ne e h. absurd (contains_none e h);
-    ended = λ p _. none_ended (moment_of first run3).machine failed.steps refl p;
+    ended = λ p _. none_ended (abstract_after_all first run3).machine failed.steps refl p;
     becomes = λ p. (λ dead. none_dead p dead, λ _. (stay_ready failure refl p, inl (refl, refl, refl, refl, refl, refl)));
     disk = λ p. inl (refl, refl, refl, refl, refl, refl);
   };

@@ -17,7 +17,7 @@ use Rattle.block_machine.specs.Ports.{Ports, Evidence, MayBecome, SamePorts, Are
 use Rattle.block_machine.specs.State.{Accepted, Pending, Machine}
 use Rattle.block_machine.specs.Steps.{Step, Issue, Age, Touch, End, Again, Answer, Release, IsNew, touch, mark_ended}
 use Rattle.block_machine.specs.Left.{after}
-use Rattle.block_machine.specs.Events.{AbstractState, Ask, AllMay, Belong, IsEmptied, Submit, StoreAt, LoadAt, Service, Tick, Reset, State, Device, RevokeOf, CallResult, Submitted, Stored, Loaded, Served, WasReset, WasRevoked, Shown, Stepped, CallRecord, IsAnswered, Happens, AllLawful, AgesOnce, RestartsTimedOut, ReleasesOnce, IssuesLast, IsRun, IsStillStuck, StaysStuck, accepts_of, is_age, is_release, issues_it, handles, moment_of, situation_of, moment_after}
+use Rattle.block_machine.specs.Events.{AbstractState, Ask, AllMay, Belong, IsEmptied, Submit, StoreAt, LoadAt, Service, Tick, Reset, State, Device, RevokeOf, CallResult, Submitted, Stored, Loaded, Served, WasReset, WasRevoked, Shown, Stepped, CallRecord, IsAnswered, Happens, AllLawful, AgesOnce, RestartsTimedOut, ReleasesOnce, IssuesLast, IsRun, IsStillStuck, StaysStuck, accepts_of, is_age, is_release, issues_it, handles, abstract_after_all, situation_of, abstract_after}
 use Rattle.block_machine.proofs.Members.{contains_none, contains_cases, map_in}
 use Rattle.block_machine.proofs.Keeps.{at_keeps}
 use Rattle.block_machine.specs.Confined.{IsGranted}
@@ -94,7 +94,7 @@ ready_or : (s : PortState) → (s ≡ Ready) ⊎ (s ≢ Ready)
 ready_or Ready = inl refl
 ready_or _ = inr (λ e. false≢true (ap is_ready e))
 
-pub run_fit : {D : Type 0} (first : AbstractState) (run : List (CallRecord D)) → IsRun first run → AreFit (moment_of first run).ports
+pub run_fit : {D : Type 0} (first : AbstractState) (run : List (CallRecord D)) → IsRun first run → AreFit (abstract_after_all first run).ports
 run_fit first [] r = r.1
 run_fit first (event ∷ past) r = r.1.fit
 
@@ -170,34 +170,34 @@ placed_event ask said old evidence steps new was e fit here placed (Ticks r ages
 placed_event ask said old evidence steps new was e fit here placed (Resets t releases ports) = inl (emptied_ready new e here (ports e.request.port).0)
 placed_event ask said old evidence steps new was e fit here placed (Sticks t ports keep) = inr (((ports e.request.port).1 (placed_served old.ports e.request.port was fit placed)).0, keep)
 
-pub law_unanswered_where_ready : {D : Type 0} (first : AbstractState) (run : List (CallRecord D)) (e : Pending) → IsRun first run → Contains (moment_of first run).machine.book e
-    → ((moment_of first run).ports.state e.request.port ≡ Ready) ⊎ (((moment_of first run).ports.state e.request.port ≡ Dead) × IsStillStuck run)
+pub law_unanswered_where_ready : {D : Type 0} (first : AbstractState) (run : List (CallRecord D)) (e : Pending) → IsRun first run → Contains (abstract_after_all first run).machine.book e
+    → ((abstract_after_all first run).ports.state e.request.port ≡ Ready) ⊎ (((abstract_after_all first run).ports.state e.request.port ≡ Dead) × IsStillStuck run)
 law_unanswered_where_ready first [] e r h = absurd (nobody first.machine r.0 e (inl h))
 law_unanswered_where_ready first (event ∷ past) e r h = ⊎_elim
-    (λ (s : Since (moment_of first past).machine event.steps e). placed_event event.ask event.said (moment_of first past) event.evidence event.steps (moment_of first (event ∷ past)) (IsStillStuck past) e
+    (λ (s : Since (abstract_after_all first past).machine event.steps e). placed_event event.ask event.said (abstract_after_all first past) event.evidence event.steps (abstract_after_all first (event ∷ past)) (IsStillStuck past) e
     (run_fit first past r.0) h
-    (subst (λ (x : Accepted). IsPlaced (moment_of first past).ports x.port (IsStillStuck past)) s.same (law_unanswered_where_ready first past s.old r.0 s.here))
-    (kind event.ask event.said (moment_of first past) event.evidence event.steps (moment_of first (event ∷ past)) (IsStillStuck past) r.1.answered))
-    (λ (a : IsAccepted event.steps e). let w = welcomes (moment_of first past) event r.1 e.request a.0 in inl ((w.same e.request.port).1 ∙ w.ready))
-    (since (moment_of first past).machine event.steps e h)
+    (subst (λ (x : Accepted). IsPlaced (abstract_after_all first past).ports x.port (IsStillStuck past)) s.same (law_unanswered_where_ready first past s.old r.0 s.here))
+    (kind event.ask event.said (abstract_after_all first past) event.evidence event.steps (abstract_after_all first (event ∷ past)) (IsStillStuck past) r.1.answered))
+    (λ (a : IsAccepted event.steps e). let w = welcomes (abstract_after_all first past) event r.1 e.request a.0 in inl ((w.same e.request.port).1 ∙ w.ready))
+    (since (abstract_after_all first past).machine event.steps e h)
 
 -- Its sectors are sectors of the disk that the port showed.
 
-pub law_unanswered_on_disk : {D : Type 0} (first : AbstractState) (run : List (CallRecord D)) (e : Pending) → IsRun first run → Contains (moment_of first run).machine.book e → e.request.asked.op ≢ Flush
-    → e.request.asked.first.0 + e.request.asked.count ≤ (moment_of first run).ports.sectors e.request.port
+pub law_unanswered_on_disk : {D : Type 0} (first : AbstractState) (run : List (CallRecord D)) (e : Pending) → IsRun first run → Contains (abstract_after_all first run).machine.book e → e.request.asked.op ≢ Flush
+    → e.request.asked.first.0 + e.request.asked.count ≤ (abstract_after_all first run).ports.sectors e.request.port
 law_unanswered_on_disk first [] e r h op = absurd (nobody first.machine r.0 e (inl h))
 law_unanswered_on_disk first (event ∷ past) e r h op = ⊎_elim
-    (λ (s : Since (moment_of first past).machine event.steps e).
-    let le = subst (λ (x : Accepted). x.asked.first.0 + x.asked.count ≤ (moment_of first past).ports.sectors x.port) s.same
+    (λ (s : Since (abstract_after_all first past).machine event.steps e).
+    let le = subst (λ (x : Accepted). x.asked.first.0 + x.asked.count ≤ (abstract_after_all first past).ports.sectors x.port) s.same
     (law_unanswered_on_disk first past s.old r.0 s.here (subst (λ (x : Accepted). x.asked.op ≢ Flush) (sym s.same) op)) in
     let same = (r.1.disks e s.old h s.here (ap (λ (x : Accepted). x.id) s.same)).1 in
     omega (arith, le, same))
     (λ (a : IsAccepted event.steps e).
-    let w = welcomes (moment_of first past) event r.1 e.request a.0 in
+    let w = welcomes (abstract_after_all first past) event r.1 e.request a.0 in
     let le = w.within op in
     let same = (w.same e.request.port).3 in
     omega (arith, le, same))
-    (since (moment_of first past).machine event.steps e h)
+    (since (abstract_after_all first past).machine event.steps e h)
 
 -- The age of an issued request is two at most.
 
@@ -265,12 +265,12 @@ young {D} ask said old evidence steps new e fit k here t all from = by k
     by (Resets still releases ports) = quiet still
     by (Sticks still ports keep) = quiet still
 
-pub law_ages_are_bounded : {D : Type 0} (first : AbstractState) (run : List (CallRecord D)) (e : Pending) → IsRun first run → Contains (moment_of first run).machine.book e → e.issued ≡ true → e.age ≤ 2
+pub law_ages_are_bounded : {D : Type 0} (first : AbstractState) (run : List (CallRecord D)) (e : Pending) → IsRun first run → Contains (abstract_after_all first run).machine.book e → e.issued ≡ true → e.age ≤ 2
 law_ages_are_bounded first [] e r h t = absurd (nobody first.machine r.0 e (inl h))
-law_ages_are_bounded first (event ∷ past) e r h t = young event.ask event.said (moment_of first past) event.evidence event.steps (moment_of first (event ∷ past)) e
+law_ages_are_bounded first (event ∷ past) e r h t = young event.ask event.said (abstract_after_all first past) event.evidence event.steps (abstract_after_all first (event ∷ past)) e
     (all_fit event.ask event.ports event.steps r.1.belong)
-    (kind event.ask event.said (moment_of first past) event.evidence event.steps (moment_of first (event ∷ past)) (Unit {0}) r.1.answered)
-    h t (λ o i u. law_ages_are_bounded first past o r.0 i u) (since (moment_of first past).machine event.steps e h)
+    (kind event.ask event.said (abstract_after_all first past) event.evidence event.steps (abstract_after_all first (event ∷ past)) (Unit {0}) r.1.answered)
+    h t (λ o i u. law_ages_are_bounded first past o r.0 i u) (since (abstract_after_all first past).machine event.steps e h)
 
 -- A kept request is on a dead port.
 
@@ -328,15 +328,15 @@ kept_event ask said old evidence steps new port fit none dead (Resets t releases
     absurd (omega (arith, split, one, none))
 kept_event ask said old evidence steps new port fit none dead (Sticks t ports keep) = ((ports port).1 (placed_served old.ports port (Unit {0}) fit (inr (dead, tt)))).0
 
-pub law_kept_where_dead : {D : Type 0} (first : AbstractState) (run : List (CallRecord D)) (e : Pending) → IsRun first run → Contains (moment_of first run).machine.kept e → (moment_of first run).ports.state e.request.port ≡ Dead
+pub law_kept_where_dead : {D : Type 0} (first : AbstractState) (run : List (CallRecord D)) (e : Pending) → IsRun first run → Contains (abstract_after_all first run).machine.kept e → (abstract_after_all first run).ports.state e.request.port ≡ Dead
 law_kept_where_dead first [] e r h = absurd (nobody first.machine r.0 e (inr h))
 law_kept_where_dead first (event ∷ past) e r h = ⊎_elim
-    (λ o. kept_event event.ask event.said (moment_of first past) event.evidence event.steps (moment_of first (event ∷ past)) e.request.port
+    (λ o. kept_event event.ask event.said (abstract_after_all first past) event.evidence event.steps (abstract_after_all first (event ∷ past)) e.request.port
     (run_fit first past r.0) o.3
-    (subst (λ (x : Accepted). (moment_of first past).ports.state x.port ≡ Dead) o.2 (law_kept_where_dead first past o.0 r.0 o.1))
-    (kind event.ask event.said (moment_of first past) event.evidence event.steps (moment_of first (event ∷ past)) (Unit {0}) r.1.answered))
+    (subst (λ (x : Accepted). (abstract_after_all first past).ports.state x.port ≡ Dead) o.2 (law_kept_where_dead first past o.0 r.0 o.1))
+    (kind event.ask event.said (abstract_after_all first past) event.evidence event.steps (abstract_after_all first (event ∷ past)) (Unit {0}) r.1.answered))
     (λ dead. dead)
-    (kept_from (moment_of first past) event.evidence event.ports (moment_of first past).machine event.steps r.1.lawful e h)
+    (kept_from (abstract_after_all first past) event.evidence event.ports (abstract_after_all first past).machine event.steps r.1.lawful e h)
 
 -- A port that is dead after a call was dead when it began, or got stuck in it.
 
@@ -356,5 +356,5 @@ was_dead ask said old evidence steps new port fit dead (Sticks t ports keep) =
 pub law_dead_ports_were_stuck : {D : Type 0} (old : AbstractState) (event : CallRecord D) (port : Port) → Happens old event → event.ports.state port ≡ Dead
     → (old.ports.state port ≡ Dead) ⊎ Contains event.evidence.stuck port
 law_dead_ports_were_stuck old event port h dead =
-    was_dead event.ask event.said old event.evidence event.steps (moment_after old event) port h.fit dead
-    (kind event.ask event.said old event.evidence event.steps (moment_after old event) (Unit {0}) h.answered)
+    was_dead event.ask event.said old event.evidence event.steps (abstract_after old event) port h.fit dead
+    (kind event.ask event.said old event.evidence event.steps (abstract_after old event) (Unit {0}) h.answered)

@@ -4,7 +4,7 @@ use Rattle.std.proofs.lemmas.Bool.{or_left, and_parts, cond-false, false_from_ne
 use Rattle.block_machine.specs.Due.{is_writer}
 use Rattle.block_machine.specs.State.{Block, Accepted, Pending, Machine, sector_of, written_by}
 use Rattle.block_machine.specs.Steps.{Step, Touch, May, IsLiving}
-use Rattle.block_machine.specs.Left.{after, IsLegal, IsStart, IsTouch, touches, HasTouched, plug_count, disk_read, IsLast, IsLeft}
+use Rattle.block_machine.specs.Left.{after, IsLegal, IsInitial, IsTouch, touches, HasTouched, plug_count, disk_number_read, IsLastWritten, IsLeft}
 use Rattle.block_machine.proofs.Keeps.{same_id}
 use Rattle.block_machine.proofs.Trace.{Seen, runs_lives, conflict_at, read_number, last_from}
 use Rattle.block_machine.proofs.Runs.{traced}
@@ -26,14 +26,14 @@ no_earlier m (Touch e i block) may r k seen w writes here less t =
     (conflict_at e.request r k here_e (or_left _ _ writes_e) (omega (arith, at)) (omega (arith, at, may.1)) seen.from seen.to)
 no_earlier m _ may r k seen w writes here less t = absurd t
 
-pub law_left_stays : (start : Machine) (h : List Step) (step : Step) (read : Accepted) (k n : ℕ) (block : Block) → IsStart start → IsLegal start (step ∷ h)
+pub law_left_stays : (start : Machine) (h : List Step) (step : Step) (read : Accepted) (k n : ℕ) (block : Block) → IsInitial start → IsLegal start (step ∷ h)
     → HasTouched read k n h → ((e : Pending) → IsLiving (after start h) e → e.request.id ≢ read.id) → IsLeft start h read k block → IsLeft start (step ∷ h) read k block
 law_left_stays start h step read k n block s legal touched gone left =
     let m = after start h in
     let seen = (traced start h s legal.0).seen read k n touched in
-    let same : disk_read read k (step ∷ h) ≡ disk_read read k h = cond-false (touches read.id k step) (plug_count read.port h) (disk_read read k h) (no_touch m step legal.1 read k gone) in
-    subst (λ (x : ℕ). IsLast start read.port k x read.id.0 (step ∷ h) block) (sym same)
-    (last_from start read.port k (disk_read read k h) read.id.0 read.id.0 step h block (read_number read k h)
+    let same : disk_number_read read k (step ∷ h) ≡ disk_number_read read k h = cond-false (touches read.id k step) (plug_count read.port h) (disk_number_read read k h) (no_touch m step legal.1 read k gone) in
+    subst (λ (x : ℕ). IsLastWritten start read.port k x read.id.0 (step ∷ h) block) (sym same)
+    (last_from start read.port k (disk_number_read read k h) read.id.0 read.id.0 step h block (read_number read k h)
     (no_earlier m step legal.1 read k seen) (λ w o. o.earlier) (λ w o. o.earlier) left)
 
 -- Left is one block: requests that touched and have one id are one.
@@ -42,7 +42,7 @@ meets : {m : Machine} {x : Accepted} {j : ℕ} {w : Accepted} (k : ℕ) (step : 
 meets {m} k (Touch e i block) may t s id = sym t.0 ∙ s.one e (runs_lives m e may.0) (ap (λ (y : Accepted). y.id.0) t.0 ∙ id)
 meets k _ may t s id = absurd t
 
-touched_one : (start : Machine) (h : List Step) → IsStart start → IsLegal start h → (w x : Accepted) (k n j o : ℕ) → HasTouched w k n h → HasTouched x j o h → w.id.0 ≡ x.id.0 → w ≡ x
+touched_one : (start : Machine) (h : List Step) → IsInitial start → IsLegal start h → (w x : Accepted) (k n j o : ℕ) → HasTouched w k n h → HasTouched x j o h → w.id.0 ≡ x.id.0 → w ≡ x
 touched_one start [] s legal w x k n j o a b id = absurd a
 touched_one start (step ∷ past) s legal w x k n j o (inl a) (inl b) id = both step a.0 b.0
   where
@@ -54,7 +54,7 @@ touched_one start (step ∷ past) s legal w x k n j o (inr a) (inl b) id = sym (
 touched_one start (step ∷ past) s legal w x k n j o (inr a) (inr b) id = touched_one start past s legal.0 w x k n j o a b id
 
 -- on a history that is legal, Left is one block
-pub law_left_is_one : (start : Machine) (h : List Step) (read : Accepted) (k : ℕ) (a b : Block) → IsStart start → IsLegal start h → IsLeft start h read k a → IsLeft start h read k b → a ≡ b
+pub law_left_is_one : (start : Machine) (h : List Step) (read : Accepted) (k : ℕ) (a b : Block) → IsInitial start → IsLegal start h → IsLeft start h read k a → IsLeft start h read k b → a ≡ b
 law_left_is_one start h read k a b s legal (inl p) (inl q) =
     let le = p.2 q.0 q.1 in
     let ge = q.2 p.0 p.1 in

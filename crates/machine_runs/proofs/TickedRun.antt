@@ -8,7 +8,7 @@ use Rattle.ata_types.specs.declared.request.Outcome.{Outcome}
 use Rattle.ata_types.specs.declared.request.Outcome.TheVariants as outcome
 use Rattle.block_machine.specs.State.{Pending}
 use Rattle.block_machine.specs.Steps.{Step, Touch, End, Age, Again, Answer, touch, mark_ended}
-use Rattle.block_machine.specs.Events.{Tick, Device, Served, Stepped, CallRecord, HasTimedOut, RestartsTimedOut, Happens, reply_of, moment_of}
+use Rattle.block_machine.specs.Events.{Tick, Device, Served, Stepped, CallRecord, HasTimedOut, RestartsTimedOut, Happens, reply_of, abstract_after_all}
 use Rattle.machine_runs.specs.Worked.{EndsAtATick}
 use Rattle.block_machine.proofs.Members.{contains_none, contains_here, contains_cases}
 use Rattle.block_machine.proofs.Setting.{port, empty_starts}
@@ -36,7 +36,7 @@ tick = record { ask = Tick; said = Served (reply_of (older_still, outcome.Ok) �
 abbrev run5 : List (CallRecord (Unit {0}))
 run5 = tick ∷ run4
 
-happens4 : Happens (moment_of first run3) ending
+happens4 : Happens (abstract_after_all first run3) ending
 happens4 = record {
   may = ((tt, (inl (contains_here (aged 2) [] (aged 2) refl, refl), omega arith, refl, omega arith, λ _ b lt. refl)), (inl (contains_here (touch 0 (aged 2)) [] (touch 0 (aged 2)) refl, refl), one_touched, refl));
   belong = ((tt, inl tt), inl tt);
@@ -47,7 +47,7 @@ happens4 = record {
   answered = (((tt, tt), tt), λ p. (refl, refl, refl, refl, refl, refl));
 }
 
-hung : HasTimedOut (moment_of first run4) port
+hung : HasTimedOut (abstract_after_all first run4) port
 hung = record { ready = refl; pending = over; here = contains_here over [] over refl; port_is = refl; issued = refl; old_enough = omega arith }
 
 abbrev is_again : Step → Bool
@@ -63,20 +63,20 @@ abbrev port_of : Step → Port
 port_of (Answer e o) = e.request.port
 port_of _ = port
 
-restarted : RestartsTimedOut (moment_of first run4) halted tick.steps (moment_of first run5)
+restarted : RestartsTimedOut (abstract_after_all first run4) halted tick.steps (abstract_after_all first run5)
 restarted = record {
-  ports = restarts_here (moment_of first run4).machine halted refl hung;
+  ports = restarts_here (abstract_after_all first run4).machine halted refl hung;
   again = λ e h. absurd (false≢true (sym (each (λ step. is_again step ≡ false) refl refl (Again e) h)));
-  answer = λ e o h. each (λ step. (x : Pending) (a : Outcome) → step ≡ Answer x a → HasTimedOut (moment_of first run4) x.request.port)
-      (λ x a q. subst (λ (y : Step). HasTimedOut (moment_of first run4) (port_of y)) q hung)
+  answer = λ e o h. each (λ step. (x : Pending) (a : Outcome) → step ≡ Answer x a → HasTimedOut (abstract_after_all first run4) x.request.port)
+      (λ x a q. subst (λ (y : Step). HasTimedOut (abstract_after_all first run4) (port_of y)) q hung)
       (λ x a q. absurd (false≢true (ap is_answer q)))
       (Answer e o) h e o refl;
-  ended = λ p _. last_ended (moment_of first run4).machine tick.steps [] over refl refl older_still refl (contains_here (Answer older_still outcome.Ok) (Age aging ∷ []) (Answer older_still outcome.Ok) refl) p;
+  ended = λ p _. last_ended (abstract_after_all first run4).machine tick.steps [] over refl refl older_still refl (contains_here (Answer older_still outcome.Ok) (Age aging ∷ []) (Answer older_still outcome.Ok) refl) p;
   anew = λ p _ e h. absurd (contains_none e h);
   interrupts = λ p. (
     λ h. inl (contains_here port [] p (ready_port p h.ready)),
     λ i. ⊎_elim
-        (λ h. ⊎_elim (λ (same : p ≡ port). subst (λ (x : Port). HasTimedOut (moment_of first run4) x) (sym same) hung) (λ n. absurd (contains_none p n)) (contains_cases port [] p h))
+        (λ h. ⊎_elim (λ (same : p ≡ port). subst (λ (x : Port). HasTimedOut (abstract_after_all first run4) x) (sym same) hung) (λ n. absurd (contains_none p n)) (contains_cases port [] p h))
         (λ h. absurd (contains_none p h))
         i,
   );
@@ -90,7 +90,7 @@ restarted = record {
         (λ n. ⊎_elim (λ same. subst P (sym same) b) (λ k. absurd (contains_none step k)) (contains_cases (Age aging) [] step n))
         (contains_cases (Answer older_still outcome.Ok) (Age aging ∷ []) step h)
 
-happens5 : Happens (moment_of first run4) tick
+happens5 : Happens (abstract_after_all first run4) tick
 happens5 = record {
   may = ((tt, tt), (contains_here older_still [] older_still refl, tt));
   belong = ((tt, inr tt), inr (inr refl));
@@ -102,7 +102,7 @@ happens5 = record {
     tells = one_told older_still outcome.Ok tick.steps refl (reply_of (older_still, outcome.Ok)) refl;
     ages = ages_once (Answer older_still outcome.Ok ∷ []) refl;
     restarts = restarted;
-    unplugs = none_unplugged tick.steps (moment_of first run5).machine refl;
+    unplugs = none_unplugged tick.steps (abstract_after_all first run5).machine refl;
     issues = λ p _. none_there p;
     emptied = λ p _ ne e h. absurd (contains_none e h);
   };

@@ -7,7 +7,7 @@ use Rattle.ata_types.specs.declared.request.Outcome.TheVariants.{Ok}
 use Rattle.block_machine.specs.State.{Accepted, Pending, Machine, sector_of, waiting}
 use Rattle.block_machine.specs.Steps.{Step, Accept, Issue, Touch, End, Age, Again, Answer, Release, Revoke, Unplug, Replace, Store, Load, IsLiving, May, MayStillMove, after_step, newly_issued, touch, mark_ended, requeued, newly_accepted}
 use Rattle.block_machine.specs.Due.{must_keep_order}
-use Rattle.block_machine.specs.Left.{after, IsLegal, IsStart, IsIssue, IsTouch, IsEnd, HasTouchedSince, HasEndedSince}
+use Rattle.block_machine.specs.Left.{after, IsLegal, IsInitial, IsIssue, IsTouch, IsEnd, HasTouchedSinceIssue, HasEndedSinceIssue}
 use Rattle.block_machine.specs.Events.{AbstractState, CallRecord, IsRun, steps_of}
 use Rattle.block_machine.proofs.Members.{map_in, at_cases, without_in, append_in}
 use Rattle.block_machine.proofs.Sound.{Sound}
@@ -109,21 +109,21 @@ marks m (Load c f o b) may s e j = inl (stayed m (Load c f o b) e e j refl (λ x
 
 -- what a request's marks say is in the history
 pub record IsTraced (h : List Step) (e : Pending) : Type 0 where
-  pub touched : (k : ℕ) → e.touched k ≡ true → HasTouchedSince e.request (sector_of e.request k) h
-  pub ended : e.ended ≡ true → HasEndedSince e.request h
+  pub touched : (k : ℕ) → e.touched k ≡ true → HasTouchedSinceIssue e.request (sector_of e.request k) h
+  pub ended : e.ended ≡ true → HasEndedSinceIssue e.request h
 
-pub traced_marks : (start : Machine) (h : List Step) → IsStart start → IsLegal start h → (e : Pending) → Contains (after start h).book e → IsTraced h e
+pub traced_marks : (start : Machine) (h : List Step) → IsInitial start → IsLegal start h → (e : Pending) → Contains (after start h).book e → IsTraced h e
 traced_marks start [] s legal e i = absurd (nobody start s e (inl i))
 traced_marks start (step ∷ past) s legal e i = ⊎_elim
     (λ (c : Marks (after start past) step e).
     let before = traced_marks start past s legal.0 c.old c.here in
     record {
       touched = λ k t. ⊎_elim
-          (λ old. inr (c.not_issued, subst (λ (r : Accepted). HasTouchedSince r (sector_of r k) past) c.same (before.touched k old)))
+          (λ old. inr (c.not_issued, subst (λ (r : Accepted). HasTouchedSinceIssue r (sector_of r k) past) c.same (before.touched k old)))
           (λ now. inl now)
           (c.touched k t);
       ended = λ t. ⊎_elim
-          (λ old. inr (c.not_issued, subst (λ (r : Accepted). HasEndedSince r past) c.same (before.ended old)))
+          (λ old. inr (c.not_issued, subst (λ (r : Accepted). HasEndedSinceIssue r past) c.same (before.ended old)))
           (λ now. inl now)
           (c.ended t);
     })
@@ -134,18 +134,18 @@ traced_marks start (step ∷ past) s legal e i = ⊎_elim
     (marks (after start past) step legal.1 (traced start past s legal.0).sound e i)
 
 pub law_ok_was_touched : {D : Type 0} (first : AbstractState) (run : List (CallRecord D)) (late early : List Step) (e : Pending) → IsRun first run → steps_of run ≡ late ++ Answer e Ok ∷ early
-    → (i : ℕ) → i < e.request.asked.count → HasTouchedSince e.request (sector_of e.request i) early
+    → (i : ℕ) → i < e.request.asked.count → HasTouchedSinceIssue e.request (sector_of e.request i) early
 law_ok_was_touched first run late early e r split i lt =
     let u = step_of_run first run late (Answer e Ok) early r split in
     (traced_marks first.machine early (run_starts first run r) u.0 e u.1.0).touched i (u.2.0 i lt)
 
 pub law_ok_was_ended : {D : Type 0} (first : AbstractState) (run : List (CallRecord D)) (late early : List Step) (e : Pending) → IsRun first run → steps_of run ≡ late ++ Answer e Ok ∷ early
-    → HasEndedSince e.request early
+    → HasEndedSinceIssue e.request early
 law_ok_was_ended first run late early e r split =
     let u = step_of_run first run late (Answer e Ok) early r split in
     (traced_marks first.machine early (run_starts first run r) u.0 e u.1.0).ended u.2.1
 
 -- a request isn't moved while an earlier one that conflicts with it is there
-pub take_turns : (start : Machine) (history : List Step) (earlier later : Pending) → IsStart start → IsLegal start history → IsLiving (after start history) earlier → MayStillMove (after start history) later
+pub take_turns : (start : Machine) (history : List Step) (earlier later : Pending) → IsInitial start → IsLegal start history → IsLiving (after start history) earlier → MayStillMove (after start history) later
     → earlier.request.id.0 < later.request.id.0 → must_keep_order (waiting earlier.request) (waiting later.request) ≡ true → ⊥
 take_turns start history earlier later starts legal living may before conflicts = (traced start history starts legal).sound.order later earlier may living before conflicts

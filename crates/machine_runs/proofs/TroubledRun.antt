@@ -14,7 +14,7 @@ use Rattle.ata_types.specs.declared.request.Outcome.TheVariants as outcome
 use Rattle.block_machine.specs.Ports.{Ports, Evidence, AreFit, SamePort, IsInterrupted, IsServiced}
 use Rattle.block_machine.specs.State.{Accepted, Pending, Machine, unanswered, is_reader}
 use Rattle.block_machine.specs.Steps.{Step, Accept, Issue, Touch, End, Again, Answer, Unplug, newly_accepted, newly_issued, touch, requeued}
-use Rattle.block_machine.specs.Events.{AbstractState, Submit, Service, Device, Submitted, Served, Stepped, CallRecord, Happens, UnplugsAll, Tells, IsToldBefore, IsIssuedIn, moment_after, moment_of, situation_of, steps_of, reply_of, ShowsDisk}
+use Rattle.block_machine.specs.Events.{AbstractState, Submit, Service, Device, Submitted, Served, Stepped, CallRecord, Happens, UnplugsAll, Tells, IsToldBefore, IsIssuedIn, abstract_after, abstract_after_all, situation_of, steps_of, reply_of, ShowsDisk}
 use Rattle.machine_runs.specs.Worked.{MeetsTrouble}
 use Rattle.block_machine.proofs.Members.{contains_none, contains_here, contains_there, contains_cases, none_of}
 use Rattle.block_machine.proofs.Keeps.{same_port}
@@ -192,27 +192,27 @@ stays p = (
 quiet : (p : ℕ) (m : AbstractState) → Contains two_rows (row p) → m.machine.rows ≡ two_rows → m.ports.state (on p) ≡ Ready → m.ports.sectors (on p) ≡ 200 → (situation_of m).unanswered (record { 0 = 1 }) < 16 → m.machine.next < 5 → IsQuiet p m
 quiet p m mine rows ready size room next = record { rows = rows; mine = mine; ready = ready; size = size; room = room; few = omega (arith, next) }
 
-quiet0 : IsQuiet 1 (moment_of first run0)
-quiet0 = quiet 1 (moment_of first run0) (contains_there (row 0) (row 1 ∷ []) (row 1) (contains_here (row 1) [] (row 1) refl)) refl refl refl (omega arith) (omega arith)
+quiet0 : IsQuiet 1 (abstract_after_all first run0)
+quiet0 = quiet 1 (abstract_after_all first run0) (contains_there (row 0) (row 1 ∷ []) (row 1) (contains_here (row 1) [] (row 1) refl)) refl refl refl (omega arith) (omega arith)
 
-quiet1 : IsQuiet 0 (moment_of first run1)
-quiet1 = quiet 0 (moment_of first run1) row_zero refl refl refl (omega arith) (omega arith)
+quiet1 : IsQuiet 0 (abstract_after_all first run1)
+quiet1 = quiet 0 (abstract_after_all first run1) row_zero refl refl refl (omega arith) (omega arith)
 
-quiet2 : IsQuiet 0 (moment_of first run2)
-quiet2 = quiet 0 (moment_of first run2) row_zero refl refl refl (omega arith) (omega arith)
+quiet2 : IsQuiet 0 (abstract_after_all first run2)
+quiet2 = quiet 0 (abstract_after_all first run2) row_zero refl refl refl (omega arith) (omega arith)
 
-quiet3 : IsQuiet 0 (moment_of first run3)
-quiet3 = quiet 0 (moment_of first run3) row_zero refl refl refl (omega arith) (omega arith)
+quiet3 : IsQuiet 0 (abstract_after_all first run3)
+quiet3 = quiet 0 (abstract_after_all first run3) row_zero refl refl refl (omega arith) (omega arith)
 
-happens1 : Happens (moment_of first run0) (submit lost)
+happens1 : Happens (abstract_after_all first run0) (submit lost)
 happens1 = record {
-  may = ((tt, new 1 (moment_of first run0) lost quiet0 (fit_read 1 (moment_of first run0) 102 quiet0 refl refl) refl refl refl), (contains_here (newly_accepted lost) [] (newly_accepted lost) refl, record { here = contains_here (unanswered (newly_accepted lost)) [] (unanswered (newly_accepted lost)) refl; clear = refl; slot = λ _. omega arith }, λ e h. absurd (contains_none e h), granted 1 quiet0.mine refl));
+  may = ((tt, new 1 (abstract_after_all first run0) lost quiet0 (fit_read 1 (abstract_after_all first run0) 102 quiet0 refl refl) refl refl refl), (contains_here (newly_accepted lost) [] (newly_accepted lost) refl, record { here = contains_here (unanswered (newly_accepted lost)) [] (unanswered (newly_accepted lost)) refl; clear = refl; slot = λ _. omega arith }, λ e h. absurd (contains_none e h), granted 1 quiet0.mine refl));
   belong = ((tt, inr refl), inr (refl, refl));
   last = ((tt, λ id h i. false≢true i), λ id h i. false≢true i);
   lawful = tt;
   fit = fit Ready Ready refl refl;
   disks = λ e o h i same. (refl, refl);
-  answered = (acceptable 1 (situation_of (moment_of first run0)) lost.asked (fit_read 1 (moment_of first run0) 102 quiet0 refl refl), (lost, refl, refl), λ p. (refl, refl, refl, refl, refl, refl), λ p _. none_waits _ refl p);
+  answered = (acceptable 1 (situation_of (abstract_after_all first run0)) lost.asked (fit_read 1 (abstract_after_all first run0) 102 quiet0 refl refl), (lost, refl, refl), λ p. (refl, refl, refl, refl, refl, refl), λ p _. none_waits _ refl p);
 }
 
 -- a request of the book's end
@@ -225,40 +225,40 @@ third a b c = contains_there a (b ∷ c ∷ []) c (second b c)
 fourth : {X : Type 0} (a b c d : X) → Contains (a ∷ b ∷ c ∷ d ∷ []) d
 fourth a b c d = contains_there a (b ∷ c ∷ d ∷ []) d (third b c d)
 
-happens2 : Happens (moment_of first run1) (submit failed)
+happens2 : Happens (abstract_after_all first run1) (submit failed)
 happens2 = record {
-  may = ((tt, new 0 (moment_of first run1) failed quiet1 (write_at 0 (moment_of first run1) 100 100 quiet1 (omega arith) (omega arith) refl refl) refl refl refl), (second losing (newly_accepted failed), record { here = second (unanswered losing) (unanswered (newly_accepted failed)); clear = refl; slot = λ _. omega arith }, λ e h. absurd (contains_none e h), granted 0 row_zero refl));
+  may = ((tt, new 0 (abstract_after_all first run1) failed quiet1 (write_at 0 (abstract_after_all first run1) 100 100 quiet1 (omega arith) (omega arith) refl refl) refl refl refl), (second losing (newly_accepted failed), record { here = second (unanswered losing) (unanswered (newly_accepted failed)); clear = refl; slot = λ _. omega arith }, λ e h. absurd (contains_none e h), granted 0 row_zero refl));
   belong = ((tt, inr refl), inr (refl, refl));
   last = ((tt, λ id h i. false≢true i), λ id h i. false≢true i);
   lawful = tt;
   fit = fit Ready Ready refl refl;
   disks = λ e o h i same. (refl, refl);
-  answered = (acceptable 0 (situation_of (moment_of first run1)) failed.asked (write_at 0 (moment_of first run1) 100 100 quiet1 (omega arith) (omega arith) refl refl), (failed, refl, refl), λ p. (refl, refl, refl, refl, refl, refl), λ p _. none_waits _ refl p);
+  answered = (acceptable 0 (situation_of (abstract_after_all first run1)) failed.asked (write_at 0 (abstract_after_all first run1) 100 100 quiet1 (omega arith) (omega arith) refl refl), (failed, refl, refl), λ p. (refl, refl, refl, refl, refl, refl), λ p _. none_waits _ refl p);
 }
 
-happens3 : Happens (moment_of first run2) (submit again)
+happens3 : Happens (abstract_after_all first run2) (submit again)
 happens3 = record {
-  may = ((tt, new 0 (moment_of first run2) again quiet2 (write_at 0 (moment_of first run2) 101 101 quiet2 (omega arith) (omega arith) refl refl) refl refl refl), (third losing failing (newly_accepted again), record { here = third (unanswered losing) (unanswered failing) (unanswered (newly_accepted again)); clear = refl; slot = λ _. omega arith }, λ e h. absurd (contains_none e h), granted 0 row_zero refl));
+  may = ((tt, new 0 (abstract_after_all first run2) again quiet2 (write_at 0 (abstract_after_all first run2) 101 101 quiet2 (omega arith) (omega arith) refl refl) refl refl refl), (third losing failing (newly_accepted again), record { here = third (unanswered losing) (unanswered failing) (unanswered (newly_accepted again)); clear = refl; slot = λ _. omega arith }, λ e h. absurd (contains_none e h), granted 0 row_zero refl));
   belong = ((tt, inr refl), inr (refl, refl));
   last = ((tt, λ id h i. false≢true i), λ id h i. false≢true i);
   lawful = tt;
   fit = fit Ready Ready refl refl;
   disks = λ e o h i same. (refl, refl);
-  answered = (acceptable 0 (situation_of (moment_of first run2)) again.asked (write_at 0 (moment_of first run2) 101 101 quiet2 (omega arith) (omega arith) refl refl), (again, refl, refl), λ p. (refl, refl, refl, refl, refl, refl), λ p _. none_waits _ refl p);
+  answered = (acceptable 0 (situation_of (abstract_after_all first run2)) again.asked (write_at 0 (abstract_after_all first run2) 101 101 quiet2 (omega arith) (omega arith) refl refl), (again, refl, refl), λ p. (refl, refl, refl, refl, refl, refl), λ p _. none_waits _ refl p);
 }
 
-happens4 : Happens (moment_of first run3) (submit finished)
+happens4 : Happens (abstract_after_all first run3) (submit finished)
 happens4 = record {
-  may = ((tt, new 0 (moment_of first run3) finished quiet3 (write_at 0 (moment_of first run3) 102 103 quiet3 (omega arith) (omega arith) refl refl) refl refl refl), (fourth losing failing (tried 1) (newly_accepted finished), record { here = fourth (unanswered losing) (unanswered failing) (unanswered (tried 1)) (unanswered (newly_accepted finished)); clear = refl; slot = λ _. omega arith }, λ e h. absurd (contains_none e h), granted 0 row_zero refl));
+  may = ((tt, new 0 (abstract_after_all first run3) finished quiet3 (write_at 0 (abstract_after_all first run3) 102 103 quiet3 (omega arith) (omega arith) refl refl) refl refl refl), (fourth losing failing (tried 1) (newly_accepted finished), record { here = fourth (unanswered losing) (unanswered failing) (unanswered (tried 1)) (unanswered (newly_accepted finished)); clear = refl; slot = λ _. omega arith }, λ e h. absurd (contains_none e h), granted 0 row_zero refl));
   belong = ((tt, inr refl), inr (refl, refl));
   last = ((tt, λ id h i. false≢true i), λ id h i. false≢true i);
   lawful = tt;
   fit = fit Ready Ready refl refl;
   disks = λ e o h i same. (refl, refl);
-  answered = (acceptable 0 (situation_of (moment_of first run3)) finished.asked (write_at 0 (moment_of first run3) 102 103 quiet3 (omega arith) (omega arith) refl refl), (finished, refl, refl), λ p. (refl, refl, refl, refl, refl, refl), λ p _. none_waits _ refl p);
+  answered = (acceptable 0 (situation_of (abstract_after_all first run3)) finished.asked (write_at 0 (abstract_after_all first run3) 102 103 quiet3 (omega arith) (omega arith) refl refl), (finished, refl, refl), λ p. (refl, refl, refl, refl, refl, refl), λ p _. none_waits _ refl p);
 }
 
-happens5 : Happens (moment_of first run4) ending
+happens5 : Happens (abstract_after_all first run4) ending
 happens5 = record {
   may = ((tt, (inl (fourth losing failing (tried 1) finishing, refl), omega arith, refl, omega arith, λ _ b lt. refl)), (inl (fourth losing failing (tried 1) (touch 0 finishing), refl), one_touched, refl));
   belong = ((tt, inl tt), inl tt);
@@ -269,7 +269,7 @@ happens5 = record {
   answered = (((tt, tt), tt), λ p. (refl, refl, refl, refl, refl, refl));
 }
 
-happens6 : Happens (moment_of first run5) unplug
+happens6 : Happens (abstract_after_all first run5) unplug
 happens6 = record {
   may = (tt, refl);
   belong = (tt, inl tt);
@@ -309,14 +309,14 @@ unplugs_zero (Answer e outcome.Unplugged) = e.request.port.0 == 0
 unplugs_zero _ = false
 
 -- port 1's alone are answered Unplugged
-unplugs_all : UnplugsAll serving (moment_of first run7).machine
+unplugs_all : UnplugsAll serving (abstract_after_all first run7).machine
 unplugs_all = record {
   emptied = λ e other h i q. false≢true (sym (none_of unplugs_zero serving (Answer e outcome.Unplugged) refl h)
       ∙ eq-eqb e.request.port.0 0 (ap (λ (x : Port). x.0) (sym q) ∙ left_here 2 other i));
   alike = λ e other h i. absurd (false≢true (sym (none_of is_told_dead serving (Answer other outcome.PortDead) refl i)));
 }
 
-happens7 : Happens (moment_of first run6) service
+happens7 : Happens (abstract_after_all first run6) service
 happens7 = record {
   may = (
     (
@@ -348,7 +348,7 @@ happens7 = record {
     unplugs = unplugs_all;
     issues = λ p _. none_waits _ refl p;
     emptied = λ p ne e h. emptied_at (both Ready Absent) (tried 2) refl p ne e h;
-    ended = λ p _. last_ended (moment_of first run6).machine service.steps (losing ∷ failing ∷ tried 1 ∷ []) (done finished) refl refl (done finished) refl (4, omega arith, refl) p;
+    ended = λ p _. last_ended (abstract_after_all first run6).machine service.steps (losing ∷ failing ∷ tried 1 ∷ []) (done finished) refl refl (done finished) refl (4, omega arith, refl) p;
     becomes = λ p. (
       λ dead. not_dead Ready Ready refl refl p dead,
       λ _. (
@@ -360,7 +360,7 @@ happens7 = record {
         changed_there service.evidence (second (on 0) (on 1)) p,
       ),
     );
-    disk = λ p. inr (λ shows. inl (in_zero (moment_of first run6).machine refl p shows));
+    disk = λ p. inr (λ shows. inl (in_zero (abstract_after_all first run6).machine refl p shows));
   };
 }
   where
@@ -387,7 +387,7 @@ retried m n rows few = record {
   answered = record {
     tells = none_told (retry n).steps refl;
     dead = λ e o i dead. not_dead Ready Absent refl refl e.request.port dead;
-    unplugs = none_unplugged (retry n).steps (moment_after (before m n) (retry n)).machine refl;
+    unplugs = none_unplugged (retry n).steps (abstract_after (before m n) (retry n)).machine refl;
     issues = λ p _. none_waits _ refl p;
     emptied = λ p ne e h. emptied_at (both Ready Absent) (tried (suc n)) refl p ne e h;
     ended = λ p _. none_ended (before m n).machine (retry n).steps refl p;
@@ -396,7 +396,7 @@ retried m n rows few = record {
   };
 }
 
-happens10 : Happens (moment_of first run9) abort
+happens10 : Happens (abstract_after_all first run9) abort
 happens10 = record {
   may = (tt, (contains_here (tried 4) [] (tried 4) refl, granted 0 row_zero refl));
   belong = (tt, inr tt);
@@ -407,10 +407,10 @@ happens10 = record {
   answered = record {
     tells = one_told (tried 4) outcome.Aborted abort.steps refl (reply_of (tried 4, outcome.Aborted)) refl;
     dead = λ e o i dead. not_dead Ready Absent refl refl e.request.port dead;
-    unplugs = none_unplugged abort.steps (moment_after (moment_of first run9) abort).machine refl;
+    unplugs = none_unplugged abort.steps (abstract_after (abstract_after_all first run9) abort).machine refl;
     issues = λ p _. none_there p;
     emptied = λ p ne e h. absurd (contains_none e h);
-    ended = λ p _. none_ended (moment_of first run9).machine abort.steps refl p;
+    ended = λ p _. none_ended (abstract_after_all first run9).machine abort.steps refl p;
     becomes = stays;
     disk = λ p. inl (refl, refl, refl, refl, refl, refl);
   };
@@ -424,7 +424,7 @@ meets_trouble = record {
   third = retry 2;
   fourth = retry 3;
   last = abort;
-  runs = (((((((((((empty_starts, fit Ready Ready refl refl), happens1), happens2), happens3), happens4), happens5), happens6), happens7), retried (moment_of first run7).machine 2 refl (omega arith)), retried (moment_of first (retry 2 ∷ run7)).machine 3 refl (omega arith)), happens10);
+  runs = (((((((((((empty_starts, fit Ready Ready refl refl), happens1), happens2), happens3), happens4), happens5), happens6), happens7), retried (abstract_after_all first run7).machine 2 refl (omega arith)), retried (abstract_after_all first (retry 2 ∷ run7)).machine 3 refl (omega arith)), happens10);
   told = (((((((((((((((((((((tt, tt), tt), tt), tt), tt), tt), tt), tt), λ e. absurd (false≢true (ap is_reader e))), tt), tt), tt), tt), tt), tt), tt), tt), tt), tt), tt), tt);
   lost = losing;
   failed = failing;

@@ -11,7 +11,7 @@ use Rattle.ata_types.specs.declared.request.Outcome.TheVariants as outcome
 use Rattle.block_machine.specs.Ports.{Evidence}
 use Rattle.block_machine.specs.State.{Pending, Machine}
 use Rattle.block_machine.specs.Steps.{Step, Age, Again, Answer, Unplug, newly_accepted, older}
-use Rattle.block_machine.specs.Events.{AbstractState, Tick, Device, Served, Stepped, CallRecord, HasTimedOut, RestartsTimedOut, Happens, Tells, IsToldBefore, reply_of, moment_of, moment_after}
+use Rattle.block_machine.specs.Events.{AbstractState, Tick, Device, Served, Stepped, CallRecord, HasTimedOut, RestartsTimedOut, Happens, Tells, IsToldBefore, reply_of, abstract_after_all, abstract_after}
 use Rattle.machine_runs.specs.Worked.{IsTakenOutBeforeATick}
 use Rattle.block_machine.proofs.Members.{contains_none, contains_here, contains_cases, none_of}
 use Rattle.block_machine.proofs.Setting.{port, frame, empty_starts}
@@ -67,14 +67,14 @@ ticked m n young = record {
   answered = record {
     tells = none_told (Age aging ∷ []) refl;
     ages = ages_once [] refl;
-    restarts = ticks (before m n) (of_two (aged n) waits (λ e. e.age < 2) young (omega arith)) (moment_after (before m n) (reset_run.tick [])) (λ p. (refl, refl, refl, refl, refl, refl));
-    unplugs = none_unplugged (Age aging ∷ []) (moment_after (before m n) (reset_run.tick [])).machine refl;
+    restarts = ticks (before m n) (of_two (aged n) waits (λ e. e.age < 2) young (omega arith)) (abstract_after (before m n) (reset_run.tick [])) (λ p. (refl, refl, refl, refl, refl, refl));
+    unplugs = none_unplugged (Age aging ∷ []) (abstract_after (before m n) (reset_run.tick [])).machine refl;
     issues = λ p _. none_due p;
     emptied = λ p _. emptied_of (older aging (aged n) ∷ older aging waits ∷ []) (of_two (older aging (aged n)) (older aging waits) (λ e. e.request.port ≡ port) refl refl) p;
   };
 }
 
-happens5 : Happens (moment_of first run4) going
+happens5 : Happens (abstract_after_all first run4) going
 happens5 = record {
   may = (tt, refl);
   belong = (tt, inl tt);
@@ -87,7 +87,7 @@ happens5 = record {
 
 -- The third tick.
 
-hung : HasTimedOut (moment_of first run5) port
+hung : HasTimedOut (abstract_after_all first run5) port
 hung = record { ready = refl; pending = aged 2; here = contains_here (aged 2) (waits ∷ []) (aged 2) refl; port_is = refl; issued = refl; old_enough = omega arith }
 
 only_port : (p : Port) → Contains (port ∷ []) p → p ≡ port
@@ -111,21 +111,21 @@ each_step P a b c step h = ⊎_elim
     (contains_cases (Answer (aged 3) outcome.Unplugged) (Age aging ∷ []) step n))
     (contains_cases (Answer waits outcome.Unplugged) (Answer (aged 3) outcome.Unplugged ∷ Age aging ∷ []) step h)
 
-restarted : RestartsTimedOut (moment_of first run5) gone tick.steps (moment_of first run6)
+restarted : RestartsTimedOut (abstract_after_all first run5) gone tick.steps (abstract_after_all first run6)
 restarted = record {
-  ports = restarts_into (moment_of first run5).machine Absent gone hung (λ p. record {
+  ports = restarts_into (abstract_after_all first run5).machine Absent gone hung (λ p. record {
     served = refl;
     stuck = (λ dead. absent_not_dead p dead, λ h. absurd (contains_none p h));
     keeps = λ _. (refl, refl);
   });
   again = λ e h. absurd (false≢true (sym (none_of is_again tick.steps (Again e) refl h)));
-  answer = λ e o h. subst (λ (x : Port). HasTimedOut (moment_of first run5) x) (sym (each_step (λ step. port_of step ≡ port) refl refl refl (Answer e o) h)) hung;
-  ended = λ p _. none_ended (moment_of first run5).machine tick.steps refl p;
+  answer = λ e o h. subst (λ (x : Port). HasTimedOut (abstract_after_all first run5) x) (sym (each_step (λ step. port_of step ≡ port) refl refl refl (Answer e o) h)) hung;
+  ended = λ p _. none_ended (abstract_after_all first run5).machine tick.steps refl p;
   anew = λ p _ e h. absurd (contains_none e h);
   interrupts = λ p. (
     λ h. inl (contains_here port [] p (ready_port p h.ready)),
     λ i. ⊎_elim
-        (λ h. subst (λ (x : Port). HasTimedOut (moment_of first run5) x) (sym (only_port p h)) hung)
+        (λ h. subst (λ (x : Port). HasTimedOut (abstract_after_all first run5) x) (sym (only_port p h)) hung)
         (λ h. absurd (contains_none p h))
         i,
   );
@@ -145,7 +145,7 @@ told_in_order = record {
     go zero (suc zero) d lt below = inr (refl, omega arith)
     go i j d lt below = absurd (omega (arith, lt, below))
 
-happens6 : Happens (moment_of first run5) tick
+happens6 : Happens (abstract_after_all first run5) tick
 happens6 = record {
   may = (((tt, tt), (contains_here (aged 3) (waits ∷ []) (aged 3) refl, tt)), (contains_here waits [] waits refl, tt));
   belong = (((tt, inr tt), inr (inl tt)), inr (inl tt));
@@ -175,7 +175,7 @@ is_taken_out_before_a_tick = record {
   early = run4;
   going = going;
   tick = tick;
-  runs = (((((((empty_starts, ports_fit Ready refl), happens1), happens2), ticked (moment_of first run2).machine 0 (omega arith)), ticked (moment_of first run3).machine 1 (omega arith)), happens5), happens6);
+  runs = (((((((empty_starts, ports_fit Ready refl), happens1), happens2), ticked (abstract_after_all first run2).machine 0 (omega arith)), ticked (abstract_after_all first run3).machine 1 (omega arith)), happens5), happens6);
   issued = aged 2;
   waits = waits;
   book = refl;

@@ -9,19 +9,19 @@ use Rattle.ata_types.specs.Grant.{Allows}
 use Rattle.block_machine.specs.Due.{is_writer}
 use Rattle.block_machine.specs.State.{Block, Accepted, Machine}
 use Rattle.block_machine.specs.Steps.{Step, Touch, May}
-use Rattle.block_machine.specs.Left.{after, IsLegal, IsStart, IsTouch, HasTouched, IsLeft, disk_read, bytes_when_plugged}
+use Rattle.block_machine.specs.Left.{after, IsLegal, IsInitial, IsTouch, HasTouched, IsLeft, disk_number_read, bytes_when_plugged}
 use Rattle.block_machine.specs.Confined.{WasAccepted, GrantsNoWrites}
 use Rattle.block_machine.proofs.Trace.{runs_lives}
 use Rattle.block_machine.proofs.Accepts.{living_accepted}
 use Rattle.block_machine.proofs.Configured.{was_granted}
 
 -- the request of a touch that may come was accepted
-toucher_lives : (start : Machine) (h : List Step) → IsStart start → IsLegal start h → (step : Step) → May (after start h) step → (r : Accepted) (k : ℕ) → IsTouch step r k → WasAccepted start h r
+toucher_lives : (start : Machine) (h : List Step) → IsInitial start → IsLegal start h → (step : Step) → May (after start h) step → (r : Accepted) (k : ℕ) → IsTouch step r k → WasAccepted start h r
 toucher_lives start h s legal (Touch e i block) may r k t = subst (WasAccepted start h) t.0 (living_accepted start h s legal e (runs_lives (after start h) e may.0))
 toucher_lives start h s legal _ may r k t = absurd t
 
 -- each request that touched a sector was accepted
-toucher_accepted : (start : Machine) (h : List Step) → IsStart start → IsLegal start h → (r : Accepted) (k n : ℕ) → HasTouched r k n h → WasAccepted start h r
+toucher_accepted : (start : Machine) (h : List Step) → IsInitial start → IsLegal start h → (r : Accepted) (k n : ℕ) → HasTouched r k n h → WasAccepted start h r
 toucher_accepted start [] s legal r k n t = absurd t
 toucher_accepted start (step ∷ past) s legal r k n (inl t) = inr (toucher_lives start past s legal.0 step legal.1 r k t.0)
 toucher_accepted start (step ∷ past) s legal r k n (inr t) = inr (toucher_accepted start past s legal.0 r k n t)
@@ -34,9 +34,9 @@ never_writes row none Trim may writes = false≢true (sym none.1 ∙ may)
 never_writes row none Flush may writes = false≢true writes
 
 -- so no write or trim touched a sector, and what is left came with the disk
-pub law_unwritten_disks_are_left : (start : Machine) (h : List Step) (read : Accepted) (k : ℕ) (block : Block) → IsStart start → IsLegal start h
+pub law_unwritten_disks_are_left : (start : Machine) (h : List Step) (read : Accepted) (k : ℕ) (block : Block) → IsInitial start → IsLegal start h
     → ((row : GrantRow) → Contains start.rows row → GrantsNoWrites row)
-    → IsLeft start h read k block → block ≡ bytes_when_plugged start read.port (disk_read read k h) h k
+    → IsLeft start h read k block → block ≡ bytes_when_plugged start read.port (disk_number_read read k h) h k
 law_unwritten_disks_are_left start h read k block s legal none (inl last) =
     let writer = last.0 in
     let wrote = last.1 in

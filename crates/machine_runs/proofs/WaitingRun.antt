@@ -9,7 +9,7 @@ use Rattle.block_machine.specs.declared.due.Unanswered.{Unanswered}
 use Rattle.block_machine.specs.Due.{NoneDue, is_clear}
 use Rattle.block_machine.specs.State.{Block, Accepted, is_reader, unanswered}
 use Rattle.block_machine.specs.Steps.{Accept, Issue, Touch, End, Answer, newly_accepted, newly_issued, touch}
-use Rattle.block_machine.specs.Events.{Submit, Service, Device, Submitted, Served, Stepped, CallRecord, Happens, moment_of, situation_of}
+use Rattle.block_machine.specs.Events.{Submit, Service, Device, Submitted, Served, Stepped, CallRecord, Happens, abstract_after_all, situation_of}
 use Rattle.machine_runs.specs.Worked.{WaitsItsTurn}
 use Rattle.block_machine.proofs.Members.{contains_none, contains_here, contains_there, contains_cases}
 use Rattle.block_machine.proofs.Counting.{issued_not_due}
@@ -20,7 +20,7 @@ abbrev pub run0 : List (CallRecord (Unit {0}))
 run0 = []
 
 abbrev pub write : Accepted
-write = sector_request (moment_of first run0).machine 1 Write 100
+write = sector_request (abstract_after_all first run0).machine 1 Write 100
 
 abbrev pub event1 : CallRecord (Unit {0})
 event1 = call (Submit write.asked) (Submitted (Ok (id 1))) (Issue mode (newly_accepted write) ∷ Accept write ∷ [])
@@ -29,7 +29,7 @@ abbrev pub run1 : List (CallRecord (Unit {0}))
 run1 = event1 ∷ run0
 
 abbrev pub read : Accepted
-read = sector_request (moment_of first run1).machine 2 Read 101
+read = sector_request (abstract_after_all first run1).machine 2 Read 101
 
 abbrev event2 : CallRecord (Unit {0})
 event2 = call (Submit read.asked) (Submitted (Ok (id 2))) (Accept read ∷ [])
@@ -45,7 +45,7 @@ run3 = event3 ∷ run2
 
 -- the bytes that the write left
 abbrev moved : Block
-moved = (moment_of first run3).machine.disks port 100
+moved = (abstract_after_all first run3).machine.disks port 100
 
 -- the device ends the read
 abbrev event4 : CallRecord (Unit {0})
@@ -60,21 +60,21 @@ event5 = call Service (Served (reply 2 ∷ [])) (Answer (done read) outcome.Ok �
 abbrev run5 : List (CallRecord (Unit {0}))
 run5 = event5 ∷ run4
 
-quiet0 : IsQuiet 0 (moment_of first run0)
+quiet0 : IsQuiet 0 (abstract_after_all first run0)
 quiet0 = record { rows = refl; mine = row_zero; ready = refl; size = refl; room = omega arith; few = omega arith }
 
-quiet1 : IsQuiet 0 (moment_of first run1)
+quiet1 : IsQuiet 0 (abstract_after_all first run1)
 quiet1 = record { rows = refl; mine = row_zero; ready = refl; size = refl; room = omega arith; few = omega arith }
 
-pub happens1 : Happens (moment_of first run0) event1
+pub happens1 : Happens (abstract_after_all first run0) event1
 happens1 = record {
-  may = ((tt, new 0 (moment_of first run0) write quiet0 (fit_write (moment_of first run0) 100 quiet0 refl refl) refl refl refl), (contains_here (newly_accepted write) [] (newly_accepted write) refl, record { here = contains_here (unanswered (newly_accepted write)) [] (unanswered (newly_accepted write)) refl; clear = refl; slot = λ _. omega arith }, λ e h. absurd (contains_none e h), granted 0 row_zero refl));
+  may = ((tt, new 0 (abstract_after_all first run0) write quiet0 (fit_write (abstract_after_all first run0) 100 quiet0 refl refl) refl refl refl), (contains_here (newly_accepted write) [] (newly_accepted write) refl, record { here = contains_here (unanswered (newly_accepted write)) [] (unanswered (newly_accepted write)) refl; clear = refl; slot = λ _. omega arith }, λ e h. absurd (contains_none e h), granted 0 row_zero refl));
   belong = ((tt, inr refl), inr (refl, refl));
   last = ((tt, λ id h i. false≢true i), λ id h i. false≢true i);
   lawful = tt;
   fit = ports_fit Ready refl;
   disks = λ e o h i same. (refl, refl);
-  answered = (acceptable 0 (situation_of (moment_of first run0)) write.asked (fit_write (moment_of first run0) 100 quiet0 refl refl), (write, refl, refl), λ p. (refl, refl, refl, refl, refl, refl), λ p _. one_issued (unanswered (newly_issued (newly_accepted write))) refl p);
+  answered = (acceptable 0 (situation_of (abstract_after_all first run0)) write.asked (fit_write (abstract_after_all first run0) 100 quiet0 refl refl), (write, refl, refl), λ p. (refl, refl, refl, refl, refl, refl), λ p _. one_issued (unanswered (newly_issued (newly_accepted write))) refl p);
 }
 
 -- the write in its slot, and the read after it
@@ -91,18 +91,18 @@ none_due p r here due = ⊎_elim
     (contains_cases (unanswered (newly_accepted read)) [] r i))
     (contains_cases (unanswered (newly_issued (newly_accepted write))) (unanswered (newly_accepted read) ∷ []) r due.here)
 
-pub happens2 : Happens (moment_of first run1) event2
+pub happens2 : Happens (abstract_after_all first run1) event2
 happens2 = record {
-  may = (tt, new 0 (moment_of first run1) read quiet1 (fit_read 0 (moment_of first run1) 101 quiet1 refl refl) refl refl refl);
+  may = (tt, new 0 (abstract_after_all first run1) read quiet1 (fit_read 0 (abstract_after_all first run1) 101 quiet1 refl refl) refl refl refl);
   belong = (tt, inr refl);
   last = (tt, λ id h i. false≢true i);
   lawful = tt;
   fit = ports_fit Ready refl;
   disks = λ e o h i same. (refl, refl);
-  answered = (acceptable 0 (situation_of (moment_of first run1)) read.asked (fit_read 0 (moment_of first run1) 101 quiet1 refl refl), (read, refl, refl), λ p. (refl, refl, refl, refl, refl, refl), λ p _. none_due p);
+  answered = (acceptable 0 (situation_of (abstract_after_all first run1)) read.asked (fit_read 0 (abstract_after_all first run1) 101 quiet1 refl refl), (read, refl, refl), λ p. (refl, refl, refl, refl, refl, refl), λ p _. none_due p);
 }
 
-happens3 : Happens (moment_of first run2) event3
+happens3 : Happens (abstract_after_all first run2) event3
 happens3 = record {
   may = (
     (
@@ -119,10 +119,10 @@ happens3 = record {
   lawful = (tt, (record { pending = newly_issued (newly_accepted write); here = contains_here (newly_issued (newly_accepted write)) (newly_accepted read ∷ []) (newly_issued (newly_accepted write)) refl; id_is = refl; issued = refl }, refl, one_touched, refl));
   fit = ports_fit Ready refl;
   disks = λ e o h i same. (refl, refl);
-  answered = plain_service (moment_of first run2).machine (moment_of first run3).machine event3.steps (reply 1 ∷ []) (one_told (done write) outcome.Ok event3.steps refl (reply 1) refl) refl (none_ended (moment_of first run2).machine event3.steps refl) (λ p. one_issued (unanswered (newly_issued (newly_accepted read))) refl p) (only_one (newly_issued (newly_accepted read)) (λ e. e.request.port ≡ port) refl);
+  answered = plain_service (abstract_after_all first run2).machine (abstract_after_all first run3).machine event3.steps (reply 1 ∷ []) (one_told (done write) outcome.Ok event3.steps refl (reply 1) refl) refl (none_ended (abstract_after_all first run2).machine event3.steps refl) (λ p. one_issued (unanswered (newly_issued (newly_accepted read))) refl p) (only_one (newly_issued (newly_accepted read)) (λ e. e.request.port ≡ port) refl);
 }
 
-happens4 : Happens (moment_of first run3) event4
+happens4 : Happens (abstract_after_all first run3) event4
 happens4 = record {
   may = ((tt, (inl (contains_here (newly_issued (newly_accepted read)) [] (newly_issued (newly_accepted read)) refl, refl), omega arith, refl, omega arith, λ e. absurd (false≢true (sym (ap is_reader e))))), (inl (contains_here (touch 0 (newly_issued (newly_accepted read))) [] (touch 0 (newly_issued (newly_accepted read))) refl, refl), one_touched, refl));
   belong = ((tt, inl tt), inl tt);
@@ -133,7 +133,7 @@ happens4 = record {
   answered = (((tt, tt), tt), λ p. (refl, refl, refl, refl, refl, refl));
 }
 
-happens5 : Happens (moment_of first run4) event5
+happens5 : Happens (abstract_after_all first run4) event5
 happens5 = record {
   may = (tt, (contains_here (done read) [] (done read) refl, tt));
   belong = (tt, inr tt);
@@ -141,7 +141,7 @@ happens5 = record {
   lawful = (tt, (record { pending = done read; here = contains_here (done read) [] (done read) refl; id_is = refl; issued = refl }, refl, one_touched, refl));
   fit = ports_fit Ready refl;
   disks = λ e o h i same. (refl, refl);
-  answered = plain_service (moment_of first run4).machine (moment_of first run5).machine event5.steps (reply 2 ∷ []) (one_told (done read) outcome.Ok event5.steps refl (reply 2) refl) refl (last_ended (moment_of first run4).machine event5.steps [] (done read) refl refl (done read) refl (0, omega arith, refl)) (λ p. none_there p) (λ e h. absurd (contains_none e h));
+  answered = plain_service (abstract_after_all first run4).machine (abstract_after_all first run5).machine event5.steps (reply 2 ∷ []) (one_told (done read) outcome.Ok event5.steps refl (reply 2) refl) refl (last_ended (abstract_after_all first run4).machine event5.steps [] (done read) refl refl (done read) refl (0, omega arith, refl)) (λ p. none_there p) (λ e h. absurd (contains_none e h));
 }
 
 pub waits_its_turn : WaitsItsTurn

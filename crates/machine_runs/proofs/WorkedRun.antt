@@ -11,7 +11,7 @@ use Rattle.block_machine.specs.Due.{is_flush}
 use Rattle.block_machine.specs.Ports.{Evidence}
 use Rattle.block_machine.specs.State.{Block, DiskBytes, Accepted, block_of, is_reader, unanswered}
 use Rattle.block_machine.specs.Steps.{Step, Accept, Issue, Touch, End, Answer, Unplug, Replace, Store, Load, newly_accepted, newly_issued, touch, mark_ended, HasHeld, SameBytes}
-use Rattle.block_machine.specs.Events.{Submit, StoreAt, LoadAt, Service, Device, Submitted, Stored, Loaded, Served, Stepped, CallRecord, Happens, IsRun, moment_of, situation_of, steps_of, ShowsDisk}
+use Rattle.block_machine.specs.Events.{Submit, StoreAt, LoadAt, Service, Device, Submitted, Stored, Loaded, Served, Stepped, CallRecord, Happens, IsRun, abstract_after_all, situation_of, steps_of, ShowsDisk}
 use Rattle.machine_runs.specs.Worked.{FindsTheFlushed, MayComeBack, ReadsOneOf}
 use Rattle.block_machine.proofs.Members.{contains_none, contains_here, contains_there, contains_cases}
 use Rattle.block_machine.proofs.Setting.{client, port, frame, request, empty_starts, acceptable, granted}
@@ -27,7 +27,7 @@ abbrev run1 : List (CallRecord (Unit {0}))
 run1 = event1 ∷ []
 
 abbrev write : Accepted
-write = sector_request (moment_of first run1).machine 1 Write 100
+write = sector_request (abstract_after_all first run1).machine 1 Write 100
 
 abbrev event2 : CallRecord (Unit {0})
 event2 = call (Submit write.asked) (Submitted (Ok (id 1))) (Issue mode (newly_accepted write) ∷ Accept write ∷ [])
@@ -42,7 +42,7 @@ abbrev run3 : List (CallRecord (Unit {0}))
 run3 = event3 ∷ run2
 
 abbrev flush : Accepted
-flush = record { id = id 2; port = port; asked = request 0 Flush 0 0 []; held = block_of (moment_of first run3).machine.memory [] }
+flush = record { id = id 2; port = port; asked = request 0 Flush 0 0 []; held = block_of (abstract_after_all first run3).machine.memory [] }
 
 abbrev event4 : CallRecord (Unit {0})
 event4 = call (Submit flush.asked) (Submitted (Ok (id 2))) (Issue mode (newly_accepted flush) ∷ Accept flush ∷ [])
@@ -63,7 +63,7 @@ abbrev run6 : List (CallRecord (Unit {0}))
 run6 = event6 ∷ run5
 
 abbrev later : Accepted
-later = sector_request (moment_of first run6).machine 3 Write 100
+later = sector_request (abstract_after_all first run6).machine 3 Write 100
 
 abbrev event7 : CallRecord (Unit {0})
 event7 = call (Submit later.asked) (Submitted (Ok (id 3))) (Issue mode (newly_accepted later) ∷ Accept later ∷ [])
@@ -79,7 +79,7 @@ run8 = event8 ∷ run7
 
 -- what the disk held when the flush was ended
 abbrev flushed_disk : DiskBytes
-flushed_disk = (moment_of first run5).machine.disks port
+flushed_disk = (abstract_after_all first run5).machine.disks port
 
 -- the disk is taken out
 abbrev event9 : CallRecord (Unit {0})
@@ -117,7 +117,7 @@ abbrev run12 : DiskBytes → List (CallRecord (Unit {0}))
 run12 disk = event12 ∷ run11 disk
 
 abbrev read : DiskBytes → Accepted
-read disk = sector_request (moment_of first (run12 disk)).machine 4 Read 101
+read disk = sector_request (abstract_after_all first (run12 disk)).machine 4 Read 101
 
 abbrev event13 : DiskBytes → CallRecord (Unit {0})
 event13 disk = call (Submit (read disk).asked) (Submitted (Ok (id 4))) (Issue mode (newly_accepted (read disk)) ∷ Accept (read disk) ∷ [])
@@ -141,41 +141,41 @@ event15 disk = call (LoadAt client (frame 101) 0 1) (Loaded (Ok (disk 100 0 ∷ 
 abbrev run15 : DiskBytes → List (CallRecord (Unit {0}))
 run15 disk = event15 disk ∷ run14 disk
 
-quiet1 : IsQuiet 0 (moment_of first run1)
+quiet1 : IsQuiet 0 (abstract_after_all first run1)
 quiet1 = record { rows = refl; mine = row_zero; ready = refl; size = refl; room = omega arith; few = omega arith }
 
-quiet3 : IsQuiet 0 (moment_of first run3)
+quiet3 : IsQuiet 0 (abstract_after_all first run3)
 quiet3 = record { rows = refl; mine = row_zero; ready = refl; size = refl; room = omega arith; few = omega arith }
 
-quiet6 : IsQuiet 0 (moment_of first run6)
+quiet6 : IsQuiet 0 (abstract_after_all first run6)
 quiet6 = record { rows = refl; mine = row_zero; ready = refl; size = refl; room = omega arith; few = omega arith }
 
-quiet12 : (disk : DiskBytes) → IsQuiet 0 (moment_of first (run12 disk))
+quiet12 : (disk : DiskBytes) → IsQuiet 0 (abstract_after_all first (run12 disk))
 quiet12 disk = record { rows = refl; mine = row_zero; ready = refl; size = refl; room = omega arith; few = omega arith }
 
-happens1 : Happens (moment_of first run0) event1
+happens1 : Happens (abstract_after_all first run0) event1
 happens1 = record {
-  may = (tt, is_open (moment_of first run0).machine 100 0 1 refl refl (omega arith));
+  may = (tt, is_open (abstract_after_all first run0).machine 100 0 1 refl refl (omega arith));
   belong = (tt, inr (refl, refl, refl, refl));
   last = (tt, λ id h i. false≢true i);
   lawful = tt;
   fit = ports_fit Ready refl;
   disks = λ e o h i same. (refl, refl);
-  answered = (λ p. (refl, refl, refl, refl, refl, refl), is_open (moment_of first run0).machine 100 0 1 refl refl (omega arith), refl);
+  answered = (λ p. (refl, refl, refl, refl, refl, refl), is_open (abstract_after_all first run0).machine 100 0 1 refl refl (omega arith), refl);
 }
 
-happens2 : Happens (moment_of first run1) event2
+happens2 : Happens (abstract_after_all first run1) event2
 happens2 = record {
-  may = ((tt, new 0 (moment_of first run1) write quiet1 (fit_write (moment_of first run1) 100 quiet1 refl refl) refl refl refl), (contains_here (newly_accepted write) [] (newly_accepted write) refl, record { here = contains_here (unanswered (newly_accepted write)) [] (unanswered (newly_accepted write)) refl; clear = refl; slot = λ _. omega arith }, λ e h. absurd (contains_none e h), granted 0 row_zero refl));
+  may = ((tt, new 0 (abstract_after_all first run1) write quiet1 (fit_write (abstract_after_all first run1) 100 quiet1 refl refl) refl refl refl), (contains_here (newly_accepted write) [] (newly_accepted write) refl, record { here = contains_here (unanswered (newly_accepted write)) [] (unanswered (newly_accepted write)) refl; clear = refl; slot = λ _. omega arith }, λ e h. absurd (contains_none e h), granted 0 row_zero refl));
   belong = ((tt, inr refl), inr (refl, refl));
   last = ((tt, λ id h i. false≢true i), λ id h i. false≢true i);
   lawful = tt;
   fit = ports_fit Ready refl;
   disks = λ e o h i same. (refl, refl);
-  answered = (acceptable 0 (situation_of (moment_of first run1)) write.asked (fit_write (moment_of first run1) 100 quiet1 refl refl), (write, refl, refl), λ p. (refl, refl, refl, refl, refl, refl), λ p _. one_issued (unanswered (newly_issued (newly_accepted write))) refl p);
+  answered = (acceptable 0 (situation_of (abstract_after_all first run1)) write.asked (fit_write (abstract_after_all first run1) 100 quiet1 refl refl), (write, refl, refl), λ p. (refl, refl, refl, refl, refl, refl), λ p _. one_issued (unanswered (newly_issued (newly_accepted write))) refl p);
 }
 
-happens3 : Happens (moment_of first run2) event3
+happens3 : Happens (abstract_after_all first run2) event3
 happens3 = record {
   may = (((tt, (inl (contains_here (newly_issued (newly_accepted write)) [] (newly_issued (newly_accepted write)) refl, refl), omega arith, refl, omega arith, λ _ b lt. refl)), (inl (contains_here (touch 0 (newly_issued (newly_accepted write))) [] (touch 0 (newly_issued (newly_accepted write))) refl, refl), one_touched, refl)), (contains_here (done write) [] (done write) refl, tt));
   belong = (((tt, inl tt), inl tt), inr tt);
@@ -183,21 +183,21 @@ happens3 = record {
   lawful = (tt, (record { pending = newly_issued (newly_accepted write); here = contains_here (newly_issued (newly_accepted write)) [] (newly_issued (newly_accepted write)) refl; id_is = refl; issued = refl }, refl, one_touched, refl));
   fit = ports_fit Ready refl;
   disks = λ e o h i same. (refl, refl);
-  answered = plain_service (moment_of first run2).machine (moment_of first run3).machine event3.steps (reply 1 ∷ []) (one_told (done write) outcome.Ok event3.steps refl (reply 1) refl) refl (none_ended (moment_of first run2).machine event3.steps refl) (λ p. none_there p) (λ e h. absurd (contains_none e h));
+  answered = plain_service (abstract_after_all first run2).machine (abstract_after_all first run3).machine event3.steps (reply 1 ∷ []) (one_told (done write) outcome.Ok event3.steps refl (reply 1) refl) refl (none_ended (abstract_after_all first run2).machine event3.steps refl) (λ p. none_there p) (λ e h. absurd (contains_none e h));
 }
 
-happens4 : Happens (moment_of first run3) event4
+happens4 : Happens (abstract_after_all first run3) event4
 happens4 = record {
-  may = ((tt, new 0 (moment_of first run3) flush quiet3 (fit_flush (moment_of first run3) quiet3) refl refl refl), (contains_here (newly_accepted flush) [] (newly_accepted flush) refl, record { here = contains_here (unanswered (newly_accepted flush)) [] (unanswered (newly_accepted flush)) refl; clear = refl; slot = λ _. omega arith }, λ e h. absurd (contains_none e h), granted 0 row_zero refl));
+  may = ((tt, new 0 (abstract_after_all first run3) flush quiet3 (fit_flush (abstract_after_all first run3) quiet3) refl refl refl), (contains_here (newly_accepted flush) [] (newly_accepted flush) refl, record { here = contains_here (unanswered (newly_accepted flush)) [] (unanswered (newly_accepted flush)) refl; clear = refl; slot = λ _. omega arith }, λ e h. absurd (contains_none e h), granted 0 row_zero refl));
   belong = ((tt, inr refl), inr (refl, refl));
   last = ((tt, λ id h i. false≢true i), λ id h i. false≢true i);
   lawful = tt;
   fit = ports_fit Ready refl;
   disks = λ e o h i same. (refl, refl);
-  answered = (acceptable 0 (situation_of (moment_of first run3)) flush.asked (fit_flush (moment_of first run3) quiet3), (flush, refl, refl), λ p. (refl, refl, refl, refl, refl, refl), λ p _. one_issued (unanswered (newly_issued (newly_accepted flush))) refl p);
+  answered = (acceptable 0 (situation_of (abstract_after_all first run3)) flush.asked (fit_flush (abstract_after_all first run3) quiet3), (flush, refl, refl), λ p. (refl, refl, refl, refl, refl, refl), λ p _. one_issued (unanswered (newly_issued (newly_accepted flush))) refl p);
 }
 
-happens5 : Happens (moment_of first run4) event5
+happens5 : Happens (abstract_after_all first run4) event5
 happens5 = record {
   may = ((tt, (inl (contains_here (newly_issued (newly_accepted flush)) [] (newly_issued (newly_accepted flush)) refl, refl), (λ k lt. absurd (omega (arith, lt))), refl)), (contains_here (mark_ended (newly_issued (newly_accepted flush))) [] (mark_ended (newly_issued (newly_accepted flush))) refl, tt));
   belong = ((tt, inl tt), inr tt);
@@ -205,32 +205,32 @@ happens5 = record {
   lawful = (tt, (record { pending = newly_issued (newly_accepted flush); here = contains_here (newly_issued (newly_accepted flush)) [] (newly_issued (newly_accepted flush)) refl; id_is = refl; issued = refl }, refl, (λ k lt. absurd (omega (arith, lt))), refl));
   fit = ports_fit Ready refl;
   disks = λ e o h i same. (refl, refl);
-  answered = plain_service (moment_of first run4).machine (moment_of first run5).machine event5.steps (reply 2 ∷ []) (one_told (mark_ended (newly_issued (newly_accepted flush))) outcome.Ok event5.steps refl (reply 2) refl) refl (none_ended (moment_of first run4).machine event5.steps refl) (λ p. none_there p) (λ e h. absurd (contains_none e h));
+  answered = plain_service (abstract_after_all first run4).machine (abstract_after_all first run5).machine event5.steps (reply 2 ∷ []) (one_told (mark_ended (newly_issued (newly_accepted flush))) outcome.Ok event5.steps refl (reply 2) refl) refl (none_ended (abstract_after_all first run4).machine event5.steps refl) (λ p. none_there p) (λ e h. absurd (contains_none e h));
 }
 
-happens6 : Happens (moment_of first run5) event6
+happens6 : Happens (abstract_after_all first run5) event6
 happens6 = record {
-  may = (tt, is_open (moment_of first run5).machine 100 0 1 refl refl (omega arith));
+  may = (tt, is_open (abstract_after_all first run5).machine 100 0 1 refl refl (omega arith));
   belong = (tt, inr (refl, refl, refl, refl));
   last = (tt, λ id h i. false≢true i);
   lawful = tt;
   fit = ports_fit Ready refl;
   disks = λ e o h i same. (refl, refl);
-  answered = (λ p. (refl, refl, refl, refl, refl, refl), is_open (moment_of first run5).machine 100 0 1 refl refl (omega arith), refl);
+  answered = (λ p. (refl, refl, refl, refl, refl, refl), is_open (abstract_after_all first run5).machine 100 0 1 refl refl (omega arith), refl);
 }
 
-happens7 : Happens (moment_of first run6) event7
+happens7 : Happens (abstract_after_all first run6) event7
 happens7 = record {
-  may = ((tt, new 0 (moment_of first run6) later quiet6 (fit_write (moment_of first run6) 100 quiet6 refl refl) refl refl refl), (contains_here (newly_accepted later) [] (newly_accepted later) refl, record { here = contains_here (unanswered (newly_accepted later)) [] (unanswered (newly_accepted later)) refl; clear = refl; slot = λ _. omega arith }, λ e h. absurd (contains_none e h), granted 0 row_zero refl));
+  may = ((tt, new 0 (abstract_after_all first run6) later quiet6 (fit_write (abstract_after_all first run6) 100 quiet6 refl refl) refl refl refl), (contains_here (newly_accepted later) [] (newly_accepted later) refl, record { here = contains_here (unanswered (newly_accepted later)) [] (unanswered (newly_accepted later)) refl; clear = refl; slot = λ _. omega arith }, λ e h. absurd (contains_none e h), granted 0 row_zero refl));
   belong = ((tt, inr refl), inr (refl, refl));
   last = ((tt, λ id h i. false≢true i), λ id h i. false≢true i);
   lawful = tt;
   fit = ports_fit Ready refl;
   disks = λ e o h i same. (refl, refl);
-  answered = (acceptable 0 (situation_of (moment_of first run6)) later.asked (fit_write (moment_of first run6) 100 quiet6 refl refl), (later, refl, refl), λ p. (refl, refl, refl, refl, refl, refl), λ p _. one_issued (unanswered (newly_issued (newly_accepted later))) refl p);
+  answered = (acceptable 0 (situation_of (abstract_after_all first run6)) later.asked (fit_write (abstract_after_all first run6) 100 quiet6 refl refl), (later, refl, refl), λ p. (refl, refl, refl, refl, refl, refl), λ p _. one_issued (unanswered (newly_issued (newly_accepted later))) refl p);
 }
 
-happens8 : Happens (moment_of first run7) event8
+happens8 : Happens (abstract_after_all first run7) event8
 happens8 = record {
   may = (((tt, (inl (contains_here (newly_issued (newly_accepted later)) [] (newly_issued (newly_accepted later)) refl, refl), omega arith, refl, omega arith, λ _ b lt. refl)), (inl (contains_here (touch 0 (newly_issued (newly_accepted later))) [] (touch 0 (newly_issued (newly_accepted later))) refl, refl), one_touched, refl)), (contains_here (done later) [] (done later) refl, tt));
   belong = (((tt, inl tt), inl tt), inr tt);
@@ -238,10 +238,10 @@ happens8 = record {
   lawful = (tt, (record { pending = newly_issued (newly_accepted later); here = contains_here (newly_issued (newly_accepted later)) [] (newly_issued (newly_accepted later)) refl; id_is = refl; issued = refl }, refl, one_touched, refl));
   fit = ports_fit Ready refl;
   disks = λ e o h i same. (refl, refl);
-  answered = plain_service (moment_of first run7).machine (moment_of first run8).machine event8.steps (reply 3 ∷ []) (one_told (done later) outcome.Ok event8.steps refl (reply 3) refl) refl (none_ended (moment_of first run7).machine event8.steps refl) (λ p. none_there p) (λ e h. absurd (contains_none e h));
+  answered = plain_service (abstract_after_all first run7).machine (abstract_after_all first run8).machine event8.steps (reply 3 ∷ []) (one_told (done later) outcome.Ok event8.steps refl (reply 3) refl) refl (none_ended (abstract_after_all first run7).machine event8.steps refl) (λ p. none_there p) (λ e h. absurd (contains_none e h));
 }
 
-happens9 : Happens (moment_of first run8) event9
+happens9 : Happens (abstract_after_all first run8) event9
 happens9 = record {
   may = (tt, refl);
   belong = (tt, inl tt);
@@ -253,7 +253,7 @@ happens9 = record {
 }
 
 -- the service that notices
-happens10 : Happens (moment_of first run9) event10
+happens10 : Happens (abstract_after_all first run9) event10
 happens10 = record {
   may = tt;
   belong = tt;
@@ -264,16 +264,16 @@ happens10 = record {
   answered = record {
     tells = none_told [] refl;
     dead = λ e o i dead. none_dead e.request.port dead;
-    unplugs = none_unplugged [] (moment_of first run10).machine refl;
+    unplugs = none_unplugged [] (abstract_after_all first run10).machine refl;
     issues = λ p _. none_there p;
     emptied = λ p ne e h. absurd (contains_none e h);
-    ended = λ p _. none_ended (moment_of first run9).machine [] refl p;
+    ended = λ p _. none_ended (abstract_after_all first run9).machine [] refl p;
     becomes = λ p. (λ dead. none_dead p dead, λ _. (record { served = refl; stuck = (λ dead. absent_not_dead p dead, λ h. absurd (contains_none p h)); keeps = λ _. (refl, refl) }, changed_here Ready Absent gone (inl (contains_here port [] port refl)) p));
     disk = λ p. inr (λ shows. shows_none Absent (λ s. s) p shows);
   };
 }
 
-happens11 : (disk : DiskBytes) → Happens (moment_of first run10) (event11 disk)
+happens11 : (disk : DiskBytes) → Happens (abstract_after_all first run10) (event11 disk)
 happens11 disk = record {
   may = (tt, (refl, λ _. refl));
   belong = (tt, inl tt);
@@ -292,10 +292,10 @@ shows_ready p shows = go (p.0 == 0) shows
     go false s = absurd s
 
 -- the port that gets ready has the disk that was put in
-present : (p : Port) → at_port Ready p ≡ Ready → (moment_of first (run11 (λ k b. 0))).machine.present p ≡ true
-present p ready = ap (moment_of first (run11 (λ k b. 0))).machine.present (ready_port p ready)
+present : (p : Port) → at_port Ready p ≡ Ready → (abstract_after_all first (run11 (λ k b. 0))).machine.present p ≡ true
+present p ready = ap (abstract_after_all first (run11 (λ k b. 0))).machine.present (ready_port p ready)
 
-happens12 : (disk : DiskBytes) → Happens (moment_of first (run11 disk)) event12
+happens12 : (disk : DiskBytes) → Happens (abstract_after_all first (run11 disk)) event12
 happens12 disk = record {
   may = tt;
   belong = tt;
@@ -306,27 +306,27 @@ happens12 disk = record {
   answered = record {
     tells = none_told [] refl;
     dead = λ e o i dead. absent_not_dead e.request.port dead;
-    unplugs = none_unplugged [] (moment_of first (run12 disk)).machine refl;
+    unplugs = none_unplugged [] (abstract_after_all first (run12 disk)).machine refl;
     issues = λ p _. none_there p;
     emptied = λ p ne e h. absurd (contains_none e h);
-    ended = λ p _. none_ended (moment_of first (run11 disk)).machine [] refl p;
+    ended = λ p _. none_ended (abstract_after_all first (run11 disk)).machine [] refl p;
     becomes = λ p. (λ dead. absent_not_dead p dead, λ _. (record { served = refl; stuck = (λ dead. none_dead p dead, λ h. absurd (contains_none p h)); keeps = λ _. (refl, refl) }, changed_here Absent Ready booting (inl (contains_here port [] port refl)) p));
     disk = λ p. inr (λ shows. inl (present p (shows_ready p shows)));
   };
 }
 
-happens13 : (disk : DiskBytes) → Happens (moment_of first (run12 disk)) (event13 disk)
+happens13 : (disk : DiskBytes) → Happens (abstract_after_all first (run12 disk)) (event13 disk)
 happens13 disk = record {
-  may = ((tt, new 0 (moment_of first (run12 disk)) (read disk) (quiet12 disk) (fit_read 0 (moment_of first (run12 disk)) 101 (quiet12 disk) refl refl) refl refl refl), (contains_here (newly_accepted (read disk)) [] (newly_accepted (read disk)) refl, record { here = contains_here (unanswered (newly_accepted (read disk))) [] (unanswered (newly_accepted (read disk))) refl; clear = refl; slot = λ _. omega arith }, λ e h. absurd (contains_none e h), granted 0 row_zero refl));
+  may = ((tt, new 0 (abstract_after_all first (run12 disk)) (read disk) (quiet12 disk) (fit_read 0 (abstract_after_all first (run12 disk)) 101 (quiet12 disk) refl refl) refl refl refl), (contains_here (newly_accepted (read disk)) [] (newly_accepted (read disk)) refl, record { here = contains_here (unanswered (newly_accepted (read disk))) [] (unanswered (newly_accepted (read disk))) refl; clear = refl; slot = λ _. omega arith }, λ e h. absurd (contains_none e h), granted 0 row_zero refl));
   belong = ((tt, inr refl), inr (refl, refl));
   last = ((tt, λ id h i. false≢true i), λ id h i. false≢true i);
   lawful = tt;
   fit = ports_fit Ready refl;
   disks = λ e o h i same. (refl, refl);
-  answered = (acceptable 0 (situation_of (moment_of first (run12 disk))) (read disk).asked (fit_read 0 (moment_of first (run12 disk)) 101 (quiet12 disk) refl refl), (read disk, refl, refl), λ p. (refl, refl, refl, refl, refl, refl), λ p _. one_issued (unanswered (newly_issued (newly_accepted (read disk)))) refl p);
+  answered = (acceptable 0 (situation_of (abstract_after_all first (run12 disk))) (read disk).asked (fit_read 0 (abstract_after_all first (run12 disk)) 101 (quiet12 disk) refl refl), (read disk, refl, refl), λ p. (refl, refl, refl, refl, refl, refl), λ p _. one_issued (unanswered (newly_issued (newly_accepted (read disk)))) refl p);
 }
 
-happens14 : (disk : DiskBytes) → Happens (moment_of first (run13 disk)) (event14 disk)
+happens14 : (disk : DiskBytes) → Happens (abstract_after_all first (run13 disk)) (event14 disk)
 happens14 disk = record {
   may = (((tt, (inl (contains_here (newly_issued (newly_accepted (read disk))) [] (newly_issued (newly_accepted (read disk))) refl, refl), omega arith, refl, omega arith, λ e. absurd (false≢true (sym (ap is_reader e))))), (inl (contains_here (touch 0 (newly_issued (newly_accepted (read disk)))) [] (touch 0 (newly_issued (newly_accepted (read disk)))) refl, refl), one_touched, refl)), (contains_here (done (read disk)) [] (done (read disk)) refl, tt));
   belong = (((tt, inl tt), inl tt), inr tt);
@@ -334,28 +334,28 @@ happens14 disk = record {
   lawful = (tt, (record { pending = newly_issued (newly_accepted (read disk)); here = contains_here (newly_issued (newly_accepted (read disk))) [] (newly_issued (newly_accepted (read disk))) refl; id_is = refl; issued = refl }, refl, one_touched, refl));
   fit = ports_fit Ready refl;
   disks = λ e o h i same. (refl, refl);
-  answered = plain_service (moment_of first (run13 disk)).machine (moment_of first (run14 disk)).machine (event14 disk).steps (reply 4 ∷ []) (one_told (done (read disk)) outcome.Ok (event14 disk).steps refl (reply 4) refl) refl (none_ended (moment_of first (run13 disk)).machine (event14 disk).steps refl) (λ p. none_there p) (λ e h. absurd (contains_none e h));
+  answered = plain_service (abstract_after_all first (run13 disk)).machine (abstract_after_all first (run14 disk)).machine (event14 disk).steps (reply 4 ∷ []) (one_told (done (read disk)) outcome.Ok (event14 disk).steps refl (reply 4) refl) refl (none_ended (abstract_after_all first (run13 disk)).machine (event14 disk).steps refl) (λ p. none_there p) (λ e h. absurd (contains_none e h));
 }
 
-loaded : (disk : DiskBytes) (b : ℕ) → b < 1 → slice_index (disk 100 0 ∷ []) b ≡ (moment_of first (run14 disk)).machine.memory (frame 101) (0 + b)
-loaded disk b lt = let z : b ≡ 0 = omega arith in subst (λ k. slice_index (disk 100 0 ∷ []) k ≡ (moment_of first (run14 disk)).machine.memory (frame 101) (0 + k)) (sym z) refl
+loaded : (disk : DiskBytes) (b : ℕ) → b < 1 → slice_index (disk 100 0 ∷ []) b ≡ (abstract_after_all first (run14 disk)).machine.memory (frame 101) (0 + b)
+loaded disk b lt = let z : b ≡ 0 = omega arith in subst (λ k. slice_index (disk 100 0 ∷ []) k ≡ (abstract_after_all first (run14 disk)).machine.memory (frame 101) (0 + k)) (sym z) refl
 
-happens15 : (disk : DiskBytes) → Happens (moment_of first (run14 disk)) (event15 disk)
+happens15 : (disk : DiskBytes) → Happens (abstract_after_all first (run14 disk)) (event15 disk)
 happens15 disk = record {
-  may = (tt, (is_open (moment_of first (run14 disk)).machine 101 0 1 refl refl (omega arith), loaded disk));
+  may = (tt, (is_open (abstract_after_all first (run14 disk)).machine 101 0 1 refl refl (omega arith), loaded disk));
   belong = (tt, inr (refl, refl, refl, refl));
   last = (tt, λ id h i. false≢true i);
   lawful = tt;
   fit = ports_fit Ready refl;
   disks = λ e o h i same. (refl, refl);
-  answered = (λ p. (refl, refl, refl, refl, refl, refl), is_open (moment_of first (run14 disk)).machine 101 0 1 refl refl (omega arith), refl);
+  answered = (λ p. (refl, refl, refl, refl, refl, refl), is_open (abstract_after_all first (run14 disk)).machine 101 0 1 refl refl (omega arith), refl);
 }
 
 runs10 : IsRun first run10
 runs10 = (((((((((((empty_starts, ports_fit Ready refl), happens1), happens2), happens3), happens4), happens5), happens6), happens7), happens8), happens9), happens10)
 
 -- What the sector held since the flush was ended: the bytes of the one write or of the other.
-since_flush : (block : Block) → HasHeld (moment_of first run10).machine port 100 block → SameBytes block (write.held 0) ⊎ SameBytes block (later.held 0)
+since_flush : (block : Block) → HasHeld (abstract_after_all first run10).machine port 100 block → SameBytes block (write.held 0) ⊎ SameBytes block (later.held 0)
 since_flush block (inl p) = inr p
 since_flush block (inr (old, here, same)) = ⊎_elim
     (λ (p : old ≡ flushed_disk 100). inl (λ b lt. same b lt ∙ ap (λ (x : Block). x b) p))
@@ -379,14 +379,14 @@ finds disk back = record {
   single = refl;
   answered = contains_there (Load client (frame 101) 0 (disk 100 0 ∷ [])) (read_served disk ++ (event13 disk).steps) (Answer (done (read disk)) outcome.Ok)
       (contains_here (Answer (done (read disk)) outcome.Ok) (End (touch 0 (newly_issued (newly_accepted (read disk)))) ∷ Touch (newly_issued (newly_accepted (read disk))) 0 (disk 100) ∷ (event13 disk).steps) (Answer (done (read disk)) outcome.Ok) refl);
-  memory = (moment_of first (run15 disk)).machine.memory;
+  memory = (abstract_after_all first (run15 disk)).machine.memory;
   at_last = refl;
   found = ⊎_elim (λ p. inl (has (write.held 0) p)) (λ p. inr (has (later.held 0) p)) (since_flush (disk 100) (back refl 100 (omega arith)));
 }
   where
-    has : (block : Block) → SameBytes (disk 100) block → SameBytes (block_of (moment_of first (run15 disk)).machine.memory (frame 101 ∷ []) 0) block
+    has : (block : Block) → SameBytes (disk 100) block → SameBytes (block_of (abstract_after_all first (run15 disk)).machine.memory (frame 101 ∷ []) 0) block
     has block same b lt = let all : (0 + b) - 0 ≡ b = omega arith in
-        cond-true (nat_le 0 (0 + b) && nat_lt (0 + b) 512) (disk 100 ((0 + b) - 0)) ((moment_of first (run12 disk)).machine.memory (frame 101) (0 + b))
+        cond-true (nat_le 0 (0 + b) && nat_lt (0 + b) 512) (disk 100 ((0 + b) - 0)) ((abstract_after_all first (run12 disk)).machine.memory (frame 101) (0 + b))
         (and_from _ _ (le-leb 0 (0 + b) (omega arith)) (lt-ltb (0 + b) 512 (omega (arith, lt)))) ∙ ap (disk 100) all ∙ same b lt
 
 pub finds_the_flushed : FindsTheFlushed
@@ -412,13 +412,13 @@ finds_the_flushed = record {
   serves = refl;
   notices = refl;
   finds = finds;
-  kept = ((moment_of first run8).machine.disks port, (λ _ k lt. inl (λ b lb. refl)), λ b lb. refl);
+  kept = ((abstract_after_all first run8).machine.disks port, (λ _ k lt. inl (λ b lb. refl)), λ b lb. refl);
   lost = (flushed_disk, (λ _ k lt. lost k (k == 100) refl), λ b lb. refl);
 }
   where
     -- the sector that was written since is put aside, and any other is as it was
-    lost : (k : ℕ) (b : Bool) → (k == 100) ≡ b → HasHeld (moment_of first run10).machine port k (flushed_disk k)
-    lost k true at = inr (flushed_disk k, subst (λ (n : ℕ). Contains ((moment_of first run10).machine.aside port n) (flushed_disk n)) (sym (eqb-true k 100 at)) (contains_here (flushed_disk 100) [] (flushed_disk 100) refl), λ b lb. refl)
+    lost : (k : ℕ) (b : Bool) → (k == 100) ≡ b → HasHeld (abstract_after_all first run10).machine port k (flushed_disk k)
+    lost k true at = inr (flushed_disk k, subst (λ (n : ℕ). Contains ((abstract_after_all first run10).machine.aside port n) (flushed_disk n)) (sym (eqb-true k 100 at)) (contains_here (flushed_disk 100) [] (flushed_disk 100) refl), λ b lb. refl)
     lost k false away = inl (λ b lb. sym (ap (λ (x : Block). x b) (cond-false (k == 100) (later.held 0) (flushed_disk k) away)))
 
     differ : ◌≡◌ {A = ℕ} 91 90 → ⊥

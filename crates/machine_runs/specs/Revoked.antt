@@ -7,8 +7,8 @@ use Rattle.ata_types.specs.declared.request.Outcome.TheVariants.{Ok, Revoked}
 use Rattle.block_machine.specs.Rules.{IsUnder}
 use Rattle.block_machine.specs.State.{Pending}
 use Rattle.block_machine.specs.Steps.{Answer, HasGrant}
-use Rattle.block_machine.specs.Left.{AllTold}
-use Rattle.block_machine.specs.Events.{AbstractState, CallRecord, RevokeOf, Service, Served, WasRevoked, IsRun, reply_of, steps_of, moment_of}
+use Rattle.block_machine.specs.Left.{AllTellSectors}
+use Rattle.block_machine.specs.Events.{AbstractState, CallRecord, RevokeOf, Service, Served, WasRevoked, IsRun, reply_of, steps_of, abstract_after_all}
 
 -- In a run of calls two requests of one grant are unanswered at once: one is issued, and the other waits for it. Then
 -- the client's grant is revoked: the one that waits is answered Revoked, and the row is gone. The issued one stays,
@@ -19,7 +19,7 @@ pub record IsTakenBack : Type 0 where
   pub first : AbstractState
   pub run : List (CallRecord (Unit {0}))
   pub runs : IsRun first run
-  pub told : AllTold first.machine (steps_of run)
+  pub told : AllTellSectors first.machine (steps_of run)
   -- the run's events: these before the grant is revoked, and one after it
   pub early : List (CallRecord (Unit {0}))
   pub call : CallRecord (Unit {0})
@@ -30,14 +30,14 @@ pub record IsTakenBack : Type 0 where
   pub takes : call.ask ≡ RevokeOf client number
   pub issued : Pending
   pub waits : Pending
-  pub both : (moment_of first early).machine.book ≡ issued ∷ waits ∷ []
+  pub both : (abstract_after_all first early).machine.book ≡ issued ∷ waits ∷ []
   pub under : IsUnder client number issued.request.asked.client issued.request.asked.grant
       × IsUnder client number waits.request.asked.client waits.request.asked.grant
   pub is_issued : issued.issued ≡ true
   pub is_waiting : waits.issued ≡ false
   pub replies : call.said ≡ WasRevoked (Some (reply_of (waits, Revoked) ∷ []))
-  pub stays : (moment_of first (call ∷ early)).machine.book ≡ issued ∷ []
-  pub gone : HasGrant (moment_of first (call ∷ early)).machine issued → ⊥
+  pub stays : (abstract_after_all first (call ∷ early)).machine.book ≡ issued ∷ []
+  pub gone : HasGrant (abstract_after_all first (call ∷ early)).machine issued → ⊥
   pub serves : service.ask ≡ Service
   pub done : Pending
   pub its : done.request ≡ issued.request
@@ -45,13 +45,13 @@ pub record IsTakenBack : Type 0 where
   -- or else the port fails first
   pub failing : CallRecord (Unit {0})
   pub runs_too : IsRun first (failing ∷ call ∷ early)
-  pub told_too : AllTold first.machine (steps_of (failing ∷ call ∷ early))
+  pub told_too : AllTellSectors first.machine (steps_of (failing ∷ call ∷ early))
   pub serves_too : failing.ask ≡ Service
   pub fails : Contains failing.evidence.failed issued.request.port
   pub ready : failing.ports.state issued.request.port ≡ Ready
   pub once : issued.issues ≡ 1
   pub tells : failing.said ≡ Served (reply_of (issued, Revoked) ∷ [])
-  pub none_left : (moment_of first (failing ∷ call ∷ early)).machine.book ≡ []
+  pub none_left : (abstract_after_all first (failing ∷ call ∷ early)).machine.book ≡ []
   pub frame : Frame
   pub its_frame : issued.request.asked.frames.items ≡ frame ∷ []
-  pub freed : (moment_of first (failing ∷ call ∷ early)).machine.lent frame ≡ None
+  pub freed : (abstract_after_all first (failing ∷ call ∷ early)).machine.lent frame ≡ None

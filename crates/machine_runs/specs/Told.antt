@@ -5,9 +5,9 @@ use Rattle.ata_types.specs.declared.request.Op.TheVariants.{Read}
 use Rattle.ata_types.specs.declared.request.Outcome.TheVariants as outcome
 use Rattle.block_machine.specs.State.{Accepted, Pending, Machine, sector_of}
 use Rattle.block_machine.specs.Steps.{Step, Again, Answer}
-use Rattle.block_machine.specs.Left.{HasTouchedSince, HasEndedSince, HoldsLeft}
+use Rattle.block_machine.specs.Left.{HasTouchedSinceIssue, HasEndedSinceIssue, HoldsLeft}
 use Rattle.block_machine.specs.Confined.{WasAccepted}
-use Rattle.block_machine.specs.Events.{CallRecord, AbstractState, Submit, Submitted, IsIssuedIn, issues_it, moment_of, steps_of}
+use Rattle.block_machine.specs.Events.{CallRecord, AbstractState, Submit, Submitted, IsIssuedIn, issues_it, abstract_after_all, steps_of}
 
 -- the call is a submit that asked for the request, and was told its id
 abbrev pub AsksFor : {D : Type 0} → Accepted → CallRecord D → Type 0
@@ -28,8 +28,8 @@ waits_again id _ = false
 pub record WasServed (start : Machine) (steps : List Step) (r : Accepted) : Type 0 where
   pub accepted : WasAccepted start steps r
   pub issued : 1 ≤ count_by (issues_it r.id) steps
-  pub touched : (i : ℕ) → i < r.asked.count → HasTouchedSince r (sector_of r i) steps
-  pub ended : HasEndedSince r steps
+  pub touched : (i : ℕ) → i < r.asked.count → HasTouchedSinceIssue r (sector_of r i) steps
+  pub ended : HasEndedSinceIssue r steps
 
 -- A call of a run answers the request Ok, which is as far as this then. Before that it was served; and a read has, at
 -- the call's end, what is left.
@@ -40,7 +40,8 @@ pub record CallAnswersOk {D : Type 0} (first : AbstractState) (past : List (Call
   pub answered : event.steps ≡ late ++ Answer e outcome.Ok ∷ early
   pub served : WasServed first.machine (early ++ steps_of past) e.request
   pub holds : e.request.asked.op ≡ Read
-      → HoldsLeft first.machine (early ++ steps_of past) (moment_of first (event ∷ past)).machine.memory e.request
+      → HoldsLeft first.machine (early ++ steps_of past) (abstract_after_all first
+      (event ∷ past)).machine.memory e.request
 
 -- An unanswered request was there before these steps; and where it is issued, it was issued then, or these steps issue
 -- it.

@@ -15,9 +15,9 @@ ghost use Rattle.ata_types.specs.declared.grant.GrantRow.{GrantRow};
 ghost use Rattle.block_machine.specs.Due.{must_keep_order};
 ghost use Rattle.block_machine.specs.State.{Block, Accepted, Pending, Machine, sector_of, waiting};
 ghost use Rattle.block_machine.specs.Steps.{Step, Answer, HasGrant, after_step, IsLiving, MayStillMove};
-ghost use Rattle.block_machine.specs.Left.{IsStart, IsLegal, HasTouched, HasTouchedSince, HasEndedSince, IsLeft, after, bytes_when_plugged, disk_read};
+ghost use Rattle.block_machine.specs.Left.{IsInitial, IsLegal, HasTouched, HasTouchedSinceIssue, HasEndedSinceIssue, IsLeft, after, bytes_when_plugged, disk_number_read};
 ghost use Rattle.block_machine.specs.Confined.{GrantsNoWrites, WasAccepted, MayChangeByte, MayChangeSector};
-ghost use Rattle.block_machine.specs.Events.{AbstractState, CallRecord, AllIssued, Happens, EveryReadHolds, IsLawful, IsRun, IsStillStuck, accepts_it, answers_it, issues_it, gives_id, replies_of, all_replies, WasGiven, moment_of, steps_of};
+ghost use Rattle.block_machine.specs.Events.{AbstractState, CallRecord, AllIssued, Happens, EveryReadHolds, IsLawful, IsRun, IsStillStuck, accepts_it, answers_it, issues_it, gives_id, replies_of, all_replies, WasGiven, abstract_after_all, steps_of};
 ghost use Rattle.machine_runs.specs.Told.{AsksFor, CameFrom, CallAnswersOk, WasAsked, waits_again};
 ghost use Rattle.machine_runs.specs.Revoked.{IsTakenBack};
 ghost use Rattle.machine_runs.specs.Worked.{FindsTheFlushed, WaitsItsTurn, EndsWithAReset, MeetsTrouble, EndsAtATick, IsTakenOutBeforeATick, GoesAgainInResets, DiesInAService, GoesWrong};
@@ -26,17 +26,17 @@ ghost use Rattle.machine_runs.specs.Worked.{FindsTheFlushed, WaitsItsTurn, EndsW
 /// there held when it was put in.
 pub fn law_unwritten_disks_are_left()
     ensures { (start : Machine) (history : List Step) (read : Accepted) (sector : ℕ) (block : Block)
-        → IsStart start → IsLegal start history
+        → IsInitial start → IsLegal start history
         → ((row : GrantRow) → Contains start.rows row → GrantsNoWrites row)
         → IsLeft start history read sector block
-        → block ≡ bytes_when_plugged start read.port (disk_read read sector history) history sector }
+        → block ≡ bytes_when_plugged start read.port (disk_number_read read sector history) history sector }
 {}
 
 /// What is left on a sector is one block.
 pub fn law_left_is_one()
     ensures { (start : Machine) (history : List Step) (read : Accepted) (sector : ℕ)
         (one other : Block)
-        → IsStart start → IsLegal start history → IsLeft start history read sector one
+        → IsInitial start → IsLegal start history → IsLeft start history read sector one
         → IsLeft start history read sector other → one ≡ other }
 {}
 
@@ -45,7 +45,7 @@ pub fn law_left_is_one()
 pub fn law_left_stays()
     ensures { (start : Machine) (history : List Step) (step : Step) (read : Accepted)
         (sector disk : ℕ) (block : Block)
-        → IsStart start → IsLegal start (step ∷ history) → HasTouched read sector disk history
+        → IsInitial start → IsLegal start (step ∷ history) → HasTouched read sector disk history
         → ((e : Pending) → IsLiving (after start history) e → e.request.id ≢ read.id)
         → IsLeft start history read sector block → IsLeft start (step ∷ history) read sector block }
 {}
@@ -60,7 +60,7 @@ pub fn law_ok_was_touched<D>()
     ensures { (first : AbstractState) (run : List (CallRecord D)) (late early : List Step) (e : Pending)
         → IsRun first run → steps_of run ≡ late ++ Answer e Ok ∷ early
         → (i : ℕ) → i < e.request.asked.count
-        → HasTouchedSince e.request (sector_of e.request i) early }
+        → HasTouchedSinceIssue e.request (sector_of e.request i) early }
 {}
 
 /// Over every run an id is accepted once at most.
@@ -119,8 +119,8 @@ pub fn law_replied_was_asked<D>()
 /// before; or that call is the submit which asked for it.
 pub fn law_unanswered_came_from<D>()
     ensures { (first : AbstractState) (past : List (CallRecord D)) (event : CallRecord D) (e : Pending)
-        → IsRun first (event ∷ past) → Contains (moment_of first (event ∷ past)).machine.book e
-        → CameFrom (moment_of first past).machine event.steps e
+        → IsRun first (event ∷ past) → Contains (abstract_after_all first (event ∷ past)).machine.book e
+        → CameFrom (abstract_after_all first past).machine event.steps e
         ⊎ AsksFor e.request event }
 {}
 
@@ -135,9 +135,10 @@ pub fn law_ok_was_served<D>()
 /// At each moment of a run the only unanswered request is issued, where its port is ready.
 pub fn law_a_lone_request_is_issued<D>()
     ensures { (first : AbstractState) (run : List (CallRecord D)) (e : Pending) → IsRun first run
-        → Contains (moment_of first run).machine.book e
-        → (moment_of first run).ports.state e.request.port ≡ Ready
-        → ((other : Pending) → Contains (moment_of first run).machine.book other → other.request.id ≡ e.request.id)
+        → Contains (abstract_after_all first run).machine.book e
+        → (abstract_after_all first run).ports.state e.request.port ≡ Ready
+        → ((other : Pending) → Contains (abstract_after_all first run).machine.book other → other.request.id
+        ≡ e.request.id)
         → e.issued ≡ true }
 {}
 
@@ -146,7 +147,7 @@ pub fn law_answers_are_lawful<D>()
     ensures { (first : AbstractState) (past : List (CallRecord D)) (event : CallRecord D) (e : Pending)
         (outcome : Outcome)
         → IsRun first (event ∷ past) → Contains event.steps (Answer e outcome)
-        → IsLawful (moment_of first past) event.evidence event.ports e outcome }
+        → IsLawful (abstract_after_all first past) event.evidence event.ports e outcome }
 {}
 
 /// A port that is dead after a call was dead when it began, or its engine or the adapter got stuck in it. So this
@@ -170,13 +171,13 @@ pub fn law_issued_four_times<D>()
 pub fn law_ok_was_ended<D>()
     ensures { (first : AbstractState) (run : List (CallRecord D)) (late early : List Step) (e : Pending)
         → IsRun first run → steps_of run ≡ late ++ Answer e Ok ∷ early
-        → HasEndedSince e.request early }
+        → HasEndedSinceIssue e.request early }
 {}
 
 /// After every history an unanswered request was issued as often as it says: where it is issued, once more than it was
 /// made to wait again, and else as often.
 pub fn law_issues_are_counted()
-    ensures { (start : Machine) (history : List Step) (e : Pending) → IsStart start → IsLegal start history
+    ensures { (start : Machine) (history : List Step) (e : Pending) → IsInitial start → IsLegal start history
         → Contains (after start history).book e
         → (count_by (issues_it e.request.id) history ≡ e.issues)
         × (count_by (issues_it e.request.id) history ≡ count_by (waits_again e.request.id) history + cond e.issued 1
@@ -192,44 +193,44 @@ pub fn law_issued_once_a_call<D>()
 /// At each moment of a run no request of a ready port is due: calls that issue leave none, and no other makes one due.
 pub fn law_none_due_between<D>()
     ensures { (first : AbstractState) (run : List (CallRecord D)) → IsRun first run
-        → AllIssued (moment_of first run) }
+        → AllIssued (abstract_after_all first run) }
 {}
 
 /// At each moment of a run the age of an issued request is two at most: the tick that would bring it to three restarts
 /// its port.
 pub fn law_ages_are_bounded<D>()
     ensures { (first : AbstractState) (run : List (CallRecord D)) (e : Pending) → IsRun first run
-        → Contains (moment_of first run).machine.book e → e.issued ≡ true → e.age ≤ 2 }
+        → Contains (abstract_after_all first run).machine.book e → e.issued ≡ true → e.age ≤ 2 }
 {}
 
 /// At each moment of a run an unanswered request is on a port that is ready, or on one that is dead since a reset that
 /// was stuck.
 pub fn law_unanswered_where_ready<D>()
     ensures { (first : AbstractState) (run : List (CallRecord D)) (e : Pending) → IsRun first run
-        → Contains (moment_of first run).machine.book e
-        → ((moment_of first run).ports.state e.request.port ≡ Ready)
-        ⊎ (((moment_of first run).ports.state e.request.port ≡ Dead) × IsStillStuck run) }
+        → Contains (abstract_after_all first run).machine.book e
+        → ((abstract_after_all first run).ports.state e.request.port ≡ Ready)
+        ⊎ (((abstract_after_all first run).ports.state e.request.port ≡ Dead) × IsStillStuck run) }
 {}
 
 /// At each moment of a run the sectors of an unanswered request are sectors that its port's disk showed to have.
 pub fn law_unanswered_on_disk<D>()
     ensures { (first : AbstractState) (run : List (CallRecord D)) (e : Pending) → IsRun first run
-        → Contains (moment_of first run).machine.book e → e.request.asked.op ≢ Flush
+        → Contains (abstract_after_all first run).machine.book e → e.request.asked.op ≢ Flush
         → e.request.asked.first.0 + e.request.asked.count
-        ≤ (moment_of first run).ports.sectors e.request.port }
+        ≤ (abstract_after_all first run).ports.sectors e.request.port }
 {}
 
 /// At each moment of a run a kept request is on a dead port: so nothing that is due waits for kept requests.
 pub fn law_kept_where_dead<D>()
     ensures { (first : AbstractState) (run : List (CallRecord D)) (e : Pending) → IsRun first run
-        → Contains (moment_of first run).machine.kept e
-        → (moment_of first run).ports.state e.request.port ≡ Dead }
+        → Contains (abstract_after_all first run).machine.kept e
+        → (abstract_after_all first run).ports.state e.request.port ≡ Dead }
 {}
 
 /// A byte of a client's frame changes by a touch of a read that the frame is lent to, or by its owner's store.
 pub fn law_bytes_change_by()
     ensures { (start : Machine) (history : List Step) (step : Step) (frame : Frame) (place : ℕ)
-        → IsStart start → IsLegal start (step ∷ history)
+        → IsInitial start → IsLegal start (step ∷ history)
         → (after start (step ∷ history)).memory frame place ≢ (after start history).memory frame place
         → MayChangeByte (after start history) step frame place }
 {}
@@ -245,7 +246,8 @@ pub fn law_sectors_change_by()
 /// so the device writes no sector for a request while an earlier trim of the sector may clear it, and clears none that
 /// a write accepted after the trim has written.
 pub fn law_conflicting_requests_take_turns()
-    ensures { (start : Machine) (history : List Step) (earlier later : Pending) → IsStart start → IsLegal start history
+    ensures { (start : Machine) (history : List Step) (earlier later : Pending) → IsInitial start
+        → IsLegal start history
         → IsLiving (after start history) earlier → MayStillMove (after start history) later
         → earlier.request.id.0 < later.request.id.0
         → must_keep_order (waiting earlier.request) (waiting later.request) ≡ true
@@ -254,7 +256,7 @@ pub fn law_conflicting_requests_take_turns()
 
 /// A machine to begin with exists.
 pub fn law_a_start_exists()
-    ensures { (m : Machine) × IsStart m }
+    ensures { (m : Machine) × IsInitial m }
 {}
 
 /// A run exists in which a read finds a flushed write or a later one, whichever the disk kept while it was out: so the
@@ -271,8 +273,8 @@ pub fn law_a_waiting_run_exists()
 /// Between any two calls of a run a request that waits has its grant: it is never due and yet not to be issued.
 pub fn law_what_waits_has_its_grant<D>()
     ensures { (first : AbstractState) (run : List (CallRecord D)) (e : Pending) → IsRun first run
-        → Contains (moment_of first run).machine.book e → e.issued ≡ false
-        → HasGrant (moment_of first run).machine e }
+        → Contains (abstract_after_all first run).machine.book e → e.issued ≡ false
+        → HasGrant (abstract_after_all first run).machine e }
 {}
 
 /// A run exists in which a grant is revoked while a request of it is issued and another waits: this one is answered

@@ -3,7 +3,7 @@ use Rattle.std.proofs.Common.{ℕ, ◌≡◌, ◌≢◌, Option, List, inl, inr,
 use Rattle.ata_types.specs.declared.Port.{Port}
 use Rattle.ata_types.specs.declared.PortState.{PortState}
 use Rattle.ata_types.specs.declared.PortState.TheVariants.{Absent, Ready, Foreign, Unfit, Dead}
-use Rattle.ata_types.specs.declared.limits.TheConstants.{READINGS}
+use Rattle.ata_types.specs.declared.limits.TheConstants.{MOST_READINGS}
 use Rattle.adapter.specs.Access.{Access}
 use Rattle.adapter.specs.Device.{Notes, Device}
 use Rattle.adapter.specs.Device as device
@@ -59,7 +59,7 @@ module _ (port : ℕ) (old new : Device) (l : LeavesPort (old.port port) (new.po
   unfit_on silent n (inl (is, shown)) = inl (is, noted_on (old.port port) (new.port port) l (λ k. BacksFault PortFault.Busy k) shown)
   unfit_on silent n (inr (inl (is, shown))) = inr (inl (is, noted_on (old.port port) (new.port port) l (λ k. (signature : ℕ) × BacksFault (PortFault.NotAta signature) k) shown))
   unfit_on silent n (inr (inr (inl (is, saw, count)))) =
-      inr (inr (inl (is, noted_on (old.port port) (new.port port) l SawDevice saw, noted_on (old.port port) (new.port port) l (λ k. k.command_count ≡ READINGS) count)))
+      inr (inr (inl (is, noted_on (old.port port) (new.port port) l SawDevice saw, noted_on (old.port port) (new.port port) l (λ k. k.command_count ≡ MOST_READINGS) count)))
   unfit_on silent n (inr (inr (inr (page, has, fault)))) = inr (inr (inr (page, page_stays silent page has, fault)))
 
   -- the page is not asked about where the port is dead

@@ -5,7 +5,7 @@ use Rattle.ata_types.specs.declared.Port.{Port}
 use Rattle.ata_types.specs.declared.PortState.{PortState}
 use Rattle.ata_types.specs.declared.PortState.TheVariants.{Absent, Ready, Foreign, Unfit, Dead}
 use Rattle.ata_types.specs.declared.memory.TheConstants.{DRIVER_BYTES}
-use Rattle.ata_types.specs.declared.limits.TheConstants.{READINGS}
+use Rattle.ata_types.specs.declared.limits.TheConstants.{MOST_READINGS}
 use Rattle.hba_regs.specs.declared.reg.PortReg.{PortReg}
 use Rattle.hba_regs.specs.declared.reg.PortReg.TheVariants.{Ie}
 use Rattle.hba_regs.specs.declared.reg.Reg.TheVariants.{Px}
@@ -80,7 +80,7 @@ Judges wanted _ page = ⊥
 abbrev pub IsUnfit : ℕ → ℕ → Device → Type 0
 IsUnfit n port d = ((n ≡ 7) × BacksFault Busy (d.port port).notes)
     ⊎ ((n ≡ 8) × ((signature : ℕ) × BacksFault (NotAta signature) (d.port port).notes))
-    ⊎ ((n ≡ 9) × SawDevice (d.port port).notes × ((d.port port).notes.command_count ≡ READINGS))
+    ⊎ ((n ≡ 9) × SawDevice (d.port port).notes × ((d.port port).notes.command_count ≡ MOST_READINGS))
     ⊎ ((page : List ℕ) × HasPage port d page × ((fault : Fault) × IsFirstUnfit page fault × (n ≡ unfit_number fault)))
 
 -- the state that tells of a fault

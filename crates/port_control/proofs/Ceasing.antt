@@ -2,7 +2,7 @@
 use Rattle.std.proofs.Common.{ℕ, ◌≡◌, ◌≢◌, ◌+◌, ◌<◌, ◌≤◌, ◌&&◌, ◌||◌, not, Bool, true, false, List, [], ◌∷◌, ◌++◌, refl, sym, ◌∙◌, ap, subst, arith, lit<}
 use Rattle.std.proofs.lemmas.Bool.{true≢false}
 use Rattle.ata_types.specs.declared.Port.{Port}
-use Rattle.ata_types.specs.declared.limits.TheConstants.{READINGS}
+use Rattle.ata_types.specs.declared.limits.TheConstants.{MOST_READINGS}
 use Rattle.hba_regs.specs.Bits.{bit}
 use Rattle.hba_regs.specs.declared.reg.PortReg.TheVariants.{Cmd, Sact}
 use Rattle.hba_regs.specs.declared.reg.Reg.TheVariants.{Px}
@@ -34,7 +34,7 @@ pub record IsFalling (port : Port) (start : Device) (n : ℕ) (d : Device) : Typ
   pub usable : IsUsable AnyUse port d
   pub has : HasStopped (start.port port.0) (d.port port.0)
   pub low : n ≤ (d.port port.0).notes.engine_count
-  pub high : 0 < n → (d.port port.0).notes.engine_count ≤ READINGS
+  pub high : 0 < n → (d.port port.0).notes.engine_count ≤ MOST_READINGS
 
 -- the port is stopped still, FRE is 0, and all else is as it was
 pub record HasEmptied (port : Port) (start d : Device) : Type 0 where
@@ -49,10 +49,10 @@ pub record IsEmptying (port : Port) (start : Device) (n : ℕ) (d : Device) : Ty
   pub told : IsSimulatedAlong (Awaits 4 14 port n) (IsControl WritesCommand port) AnyUse start d
   pub has : HasEmptied port start d
   pub low : n ≤ (d.port port.0).notes.engine_count
-  pub high : 0 < n → (d.port port.0).notes.engine_count ≤ READINGS
+  pub high : 0 < n → (d.port port.0).notes.engine_count ≤ MOST_READINGS
 
 -- one more reading that the wait goes on for
-pub counted_again : (again : Bool) (n count : ℕ) → again ≡ true → n ≤ count → n < READINGS → (n + 1 ≤ counted again count) × (counted again count ≤ READINGS)
+pub counted_again : (again : Bool) (n count : ℕ) → again ≡ true → n ≤ count → n < MOST_READINGS → (n + 1 ≤ counted again count) × (counted again count ≤ MOST_READINGS)
 counted_again again n count on low small = rw on (omega arith, omega arith)
 
 or_true : (a b : Bool) → b ≡ true → a || b ≡ true
@@ -97,8 +97,8 @@ module _ (laws : Laws) where
       told_falls zero = with_reading (Falls start running port) (λ early late a is. awaits_falls start running port n v early late a is zero)
 
     -- after all of them
-    pub told_awaits : (n : ℕ) → n ≡ READINGS → (old new : Device) → IsSimulatedAlong (Awaits start running port n) (IsControl WritesCommand port) AnyUse old new →
-        IsSimulatedAlong (Awaits start running port READINGS) (IsControl WritesCommand port) AnyUse old new
+    pub told_awaits : (n : ℕ) → n ≡ MOST_READINGS → (old new : Device) → IsSimulatedAlong (Awaits start running port n) (IsControl WritesCommand port) AnyUse old new →
+        IsSimulatedAlong (Awaits start running port MOST_READINGS) (IsControl WritesCommand port) AnyUse old new
     told_awaits n all old new a = subst (λ (k : ℕ). IsSimulatedAlong (Awaits start running port k) (IsControl WritesCommand port) AnyUse old new) all a
 
   -- PxCMD is read, and written
@@ -252,7 +252,7 @@ module _ (laws : Laws) where
     awaited : bit v 15 ≡ true → not (d.port port.0).st && bit v 15 || not (d.port port.0).fre && bit v 14 ≡ true
     awaited set = ap (λ (st : Bool). not st && bit v 15 || not (d.port port.0).fre && bit v 14) w.has.st ∙ ap (λ (b : Bool). b || not (d.port port.0).fre && bit v 14) set
 
-    pub falls_still : n < READINGS → bit v 15 ≡ true → IsFalling port start (n + 1) e
+    pub falls_still : n < MOST_READINGS → bit v 15 ≡ true → IsFalling port start (n + 1) e
     falls_still small set =
         let count = ap (λ (k : Notes). k.engine_count) (laws.notes_read port Cmd v d e off call) in
         let one = counted_again _ n (d.port port.0).notes.engine_count (awaited set) w.low small in
@@ -289,7 +289,7 @@ module _ (laws : Laws) where
     held : bit v 14 ≡ true → not (d.port port.0).st && bit v 15 || not (d.port port.0).fre && bit v 14 ≡ true
     held set = or_true _ _ (ap (λ (fre : Bool). not fre && bit v 14) w.has.fre ∙ set)
 
-    pub empties_still : n < READINGS → bit v 14 ≡ true → IsEmptying port start (n + 1) e
+    pub empties_still : n < MOST_READINGS → bit v 14 ≡ true → IsEmptying port start (n + 1) e
     empties_still small set =
         let count = ap (λ (k : Notes). k.engine_count) (laws.notes_read port Cmd v d e quiet call) in
         let one = counted_again _ n (d.port port.0).notes.engine_count (held set) w.low small in

@@ -5,7 +5,7 @@ use Rattle.std.proofs.lemmas.Bool.Decides.{eqb_tells}
 use Rattle.std.proofs.lemmas.List.{length-append}
 use Rattle.std.proofs.lemmas.List.Elements.{All-nil, All-cons, All-append}
 use Rattle.ata_types.specs.declared.Port.{Port}
-use Rattle.ata_types.specs.declared.limits.TheConstants.{READINGS}
+use Rattle.ata_types.specs.declared.limits.TheConstants.{MOST_READINGS}
 use Rattle.hba_regs.specs.Bits.{bit}
 use Rattle.hba_regs.specs.declared.reg.PortReg.{PortReg}
 use Rattle.hba_regs.specs.declared.reg.PortReg.TheVariants.{Tfd, Sig, Ssts}
@@ -33,7 +33,7 @@ pub record IsMissing (port : Port) (start : Device) (n : ℕ) (d : Device) : Typ
   pub on : IsUsable AnyUse port start
   pub det : (d.port port.0).sctl_det ≡ 0
   pub low : n ≤ (d.port port.0).notes.link_count
-  pub high : 0 < n → (d.port port.0).notes.link_count ≤ READINGS
+  pub high : 0 < n → (d.port port.0).notes.link_count ≤ MOST_READINGS
   pub far : 0 < n → (d.port port.0).notes.last_ssts % 16 ≢ 3
   pub misses : ReadsWithout port Ssts HasLink n start d
 
@@ -48,12 +48,12 @@ pub record IsBusyStill (port : Port) (start : Device) (n : ℕ) (d : Device) : T
   pub det : (d.port port.0).sctl_det ≡ 0
   pub saw : SawDevice (d.port port.0).notes
   pub low : n ≤ (d.port port.0).notes.busy_count
-  pub high : 0 < n → (d.port port.0).notes.busy_count ≤ READINGS
+  pub high : 0 < n → (d.port port.0).notes.busy_count ≤ MOST_READINGS
   pub stays : ReadsWithout port Tfd ShowsIdle n start d
   pub awaits : Awaits (start.port port.0) → Awaits (d.port port.0)
   pub quiet : 0 < n → Awaits (start.port port.0) → bit (d.port port.0).notes.last_tfd 3 ≡ false → IsQuiet (d.port port.0)
 
-counted_far : (det n count : ℕ) → det ≢ 3 → n ≤ count → n < READINGS → (n + 1 ≤ link_counted det count) × (link_counted det count ≤ READINGS)
+counted_far : (det n count : ℕ) → det ≢ 3 → n ≤ count → n < MOST_READINGS → (n + 1 ≤ link_counted det count) × (link_counted det count ≤ MOST_READINGS)
 counted_far det n count far low small =
     elim (eqb_tells det 3) [
       | inl both ↦ absurd (far both.1)
@@ -85,7 +85,7 @@ module _ (laws : Laws) where
         number = length-append w.reads.accesses (Reading (Px port r) v ∷ []) ∙ ap (λ (k : ℕ). k + 1) w.number;
       }
 
-      pub until_shown : n < READINGS → ReadsWithout port r Shown n start d → Reads (Px port r) v d e → Shown v → ReadsUntil port r Shown start e
+      pub until_shown : n < MOST_READINGS → ReadsWithout port r Shown n start d → Reads (Px port r) v d e → Shown v → ReadsUntil port r Shown start e
       until_shown small w call is = record { count = n; few = small; waited = d; waits = w; value = v; shown = is; reads = call }
 
   module _ (port : Port) (start d e : Device) (v n : ℕ) (w : IsMissing port start n d) (call : Reads (Px port Ssts) v d e) where
@@ -113,10 +113,10 @@ module _ (laws : Laws) where
         let parts = comes_in_parts laws port.0 start d e s.grows t.grows none in
         laws.up_is_found port v d e parts.1 call three (s.coming parts.0 coming)
 
-    pub sees_device : n < READINGS → v % 16 ≡ 3 → ReadsUntil port Ssts HasLink start e
+    pub sees_device : n < MOST_READINGS → v % 16 ≡ 3 → ReadsUntil port Ssts HasLink start e
     sees_device small three = until_shown port Ssts HasLink n small w.misses call three
 
-    pub missing_still : n < READINGS → v % 16 ≢ 3 → IsMissing port start (n + 1) e
+    pub missing_still : n < MOST_READINGS → v % 16 ≢ 3 → IsMissing port start (n + 1) e
     missing_still small far =
         let one = counted_far (v % 16) n (d.port port.0).notes.link_count far w.low small in
         let count = missing_count in
@@ -144,7 +144,7 @@ module _ (laws : Laws) where
     pub idle_seen : bit v 7 || bit v 3 ≡ false → SawIdle (e.port port.0).notes
     idle_seen neither = ap (λ (k : Notes). bit k.last_tfd 7 || bit k.last_tfd 3) (laws.notes_read port Tfd v d e quiet call) ∙ neither
 
-    pub busy_waits : n < READINGS → bit v 7 || bit v 3 ≡ false → ReadsUntil port Tfd ShowsIdle start e
+    pub busy_waits : n < MOST_READINGS → bit v 7 || bit v 3 ≡ false → ReadsUntil port Tfd ShowsIdle start e
     busy_waits small neither = until_shown port Tfd ShowsIdle n small w.stays call neither
 
     -- without DRQ the link isn't due
@@ -154,7 +154,7 @@ module _ (laws : Laws) where
         let last : (e.port port.0).notes.last_tfd ≡ v = ap (λ (k : Notes). k.last_tfd) (laws.notes_read port Tfd v d e quiet call) in
         laws.law_quiet_is_found port v d e h.0 h.1 call (ap (λ (k : ℕ). bit k 3) (sym last) ∙ clear)
 
-    pub busy_still : n < READINGS → bit v 7 || bit v 3 ≡ true → IsBusyStill port start (n + 1) e
+    pub busy_still : n < MOST_READINGS → bit v 7 || bit v 3 ≡ true → IsBusyStill port start (n + 1) e
     busy_still small busy =
         let one = counted_again (bit v 7 || bit v 3) n (d.port port.0).notes.busy_count busy w.low small in
         let count =

@@ -1,7 +1,7 @@
 -- The four registers of addresses are written.
 use Rattle.std.proofs.Common.{ℕ, ◌≡◌, ◌≢◌, ◌+◌, ◌≤◌, true, inl, inr, refl, sym, ◌∙◌, ap, subst, arith}
 use Rattle.ata_types.specs.declared.Port.{Port}
-use Rattle.ata_types.specs.declared.memory.TheConstants.{DRIVER_BYTES, RECEIVED}
+use Rattle.ata_types.specs.declared.memory.TheConstants.{DRIVER_BYTES, RECEIVED_OFFSET}
 use Rattle.hba_regs.specs.declared.reg.PortReg.{PortReg}
 use Rattle.hba_regs.specs.declared.reg.PortReg.TheVariants.{Clb, Clbu, Fb, Fbu, Is, Cmd, Sctl}
 use Rattle.hba_regs.specs.declared.reg.Reg.TheVariants.{Px}
@@ -31,8 +31,8 @@ pub record IsPlacedBy (port : Port) (start d : Device) (b : Bases) : Type 0 wher
   pub same : SameBeside (start.port port.0) (d.port port.0)
 
 -- all four
-pub programmed_by : (port list : ℕ) (b : Bases) → list ≡ list_of port → (record b { clb = list; fb = list + RECEIVED; clb_set = true; clbu_set = true; fb_set = true; fbu_set = true }) ≡ programmed port
-programmed_by port list b is = ap (λ (n : ℕ). record b { clb = n; fb = n + RECEIVED; clb_set = true; clbu_set = true; fb_set = true; fbu_set = true }) is
+pub programmed_by : (port list : ℕ) (b : Bases) → list ≡ list_of port → (record b { clb = list; fb = list + RECEIVED_OFFSET; clb_set = true; clbu_set = true; fb_set = true; fbu_set = true }) ≡ programmed port
+programmed_by port list b is = ap (λ (n : ℕ). record b { clb = n; fb = n + RECEIVED_OFFSET; clb_set = true; clbu_set = true; fb_set = true; fbu_set = true }) is
 
 module _ (laws : Laws) where
   pub placed_first : (port : Port) (d : Device) → IsUsable AnyUse port d → IsAfterReset (d.port port.0) → DRIVER_BYTES ≤ d.size → IsPlacedBy port d d (d.port port.0).bases

@@ -2,7 +2,7 @@
 use Rattle.std.proofs.Common.{ℕ, ◌≡◌, false, ◌+◌, ◌<◌, ◌≤◌, ◌%◌, ◌⊎◌, length, inl, inr, refl, ◌∙◌, ap, subst, arith}
 use Rattle.std.proofs.lemmas.List.{length-append}
 use Rattle.ata_types.specs.declared.Port.{Port}
-use Rattle.ata_types.specs.declared.limits.TheConstants.{READINGS}
+use Rattle.ata_types.specs.declared.limits.TheConstants.{MOST_READINGS}
 use Rattle.hba_regs.specs.Bits.{bit}
 use Rattle.hba_regs.specs.declared.reg.PortReg.TheVariants.{Cmd, Tfd, Sig, Ssts, Sctl}
 use Rattle.hba_regs.specs.declared.reg.Reg.TheVariants.{Px}
@@ -50,7 +50,7 @@ module _ (port : Port) (Then : Device → Device → Type 0) (old mid new : Devi
 pub finds_link : (port : Port) {old seen new : Device} → ReadsUntil port Ssts HasLink old seen → ClearsErrors port seen new → FindsLink port old new
 finds_link port {old} {seen} {new} sees clears = record { seen = seen; sees = sees; clears = clears }
 
-pub finds_busy : (port : Port) {old linked new : Device} → FindsLink port old linked → ReadsWithout port Tfd ShowsIdle READINGS linked new → FindsBusy port old new
+pub finds_busy : (port : Port) {old linked new : Device} → FindsLink port old linked → ReadsWithout port Tfd ShowsIdle MOST_READINGS linked new → FindsBusy port old new
 finds_busy port {old} {linked} {new} links waits = record { linked = linked; links = links; waits = waits }
 
 pub finds_signature : (port : Port) (signature : ℕ) {old linked idle new : Device} → FindsLink port old linked → ReadsUntil port Tfd ShowsIdle linked idle →

@@ -2,7 +2,7 @@
 use Rattle.std.proofs.Common.{ℕ, ◌≡◌, ◌≢◌, ◌%◌, false, inl, inr, refl, sym, ◌∙◌, ap, nat_eq, if◌then◌else◌}
 use Rattle.std.proofs.lemmas.Bool.Decides.{eqb_tells}
 use Rattle.ata_types.specs.declared.Port.{Port}
-use Rattle.ata_types.specs.declared.limits.TheConstants.{READINGS}
+use Rattle.ata_types.specs.declared.limits.TheConstants.{MOST_READINGS}
 use Rattle.hba_regs.specs.declared.reg.PortReg.TheVariants.{Cmd, Sact, Sctl, Serr, Ssts}
 use Rattle.hba_regs.specs.declared.reg.Reg.TheVariants.{Px}
 use Rattle.adapter.specs.Access.{Reads, Writes, link_counted}
@@ -21,14 +21,14 @@ use Rattle.port_control.proofs.Stretching.{followed_then}
 use Rattle.port_control.proofs.Using.{stopped_read, stopped_write, usable_read}
 
 -- a count of 64 readings stays, whatever the next one shows
-full_stays : (shown : ℕ) → link_counted shown READINGS ≡ READINGS
+full_stays : (shown : ℕ) → link_counted shown MOST_READINGS ≡ MOST_READINGS
 full_stays shown = elim (eqb_tells shown 3) [
   | inl both ↦ rw both.0 refl
   | inr both ↦ rw both.0 refl
 ]
 
 -- and whether it is counted or not
-full_noted : (det shown : ℕ) → (if nat_eq det 0 then link_counted shown READINGS else READINGS) ≡ READINGS
+full_noted : (det shown : ℕ) → (if nat_eq det 0 then link_counted shown MOST_READINGS else MOST_READINGS) ≡ MOST_READINGS
 full_noted det shown = elim (eqb_tells det 0) [
   | inl both ↦ rw both.0 (full_stays shown)
   | inr both ↦ rw both.0 refl
@@ -55,7 +55,7 @@ module _ (laws : Laws) (port : Port) (v : ℕ) (old mid new : Device) (u : IsUsa
   pub seen_there : v % 16 ≡ 3 → (new.port port.0).ssts_det ≡ 3
   seen_there three = sym (laws.shown_after port Ssts v mid new usable.on.no_reset read) ∙ three
 
-  pub seen_none : v % 16 ≢ 3 → (old.port port.0).notes.link_count ≡ READINGS → BacksFault NoDevice (new.port port.0).notes
+  pub seen_none : v % 16 ≢ 3 → (old.port port.0).notes.link_count ≡ MOST_READINGS → BacksFault NoDevice (new.port port.0).notes
   seen_none far full =
       let noted = laws.notes_read port Ssts v mid new usable.on.no_reset read in
       let still = ((laws.access_notes port (Writing (Px port Serr) 0xffffffff) old mid serr).link tt).1 (λ (e : Px port Serr ≡ Px port Sctl). absurd (cc)) ∙ full in

@@ -2,7 +2,7 @@
 use Rattle.std.proofs.Common.{ℕ, ◌≡◌, ◌≢◌, ◌++◌, Bool, List, [], ◌∷◌, false, inl, inr, refl, sym, ◌∙◌, ap, subst, append_assoc, append-nil}
 use Rattle.std.proofs.lemmas.List.Elements.{All-weaker}
 use Rattle.ata_types.specs.declared.Port.{Port}
-use Rattle.ata_types.specs.declared.limits.TheConstants.{READINGS}
+use Rattle.ata_types.specs.declared.limits.TheConstants.{MOST_READINGS}
 use Rattle.hba_regs.specs.Bits.{bit}
 use Rattle.hba_regs.specs.declared.reg.PortReg.{PortReg}
 use Rattle.hba_regs.specs.declared.reg.PortReg.TheVariants.{Is, Cmd, Sctl, Sact}
@@ -71,7 +71,7 @@ module _ (port : ℕ) (v tape : ℕ) (p : DevicePort) (h : ReceivesFises port p)
   written_receiving r (inr (inr e)) = subst (λ (z : PortReg). ReceivesFises port (port_written z v tape p)) (sym e) (same_receiving _ refl refl refl refl refl refl refl)
 
 -- an engine that was awaited for 64 readings is stuck
-awaits_sticks : (start running : ℕ) → ((v : ℕ) → Hangs start running v → ShowsStuck v) → (port : Port) (accesses : List Access) → Awaits start running port READINGS accesses → Sticks port accesses
+awaits_sticks : (start running : ℕ) → ((v : ℕ) → Hangs start running v → ShowsStuck v) → (port : Port) (accesses : List Access) → Awaits start running port MOST_READINGS accesses → Sticks port accesses
 awaits_sticks start running shows port accesses a = record {
   before = a.before ++ Writing (Px port Cmd) a.cleared ∷ [];
   stuck = a.stuck;

@@ -1,7 +1,7 @@
 -- When the calls of this crate may be made of a port, and what they do (AHCI 1.3.1, 3.3, 6.2.2 and 10).
 use Rattle.std.specs.Prelude.{ℕ, Bool, true, false, ◌≡◌, ◌≢◌, ◌≤◌, ◌%◌, length}
 use Rattle.ata_types.specs.declared.Port.{Port}
-use Rattle.ata_types.specs.declared.limits.TheConstants.{READINGS}
+use Rattle.ata_types.specs.declared.limits.TheConstants.{MOST_READINGS}
 use Rattle.ata_types.specs.declared.memory.TheConstants.{DRIVER_BYTES}
 use Rattle.adapter.specs.Device.{Device}
 use Rattle.adapter.specs.Rules.{IsOn, HasPort}
@@ -50,7 +50,8 @@ pub record AsksForDevice (port : Port) (found : Bool) (old new : Device) : Type 
   pub stopped : IsStopped (old.port port.0) → IsStopped (new.port port.0)
   pub clear : (old.port port.0).link_due ≡ false → HasClearErrors port.0 old new
   pub there : found ≡ true → (new.port port.0).ssts_det ≡ 3
-  pub none : found ≡ false → (old.port port.0).notes.link_count ≡ READINGS → BacksFault NoDevice (new.port port.0).notes
+  pub none : found ≡ false → (old.port port.0).notes.link_count ≡ MOST_READINGS
+      → BacksFault NoDevice (new.port port.0).notes
 
 -- ---- COMRESET
 

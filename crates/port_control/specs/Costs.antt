@@ -1,10 +1,10 @@
 -- How many accesses the calls make, at most: each wait has as many readings as waits may have.
-use Rattle.ata_types.specs.declared.limits.TheConstants.{READINGS}
+use Rattle.ata_types.specs.declared.limits.TheConstants.{MOST_READINGS}
 use Rattle.std.specs.Prelude.{ℕ, ◌+◌}
 
 -- PxCMD is read and written, and read until an engine stands
 abbrev pub STOP_ACCESSES : ℕ
-STOP_ACCESSES = 2 + READINGS
+STOP_ACCESSES = 2 + MOST_READINGS
 
 -- PxCMD is read and written
 abbrev pub START_ACCESSES : ℕ
@@ -29,7 +29,7 @@ SHOW_ACCESSES = 2
 -- PxSSTS is read until it shows a device, errors are cleared, PxTFD is read until it shows an idle one, and PxSIG is
 -- read
 abbrev pub AWAIT_DEVICE_ACCESSES : ℕ
-AWAIT_DEVICE_ACCESSES = READINGS + CLEAR_ACCESSES + READINGS + 1
+AWAIT_DEVICE_ACCESSES = MOST_READINGS + CLEAR_ACCESSES + MOST_READINGS + 1
 
 -- PxSCTL is written twice, and the port is looked at
 abbrev pub COMRESET_ACCESSES : ℕ

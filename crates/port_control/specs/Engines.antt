@@ -2,7 +2,7 @@
 -- that receives FISes (FRE and FR; AHCI 1.3.1, 3.3.7, 10.3.1 and 10.3.2).
 use Rattle.std.specs.Prelude.{ℕ, true, false, ◌≡◌, ◌⊎◌, ◌++◌, List, ◌∷◌, All, length}
 use Rattle.ata_types.specs.declared.Port.{Port}
-use Rattle.ata_types.specs.declared.limits.TheConstants.{READINGS}
+use Rattle.ata_types.specs.declared.limits.TheConstants.{MOST_READINGS}
 use Rattle.hba_regs.specs.Bits.{bit}
 use Rattle.hba_regs.specs.declared.reg.PortReg.TheVariants.{Cmd}
 use Rattle.hba_regs.specs.declared.reg.Reg.TheVariants.{Px}
@@ -61,11 +61,11 @@ pub record Awaits (start running : ℕ) (port : Port) (count : ℕ) (accesses : 
 
 -- ST was cleared, and then 64 readings, the last of the accesses, showed CR still
 abbrev pub FailsToStop : Port → List Access → Type 0
-FailsToStop port accesses = Awaits 0 15 port READINGS accesses
+FailsToStop port accesses = Awaits 0 15 port MOST_READINGS accesses
 
 -- FRE was cleared, and then they showed FR still
 abbrev pub FailsToStopReceiving : Port → List Access → Type 0
-FailsToStopReceiving port accesses = Awaits 4 14 port READINGS accesses
+FailsToStopReceiving port accesses = Awaits 4 14 port MOST_READINGS accesses
 
 -- 64 readings in a row showed an engine that was cleared and runs still.
 pub record Sticks (port : Port) (accesses : List Access) : Type 0 where
@@ -73,5 +73,5 @@ pub record Sticks (port : Port) (accesses : List Access) : Type 0 where
   pub stuck : List Access
   pub later : List Access
   pub here : accesses ≡ before ++ (stuck ++ later)
-  pub number : length stuck ≡ READINGS
+  pub number : length stuck ≡ MOST_READINGS
   pub all : All (ReadsCommand ShowsStuck port) stuck

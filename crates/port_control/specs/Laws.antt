@@ -12,7 +12,7 @@ use Rattle.adapter.specs.Device.{Device, DevicePort}
 use Rattle.adapter.specs.declared.tape.Entry.{Entry}
 use Rattle.refinement.specs.Slots.{Free, SlotStates}
 use Rattle.hba_regs.specs.declared.reg.Reg.TheVariants.{Ghc, Px}
-use Rattle.adapter.specs.Rules.{HasPort, IsOn, MayReceive, MayStart, MayStopReceiving, MayWrite, IsStable}
+use Rattle.adapter.specs.Rules.{HasPort, IsOn, MaySetFre, MayStart, MayStopReceiving, MayWrite, IsStable}
 use Rattle.refinement.specs.Facts.{IsAfterReset, IsAwaited, IsHalted, IsQuiet, IsRecorded, IsUnflagged, KeepsRecord}
 use Rattle.port_control.specs.Ports.{IsClearing, IsPlacing, IsResetting, WritesCommand}
 use Rattle.refinement.specs.Recovering.{IsLinked, RunsLinked}
@@ -89,7 +89,7 @@ pub record Laws : Type 0 where
   pub stopping_may : (port : Port) (was v : ℕ) (d : Device) → IsOn d → HasPort d port.0 → (d.port port.0).notes.last_cmd
       ≡ was → IsWrittenBack false (d.port port.0).fre was v → IsStable (MayWrite (Px port Cmd) v) d
   pub receiving_may : (port : Port) (was v : ℕ) (d : Device) → IsOn d → HasPort d port.0
-      → (d.port port.0).notes.last_cmd ≡ was → MayReceive (d.port port.0) → IsWrittenBack (d.port port.0).st true was v
+      → (d.port port.0).notes.last_cmd ≡ was → MaySetFre (d.port port.0) → IsWrittenBack (d.port port.0).st true was v
       → IsStable (MayWrite (Px port Cmd) v) d
   pub no_receiving_may : (port : Port) (was v : ℕ) (d : Device) → IsOn d → HasPort d port.0
       → (d.port port.0).notes.last_cmd ≡ was → MayStopReceiving (d.port port.0) → IsWrittenBack false false was v

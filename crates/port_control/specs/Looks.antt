@@ -11,14 +11,14 @@ use Rattle.adapter.specs.Access.Access.{Reading, Writing}
 use Rattle.adapter.specs.Device.{Device}
 use Rattle.refinement.specs.Driven.{IsBitOf}
 use Rattle.port_control.specs.declared.events.PortEvent.{PortEvent}
-use Rattle.port_control.specs.declared.events.PortEvent.TheVariants.{LinkChanged, BusError, TaskFileError, NoEvent}
+use Rattle.port_control.specs.declared.events.PortEvent.TheVariants.{LinkChanged, FatalError, TaskFileError, NoEvent}
 
 -- What PxIS and PxSSTS tell, first things first: the device went or came, or isn't there (PCS, PRCS, or DET other than
 -- 3); an error that the driver ends with a boot (HBDS, HBFS or IFS); a command that failed (TFES); or none of these.
 abbrev pub look_of : ℕ → ℕ → PortEvent
 look_of causes status =
     if bit causes 6 || bit causes 22 || not (status % 16 == 3) then LinkChanged
-    else (if bit causes 28 || bit causes 29 || bit causes 27 then BusError
+    else (if bit causes 28 || bit causes 29 || bit causes 27 then FatalError
     else (if bit causes 30 then TaskFileError else NoEvent))
 
 -- It reads PxIS or PxSSTS, or it writes PxIS, or IS with the port's bit alone.

@@ -2,7 +2,7 @@
 -- 10).
 use Rattle.std.specs.Prelude.{ℕ, true, false, ◌≡◌, ◌≢◌, ◌<◌, ◌≤◌, ◌⊎◌, ◌%◌, ◌||◌, length, None}
 use Rattle.ata_types.specs.declared.Port.{Port}
-use Rattle.ata_types.specs.declared.limits.TheConstants.{READINGS}
+use Rattle.ata_types.specs.declared.limits.TheConstants.{MOST_READINGS}
 use Rattle.hba_regs.specs.Bits.{bit}
 use Rattle.hba_regs.specs.declared.reg.PortReg.{PortReg}
 use Rattle.hba_regs.specs.declared.reg.PortReg.TheVariants.{Clb, Clbu, Fb, Fbu, Is, Cmd, Tfd, Sig, Ssts, Sctl, Serr}
@@ -86,7 +86,7 @@ ShowsIdle v = bit v 7 || bit v 3 ≡ false
 
 -- a device with a link, since SCTL was written
 abbrev pub SawDevice : Notes → Type 0
-SawDevice n = (n.last_ssts % 16 ≡ 3) × (n.link_count ≡ READINGS)
+SawDevice n = (n.last_ssts % 16 ≡ 3) × (n.link_count ≡ MOST_READINGS)
 
 -- neither BSY nor DRQ
 abbrev pub SawIdle : Notes → Type 0
@@ -95,9 +95,9 @@ SawIdle n = ShowsIdle n.last_tfd
 -- What stands behind a fault: the count of the awaited readings is 64; or the signature was another than an ATA
 -- disk's.
 abbrev pub BacksFault : PortFault → Notes → Type 0
-BacksFault NoDevice n = (n.last_ssts % 16 ≢ 3) × (n.link_count ≡ READINGS)
-BacksFault Busy n = SawDevice n × (n.busy_count ≡ READINGS)
-BacksFault EngineStuck n = n.engine_count ≡ READINGS
+BacksFault NoDevice n = (n.last_ssts % 16 ≢ 3) × (n.link_count ≡ MOST_READINGS)
+BacksFault Busy n = SawDevice n × (n.busy_count ≡ MOST_READINGS)
+BacksFault EngineStuck n = n.engine_count ≡ MOST_READINGS
 BacksFault (NotAta signature) n = SawDevice n × ShowsIdle n.last_tfd × (n.last_sig ≡ signature) × (signature ≢ 0x101)
 
 -- ---- what the calls leave
@@ -143,7 +143,7 @@ pub record ReadsWithout (port : Port) (r : PortReg) (Shown : ℕ → Type 0) (co
 -- The register was read until its value showed this, 64 times at most.
 pub record ReadsUntil (port : Port) (r : PortReg) (Shown : ℕ → Type 0) (old new : Device) : Type 0 where
   pub count : ℕ
-  pub few : count < READINGS
+  pub few : count < MOST_READINGS
   pub waited : Device
   pub waits : ReadsWithout port r Shown count old waited
   pub value : ℕ
@@ -177,11 +177,11 @@ pub record FindsSignature (port : Port) (signature : ℕ) (old new : Device) : T
 pub record FindsBusy (port : Port) (old new : Device) : Type 0 where
   pub linked : Device
   pub links : FindsLink port old linked
-  pub waits : ReadsWithout port Tfd ShowsIdle READINGS linked new
+  pub waits : ReadsWithout port Tfd ShowsIdle MOST_READINGS linked new
 
 -- What was done after COMRESET, where a fault is told: without a device, 64 readings of PxSSTS never showed one.
 abbrev pub Looks : Port → PortFault → Device → Device → Type 0
-Looks port NoDevice old new = ReadsWithout port Ssts HasLink READINGS old new
+Looks port NoDevice old new = ReadsWithout port Ssts HasLink MOST_READINGS old new
 Looks port Busy old new = FindsBusy port old new
 Looks port (NotAta signature) old new = FindsSignature port signature old new
 Looks port EngineStuck old new = ⊥

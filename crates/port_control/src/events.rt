@@ -28,7 +28,7 @@ pub enum PortEvent {
     /// The device went or came, or it isn't there.
     LinkChanged,
     /// An error of the interface or of the host's bus (HBDS, HBFS or IFS), after which the port is booted anew.
-    BusError,
+    FatalError,
     /// A command failed.
     TaskFileError,
     /// None of these.
@@ -41,7 +41,7 @@ pub enum PortError {
     /// A command has failed: TFES of PxIS (AHCI 1.3.1, 6.2.2).
     TaskFileError,
     /// A fatal error of its interface, or of the host's bus: IFS, HBDS or HBFS of PxIS (AHCI 1.3.1, 6.2.2).
-    BusError,
+    FatalError,
     /// Its disk went, though one may be in again: PCS or PRCS of PxIS, or DET of PxSSTS other than 3.
     LinkChanged,
     /// A request of it was issued three ticks ago, and hasn't ended.
@@ -72,7 +72,7 @@ fn told(interrupts: PortInterrupts, status: SataStatus) -> PortEvent
     }
     let host = interrupts.has_host_bus_data() || interrupts.has_host_bus_fatal();
     if host || interrupts.has_interface_fatal() {
-        return PortEvent::BusError;
+        return PortEvent::FatalError;
     }
     if interrupts.has_task_file_error() {
         return PortEvent::TaskFileError;

@@ -23,7 +23,7 @@ ghost use Rattle.adapter.specs.Counted.{MakesAtMost};
 ghost use Rattle.port_control.specs.Costs.{AWAIT_DEVICE_ACCESSES, CLEAR_ACCESSES, COMRESET_ACCESSES, FORGET_ACCESSES, RECEIVE_ACCESSES, SHOW_ACCESSES, START_ACCESSES, STOP_ACCESSES};
 
 use adapter::Adapter;
-use ata_types::{DRIVER_BYTES, PORT_BYTES, Port, READINGS, RECEIVED};
+use ata_types::{DRIVER_BYTES, MOST_READINGS, PORT_BYTES, Port, RECEIVED_OFFSET};
 use hba_regs::{ATA_SIGNATURE, PortCommand, PortReg, Reg, SataControl, SataStatus, TaskFile};
 use lawful::law_base;
 
@@ -116,7 +116,7 @@ pub fn stop<A: Adapter>(adapter: &mut A, port: Port) -> Result<Stopped, PortFaul
     law_base();
     let command = PortCommand(adapter.read(Reg::Px(port, PortReg::Cmd)));
     adapter.write(Reg::Px(port, PortReg::Cmd), command.without_start().0);
-    for _reading in 0..READINGS {
+    for _reading in 0..MOST_READINGS {
         let shown = PortCommand(adapter.read(Reg::Px(port, PortReg::Cmd)));
         if !shown.list_running() {
             return Ok(Stopped { port });
@@ -144,7 +144,7 @@ fn stop_receiving<A: Adapter>(adapter: &mut A, port: Port) -> bool
     law_base();
     let command = PortCommand(adapter.read(Reg::Px(port, PortReg::Cmd)));
     adapter.write(Reg::Px(port, PortReg::Cmd), command.without_receive().0);
-    for _reading in 0..READINGS {
+    for _reading in 0..MOST_READINGS {
         let shown = PortCommand(adapter.read(Reg::Px(port, PortReg::Cmd)));
         if !shown.receive_running() {
             return true;
@@ -168,7 +168,7 @@ fn place<A: Adapter>(adapter: &mut A, port: Port)
     let list = PORT_BYTES * u32::from(port.0);
     adapter.write(Reg::Px(port, PortReg::Clb), list);
     adapter.write(Reg::Px(port, PortReg::Clbu), 0);
-    adapter.write(Reg::Px(port, PortReg::Fb), list + RECEIVED);
+    adapter.write(Reg::Px(port, PortReg::Fb), list + RECEIVED_OFFSET);
     adapter.write(Reg::Px(port, PortReg::Fbu), 0);
 }
 
@@ -188,8 +188,8 @@ fn start_receiving<A: Adapter>(adapter: &mut A, port: Port)
 }
 
 /// Has a stopped port receive FISes: clears FRE, waits until FR is 0, puts the command list at `PORT_BYTES` times the
-/// port's number and the received FIS area `RECEIVED` bytes after it, and sets FRE (AHCI 1.3.1, 10.1.2 and 10.3.2). The
-/// other bits of PxCMD are written as they were read.
+/// port's number and the received FIS area `RECEIVED_OFFSET` bytes after it, and sets FRE (AHCI 1.3.1, 10.1.2
+/// and 10.3.2). The other bits of PxCMD are written as they were read.
 ///
 /// `EngineStuck` where 64 readings find FR set: FRE is 0 then, and the addresses are as they were.
 pub fn receive<A: Adapter>(
@@ -240,14 +240,14 @@ fn wait_for_device<A: Adapter>(adapter: &mut A, port: Port) -> bool
     ensures saw { result ≡ true → SawDevice ((A.device adapter.new).port port.0).notes }
     ensures missing { result ≡ false → BacksFault PortFault.NoDevice ((A.device adapter.new).port port.0).notes }
     ensures sees { result ≡ true → ReadsUntil port Ssts HasLink (A.device adapter.old) (A.device adapter.new) }
-    ensures misses { result ≡ false → ReadsWithout port Ssts HasLink READINGS (A.device adapter.old)
+    ensures misses { result ≡ false → ReadsWithout port Ssts HasLink MOST_READINGS (A.device adapter.old)
         (A.device adapter.new) }
     ensures up { result ≡ true → NoneComes port.0 (A.device adapter.old) (A.device adapter.new)
         → IsComingUp ((A.device adapter.old).port port.0) → IsUp ((A.device adapter.new).port port.0) }
-    ensures cost { MakesAtMost READINGS (A.access_count adapter.old) (A.access_count adapter.new) }
+    ensures cost { MakesAtMost MOST_READINGS (A.access_count adapter.old) (A.access_count adapter.new) }
 {
     law_base();
-    for _reading in 0..READINGS {
+    for _reading in 0..MOST_READINGS {
         let status = SataStatus(adapter.read(Reg::Px(port, PortReg::Ssts)));
         if status.detection() == SataStatus::DEVICE_WITH_LINK {
             return true;
@@ -314,15 +314,15 @@ fn wait_until_idle<A: Adapter>(adapter: &mut A, port: Port) -> bool
     ensures idle { result ≡ true → SawIdle ((A.device adapter.new).port port.0).notes }
     ensures busy { result ≡ false → BacksFault PortFault.Busy ((A.device adapter.new).port port.0).notes }
     ensures waits { result ≡ true → ReadsUntil port Tfd ShowsIdle (A.device adapter.old) (A.device adapter.new) }
-    ensures stays { result ≡ false → ReadsWithout port Tfd ShowsIdle READINGS (A.device adapter.old)
+    ensures stays { result ≡ false → ReadsWithout port Tfd ShowsIdle MOST_READINGS (A.device adapter.old)
         (A.device adapter.new) }
     ensures quiet { IsAwaited ((A.device adapter.old).port port.0) → IsUnflagged ((A.device adapter.old).port port.0)
         → bit ((A.device adapter.new).port port.0).notes.last_tfd 3 ≡ false
         → IsQuiet ((A.device adapter.new).port port.0) }
-    ensures cost { MakesAtMost READINGS (A.access_count adapter.old) (A.access_count adapter.new) }
+    ensures cost { MakesAtMost MOST_READINGS (A.access_count adapter.old) (A.access_count adapter.new) }
 {
     law_base();
-    for _reading in 0..READINGS {
+    for _reading in 0..MOST_READINGS {
         let task_file = TaskFile(adapter.read(Reg::Px(port, PortReg::Tfd)));
         if !is_bsy_or_drq(task_file) {
             return true;

@@ -16,7 +16,7 @@ use Rattle.block_machine.specs.State.{Pending, Machine}
 use Rattle.block_machine.specs.declared.due.QueueMode.{QueueMode}
 use Rattle.block_machine.specs.Due.{is_plain}
 use Rattle.block_machine.specs.Steps.{Step, Issue, May}
-use Rattle.block_machine.specs.Left.{after, AllTold}
+use Rattle.block_machine.specs.Left.{after, AllTellSectors}
 use Rattle.block_machine.specs.Events.{AllMay, AllDevices}
 use Rattle.refinement.specs.Places.{list_of, received_of, table_of, scratch_of, IsTableByte, IsScratch}
 use Rattle.refinement.specs.Slots.{Free, Armed, Own, Serves, SlotStates, put, SlotDecodesTo, Means, HasTrimBlock, IsPlaced, op_of}
@@ -95,7 +95,7 @@ pub record IsBacked (old new : Device) (m : Machine) (steps : List Step) : Type 
   pub gained : List Entry
   pub tape : new.tape ≡ old.tape ++ gained
   pub tells : TellsAmong m gained steps
-  pub told : old.telling ≡ true → AllTold m steps
+  pub told : old.telling ≡ true → AllTellSectors m steps
   pub plugged : (port : ℕ) → (disks : List device.Disk) × ((new.port port).plugged ≡ (old.port port).plugged ++ disks)
       × PutsInDisks port disks steps
 

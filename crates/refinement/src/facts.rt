@@ -16,7 +16,7 @@ ghost use Rattle.adapter.specs.Device.{Device, DevicePort};
 ghost use Rattle.adapter.specs.Device.Halt.{HaltedPlain};
 ghost use Rattle.adapter.specs.FirstRead.{first_read};
 ghost use Rattle.adapter.specs.Idle.{IsIdle, IsIdlePort};
-ghost use Rattle.adapter.specs.Rules.{IsFree, IsOn, MayWrite, IsStable};
+ghost use Rattle.adapter.specs.Rules.{IsUnowned, IsOn, MayWrite, IsStable};
 ghost use Rattle.adapter.specs.Steps.{Steps};
 ghost use Rattle.adapter.specs.declared.command.Operation.{Operation};
 ghost use Rattle.adapter.specs.declared.tape.Entry.{Entry};
@@ -169,7 +169,7 @@ pub fn law_frames_are_still()
     ensures idle { (d : Device) (frame : Frame) → IsIdle d → IsStable (IsStill frame) d }
     ensures free { (d : Device) (frame : Frame) (offset n : ℕ) → IsStable (IsStill frame) d
         → FRAME_BYTES * frame.0 + FRAME_BYTES ≤ d.size → offset + n ≤ FRAME_BYTES
-        → IsStable (IsFree (FRAME_BYTES * frame.0 + offset) n) d }
+        → IsStable (IsUnowned (FRAME_BYTES * frame.0 + offset) n) d }
 {}
 
 /// While no reset is pending, a healthy port on which nothing goes wrong stays healthy, whatever else the device does,

@@ -18,14 +18,14 @@ ghost use Rattle.adapter.specs.Device.{DevicePort, Device};
 ghost use Rattle.adapter.specs.FirstRead.{first_read};
 ghost use Rattle.adapter.specs.Idle.{IsIdle};
 ghost use Rattle.adapter.specs.Memory.{patched};
-ghost use Rattle.adapter.specs.Rules.{IsFree, IsOn, HasPort, MayStart, MayReceive, MayStopReceiving, MayWrite, IsStable};
+ghost use Rattle.adapter.specs.Rules.{IsUnowned, IsOn, HasPort, MayStart, MaySetFre, MayStopReceiving, MayWrite, IsStable};
 ghost use Rattle.adapter.specs.Steps.{Steps};
 ghost use Rattle.adapter.specs.declared.command.Operation.{Operation};
 ghost use Rattle.block_machine.specs.Due.{is_plain, issued_count};
 ghost use Rattle.adapter.specs.declared.tape.Entry.{Entry};
 ghost use Rattle.block_machine.specs.Events.{IsByDevice, AllDevices, AllMay, changes_disk};
 ghost use Rattle.block_machine.specs.Histories.{IsReachable, IsSimulatedBySteps};
-ghost use Rattle.block_machine.specs.Left.{IsStart, after, AllTold};
+ghost use Rattle.block_machine.specs.Left.{IsInitial, after, AllTellSectors};
 ghost use Rattle.block_machine.specs.Refusals.{IsOpen};
 ghost use Rattle.block_machine.specs.State.{Accepted, Pending, Machine, unanswered};
 ghost use Rattle.block_machine.specs.Steps.{Step, Accept, Issue, Age, Again, Answer, Release, Store, Load, May, NoneKept, older, after_step, stays, MayStillMove, Revoke};
@@ -378,8 +378,8 @@ pub fn law_histories_go_on()
         → AllMay m (late ++ early) }
     ensures after { (m : Machine) (late early : List Step) → after m (late ++ early) ≡ after (after m early) late }
     ensures device { (late early : List Step) → AllDevices late → AllDevices early → AllDevices (late ++ early) }
-    ensures told { (m : Machine) (late early : List Step) → AllTold m early → AllTold (after m early) late
-        → AllTold m (late ++ early) }
+    ensures told { (m : Machine) (late early : List Step) → AllTellSectors m early → AllTellSectors (after m early) late
+        → AllTellSectors m (late ++ early) }
 {}
 
 /// A bit of PxSACT that is clear stays so whatever the device does, over readings, and over writes but for one of
@@ -399,7 +399,7 @@ pub fn law_clear_bits_stay()
 pub fn law_pages_are_free()
     ensures { (uses : SlotStates) (m : Machine) (d : Device) → IsReachable m → StateRelation uses m d → (port : ℕ)
         → port < 4
-        → scratch_of port + 512 ≤ d.size → IsOver (d.port port) 0 → IsStable (IsFree (scratch_of port) 512) d }
+        → scratch_of port + 512 ≤ d.size → IsOver (d.port port) 0 → IsStable (IsUnowned (scratch_of port) 512) d }
 {}
 
 /// So may bytes of a client's frame that isn't lent, for its owner.
@@ -407,7 +407,7 @@ pub fn law_client_bytes_are_free()
     ensures { (uses : SlotStates) (m : Machine) (d : Device) → IsReachable m → StateRelation uses m d
         → (client : ClientId)
         (frame : Frame) (offset n : ℕ) → FRAME_BYTES * frame.0 + FRAME_BYTES ≤ d.size
-        → IsOpen m.owner m.lent client frame offset n → IsStable (IsFree (FRAME_BYTES * frame.0 + offset) n) d }
+        → IsOpen m.owner m.lent client frame offset n → IsStable (IsUnowned (FRAME_BYTES * frame.0 + offset) n) d }
 {}
 
 /// A write that may be made now, of any register but PxCI, may be made whatever the device does first; and, while no
@@ -445,7 +445,7 @@ pub fn law_commanding_is_permitted()
         ≡ was
         → IsWrittenBack false (d.port port.0).fre was v → IsStable (MayWrite (Px port Cmd) v) d }
     ensures receive { (port : Port) (was v : ℕ) (d : Device) → IsOn d → HasPort d port.0
-        → (d.port port.0).notes.last_cmd ≡ was → MayReceive (d.port port.0)
+        → (d.port port.0).notes.last_cmd ≡ was → MaySetFre (d.port port.0)
         → IsWrittenBack (d.port port.0).st true was v → IsStable (MayWrite (Px port Cmd) v) d }
     ensures stop_receiving { (port : Port) (was v : ℕ) (d : Device) → IsOn d → HasPort d port.0
         → (d.port port.0).notes.last_cmd ≡ was → MayStopReceiving (d.port port.0) → IsWrittenBack false false was v
@@ -471,7 +471,7 @@ pub fn law_own_issuing_is_permitted()
 /// A device that is taken over idle agrees with a machine that has nothing in it, where both have the same disks and
 /// client frames, and the machine has put aside what these disks may come back with.
 pub fn law_an_idle_device_agrees()
-    ensures { (m : Machine) (d : Device) → IsStart m → IsIdle d → ((port : ℕ) → IsDiskOf m (d.port port) port)
+    ensures { (m : Machine) (d : Device) → IsInitial m → IsIdle d → ((port : ℕ) → IsDiskOf m (d.port port) port)
         → SameMemory m d.memory
         → (d.telling ≡ true → (port : ℕ) → SameSectors m (d.port port).disk port)
         → (d.telling ≡ true → (port k : ℕ)

@@ -11,7 +11,7 @@ use Rattle.ata_types.specs.declared.request.Reply.{Reply}
 use Rattle.ata_types.specs.declared.request.RequestId.{RequestId}
 use Rattle.dma_frames.specs.Table.{LendsOnly, Table, lent_to}
 use Rattle.request_queue.specs.Entries.{GivesBack, Held, IsAccepted, IsEarlier, BookIsInOrder, HasItsFrames, has_id, without_entry}
-use Rattle.request_queue.specs.Dispositions.{AnswersAlike, EndsLoan, Holdings, AreResolved, quarantines_loan, reply_to}
+use Rattle.request_queue.specs.Dispositions.{AnswersAlike, EndsLoan, Holdings, AreResolved, keeps_loan, reply_to}
 use Rattle.request_queue.specs.declared.PendingRequest.{PendingRequest}
 use Rattle.request_queue.specs.declared.disposition.Disposition.TheVariants.{Complete}
 use Rattle.request_queue.proofs.Ending.{more_given, none_given, ordered_rest, stand_still}
@@ -73,7 +73,7 @@ module _ (passes : PendingRequest → Bool) where
 
 -- ---- what came of it
 
-module _ (o : Outcome) (back : (e : PendingRequest) → quarantines_loan o e ≡ false) where
+module _ (o : Outcome) (back : (e : PendingRequest) → keeps_loan o e ≡ false) where
   abbrev replies_to : List Held → List Reply
   replies_to es = map (λ (e : Held). reply_to e o) es
 
@@ -191,7 +191,7 @@ same_given old one other es a b = record {
 
 -- ---- both ways
 
-module _ (passes : PendingRequest → Bool) (o : Outcome) (back : (e : PendingRequest) → quarantines_loan o e ≡ false) (old : Holdings) (order : BookIsInOrder old.book) (accepted : All (IsAccepted old.table) old.book) where
+module _ (passes : PendingRequest → Bool) (o : Outcome) (back : (e : PendingRequest) → keeps_loan o e ≡ false) (old : Holdings) (order : BookIsInOrder old.book) (accepted : All (IsAccepted old.table) old.book) where
   abbrev es : List Held
   es = filter (λ (e : Held). passes e.entry) old.book
 

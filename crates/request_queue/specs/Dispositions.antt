@@ -32,9 +32,9 @@ disposition_of (Some failed) revalidation e = if failed.id.0 == e.id.0
     else disposition_on revalidation e
 
 -- its frames stay lent: it was issued, and its port is dead
-abbrev pub quarantines_loan : Outcome → PendingRequest → Bool
-quarantines_loan PortDead e = e.issued
-quarantines_loan _ e = false
+abbrev pub keeps_loan : Outcome → PendingRequest → Bool
+keeps_loan PortDead e = e.issued
+keeps_loan _ e = false
 
 -- ---- one after another
 
@@ -61,7 +61,7 @@ IsResolved request Requeue replies old new = (replies ≡ [])
     × (new ≡ record old { book = map (at_entry request.entry.id requeued_entry) old.book })
 IsResolved request (Complete outcome) replies old new =
     (replies ≡ reply_to request outcome ∷ []) × (new.book ≡ without_entry request.entry.id old.book)
-    × EndsLoan (quarantines_loan outcome request.entry) request old new
+    × EndsLoan (keeps_loan outcome request.entry) request old new
 
 -- so were these requests, one after another
 abbrev pub AreResolved : (PendingRequest → Disposition) → List Held → List Reply → Holdings → Holdings → Type 0

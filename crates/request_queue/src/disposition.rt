@@ -1,6 +1,6 @@
 //! What becomes of the unanswered requests of a port that was stopped.
 ghost use Rattle.std.specs.Prelude.{◌≡◌};
-ghost use Rattle.request_queue.specs.Dispositions.{disposition_of, quarantines_loan};
+ghost use Rattle.request_queue.specs.Dispositions.{disposition_of, keeps_loan};
 
 use super::PendingRequest;
 use ata_types::{Outcome, RequestId};
@@ -73,8 +73,8 @@ impl PendingRequest {
 
     /// Whether the request's frames stay lent when it is answered so: its command may still move where it was issued
     /// and the port is dead.
-    pub fn quarantines_loan(&self, outcome: Outcome) -> bool
-        ensures { result ≡ quarantines_loan outcome self.now }
+    pub fn keeps_loan(&self, outcome: Outcome) -> bool
+        ensures { result ≡ keeps_loan outcome self.now }
     {
         match outcome {
             Outcome::PortDead => self.issued,

@@ -14,7 +14,7 @@ ghost use Rattle.block_machine.specs.declared.due.QueueMode.{QueueMode};
 ghost use Rattle.block_machine.specs.declared.due.Unanswered.{Unanswered};
 ghost use Rattle.dma_frames.specs.Table.{Table, LendsOnly, lent_to};
 ghost use Rattle.request_queue.specs.Entries.{Held, IsAccepted, IsEarlier, IsFresh, BookIsInOrder, IsUnanswered, IsWaiting, MayGoAgain, HasItsFrames, aged, asks_of, at_entry, due_ids, held_of, issue, requeued_entry, all_marked_under, unanswered_entries, without_entry};
-ghost use Rattle.request_queue.specs.Dispositions.{AnswersAlike, Holdings, AreResolved, quarantines_loan};
+ghost use Rattle.request_queue.specs.Dispositions.{AnswersAlike, Holdings, AreResolved, keeps_loan};
 ghost use Rattle.request_queue.specs.Machine.{IsBook, IsEntry};
 ghost use Rattle.request_queue.specs.declared.PendingRequest.{PendingRequest};
 ghost use Rattle.request_queue.specs.declared.disposition.Disposition.TheVariants.{Complete};
@@ -181,12 +181,12 @@ pub fn law_accepted_requests_stay()
 /// so, to a table that has the same lent.
 pub fn law_answers_of_one_outcome_are_one_change()
     ensures at_once { (passes : PendingRequest → Bool) (outcome : Outcome)
-        → ((e : PendingRequest) → quarantines_loan outcome e ≡ false)
+        → ((e : PendingRequest) → keeps_loan outcome e ≡ false)
         → (old : Holdings) → BookIsInOrder old.book → All (IsAccepted old.table) old.book → (replies : List Reply)
         (new : Holdings) → AreResolved (λ e. Complete outcome) (filter (λ e. passes e.entry) old.book) replies old new
         → AnswersAlike passes outcome replies old new }
     ensures one_by_one { (passes : PendingRequest → Bool) (outcome : Outcome)
-        → ((e : PendingRequest) → quarantines_loan outcome e ≡ false)
+        → ((e : PendingRequest) → keeps_loan outcome e ≡ false)
         → (old : Holdings) → BookIsInOrder old.book → All (IsAccepted old.table) old.book → (replies : List Reply)
         (new : Holdings) → AnswersAlike passes outcome replies old new
         → (now : Holdings) × AreResolved (λ e. Complete outcome) (filter (λ e. passes e.entry) old.book) replies old now

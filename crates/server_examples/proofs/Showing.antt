@@ -25,7 +25,7 @@ use Rattle.adapter.specs.Memory.{changed}
 use Rattle.adapter.specs.declared.access.DeviceStep.{DeviceStep}
 use Rattle.adapter.specs.declared.access.DeviceStep.TheVariants.{Hold, Fatal}
 use Rattle.adapter.specs.declared.access.FatalError.TheVariants.{Interface, HostBus}
-use Rattle.block_machine.specs.Events.{CallRecord, Ask, AbstractState, Submit as AskSubmit, StoreAt, Service as AskService, Reset as AskReset, State as AskState, Device as AskDevice, Submitted, Stored, Served, WasReset, Shown, Stepped, AllDevices, EveryReadHolds, IsAnswered, IsIssuedIn, IsRun, IsStillStuck, StaysStuck, answers_of, issues_it, reply_of, moment_after, moment_of, replies_of, steps_of}
+use Rattle.block_machine.specs.Events.{CallRecord, Ask, AbstractState, Submit as AskSubmit, StoreAt, Service as AskService, Reset as AskReset, State as AskState, Device as AskDevice, Submitted, Stored, Served, WasReset, Shown, Stepped, AllDevices, EveryReadHolds, IsAnswered, IsIssuedIn, IsRun, IsStillStuck, StaysStuck, answers_of, issues_it, reply_of, abstract_after, abstract_after_all, replies_of, steps_of}
 use Rattle.block_machine.specs.Events as machine
 use Rattle.block_machine.specs.Histories.{Happening, JointState, events_of}
 use Rattle.block_machine.specs.Left.{after}
@@ -60,8 +60,8 @@ has_run device old new events before after promised empty begun telling =
       asks = kept.clients.asks;
       says = kept.clients.says;
       leads = subst (λ (past : List (Happening Device DeviceStep)). LeadsToServer begun.0 past (server_of device new)) whole kept.driver.leads;
-      run = subst (λ (past : List (Happening Device DeviceStep)). IsRun begun.0.moment (events_of past)) whole kept.clients.run;
-      reads = subst (λ (past : List (Happening Device DeviceStep)). EveryReadHolds begun.0.moment (events_of past)) whole
+      run = subst (λ (past : List (Happening Device DeviceStep)). IsRun begun.0.abstract (events_of past)) whole kept.clients.run;
+      reads = subst (λ (past : List (Happening Device DeviceStep)). EveryReadHolds begun.0.abstract (events_of past)) whole
           (kept.clients.reads (ap (λ (d : Device). d.telling) begun.1.stands.device_is ∙ telling));
     })
 
@@ -126,11 +126,11 @@ told_alone : (items : List Reply) (reply : Reply) → items ≡ reply ∷ [] →
 told_alone items reply only = subst (λ (xs : List Reply). Contains xs reply) (sym only) (in_middle [] reply [])
 
 served_last : (laws : RunLaws) (old new : ServerState) (asked : Request) (first : JointState Device) → LeadsToServer first [] old → (past : List (Happening Device DeviceStep)) (last : Happening Device DeviceStep)
-    → LeadsToServer first (last ∷ past) new → IsRun first.moment (events_of (last ∷ past)) → EveryReadHolds first.moment (events_of (last ∷ past)) → (items : List Reply) (reply : Reply)
+    → LeadsToServer first (last ∷ past) new → IsRun first.abstract (events_of (last ∷ past)) → EveryReadHolds first.abstract (events_of (last ∷ past)) → (items : List Reply) (reply : Reply)
     → last.event.said ≡ Served items → items ≡ reply ∷ [] → reply.outcome ≡ outcome.Ok → asked.op ≡ Read → ((r : Accepted) → WasAsked r (events_of past) → r.asked ≡ asked) → ServesRead old new asked
 served_last laws old new asked first begun past last leads run holds items reply says only ok reads asks =
     let there : Contains (replies_of last.event.said) reply = subst (λ (s : machine.CallResult). Contains (replies_of s) reply) (sym says) (told_alone items reply only) in
-    let told = laws.asked first.moment (events_of past) last.event reply run there in
+    let told = laws.asked first.abstract (events_of past) last.event reply run there in
     let answered : Contains last.event.steps (Answer told.0 outcome.Ok) = subst (λ (o : Outcome). Contains last.event.steps (Answer told.0 o)) ok told.1 in
     record {
       first = first;
@@ -142,7 +142,7 @@ served_last laws old new asked first begun past last leads run holds items reply
       read = told.0;
       its = asks told.0.request told.4;
       reads = reads;
-      told = laws.served first.moment (events_of past) last.event told.0 run holds answered;
+      told = laws.served first.abstract (events_of past) last.event told.0 run holds answered;
     }
 
 pub shows_a_read : {A : Type 0} (device : A → Device) (old new : ServerView A) (read : Request) (step : DeviceStep) (id : RequestId) (did : Bool) (replies : List Reply) (reply : Reply) → RunLaws
@@ -156,8 +156,8 @@ shows_a_read device old new read step id did replies reply laws r only ok reads 
     let is : r.past ≡ calls = c.3 in
     served_last laws (server_of device old) (server_of device new) read r.first r.begun (b.0 ∷ a.0 ∷ []) c.0
     (subst (λ (p : List (Happening Device DeviceStep)). LeadsToServer r.first p (server_of device new)) is r.leads)
-    (subst (λ (p : List (Happening Device DeviceStep)). IsRun r.first.moment (events_of p)) is r.run)
-    (subst (λ (p : List (Happening Device DeviceStep)). EveryReadHolds r.first.moment (events_of p)) is r.reads)
+    (subst (λ (p : List (Happening Device DeviceStep)). IsRun r.first.abstract (events_of p)) is r.run)
+    (subst (λ (p : List (Happening Device DeviceStep)). EveryReadHolds r.first.abstract (events_of p)) is r.reads)
     replies reply c.2 only ok reads
     (λ q asked. ⊎_elim
     (λ now. absurd (device_asks_none q b.0.event step b.1 now))
@@ -198,10 +198,10 @@ record LetsBe (old : AbstractState) (event : CallRecord DeviceStep) : Type 0 whe
   calm : (past : List (CallRecord DeviceStep)) → IsStillStuck (event ∷ past) → IsStillStuck past
 
 state_lets_be : (first : AbstractState) (past : List (CallRecord DeviceStep)) (event : CallRecord DeviceStep) (port : Port) (shown : PortState) → IsRun first (event ∷ past) → event.ask ≡ AskState port → event.said ≡ Shown shown
-    → LetsBe (moment_of first past) event × (shown ≡ (moment_of first past).ports.state port)
+    → LetsBe (abstract_after_all first past) event × (shown ≡ (abstract_after_all first past).ports.state port)
 state_lets_be first past event port shown r is says =
-    let old = moment_of first past in
-    let new = moment_of first (event ∷ past) in
+    let old = abstract_after_all first past in
+    let new = abstract_after_all first (event ∷ past) in
     let said_so = subst (λ (s : machine.CallResult). IsAnswered event.ask s old event.evidence event.steps new) says r.1.answered in
     let a = subst (λ (q : Ask DeviceStep). IsAnswered q (Shown shown) old event.evidence event.steps new) is said_so in (
       record {
@@ -214,10 +214,10 @@ state_lets_be first past event port shown r is says =
     )
 
 device_lets_be : (first : AbstractState) (past : List (CallRecord DeviceStep)) (event : CallRecord DeviceStep) (step : DeviceStep) → IsRun first (event ∷ past) → event.ask ≡ AskDevice step → event.said ≡ Stepped true
-    → LetsBe (moment_of first past) event
+    → LetsBe (abstract_after_all first past) event
 device_lets_be first past event step r is says =
-    let old = moment_of first past in
-    let new = moment_of first (event ∷ past) in
+    let old = abstract_after_all first past in
+    let new = abstract_after_all first (event ∷ past) in
     let said_so = subst (λ (s : machine.CallResult). IsAnswered event.ask s old event.evidence event.steps new) says r.1.answered in
     let a = subst (λ (q : Ask DeviceStep). IsAnswered q (Stepped true) old event.evidence event.steps new) is said_so in
     record {
@@ -234,10 +234,10 @@ record Was (m : Machine) (e : Pending) : Type 0 where
   same : before.request ≡ e.request
   issued : e.issued ≡ true → before.issued ≡ true
 
-was_then : (laws : RunLaws) (first : AbstractState) (past : List (CallRecord DeviceStep)) (event : CallRecord DeviceStep) (e : Pending) → IsRun first (event ∷ past) → LetsBe (moment_of first past) event
-    → Contains (moment_of first (event ∷ past)).machine.book e → Was (moment_of first past).machine e
+was_then : (laws : RunLaws) (first : AbstractState) (past : List (CallRecord DeviceStep)) (event : CallRecord DeviceStep) (e : Pending) → IsRun first (event ∷ past) → LetsBe (abstract_after_all first past) event
+    → Contains (abstract_after_all first (event ∷ past)).machine.book e → Was (abstract_after_all first past).machine e
 was_then laws first past event e r lets h = ⊎_elim
-    (λ (c : CameFrom (moment_of first past).machine event.steps e). record {
+    (λ (c : CameFrom (abstract_after_all first past).machine event.steps e). record {
       before = c.before;
       here = c.here;
       same = c.same;
@@ -262,7 +262,7 @@ is_port_0 q few one two three = go q.0 refl
 
 -- The first of these calls asks for the request, the next three tell that no port but the first is ready, then that meets a fatal error, and a service follows, and then the device goes on.
 record Restarted (wanted : List Wanted) (first : JointState Device) (asked : Request) (id : RequestId) (submit one two three fatal service finish : Happening Device DeviceStep) : Type 0 where
-  run : IsRun first.moment (events_of (finish ∷ service ∷ fatal ∷ three ∷ two ∷ one ∷ submit ∷ []))
+  run : IsRun first.abstract (events_of (finish ∷ service ∷ fatal ∷ three ∷ two ∷ one ∷ submit ∷ []))
   history : IsDriverHistory wanted first (finish ∷ service ∷ fatal ∷ three ∷ two ∷ one ∷ submit ∷ [])
   submits : (submit.event.ask ≡ AskSubmit asked) × (submit.event.said ≡ Submitted (Ok id))
   shows_1 : (one.event.ask ≡ AskState (record { 0 = 1 })) × (one.event.said ≡ Shown Absent)
@@ -287,31 +287,31 @@ shows_failure past event old new accesses is says came =
 -- what was unanswered before the port failed, and is the only one
 record Lone (first : JointState Device) (submit one two three fatal : Happening Device DeviceStep) (e : Pending) : Type 0 where
   begun : Pending
-  here : Contains (moment_of first.moment (events_of (submit ∷ []))).machine.book begun
+  here : Contains (abstract_after_all first.abstract (events_of (submit ∷ []))).machine.book begun
   same : begun.request ≡ e.request
   at_port_0 : e.request.port.0 ≡ 0
-  ready : (moment_of first.moment (events_of (fatal ∷ three ∷ two ∷ one ∷ submit ∷ []))).ports.state e.request.port ≡ Ready
+  ready : (abstract_after_all first.abstract (events_of (fatal ∷ three ∷ two ∷ one ∷ submit ∷ []))).ports.state e.request.port ≡ Ready
 
 lone_of : (laws : RunLaws) (wanted : List Wanted) (first : JointState Device) (asked : Request) (id : RequestId) (submit one two three fatal service finish : Happening Device DeviceStep)
     → Restarted wanted first asked id submit one two three fatal service finish → (e : Pending)
-    → Contains (moment_of first.moment (events_of (fatal ∷ three ∷ two ∷ one ∷ submit ∷ []))).machine.book e → Lone first submit one two three fatal e
+    → Contains (abstract_after_all first.abstract (events_of (fatal ∷ three ∷ two ∷ one ∷ submit ∷ []))).machine.book e → Lone first submit one two three fatal e
 lone_of laws wanted first asked id submit one two three fatal service finish c e here =
-    let r5 : IsRun first.moment (events_of (fatal ∷ three ∷ two ∷ one ∷ submit ∷ [])) = c.run.0.0 in
+    let r5 : IsRun first.abstract (events_of (fatal ∷ three ∷ two ∷ one ∷ submit ∷ [])) = c.run.0.0 in
     let r4 = r5.0 in
     let r3 = r4.0 in
     let r2 = r3.0 in
-    let l5 = device_lets_be first.moment (events_of (three ∷ two ∷ one ∷ submit ∷ [])) fatal.event (Fatal port_0 Interface) r5 c.fails.0 c.fails.1 in
-    let l4 = state_lets_be first.moment (events_of (two ∷ one ∷ submit ∷ [])) three.event (record { 0 = 3 }) Absent r4 c.shows_3.0 c.shows_3.1 in
-    let l3 = state_lets_be first.moment (events_of (one ∷ submit ∷ [])) two.event (record { 0 = 2 }) Absent r3 c.shows_2.0 c.shows_2.1 in
-    let l2 = state_lets_be first.moment (events_of (submit ∷ [])) one.event (record { 0 = 1 }) Absent r2 c.shows_1.0 c.shows_1.1 in
-    let w4 = was_then laws first.moment (events_of (three ∷ two ∷ one ∷ submit ∷ [])) fatal.event e r5 l5 here in
-    let w3 = was_then laws first.moment (events_of (two ∷ one ∷ submit ∷ [])) three.event w4.before r4 l4.0 w4.here in
-    let w2 = was_then laws first.moment (events_of (one ∷ submit ∷ [])) two.event w3.before r3 l3.0 w3.here in
-    let w1 = was_then laws first.moment (events_of (submit ∷ [])) one.event w2.before r2 l2.0 w2.here in
+    let l5 = device_lets_be first.abstract (events_of (three ∷ two ∷ one ∷ submit ∷ [])) fatal.event (Fatal port_0 Interface) r5 c.fails.0 c.fails.1 in
+    let l4 = state_lets_be first.abstract (events_of (two ∷ one ∷ submit ∷ [])) three.event (record { 0 = 3 }) Absent r4 c.shows_3.0 c.shows_3.1 in
+    let l3 = state_lets_be first.abstract (events_of (one ∷ submit ∷ [])) two.event (record { 0 = 2 }) Absent r3 c.shows_2.0 c.shows_2.1 in
+    let l2 = state_lets_be first.abstract (events_of (submit ∷ [])) one.event (record { 0 = 1 }) Absent r2 c.shows_1.0 c.shows_1.1 in
+    let w4 = was_then laws first.abstract (events_of (three ∷ two ∷ one ∷ submit ∷ [])) fatal.event e r5 l5 here in
+    let w3 = was_then laws first.abstract (events_of (two ∷ one ∷ submit ∷ [])) three.event w4.before r4 l4.0 w4.here in
+    let w2 = was_then laws first.abstract (events_of (one ∷ submit ∷ [])) two.event w3.before r3 l3.0 w3.here in
+    let w1 = was_then laws first.abstract (events_of (submit ∷ [])) one.event w2.before r2 l2.0 w2.here in
     let state : Port → PortState = fatal.event.ports.state in
     let calm : IsStillStuck (events_of (submit ∷ [])) → ⊥ = λ stuck. subst (λ (q : Ask DeviceStep). StaysStuck q submit.event.said ⊥) c.submits.0 stuck in
     let ready : state e.request.port ≡ Ready = ⊎_elim (λ is. is) (λ dead. absurd (calm (l2.0.calm (events_of (submit ∷ [])) (l3.0.calm (events_of (one ∷ submit ∷ [])) (l4.0.calm (events_of (two ∷ one ∷ submit ∷ [])) (l5.calm (events_of (three ∷ two ∷ one ∷ submit ∷ [])) dead.1))))))
-    (laws.ready first.moment (events_of (fatal ∷ three ∷ two ∷ one ∷ submit ∷ [])) e r5 here) in
+    (laws.ready first.abstract (events_of (fatal ∷ three ∷ two ∷ one ∷ submit ∷ [])) e r5 here) in
     let fit = r5.1.fit in
     let served : fatal.event.ports.served e.request.port ≡ true = ⊎_elim (λ is. is) (λ no. absurd (absent_ready (sym (fit.absent e.request.port no) ∙ ready))) (cases_Bool (fatal.event.ports.served e.request.port)) in
     let of : (n : ℕ) → e.request.port.0 ≡ n → state (record { 0 = n }) ≡ Ready = λ n is. subst (λ (k : ℕ). state (record { 0 = k }) ≡ Ready) is ready in
@@ -331,20 +331,20 @@ lone_of laws wanted first asked id submit one two three fatal service finish c e
     absent_ready is = cc
 
 -- it was issued by the submit
-issued_first : (laws : RunLaws) (first : JointState Device) (asked : Request) (id : RequestId) (submit : Happening Device DeviceStep) (e : Pending) → IsRun first.moment (events_of (submit ∷ []))
-    → submit.event.ask ≡ AskSubmit asked → submit.event.said ≡ Submitted (Ok id) → Contains (moment_of first.moment (events_of (submit ∷ []))).machine.book e
+issued_first : (laws : RunLaws) (first : JointState Device) (asked : Request) (id : RequestId) (submit : Happening Device DeviceStep) (e : Pending) → IsRun first.abstract (events_of (submit ∷ []))
+    → submit.event.ask ≡ AskSubmit asked → submit.event.said ≡ Submitted (Ok id) → Contains (abstract_after_all first.abstract (events_of (submit ∷ []))).machine.book e
     → 1 ≤ count_by (issues_it e.request.id) (steps_of (events_of (submit ∷ [])))
 issued_first laws first asked id submit e r is says here =
     let run = events_of (submit ∷ []) in
-    let legal = laws.legal first.moment run r in
-    let its : (x : Pending) → Contains (moment_of first.moment run).machine.book x → x.request.id ≡ id = λ x h. ⊎_elim
-    (λ (c : CameFrom first.moment.machine submit.event.steps x). absurd (nothing c.before (subst (λ (xs : List Pending). Contains xs c.before) legal.0.book c.here)))
+    let legal = laws.legal first.abstract run r in
+    let its : (x : Pending) → Contains (abstract_after_all first.abstract run).machine.book x → x.request.id ≡ id = λ x h. ⊎_elim
+    (λ (c : CameFrom first.abstract.machine submit.event.steps x). absurd (nothing c.before (subst (λ (xs : List Pending). Contains xs c.before) legal.0.book c.here)))
     (λ asks. let e : ◌≡◌ {A = machine.CallResult} (Submitted (Ok x.request.id)) (Submitted (Ok id)) = sym asks.1 ∙ says in cc)
-    (laws.came first.moment [] submit.event x r h) in
-    let ready = ⊎_elim (λ is. is) (λ (dead : ((moment_of first.moment run).ports.state e.request.port ≡ Dead) × IsStillStuck run).
-    let no : ⊥ = subst (λ (q : Ask DeviceStep). StaysStuck q submit.event.said ⊥) is dead.1 in absurd no) (laws.ready first.moment run e r here) in
-    let issued = laws.alone first.moment run e r here ready (λ x h. its x h ∙ sym (its e here)) in
-    let counted = (laws.counted first.moment.machine (steps_of run) e legal.0 legal.1 (subst (λ (m : Machine). Contains m.book e) legal.2 here)).1 in
+    (laws.came first.abstract [] submit.event x r h) in
+    let ready = ⊎_elim (λ is. is) (λ (dead : ((abstract_after_all first.abstract run).ports.state e.request.port ≡ Dead) × IsStillStuck run).
+    let no : ⊥ = subst (λ (q : Ask DeviceStep). StaysStuck q submit.event.said ⊥) is dead.1 in absurd no) (laws.ready first.abstract run e r here) in
+    let issued = laws.alone first.abstract run e r here ready (λ x h. its x h ∙ sym (its e here)) in
+    let counted = (laws.counted first.abstract.machine (steps_of run) e legal.0 legal.1 (subst (λ (m : Machine). Contains m.book e) legal.2 here)).1 in
     let one : ◌≡◌ {A = ℕ} (cond e.issued 1 0) 1 = ap (λ (b : Bool). cond {A = ℕ} b 1 0) issued in
     omega (arith, counted, one)
   where
@@ -354,7 +354,7 @@ issued_first laws first asked id submit e r is says here =
 -- So what is answered Ok after these was issued twice, and made to wait again.
 went_again : (laws : RunLaws) (wanted : List Wanted) (first : JointState Device) (asked : Request) (id : RequestId) (submit one two three fatal service finish : Happening Device DeviceStep)
     → Restarted wanted first asked id submit one two three fatal service finish → (e : Pending)
-    → Contains (moment_of first.moment (events_of (finish ∷ service ∷ fatal ∷ three ∷ two ∷ one ∷ submit ∷ []))).machine.book e → e.issued ≡ true
+    → Contains (abstract_after_all first.abstract (events_of (finish ∷ service ∷ fatal ∷ three ∷ two ∷ one ∷ submit ∷ []))).machine.book e → e.issued ≡ true
     → (2 ≤ count_by (issues_it e.request.id) (steps_of (events_of (finish ∷ service ∷ fatal ∷ three ∷ two ∷ one ∷ submit ∷ []))))
     × (1 ≤ count_by (waits_again e.request.id) (steps_of (events_of (finish ∷ service ∷ fatal ∷ three ∷ two ∷ one ∷ submit ∷ []))))
 went_again laws wanted first asked id submit one two three fatal service finish c e here issued =
@@ -362,10 +362,10 @@ went_again laws wanted first asked id submit one two three fatal service finish 
     let r7 = c.run in
     let r6 = r7.0 in
     let r5 = r6.0 in
-    let l7 = device_lets_be first.moment (events_of (service ∷ fatal ∷ three ∷ two ∷ one ∷ submit ∷ [])) finish.event c.goes_on.0 r7 c.goes_on.1 c.goes_on.2 in
-    let w6 = was_then laws first.moment (events_of (service ∷ fatal ∷ three ∷ two ∷ one ∷ submit ∷ [])) finish.event e r7 l7 here in
+    let l7 = device_lets_be first.abstract (events_of (service ∷ fatal ∷ three ∷ two ∷ one ∷ submit ∷ [])) finish.event c.goes_on.0 r7 c.goes_on.1 c.goes_on.2 in
+    let w6 = was_then laws first.abstract (events_of (service ∷ fatal ∷ three ∷ two ∷ one ∷ submit ∷ [])) finish.event e r7 l7 here in
     let came = ⊎_elim (λ x. x) (λ asks. absurd (service_asks_none w6.before.request service.event c.serves asks))
-    (laws.came first.moment (events_of (fatal ∷ three ∷ two ∷ one ∷ submit ∷ [])) service.event w6.before r6 w6.here) in
+    (laws.came first.abstract (events_of (fatal ∷ three ∷ two ∷ one ∷ submit ∷ [])) service.event w6.before r6 w6.here) in
     let lone = lone_of laws wanted first asked id submit one two three fatal service finish c came.before came.here in
     let id_is : (x : Pending) → x.request ≡ e.request → x.request.id ≡ e.request.id = λ x same. ap (λ (a : Accepted). a.id) same in
     let failed = c.history.0.0 in
@@ -389,8 +389,8 @@ went_again laws wanted first asked id submit one two three fatal service finish 
       count_append p two.event.steps (steps_of (events_of (one ∷ submit ∷ []))),
       count_append p one.event.steps (steps_of (events_of (submit ∷ []))),
     ) in
-    let legal = laws.legal first.moment (events_of calls) r7 in
-    let counted = (laws.counted first.moment.machine (steps_of (events_of calls)) e legal.0 legal.1 (subst (λ (m : Machine). Contains m.book e) legal.2 here)).1 in
+    let legal = laws.legal first.abstract (events_of calls) r7 in
+    let counted = (laws.counted first.abstract.machine (steps_of (events_of calls)) e legal.0 legal.1 (subst (λ (m : Machine). Contains m.book e) legal.2 here)).1 in
     let is_one : ◌≡◌ {A = ℕ} (cond e.issued 1 0) 1 = ap (λ (b : Bool). cond {A = ℕ} b 1 0) issued in
     (twice, omega (arith, twice, counted, is_one))
 
@@ -412,11 +412,11 @@ shows_a_read_anew device old new read step id before replies reply laws r only o
     let h = g.3 in
     let past : List (Happening Device DeviceStep) = g.0 ∷ f.0 ∷ e.0 ∷ d.0 ∷ c.0 ∷ b.0 ∷ a.0 ∷ [] in
     let is : r.past ≡ h.0 ∷ past = h.3 in
-    let run : IsRun r.first.moment (events_of (h.0 ∷ past)) = subst (λ (p : List (Happening Device DeviceStep)). IsRun r.first.moment (events_of p)) is r.run in
+    let run : IsRun r.first.abstract (events_of (h.0 ∷ past)) = subst (λ (p : List (Happening Device DeviceStep)). IsRun r.first.abstract (events_of p)) is r.run in
     let history : IsDriverHistory new.wanted r.first (h.0 ∷ past) = subst (IsDriverHistory new.wanted r.first) is r.leads.history in
     let serves = served_last laws (server_of device old) (server_of device new) read r.first r.begun past h.0
     (subst (λ (p : List (Happening Device DeviceStep)). LeadsToServer r.first p (server_of device new)) is r.leads) run
-    (subst (λ (p : List (Happening Device DeviceStep)). EveryReadHolds r.first.moment (events_of p)) is r.reads)
+    (subst (λ (p : List (Happening Device DeviceStep)). EveryReadHolds r.first.abstract (events_of p)) is r.reads)
     replies reply h.2 only ok reads
     (λ q asked. ⊎_elim (λ x. absurd (device_asks_none q g.0.event step g.1 x)) (λ asked. ⊎_elim (λ x. absurd (service_asks_none q f.0.event f.1 x))
     (λ asked. ⊎_elim (λ x. absurd (device_asks_none q e.0.event _ e.1 x)) (λ asked. ⊎_elim (λ x. absurd (state_asks_none q d.0.event _ d.1 x))
@@ -434,7 +434,7 @@ shows_a_read_anew device old new read step id before replies reply laws r only o
       goes_on = (step, g.1, g.2);
     } in
     let answered : Contains h.0.event.steps (Answer serves.read outcome.Ok) = answer_in h.0.event.steps serves.told.late serves.told.early (Answer serves.read outcome.Ok) serves.told.answered in
-    let was = (laws.lawful r.first.moment (events_of past) h.0.event serves.read outcome.Ok run answered).0 in
+    let was = (laws.lawful r.first.abstract (events_of past) h.0.event serves.read outcome.Ok run answered).0 in
     let went = went_again laws new.wanted r.first read id a.0 b.0 c.0 d.0 e.0 f.0 g.0 restarted was.pending was.here was.issued in
     record {
       serves = serves;
@@ -453,10 +453,10 @@ none_of (Some x) isnt = absurd (isnt (search rules))
 
 -- a store that is told the frame is lent
 store_refused : (old : AbstractState) (event : CallRecord DeviceStep) (client : ClientId) (frame : Frame) (offset : ℕ) (bytes : List ℕ) → event.ask ≡ StoreAt client frame offset bytes → event.said ≡ Stored (Some FrameLent)
-    → IsAnswered event.ask event.said old event.evidence event.steps (moment_after old event) → IsSome ((moment_after old event).machine.lent frame)
+    → IsAnswered event.ask event.said old event.evidence event.steps (abstract_after old event) → IsSome ((abstract_after old event).machine.lent frame)
 store_refused old event client frame offset bytes is says answered =
-    let said_so = subst (λ (s : machine.CallResult). IsAnswered event.ask s old event.evidence event.steps (moment_after old event)) says answered in
-    let a = subst (λ (q : Ask DeviceStep). IsAnswered q (Stored (Some FrameLent)) old event.evidence event.steps (moment_after old event)) is said_so in
+    let said_so = subst (λ (s : machine.CallResult). IsAnswered event.ask s old event.evidence event.steps (abstract_after old event)) says answered in
+    let a = subst (λ (q : Ask DeviceStep). IsAnswered q (Stored (Some FrameLent)) old event.evidence event.steps (abstract_after old event)) is said_so in
     subst (λ (xs : List Step). IsSome ((after old.machine xs).lent frame)) (sym a.2) a.1.0
 
 some_of : {X : Type 0} (o : Option X) → IsSome o → (x : X) × (o ≡ Some x)
@@ -469,18 +469,18 @@ id_given r event id says asks = let e : Submitted (Ok r.id) ≡ Submitted (Ok id
 
 -- a store that is told to be done
 store_done : (old : AbstractState) (event : CallRecord DeviceStep) (client : ClientId) (frame : Frame) (offset : ℕ) (bytes : List ℕ) → event.ask ≡ StoreAt client frame offset bytes → event.said ≡ Stored None
-    → IsAnswered event.ask event.said old event.evidence event.steps (moment_after old event) → old.machine.lent frame ≡ None
+    → IsAnswered event.ask event.said old event.evidence event.steps (abstract_after old event) → old.machine.lent frame ≡ None
 store_done old event client frame offset bytes is says answered =
-    let said_so = subst (λ (s : machine.CallResult). IsAnswered event.ask s old event.evidence event.steps (moment_after old event)) says answered in
-    let a = subst (λ (q : Ask DeviceStep). IsAnswered q (Stored None) old event.evidence event.steps (moment_after old event)) is said_so in
+    let said_so = subst (λ (s : machine.CallResult). IsAnswered event.ask s old event.evidence event.steps (abstract_after old event)) says answered in
+    let a = subst (λ (q : Ask DeviceStep). IsAnswered q (Stored None) old event.evidence event.steps (abstract_after old event)) is said_so in
     none_of (old.machine.lent frame) (λ lent. a.1 FrameLent lent)
 
 -- a reset that ends, and answers nothing
 reset_releases : (old : AbstractState) (event : CallRecord DeviceStep) → event.ask ≡ AskReset → event.said ≡ WasReset (Some [])
-    → IsAnswered event.ask event.said old event.evidence event.steps (moment_after old event) → Contains event.steps Release × (answers_of event.steps ≡ [])
+    → IsAnswered event.ask event.said old event.evidence event.steps (abstract_after old event) → Contains event.steps Release × (answers_of event.steps ≡ [])
 reset_releases old event is says answered =
-    let said_so = subst (λ (s : machine.CallResult). IsAnswered event.ask s old event.evidence event.steps (moment_after old event)) says answered in
-    let a = subst (λ (q : Ask DeviceStep). IsAnswered q (WasReset (Some [])) old event.evidence event.steps (moment_after old event)) is said_so in
+    let said_so = subst (λ (s : machine.CallResult). IsAnswered event.ask s old event.evidence event.steps (abstract_after old event)) says answered in
+    let a = subst (λ (q : Ask DeviceStep). IsAnswered q (WasReset (Some [])) old event.evidence event.steps (abstract_after old event)) is said_so in
     let few : length a.tells.answers ≡ 0 = sym (length-map a.tells.answers reply_of) ∙ sym (ap length a.tells.told) in (
       subst (λ (xs : List Step). Contains xs Release) (sym a.releases.split) (in_middle a.releases.later Release a.releases.earlier),
       nil_from_length (answers_of event.steps) (length_permutation a.tells.answers (answers_of event.steps) a.tells.same ∙ few),
@@ -504,21 +504,21 @@ shows_a_release device old new request client frame bytes last_bytes id replies 
     let before : List (Happening Device DeviceStep) = c.0 ∷ b.0 ∷ a.0 ∷ [] in
     let past : List (Happening Device DeviceStep) = e.0 ∷ d.0 ∷ before in
     let is : r.past ≡ g.0 ∷ f.0 ∷ past = g.3 in
-    let run : IsRun r.first.moment (events_of (g.0 ∷ f.0 ∷ past)) = subst (λ (p : List (Happening Device DeviceStep)). IsRun r.first.moment (events_of p)) is r.run in
+    let run : IsRun r.first.abstract (events_of (g.0 ∷ f.0 ∷ past)) = subst (λ (p : List (Happening Device DeviceStep)). IsRun r.first.abstract (events_of p)) is r.run in
     let there : Contains (replies_of d.0.event.said) reply = subst (λ (s : machine.CallResult). Contains (replies_of s) reply) (sym d.2) (told_alone replies reply only) in
-    let told = laws.asked r.first.moment (events_of before) d.0.event reply run.0.0.0 there in
+    let told = laws.asked r.first.abstract (events_of before) d.0.event reply run.0.0.0 there in
     let answered : Contains d.0.event.steps (Answer told.0 outcome.PortDead) = subst (λ (o : Outcome). Contains d.0.event.steps (Answer told.0 o)) dead told.1 in
     let given_then : (x : Accepted) → WasAsked x (events_of before) → x.id ≡ id = λ x asked.
     ⊎_elim (λ now. id_given x c.0.event id c.2 now)
     (λ more. ⊎_elim (λ now. absurd (device_asks_none x b.0.event _ b.1 now))
     (λ rest. ⊎_elim (λ now. absurd (device_asks_none x a.0.event _ a.1 now)) (λ no. absurd no) rest) more) asked in
-    let legal = laws.legal r.first.moment (events_of past) run.0.0 in
-    let loan = some_of _ (store_refused (moment_of r.first.moment (events_of (d.0 ∷ before))) e.0.event client frame 0 bytes e.1 e.2 run.0.0.1.answered) in
-    let holder = laws.lent r.first.moment.machine (steps_of (events_of past)) frame loan.0 legal.0 legal.1 (ap (λ (m : Machine). m.lent frame) (sym legal.2) ∙ loan.1) in
+    let legal = laws.legal r.first.abstract (events_of past) run.0.0 in
+    let loan = some_of _ (store_refused (abstract_after_all r.first.abstract (events_of (d.0 ∷ before))) e.0.event client frame 0 bytes e.1 e.2 run.0.0.1.answered) in
+    let holder = laws.lent r.first.abstract.machine (steps_of (events_of past)) frame loan.0 legal.0 legal.1 (ap (λ (m : Machine). m.lent frame) (sym legal.2) ∙ loan.1) in
     let holds : holder.0.id ≡ id = ⊎_elim (λ x. absurd (store_asks_none holder.0 e.0.event client frame 0 bytes e.1 x))
     (λ past. ⊎_elim (λ x. absurd (service_asks_none holder.0 d.0.event d.1 x)) (given_then holder.0) past)
-    (laws.accepted r.first.moment (events_of past) holder.0 run.0.0 holder.1) in
-    let released = reset_releases (moment_of r.first.moment (events_of past)) f.0.event f.1 (f.2 ∙ ap (λ (xs : List Reply). WasReset (Some xs)) silent) run.0.1.answered in
+    (laws.accepted r.first.abstract (events_of past) holder.0 run.0.0 holder.1) in
+    let released = reset_releases (abstract_after_all r.first.abstract (events_of past)) f.0.event f.1 (f.2 ∙ ap (λ (xs : List Reply). WasReset (Some xs)) silent) run.0.1.answered in
     record {
       first = r.first;
       begun = r.begun;
@@ -536,7 +536,7 @@ shows_a_release device old new request client frame bytes last_bytes id replies 
       resets = f.1;
       releases = released.0;
       silent = released.1;
-      free = store_done (moment_of r.first.moment (events_of (f.0 ∷ past))) g.0.event client frame 0 last_bytes g.1 g.2 run.1.answered;
+      free = store_done (abstract_after_all r.first.abstract (events_of (f.0 ∷ past))) g.0.event client frame 0 last_bytes g.1 g.2 run.1.answered;
     }
 
 -- eight members, each by its place

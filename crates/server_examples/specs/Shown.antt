@@ -12,10 +12,10 @@ use Rattle.ata_types.specs.declared.request.Outcome.{Outcome}
 use Rattle.ata_types.specs.declared.request.Outcome.TheVariants.{Ok, PortDead}
 use Rattle.adapter.specs.Device.{Device}
 use Rattle.adapter.specs.declared.access.DeviceStep.{DeviceStep}
-use Rattle.block_machine.specs.Events.{CallRecord, AbstractState, Reset, Service, EveryReadHolds, IsLawful, IsRun, IsStillStuck, answers_of, issues_it, moment_of, replies_of, steps_of}
+use Rattle.block_machine.specs.Events.{CallRecord, AbstractState, Reset, Service, EveryReadHolds, IsLawful, IsRun, IsStillStuck, answers_of, issues_it, abstract_after_all, replies_of, steps_of}
 use Rattle.block_machine.specs.Confined.{HasFrame, WasAccepted}
 use Rattle.block_machine.specs.Histories.{Happening, JointState, events_of, now}
-use Rattle.block_machine.specs.Left.{IsLegal, IsStart, after}
+use Rattle.block_machine.specs.Left.{IsLegal, IsInitial, after}
 use Rattle.block_machine.specs.State.{Accepted, Machine, Pending}
 use Rattle.block_machine.specs.Steps.{Step, Answer, Release}
 use Rattle.driver_history.specs.Claims.{HeedsFailure}
@@ -42,8 +42,8 @@ pub record HasRun {A : Type 0} (device : A → Device) (old new : ServerView A) 
   pub asks : map (λ h. h.event.ask) (reverse past) ≡ map ask_of asked
   pub says : map (λ h. h.event.said) (reverse past) ≡ map said_of said
   pub leads : LeadsToServer first past (server_of device new)
-  pub run : IsRun first.moment (events_of past)
-  pub reads : EveryReadHolds first.moment (events_of past)
+  pub run : IsRun first.abstract (events_of past)
+  pub reads : EveryReadHolds first.abstract (events_of past)
 
 -- A history leads from the new server to the other one, in whose last call the read that was asked for is answered Ok.
 -- Before that it was accepted and issued, each of its sectors was moved since its last issue, and it was ended; and its
@@ -54,11 +54,11 @@ pub record ServesRead (old new : ServerState) (asked : Request) : Type 0 where
   pub past : List (Happening Device DeviceStep)
   pub last : Happening Device DeviceStep
   pub leads : LeadsToServer first (last ∷ past) new
-  pub run : IsRun first.moment (events_of (last ∷ past))
+  pub run : IsRun first.abstract (events_of (last ∷ past))
   pub read : Pending
   pub its : read.request.asked ≡ asked
   pub reads : asked.op ≡ Read
-  pub told : CallAnswersOk first.moment (events_of past) last.event read
+  pub told : CallAnswersOk first.abstract (events_of past) last.event read
 
 -- And before that last call it was issued twice, and made to wait again.
 pub record ServesReadAnew (old new : ServerState) (asked : Request) : Type 0 where
@@ -76,15 +76,15 @@ pub record ReleasesFrame (old new : ServerState) (asked : Request) (frame : Fram
   pub reset : Happening Device DeviceStep
   pub later : List (Happening Device DeviceStep)
   pub leads : LeadsToServer first (later ++ reset ∷ past) new
-  pub run : IsRun first.moment (events_of (later ++ reset ∷ past))
+  pub run : IsRun first.abstract (events_of (later ++ reset ∷ past))
   pub dead : Pending
   pub its : dead.request.asked ≡ asked
   pub told : Contains (steps_of (events_of past)) (Answer dead PortDead)
-  pub lent : (now first past).moment.machine.lent frame ≡ Some dead.request.id
+  pub lent : (now first past).abstract.machine.lent frame ≡ Some dead.request.id
   pub resets : reset.event.ask ≡ Reset
   pub releases : Contains reset.event.steps Release
   pub silent : answers_of reset.event.steps ≡ []
-  pub free : (now first (reset ∷ past)).moment.machine.lent frame ≡ None
+  pub free : (now first (reset ∷ past)).abstract.machine.lent frame ≡ None
 
 -- A request was accepted; the device did what it was told; and a service told one request Ok.
 abbrev pub IsServedAtOnce : List (CallResult (ArrayVec Reply)) → Type 0
@@ -111,9 +111,9 @@ IsReleased said = (id : RequestId) × (reply : Reply) × (reply.outcome ≡ Port
 -- rests on them.
 pub record RunLaws : Type 0 where
   pub legal : (first : AbstractState) (run : List (CallRecord DeviceStep)) → IsRun first run
-      → IsStart first.machine × IsLegal first.machine (steps_of run)
-      × ((moment_of first run).machine ≡ after first.machine (steps_of run))
-  pub lent : (start : Machine) (history : List Step) (frame : Frame) (id : RequestId) → IsStart start
+      → IsInitial first.machine × IsLegal first.machine (steps_of run)
+      × ((abstract_after_all first run).machine ≡ after first.machine (steps_of run))
+  pub lent : (start : Machine) (history : List Step) (frame : Frame) (id : RequestId) → IsInitial start
       → IsLegal start history → (after start history).lent frame ≡ Some id
       → (r : Accepted) × WasAccepted start history r × (r.id ≡ id) × HasFrame r frame
   pub accepted : (first : AbstractState) (run : List (CallRecord DeviceStep)) (r : Accepted) → IsRun first run
@@ -125,27 +125,31 @@ pub record RunLaws : Type 0 where
       × (e.request.asked.client ≡ reply.client) × WasAsked e.request past
   pub lawful : (first : AbstractState) (past : List (CallRecord DeviceStep)) (event : CallRecord DeviceStep)
       (e : Pending) (o : Outcome)
-      → IsRun first (event ∷ past) → Contains event.steps (Answer e o) → IsLawful (moment_of first past) event.evidence
+      → IsRun first (event ∷ past) → Contains event.steps (Answer e o)
+      → IsLawful (abstract_after_all first past) event.evidence
       event.ports e o
   pub came : (first : AbstractState) (past : List (CallRecord DeviceStep)) (event : CallRecord DeviceStep) (e : Pending)
-      → IsRun first (event ∷ past) → Contains (moment_of first (event ∷ past)).machine.book e
-      → CameFrom (moment_of first past).machine event.steps e ⊎ AsksFor e.request event
+      → IsRun first (event ∷ past) → Contains (abstract_after_all first (event ∷ past)).machine.book e
+      → CameFrom (abstract_after_all first past).machine event.steps e ⊎ AsksFor e.request event
   pub served : (first : AbstractState) (past : List (CallRecord DeviceStep)) (event : CallRecord DeviceStep)
       (e : Pending)
       → IsRun first (event ∷ past) → EveryReadHolds first (event ∷ past) → Contains event.steps (Answer e Ok)
       → CallAnswersOk first past event e
   pub alone : (first : AbstractState) (run : List (CallRecord DeviceStep)) (e : Pending) → IsRun first run
-      → Contains (moment_of first run).machine.book e → (moment_of first run).ports.state e.request.port ≡ Ready
-      → ((other : Pending) → Contains (moment_of first run).machine.book other → other.request.id ≡ e.request.id)
+      → Contains (abstract_after_all first run).machine.book e
+      → (abstract_after_all first run).ports.state e.request.port ≡ Ready
+      → ((other : Pending) → Contains (abstract_after_all first run).machine.book other → other.request.id
+      ≡ e.request.id)
       → e.issued ≡ true
-  pub counted : (start : Machine) (history : List Step) (e : Pending) → IsStart start → IsLegal start history
+  pub counted : (start : Machine) (history : List Step) (e : Pending) → IsInitial start → IsLegal start history
       → Contains (after start history).book e → (count_by (issues_it e.request.id) history ≡ e.issues)
       × (count_by (issues_it e.request.id) history ≡ count_by (waits_again e.request.id) history + cond e.issued 1 0)
   pub ready : (first : AbstractState) (run : List (CallRecord DeviceStep)) (e : Pending) → IsRun first run
-      → Contains (moment_of first run).machine.book e → ((moment_of first run).ports.state e.request.port ≡ Ready)
-      ⊎ (((moment_of first run).ports.state e.request.port ≡ Dead) × IsStillStuck run)
+      → Contains (abstract_after_all first run).machine.book e
+      → ((abstract_after_all first run).ports.state e.request.port ≡ Ready)
+      ⊎ (((abstract_after_all first run).ports.state e.request.port ≡ Dead) × IsStillStuck run)
   pub heeded : (wanted : List Wanted) (first : JointState Device) (past : List (Happening Device DeviceStep))
       (h : Happening Device DeviceStep) (port : Port)
       → IsDriverHistory wanted first (h ∷ past) → h.event.ask ≡ Service
-      → (now first past).moment.ports.state port ≡ Ready
+      → (now first past).abstract.ports.state port ≡ Ready
       → ShowsFailure ((now first past).device.port port.0) → HeedsFailure port (now first past) h

@@ -36,7 +36,7 @@ use Rattle.dma_frames.specs.Table.{Table}
 use Rattle.request_queue.specs.Entries.{Held, IsAccepted, BookIsInOrder, aged, asks_of}
 use Rattle.request_queue.specs.Machine.{IsBook}
 use Rattle.block_machine.specs.Confined.{IsGranted, WasAccepted, WithinLimits}
-use Rattle.block_machine.specs.Left.{IsLegal, IsStart, after}
+use Rattle.block_machine.specs.Left.{IsLegal, IsInitial, after}
 use Rattle.block_machine.specs.Histories.{JointState, IsReachable, Happening, now}
 use Rattle.block_machine.specs.Events.{AllDevices, AllMay}
 use Rattle.refinement.specs.Spares.{AllFurther, IsFurther, SparesBook}
@@ -53,7 +53,7 @@ pub record BasicLaws : Type 0 where
       → AllMay m (late ++ early)
   pub reached : (m : Machine) (steps : List Step) → IsReachable m → AllMay m steps → IsReachable (after m steps)
   pub history_reached : (wanted : List Wanted) (first : JointState Device) (past : List (Happening Device DeviceStep))
-      → IsDriverHistory wanted first past → IsReachable (now first past).moment.machine
+      → IsDriverHistory wanted first past → IsReachable (now first past).abstract.machine
   -- the book
   pub one : (m : Machine) → IsReachable m → (a b : Pending) → Contains m.book a → Contains m.book b
       → a.request.id.0 ≡ b.request.id.0 → a ≡ b
@@ -155,9 +155,9 @@ pub record AgeLaws : Type 0 where
 
 -- requests that are unanswered or kept
 pub record LivingLaws : Type 0 where
-  pub limits : (start : Machine) (history : List Step) → IsStart start → IsLegal start history
+  pub limits : (start : Machine) (history : List Step) → IsInitial start → IsLegal start history
       → WithinLimits (after start history)
-  pub lived : (start : Machine) (history : List Step) (e : Pending) → IsStart start → IsLegal start history
+  pub lived : (start : Machine) (history : List Step) (e : Pending) → IsInitial start → IsLegal start history
       → IsLiving (after start history) e → WasAccepted start history e.request
   pub granted : (m : Machine) (r : Accepted) → IsNew m r → IsGranted m.rows r
   pub shrunk : (start : Machine) (history : List Step)

@@ -12,7 +12,7 @@ use Rattle.adapter.specs.declared.command.Operation.{Operation}
 use Rattle.adapter.specs.declared.command.Operation.TheVariants.{ReadLog}
 use Rattle.adapter.specs.declared.tape.Entry.{Entry as TapeEntry}
 use Rattle.adapter.specs.declared.tape.Fault.{Fault}
-use Rattle.adapter.specs.Rules.{IsFree, IsOn, IsStable}
+use Rattle.adapter.specs.Rules.{IsUnowned, IsOn, IsStable}
 use Rattle.refinement.specs.Acts.{InSlots, at_slots}
 use Rattle.adapter.specs.Access.{Access, Does, DoesAll, Loads, Stores, Writes}
 use Rattle.adapter.specs.Access.Access.{Loading, Storing}
@@ -53,7 +53,7 @@ use Rattle.commands.specs.declared.ncq.Task.{Task}
 use Rattle.port_control.specs.LookLaws.{Laws}
 use Rattle.request_queue.specs.Entries.{Held, IsAccepted, IsEarlier, IsFresh, BookIsInOrder, IsWaiting, MayGoAgain, all_marked_under, asks_of, at_entry, issue, requeued_entry, unanswered_entries, without_entry}
 use Rattle.request_queue.specs.declared.PendingRequest.{PendingRequest}
-use Rattle.request_queue.specs.Dispositions.{AnswersAlike, Holdings, AreResolved, quarantines_loan}
+use Rattle.request_queue.specs.Dispositions.{AnswersAlike, Holdings, AreResolved, keeps_loan}
 use Rattle.request_queue.specs.Machine.{IsBook, IsEntry}
 use Rattle.request_queue.specs.declared.disposition.Disposition.TheVariants.{Complete}
 use Rattle.server_history.specs.After.{RecoveryLaws, PortErrorLaws}
@@ -112,7 +112,7 @@ pub record LawsBelow : Type 0 where
       → All (IsAccepted table) entries → All (IsAccepted table) (all_marked_under client grant entries)
   -- requests that are answered with one outcome
   pub answered_each : (passes : PendingRequest → Bool) (outcome : Outcome)
-      → ((e : PendingRequest) → quarantines_loan outcome e ≡ false)
+      → ((e : PendingRequest) → keeps_loan outcome e ≡ false)
       → (old : Holdings) → BookIsInOrder old.book → All (IsAccepted old.table) old.book → (replies : List Reply)
       (new : Holdings) → AnswersAlike passes outcome replies old new
       → (now : Holdings) × AreResolved (λ e. Complete outcome) (filter (λ e. passes e.entry) old.book) replies old now
@@ -185,7 +185,7 @@ pub record LawsBelow : Type 0 where
   pub client_bytes_free : (uses : SlotStates) (m : Machine) (d : Device) → IsReachable m → StateRelation uses m d
       → (client : ClientId)
       (frame : Frame) (offset n : ℕ) → FRAME_BYTES * frame.0 + FRAME_BYTES ≤ d.size
-      → IsOpen m.owner m.lent client frame offset n → IsStable (IsFree (FRAME_BYTES * frame.0 + offset) n) d
+      → IsOpen m.owner m.lent client frame offset n → IsStable (IsUnowned (FRAME_BYTES * frame.0 + offset) n) d
   -- a port that runs does so still
   pub runs_over : (port : Port) (access : Access) (old new : Device) → IsOn old → SparesRegister (Px port Sctl) access
       → SparesRegister (Px port Cmd) access → Does access old new → RunsOn port.0 old new

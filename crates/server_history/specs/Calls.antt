@@ -30,7 +30,7 @@ use Rattle.port_control.specs.Engines.{Stops}
 use Rattle.port_control.specs.Looks.{LooksAt, look_of, IsLooking}
 use Rattle.port_control.specs.Services.{HasLoss, IsOrdinary, IsService, ShowsDisks, ShowsFatals, ShowsFaults}
 use Rattle.port_control.specs.declared.events.PortEvent.{PortEvent}
-use Rattle.port_control.specs.declared.events.PortEvent.TheVariants.{BusError, TaskFileError, LinkChanged, NoEvent}
+use Rattle.port_control.specs.declared.events.PortEvent.TheVariants.{FatalError, TaskFileError, LinkChanged, NoEvent}
 
 pub record LookLaws : Type 0 where
   -- a reading of a port's register
@@ -60,7 +60,7 @@ pub record LookLaws : Type 0 where
   pub looks_calm : (port : Port) (result : PortEvent) (old new : Device) → IsOn old → (l : LooksAt port result old new)
       → result ≡ NoEvent → ShowsNoTrouble (old.port port.0) × Undisturbed port.0 old l.seen
   -- a command that fails is heeded
-  pub looks_broken : (causes status : ℕ) → look_of causes status ≡ BusError
+  pub looks_broken : (causes status : ℕ) → look_of causes status ≡ FatalError
       → ((bit causes 28 ≡ true) ⊎ (bit causes 29 ≡ true) ⊎ (bit causes 27 ≡ true)) × (bit causes 6 ≡ false)
       × (bit causes 22 ≡ false) × (status % 16 ≡ 3)
   -- trouble is heeded
@@ -101,10 +101,10 @@ pub record CallLaws : Type 0 where
   -- a port's turn in a call
   pub evidence : (port : Port) (old : JointState Device) (begun : AbstractState) (ended ports : Ports) (new : Device)
       (turn call : Evidence) (ask : Ask DeviceStep) (said : CallResult) → IsOn old.device
-      → ((old.moment.ports.state port ≡ Ready) ⊎ Contains turn.lost port → (old.device.port port.0).link_due ≡ false)
-      → (t : HasTurnIn port old.device new) → IsOn t.end → SamePort old.moment.ports begun.ports port
+      → ((old.abstract.ports.state port ≡ Ready) ⊎ Contains turn.lost port → (old.device.port port.0).link_due ≡ false)
+      → (t : HasTurnIn port old.device new) → IsOn t.end → SamePort old.abstract.ports begun.ports port
       → SamePort ended ports port → NamesAlike port turn call
-      → IsEvidencedOf ask said t.turn (record { device = t.start; moment = begun }) ended t.end turn port
+      → IsEvidencedOf ask said t.turn (record { device = t.start; abstract = begun }) ended t.end turn port
       → IsEvidencedOf ask said (all_of t) old ports new call port
   pub failed : (port : Port) (old new : Device) (fault : Fault) → IsOn old → (t : HasTurnIn port old new)
       → HasFailed port t.turn t.start t.end fault → HasFailed port (all_of t) old new fault
@@ -120,23 +120,23 @@ pub record CallLaws : Type 0 where
   pub alone_then : (port : Port) (old : JointState Device) (begun : AbstractState) (new : Device) → IsOn old.device
       → (old.device.port port.0).link_due ≡ false → (t : HasTurnIn port old.device new) → IsOn t.end
       → begun.ports.state port ≡ Ready → HasFaultAlone port old new
-      → HasFaultAlone port (record { device = t.start; moment = begun }) t.end
+      → HasFaultAlone port (record { device = t.start; abstract = begun }) t.end
   pub call_trouble : (port : Port) (old : JointState Device) (begun : AbstractState) (ended ports : Ports)
       (new : Device)
       (turn call : Evidence) → IsOn old.device
       → (t : HasTurnIn port old.device new) → IsOn t.end → SamePort ended ports port → NamesAlike port turn call
-      → SamePort old.moment.ports begun.ports port → (ended.state port ≡ Ready → IsInterrupted turn port
+      → SamePort old.abstract.ports begun.ports port → (ended.state port ≡ Ready → IsInterrupted turn port
       → length t.start.tape ≤ (t.end.port port.0).notes.st_set_at)
       → ((begun.ports.state port ≡ Ready) ⊎ (ended.state port ≡ Ready) → ShowsFailure (t.start.port port.0)
       ⊎ ShowsChange (t.start.port port.0) → IsInterrupted turn port)
-      → LosesNoPortError turn (record { device = t.start; moment = begun }) ended t.end port
+      → LosesNoPortError turn (record { device = t.start; abstract = begun }) ended t.end port
       → LosesNoPortError call old ports new port
   pub call_boots : (port : Port) (old : JointState Device) (begun : AbstractState) (ended ports : Ports) (new : Device)
       (one other : CallResult) → IsOn old.device
-      → (old.moment.ports.state port ≡ Ready → (old.device.port port.0).link_due ≡ false)
+      → (old.abstract.ports.state port ≡ Ready → (old.device.port port.0).link_due ≡ false)
       → (t : HasTurnIn port old.device new) → IsOn t.end → SamePort ended ports port
-      → SamePort old.moment.ports begun.ports port
-      → BootsAnew Service one t.turn (record { device = t.start; moment = begun }) ended t.end port
+      → SamePort old.abstract.ports begun.ports port
+      → BootsAnew Service one t.turn (record { device = t.start; abstract = begun }) ended t.end port
       → BootsAnew Service other (all_of t) old ports new port
   pub call_well : (port : Port) (old : JointState Device) (begun : AbstractState) (ended ports : Ports) (new : Device)
       (turn call : Evidence) → IsOn old.device
@@ -144,20 +144,21 @@ pub record CallLaws : Type 0 where
       → (ended.state port ≡ Ready → ((old.device.port port.0).link_due ≡ false) ⊎ ResetsLink port t.turn)
       → SamePort ended ports port → NamesAlike port turn call
       → (ended.state port ≡ Ready → (t.end.port port.0).notes.st_set_at ≤ length t.end.tape)
-      → RunsWellAnew turn t.turn (record { device = t.start; moment = begun }) ended t.end port
+      → RunsWellAnew turn t.turn (record { device = t.start; abstract = begun }) ended t.end port
       → RunsWellAnew call (all_of t) old ports new port
   -- a disk that is probed in a port's turn
   pub call_tries : (port : Port) (old : JointState Device) (begun : AbstractState) (ended ports : Ports) (new : Device)
       → IsOn old.device → (t : HasTurnIn port old.device new) → IsOn t.end → SamePort ended ports port
-      → SamePort old.moment.ports begun.ports port
-      → (IsUnfitOrForeign old.moment.ports port → HasDeviceOrNone (old.device.port port.0))
-      → EndsLinked port (record { device = t.start; moment = begun }) ended t.end
-      → (NoneComes port.0 t.start t.end → ProbesDisk t.turn (record { device = t.start; moment = begun }) ended t.end
+      → SamePort old.abstract.ports begun.ports port
+      → (IsUnfitOrForeign old.abstract.ports port → HasDeviceOrNone (old.device.port port.0))
+      → EndsLinked port (record { device = t.start; abstract = begun }) ended t.end
+      → (NoneComes port.0 t.start t.end → ProbesDisk t.turn (record { device = t.start; abstract = begun }) ended t.end
       port)
       → NoneComes port.0 old.device new → ProbesDisk (all_of t) old ports new port
   pub call_linked : (port : Port) (old : JointState Device) (begun : AbstractState) (ended ports : Ports) (new : Device)
       → IsOn old.device → (t : HasTurnIn port old.device new) → IsOn t.end → SamePort ended ports port
-      → SamePort old.moment.ports begun.ports port → EndsLinked port (record { device = t.start; moment = begun }) ended
+      → SamePort old.abstract.ports begun.ports port
+      → EndsLinked port (record { device = t.start; abstract = begun }) ended
       t.end → EndsLinked port old ports new
   pub set_since : (port : Port) (accesses : List Access) (old new : Device) → IsOn old
       → All (SparesRegister Ghc) accesses → DoesAll accesses old new → Stops port accesses → (new.port port.0).st ≡ true

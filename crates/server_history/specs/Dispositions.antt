@@ -15,7 +15,7 @@ use Rattle.block_machine.specs.Steps.{Step, Again, Answer}
 use Rattle.dma_frames.specs.Loan.{Lending}
 use Rattle.dma_frames.specs.Table.{lent_to}
 use Rattle.request_queue.specs.Entries.{Held, IsAccepted, IsEarlier, BookIsInOrder}
-use Rattle.request_queue.specs.Dispositions.{Holdings, quarantines_loan}
+use Rattle.request_queue.specs.Dispositions.{Holdings, keeps_loan}
 use Rattle.request_queue.specs.Machine.{IsBook, IsEntry}
 use Rattle.request_queue.specs.declared.PendingRequest.{PendingRequest}
 use Rattle.request_queue.specs.declared.disposition.Disposition.{Disposition}
@@ -30,7 +30,7 @@ DecidesOn port step = ⊥
 
 -- it ends with its frames lent still
 abbrev pub keeps_fate : Disposition → PendingRequest → Bool
-keeps_fate (Complete outcome) e = quarantines_loan outcome e
+keeps_fate (Complete outcome) e = keeps_loan outcome e
 keeps_fate _ e = false
 
 -- the loan of a request that the machine keeps

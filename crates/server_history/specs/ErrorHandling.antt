@@ -33,7 +33,7 @@ use Rattle.slots.specs.Uses.{PortSlots, use_at}
 use Rattle.slots.specs.declared.SlotUse.{SlotUse}
 use Rattle.server_history.specs.Served.{AnswersEach, IsMaskOf, IssuesAll, done_reply}
 use Rattle.port_control.specs.declared.events.PortError.{PortError}
-use Rattle.port_control.specs.declared.events.PortError.TheVariants.{BusError, TaskFileError, TimedOut, LinkChanged}
+use Rattle.port_control.specs.declared.events.PortError.TheVariants.{FatalError, TaskFileError, TimedOut, LinkChanged}
 use Rattle.server_history.specs.Server.{ServerState, kept_at, mode_found, slots_at, used_for}
 
 -- ---- a port's error is handled
@@ -42,7 +42,7 @@ use Rattle.server_history.specs.Server.{ServerState, kept_at, mode_found, slots_
 -- that the disk was lost. That a request is hung its age tells, and the port isn't looked at.
 abbrev pub IsFoundOut : Port → PortError → Device → Device → Type 0
 IsFoundOut port TaskFileError old seen = LooksAt port look.TaskFileError old seen
-IsFoundOut port BusError old seen = LooksAt port look.BusError old seen
+IsFoundOut port FatalError old seen = LooksAt port look.FatalError old seen
 IsFoundOut port LinkChanged old seen = LooksAt port look.LinkChanged old seen
 IsFoundOut port TimedOut old seen = seen ≡ old
 

@@ -14,8 +14,8 @@ use Rattle.server_history.specs.Stalled.{StuckInvariant}
 -- machine stands for it.
 pub record ServerRelation (now : JointState Device) (s : ServerState) : Type 0 where
   pub device_is : now.device ≡ s.device
-  pub ports_are : now.moment.ports ≡ ports_of s
-  pub machine : IsMachineOf s now.moment.machine
+  pub ports_are : now.abstract.ports ≡ ports_of s
+  pub machine : IsMachineOf s now.abstract.machine
 
 -- what a store of a client's bytes says
 abbrev pub store_said : Result (Unit {0}) MemFault → CallResult

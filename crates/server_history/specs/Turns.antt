@@ -38,12 +38,12 @@ use Rattle.server_history.specs.Served.{AnswersTurn, HasTurn}
 use Rattle.server_history.specs.Server.{ServerState, IsMachineOf, SettledInvariant, mode_at, mode_in, ports_of, remembered_at, slots_at, state_of, used_for}
 use Rattle.slots.specs.declared.SlotUse.{SlotUse}
 
--- the moment and the instant at which a machine stands for the server
-abbrev pub server_moment : ServerState → Machine → AbstractState
-server_moment s m = record { machine = m; ports = ports_of s }
+-- the abstract and the joint state in which a machine stands for the server
+abbrev pub abstract_state_of : ServerState → Machine → AbstractState
+abstract_state_of s m = record { machine = m; ports = ports_of s }
 
-abbrev pub server_instant : ServerState → Machine → JointState Device
-server_instant s m = record { device = s.device; moment = server_moment s m }
+abbrev pub joint_state_of : ServerState → Machine → JointState Device
+joint_state_of s m = record { device = s.device; abstract = abstract_state_of s m }
 
 -- the step is the device's own, or the server's with a request of such a port
 abbrev pub IsStepOf : (Port → Type 0) → Step → Type 0
@@ -95,17 +95,23 @@ pub data Turn : Type 0 where
   InService InProbe InRestart AtRest : Turn
 
 -- the call that the turn is a part of
-abbrev pub call_of : Turn → Ask DeviceStep
-call_of InService = Service
-call_of InProbe = Service
-call_of InRestart = Tick
-call_of AtRest = Tick
+abbrev pub ask_of_turn : Turn → Ask DeviceStep
+ask_of_turn InService = Service
+ask_of_turn InProbe = Service
+ask_of_turn InRestart = Tick
+ask_of_turn AtRest = Tick
 
 -- a turn, as though it were a call of its own
-abbrev pub turn_of : Turn → List Reply → ServerState → Evidence → List Step → Happening Device DeviceStep
-turn_of turn replies new evidence steps = record {
+abbrev pub happening_of_turn : Turn → List Reply → ServerState → Evidence → List Step → Happening Device DeviceStep
+happening_of_turn turn replies new evidence steps = record {
   event =
-      record { ask = call_of turn; said = Served replies; evidence = evidence; steps = steps; ports = ports_of new };
+      record {
+        ask = ask_of_turn turn;
+        said = Served replies;
+        evidence = evidence;
+        steps = steps;
+        ports = ports_of new;
+      };
   device = new.device;
 }
 
@@ -120,19 +126,19 @@ pub record HeedsPortErrors (port : Port) (accesses : List Access) (old : JointSt
 abbrev pub TurnCorresponds : Turn → Port → List Reply → List Access → ServerState → ServerState → Machine → Evidence
     → List Step → Type 0
 TurnCorresponds InService port replies accesses old new m evidence steps =
-    PortCorresponds (server_instant old m) (turn_of InService replies new evidence steps) accesses port
+    PortCorresponds (joint_state_of old m) (happening_of_turn InService replies new evidence steps) accesses port
 TurnCorresponds InRestart port replies accesses old new m evidence steps =
-    HeedsPortErrors port accesses (server_instant old m) evidence (ports_of new) new.device
+    HeedsPortErrors port accesses (joint_state_of old m) evidence (ports_of new) new.device
 TurnCorresponds InProbe port replies accesses old new m evidence steps =
-    PortCorresponds (server_instant old m) (turn_of InProbe replies new evidence steps) accesses port
-    × EndsLinked port (server_instant old m) (ports_of new) new.device
+    PortCorresponds (joint_state_of old m) (happening_of_turn InProbe replies new evidence steps) accesses port
+    × EndsLinked port (joint_state_of old m) (ports_of new) new.device
 TurnCorresponds AtRest port replies accesses old new m evidence steps = Unit {0}
 
 -- What was done was found by a reading of the masks, in which the bits of each slot that wasn't used when the turn
 -- began were clear. (The bytes of such a slot may say still the command of a request that has ended.)
 pub record FindsTurn (port : Port) (accesses : List Access) (old : ServerState) (m : Machine)
     (steps : List Step) : Type 0 where
-  pub done : FindsDone port accesses (server_instant old m) steps
+  pub done : FindsDone port accesses (joint_state_of old m) steps
   pub unused : (slot : ℕ) → slot < 32 → used_for old.slots port.0 slot ≡ None → (bit done.ci slot ≡ false)
       × (bit done.sact slot ≡ false)
 
@@ -149,7 +155,7 @@ pub record RestartsPort (port : Port) (accesses : List Access) (old new : Server
   pub interrupts : IsInterrupted evidence port
   pub anew : NoneKeepsIssue steps (after m steps) port
   pub another : FindsAnother steps (ports_of old) (ports_of new)
-  pub disk : HadDisk (server_moment old m) steps (server_moment new (after m steps)) port
+  pub disk : HadDisk (abstract_state_of old m) steps (abstract_state_of new (after m steps)) port
 
 -- What a turn owes besides. In a service requests wait again, are aborted, told Revoked or a fault, on ports alone that
 -- failed; of a port that isn't ready no fault is told, and no loss. A restart owes what it does, and tells no fault.
@@ -175,19 +181,19 @@ pub record MakesTurn (turn : Turn) (port : Port) (replies : List Reply) (accesse
   pub stands : IsMachineOf new (after m steps)
   pub backed : IsBacked old.device new.device m steps
   pub own : All (IsOfTurn port) steps
-  pub belong : Belong (call_of turn) (ports_of new) steps
+  pub belong : Belong (ask_of_turn turn) (ports_of new) steps
   pub last : IssuesLast steps
   pub names : NamesOnly port evidence
-  pub lawful : AllLawful (server_moment old m) evidence (ports_of new) steps
+  pub lawful : AllLawful (abstract_state_of old m) evidence (ports_of new) steps
   pub owes : OwesTurn turn port accesses old new m evidence steps
   pub tells : Tells steps replies
   pub unplugs : UnplugsAll steps (after m steps)
   pub becomes : IsServiced (ports_of old) evidence (ports_of new) port
   pub disk : SamePort (ports_of old) (ports_of new) port
-      ⊎ HadDisk (server_moment old m) steps (server_moment new (after m steps)) port
+      ⊎ HadDisk (abstract_state_of old m) steps (abstract_state_of new (after m steps)) port
   pub keeps : SameDisk (ports_of old) (ports_of new) port ⊎ NoneWaits (after m steps) port
   pub issues : (ports_of new).state port ≡ ReadyState → IssuesDue (mode_in new port) steps (after m steps) port
-  pub evidenced : IsEvidencedOf (call_of turn) (Served replies) accesses (server_instant old m)
+  pub evidenced : IsEvidencedOf (ask_of_turn turn) (Served replies) accesses (joint_state_of old m)
       (ports_of new) new.device
       evidence port
   pub faults : (told : RequestFault) → Contains evidence.faults told → TellsFault port accesses old new told

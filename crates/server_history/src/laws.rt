@@ -15,7 +15,7 @@ ghost use Rattle.adapter.specs.Access.{Loads, Stores};
 ghost use Rattle.adapter.specs.Asked.{Asked};
 ghost use Rattle.adapter.specs.Device.{Device};
 ghost use Rattle.adapter.specs.Idle.{IsIdle, TellsDisks};
-ghost use Rattle.adapter.specs.Rules.{HasPort, IsFree, IsOn, IsStable};
+ghost use Rattle.adapter.specs.Rules.{HasPort, IsUnowned, IsOn, IsStable};
 ghost use Rattle.adapter.specs.Steps.{Steps};
 ghost use Rattle.adapter.specs.declared.access.DeviceStep.{DeviceStep};
 ghost use Rattle.refinement.specs.Driven.{RelatesWith, AnyUse, IsSimulated};
@@ -56,7 +56,7 @@ ghost use Rattle.port_control.specs.declared.Stopped.{Stopped};
 ghost use Rattle.server_history.specs.ErrorHandling.{AreQueued, IsErrorHandled, HasResolved, HandlesPortError, requests_of};
 
 use super::lawful::{law_below, law_living};
-use ata_types::READINGS;
+use ata_types::MOST_READINGS;
 use host_boot::laws::law_what_was_taken_over_may_be_served;
 
 /// A ready port of a new server runs well, if nothing went wrong on it since the adapter was idle.
@@ -116,7 +116,7 @@ pub fn law_refusals_add()
 pub fn law_open_bytes_are_free()
     ensures { (s : ServerState) (client : ClientId) (frame : Frame) (offset count : ℕ) → BookInvariant s
         → IsOpen (owner_of s.table) (lent_to s.table) client frame offset count
-        → IsStable (IsFree (FRAME_BYTES * frame.0 + offset) count) s.device }
+        → IsStable (IsUnowned (FRAME_BYTES * frame.0 + offset) count) s.device }
 {
     law_below();
 }
@@ -281,7 +281,7 @@ pub fn law_a_port_goes_on_after_its_errors()
     ensures bootable { (s mid : ServerState) (device : Device) (port : Port) (token : Stopped) → InCallInvariant s
         → state_of (probe_result_of s.ports port.0) ≡ ReadyState → (r : IsErrorHandled port s mid device)
         → IsSimulated (IsLooking port) AnyUse s.device r.seen → r.result.next ≡ Restart token → IsBootable port device
-        × IsStopped (device.port port.0) × ((device.port port.0).notes.link_count ≡ READINGS) }
+        × IsStopped (device.port port.0) × ((device.port port.0).notes.link_count ≡ MOST_READINGS) }
     ensures mode { (s mid : ServerState) (device : Device) (port : Port) → InCallInvariant s
         → state_of (probe_result_of s.ports port.0)
         ≡ ReadyState

@@ -38,7 +38,7 @@ pub record DeathIsAHistory : Type 0 where
       × (service.event.said ≡ Served (record { id = first_id; client = asked.client; outcome = PortDead } ∷ []))
   pub history : IsDriverHistory (Any ∷ Any ∷ []) first (service ∷ reset ∷ submit ∷ [])
   pub kept : Pending
-  pub keeps : Contains (now first (service ∷ reset ∷ submit ∷ [])).moment.machine.kept kept
+  pub keeps : Contains (now first (service ∷ reset ∷ submit ∷ [])).abstract.machine.kept kept
       × (kept.request.id ≡ first_id)
   pub accesses : (history.0.2.accesses ≡ reset_accesses) × (history.2.accesses ≡ [])
   pub reset_parts : (port : Port) → PortCorresponds (now first (submit ∷ [])) reset history.0.2.accesses port

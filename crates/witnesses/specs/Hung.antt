@@ -36,14 +36,14 @@ pub record HungPortIsAHistory : Type 0 where
   pub submits : (submit.event.ask ≡ Submit asked) × (submit.event.said ≡ Submitted (Ok first_id))
   pub tick : Happening Device DeviceStep
   pub ticks : TellsNothing tick
-  pub young : (port : Port) → HasTimedOut (now first (submit ∷ [])).moment port → ⊥
+  pub young : (port : Port) → HasTimedOut (now first (submit ∷ [])).abstract port → ⊥
   pub second : Happening Device DeviceStep
   pub ticks_again : TellsNothing second
-  pub young_then : (port : Port) → HasTimedOut (now first (tick ∷ submit ∷ [])).moment port → ⊥
+  pub young_then : (port : Port) → HasTimedOut (now first (tick ∷ submit ∷ [])).abstract port → ⊥
   pub ready : second.event.ports.state (port_at 0) ≡ Ready
   pub well : RunsWell (second.device.port 0)
-  pub hung : HasTimedOut (now first (second ∷ tick ∷ submit ∷ [])).moment (port_at 0)
-  pub alone : (port : Port) → HasTimedOut (now first (second ∷ tick ∷ submit ∷ [])).moment port → port ≡ port_at 0
+  pub hung : HasTimedOut (now first (second ∷ tick ∷ submit ∷ [])).abstract (port_at 0)
+  pub alone : (port : Port) → HasTimedOut (now first (second ∷ tick ∷ submit ∷ [])).abstract port → port ≡ port_at 0
   pub restart : Happening Device DeviceStep
   pub restarts : (restart.event.ask ≡ Tick)
       × (restart.event.said ≡ Served (record { id = first_id; client = asked.client; outcome = Unplugged } ∷ []))

@@ -50,7 +50,7 @@ loss_evidence = record {
 -- calls is done, whether it stays healthy or not.
 pub record LossIsAHistory : Type 0 where
   pub first : JointState Device
-  pub ready : (first.moment.ports.state (port_at 0) ≡ Ready) × (first.moment.ports.state (port_at 1) ≡ Ready)
+  pub ready : (first.abstract.ports.state (port_at 0) ≡ Ready) × (first.abstract.ports.state (port_at 1) ≡ Ready)
   pub submit : Happening Device DeviceStep
   pub asked : Request
   pub reads : asked.op ≡ Read

@@ -35,8 +35,8 @@ passing = Reading (Px (port_at 1) Is) 0 ∷ Reading (Px (port_at 1) Ssts) 3 ∷ 
 pub record MissingDiskIsAHistory : Type 0 where
   pub first : JointState Device
   pub past : List (Happening Device DeviceStep)
-  pub unfit : ((now first past).moment.ports.state (port_at 0) ≡ Unfit 8)
-      × ((now first past).moment.ports.state (port_at 1) ≡ Unfit 8)
+  pub unfit : ((now first past).abstract.ports.state (port_at 0) ≡ Unfit 8)
+      × ((now first past).abstract.ports.state (port_at 1) ≡ Unfit 8)
   pub unplug : Happening Device DeviceStep
   pub goes : (unplug.event.ask ≡ Told (asked.Unplug (port_at 0))) × (unplug.event.said ≡ Stepped true)
   pub unseen : unplug.event.ports.state (port_at 0) ≡ Unfit 8

@@ -45,7 +45,7 @@ tells_done id asked = Served (record { id = id; client = asked.client; outcome =
 -- Each port's part in the four calls is done, whether it stays healthy or not.
 pub record OrderIsFree : Type 0 where
   pub first : JointState Device
-  pub queues : first.moment.ports.mode (port_at 0) ≡ queued
+  pub queues : first.abstract.ports.mode (port_at 0) ≡ queued
   pub submit_first : Happening Device DeviceStep
   pub asked_first : Request
   pub submits_first : (submit_first.event.ask ≡ Submit asked_first)
@@ -60,12 +60,13 @@ pub record OrderIsFree : Type 0 where
   pub serve_second : Happening Device DeviceStep
   pub serves_second : (serve_second.event.ask ≡ Service) × (serve_second.event.said ≡ tells_done second_id asked_second)
   pub one_active : ((serve_second.device.port 0).sact 0 ≡ true) × ((serve_second.device.port 0).sact 1 ≡ false)
-  pub left : (e : Pending) → Contains (now first (serve_second ∷ submit_second ∷ submit_first ∷ [])).moment.machine.book
+  pub left : (e : Pending)
+      → Contains (now first (serve_second ∷ submit_second ∷ submit_first ∷ [])).abstract.machine.book
       e
       → (e.request.id ≡ first_id) × (e.issued ≡ true)
   pub serve_first : Happening Device DeviceStep
   pub serves_first : (serve_first.event.ask ≡ Service) × (serve_first.event.said ≡ tells_done first_id asked_first)
-  pub ready : (first.moment.ports.state (port_at 0) ≡ Ready)
+  pub ready : (first.abstract.ports.state (port_at 0) ≡ Ready)
       × (submit_first.event.ports.state (port_at 0) ≡ Ready) × (submit_second.event.ports.state (port_at 0) ≡ Ready)
       × (serve_second.event.ports.state (port_at 0) ≡ Ready) × (serve_first.event.ports.state (port_at 0) ≡ Ready)
   pub healthy : StaysHealthy 0 submit_second.device serve_second.device

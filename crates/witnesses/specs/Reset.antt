@@ -52,12 +52,12 @@ pub record ResetIsAHistory : Type 0 where
   pub submits : (submit.event.ask ≡ Submit asked) × (submit.event.said ≡ Submitted (Ok first_id))
   pub frame : Frame
   pub its : asked.frames.items ≡ frame ∷ []
-  pub lent : (now first (submit ∷ [])).moment.machine.lent frame ≡ Some first_id
+  pub lent : (now first (submit ∷ [])).abstract.machine.lent frame ≡ Some first_id
   pub reset : Happening Device DeviceStep
   pub resets : (reset.event.ask ≡ Reset)
       × (reset.event.said ≡ WasReset (Some (record { id = first_id; client = asked.client; outcome = Unplugged } ∷ [])))
   pub unfit : (reset.event.ports.state (port_at 0) ≡ Unfit 8) × (reset.event.ports.state (port_at 1) ≡ Unfit 8)
-  pub freed : (now first (reset ∷ submit ∷ [])).moment.machine.lent frame ≡ None
+  pub freed : (now first (reset ∷ submit ∷ [])).abstract.machine.lent frame ≡ None
   pub does : DoesAll rebooting submit.device reset.device
   pub allowed : AreAllowed rebooting submit.device reset.device does
   pub history : IsDriverHistory (Any ∷ Any ∷ []) first (reset ∷ submit ∷ [])

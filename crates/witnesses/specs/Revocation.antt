@@ -23,9 +23,9 @@ pub record RevocationIsAHistory : Type 0 where
   pub revoke : Happening Device DeviceStep
   pub revokes : (revoke.event.ask ≡ RevokeOf asked.client asked.grant) × (revoke.event.said ≡ WasRevoked (Some []))
   pub issued : Pending
-  pub book : (now first (revoke ∷ submit ∷ [])).moment.machine.book ≡ issued ∷ []
+  pub book : (now first (revoke ∷ submit ∷ [])).abstract.machine.book ≡ issued ∷ []
   pub goes_on : (issued.request.asked ≡ asked) × (issued.issued ≡ true)
-  pub gone : HasGrant (now first (revoke ∷ submit ∷ [])).moment.machine issued → ⊥
+  pub gone : HasGrant (now first (revoke ∷ submit ∷ [])).abstract.machine issued → ⊥
   pub history : IsDriverHistory (Any ∷ Any ∷ []) first (revoke ∷ submit ∷ [])
   pub accesses : history.2.accesses ≡ []
   pub submit_parts : (port : Port) → PortCorresponds first submit history.0.2.accesses port

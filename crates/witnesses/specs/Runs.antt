@@ -9,7 +9,7 @@ use Rattle.adapter.specs.FirstRead.{no_notes, quiet_port}
 use Rattle.adapter.specs.Guarded.{IsGuarded, Passing}
 use Rattle.adapter.specs.Idle.{IsIdle, IsSane}
 use Rattle.adapter.specs.Memory.{patched, bytes_at}
-use Rattle.adapter.specs.Rules.{InUse, IsFree, MayRead, MayWrite}
+use Rattle.adapter.specs.Rules.{InUse, IsUnowned, MayRead, MayWrite}
 use Rattle.adapter.specs.Steps.{DeviceTransition, Can, device_after, fault_entry}
 use Rattle.adapter.specs.declared.tape.Entry.{Entry}
 use Rattle.adapter.specs.Steps.DeviceTransition.{Fetch as Fetching, FetchFault as SenselessFetching, Move as Moving, Clear as Clearing, Done as Ending, Fault as Failing, Fatal as FailingFatally, Fall as Falling, FrFall as FallingSilent, LinkUp as Linking, Unplug as Unplugging, Plug as Plugging, ResetEnds as EndingReset, Scribble as Scribbling}
@@ -23,8 +23,8 @@ pub data AccessOrStep : Type 0 where
 abbrev pub IsAllowedEvent : Access → Device → Type 0
 IsAllowedEvent (Reading r v) d = MayRead r d × Shows r v d
 IsAllowedEvent (Writing r v) d = MayWrite r v d
-IsAllowedEvent (Loading at bytes) d = IsFree at (length bytes) d × (bytes ≡ bytes_at d.memory at (length bytes))
-IsAllowedEvent (Storing at bytes) d = IsFree at (length bytes) d
+IsAllowedEvent (Loading at bytes) d = IsUnowned at (length bytes) d × (bytes ≡ bytes_at d.memory at (length bytes))
+IsAllowedEvent (Storing at bytes) d = IsUnowned at (length bytes) d
 
 abbrev pub after_access : Access → Device → Device
 after_access (Reading r v) d = noted r v d

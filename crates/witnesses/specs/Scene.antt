@@ -2,7 +2,7 @@
 use Rattle.std.specs.Prelude.{ℕ, Bool, false, List, ◌∷◌, ◌++◌, replicate, slice_index_or, true}
 use Rattle.ata_types.specs.declared.PortState as shown
 use Rattle.ata_types.specs.declared.PortState.TheVariants.{Absent}
-use Rattle.ata_types.specs.declared.limits.TheConstants.{READINGS}
+use Rattle.ata_types.specs.declared.limits.TheConstants.{MOST_READINGS}
 use Rattle.adapter.specs.Access.{named_causes}
 use Rattle.adapter.specs.Device.{DevicePort, Device}
 use Rattle.adapter.specs.FirstRead.{first_read, no_notes, quiet_port, reading_port}
@@ -60,7 +60,7 @@ running_port port = record reading_port {
   bases = programmed port;
   ci = λ _. false;
   ie = named_causes;
-  notes = record no_notes { last_ssts = 3; link_count = READINGS };
+  notes = record no_notes { last_ssts = 3; link_count = MOST_READINGS };
 }
 
 -- these are the first ports, and the others are as after a reset

@@ -6,7 +6,7 @@ ghost use Rattle.adapter.specs.Idle.{IsIdle};
 use adapter::{
     Adapter, DeviceStep, Direction, DiskNumber, DiskPage, Entry, Move, Operation, Stepped,
 };
-use ata_types::{DRIVER_BYTES, FEWEST_FRAMES, PORTS, Port, PortState, SCRATCH, Slot};
+use ata_types::{DRIVER_BYTES, FEWEST_FRAMES, PORTS, Port, PortState, SCRATCH_OFFSET, Slot};
 use device_model::{Model, ModelConfig, Trim};
 use hba_regs::Reg;
 use host_boot::{ProbeResult, take_over};
@@ -196,7 +196,7 @@ fn is_page(moved: &Move) -> bool {
         && moved.operation == Operation::Identify
         && moved.direction == Direction::ToMemory
         && moved.sector == 0
-        && moved.address == SCRATCH
+        && moved.address == SCRATCH_OFFSET
 }
 
 /// Whether the tape tells of a page, the only one, and of the end of its command; or of no page.

@@ -1,4 +1,4 @@
-use Rattle.ata_types.specs.declared.memory.TheConstants.{DRIVER_BYTES, PORT_BYTES, PRD_BYTES, TABLES, TABLE_BYTES, TABLE_HEAD}
+use Rattle.ata_types.specs.declared.memory.TheConstants.{DRIVER_BYTES, PORT_BYTES, PRD_BYTES, TABLES_OFFSET, TABLE_BYTES, TABLE_HEAD}
 use Rattle.ata_types.specs.declared.limits.TheConstants.{MOST_REQUEST_FRAMES}
 use Rattle.std.proofs.Common.{ℕ, List, ◌≡◌, ◌+◌, ◌*◌, ◌≤◌, refl, ap, ◌∙◌, subst, sym, inl, inr, arith, length, replicate, take}
 use Rattle.byteorder.specs.Endian.{little_from}
@@ -7,7 +7,7 @@ use Rattle.adapter.specs.Access.{Stores}
 use Rattle.adapter.specs.Access.Access.{Storing}
 use Rattle.adapter.specs.Device.{Device}
 use Rattle.adapter.specs.Memory.{bytes_at}
-use Rattle.adapter.specs.Rules.{IsFree, IsStable}
+use Rattle.adapter.specs.Rules.{IsUnowned, IsStable}
 use Rattle.adapter.specs.Encoding.{EncodesHeader}
 use Rattle.refinement.specs.Places.{list_of, table_of}
 use Rattle.command_table.specs.Written.{IsTableStore, IsUnused}
@@ -20,8 +20,8 @@ at_places : (P : ℕ → ℕ → Type 0) (port slot p s : ℕ) → p ≡ port �
 at_places P port slot p s here there h = let Q : ℕ → Type 0 = λ x. P x slot in subst Q here (let R : ℕ → Type 0 = λ x. P p x in subst R there h)
 
 -- bytes that were stored at the table's place, or at the header's
-table_stored : (port slot p t : ℕ) (bytes : List ℕ) (old new : Device) → p ≡ port → t ≡ slot → Stores (PORT_BYTES * p + TABLES + TABLE_BYTES * t) bytes old new → Stores (table_of port slot) bytes old new
-table_stored port slot p t bytes old new = at_places (λ a b. Stores (PORT_BYTES * a + TABLES + TABLE_BYTES * b) bytes old new) port slot p t
+table_stored : (port slot p t : ℕ) (bytes : List ℕ) (old new : Device) → p ≡ port → t ≡ slot → Stores (PORT_BYTES * p + TABLES_OFFSET + TABLE_BYTES * t) bytes old new → Stores (table_of port slot) bytes old new
+table_stored port slot p t bytes old new = at_places (λ a b. Stores (PORT_BYTES * a + TABLES_OFFSET + TABLE_BYTES * b) bytes old new) port slot p t
 
 header_stored : (port slot p t : ℕ) (bytes : List ℕ) (old new : Device) → p ≡ port → t ≡ slot → Stores (PORT_BYTES * p + 32 * t) bytes old new → Stores (list_of port + 32 * slot) bytes old new
 header_stored port slot p t bytes old new = at_places (λ a b. Stores (PORT_BYTES * a + 32 * b) bytes old new) port slot p t
@@ -40,8 +40,8 @@ pub store_table-requires-clause-free : goal.store_table-requires-clause-free
 store_table-requires-clause-free g c =
     let r = c.requires in
     let n : ℕ = length c.args.prds.now in
-    let F : ℕ → ℕ → Type 0 = λ p s. IsStable (IsFree (PORT_BYTES * p + TABLES + TABLE_BYTES * s) (TABLE_HEAD + PRD_BYTES * length c.args.prds.now)) (g.A.Adapter.device c.args.adapter.now) in
-    let Free : ℕ → Type 0 = λ k. IsStable (IsFree (table_of c.args.port.0 c.args.slot.0) k) (g.A.Adapter.device c.args.adapter.now) in
+    let F : ℕ → ℕ → Type 0 = λ p s. IsStable (IsUnowned (PORT_BYTES * p + TABLES_OFFSET + TABLE_BYTES * s) (TABLE_HEAD + PRD_BYTES * length c.args.prds.now)) (g.A.Adapter.device c.args.adapter.now) in
+    let Free : ℕ → Type 0 = λ k. IsStable (IsUnowned (table_of c.args.port.0 c.args.slot.0) k) (g.A.Adapter.device c.args.adapter.now) in
     at_places F c.from-list.result c.from.result c.args.port.0 c.args.slot.0 (sym c.from-list.ensures) (sym c.from.ensures)
     (subst Free (length-replicate {A = ℕ} (TABLE_HEAD + PRD_BYTES * n) 0)
     (store_free r.may.agreed.0 _ c.args.port.0 c.args.slot.0 _ _ r.may.agreed.2 r.may.room r.may.small r.fits.small r.may.agreed.1 (table_room c.args.port.0 c.args.slot.0 n r.fits.few)))
@@ -53,7 +53,7 @@ store-requires g c =
     let here = table_bounds c.args.port.0 c.args.slot.0 (length c.args.prds.now) c.store_table.ensures.stores.bytes r.fits.few in
     let size = store_size c.args.port.0 c.args.slot.0 r.may.small r.fits.small _ _ _ _ here first in
     let room : DRIVER_BYTES ≤ (g.A.Adapter.device c.store_table.new.adapter).size = let had = r.may.room in omega (arith, size, had) in
-    let F : ℕ → ℕ → Type 0 = λ p s. IsStable (IsFree (PORT_BYTES * p + 32 * s) (length c.header-head.result)) (g.A.Adapter.device c.store_table.new.adapter) in
+    let F : ℕ → ℕ → Type 0 = λ p s. IsStable (IsUnowned (PORT_BYTES * p + 32 * s) (length c.header-head.result)) (g.A.Adapter.device c.store_table.new.adapter) in
     at_places F c.from-list.result c.from-2.result c.args.port.0 c.args.slot.0 (sym c.from-list.ensures) (sym c.from-2.ensures)
     (store_free r.may.agreed.0 _ c.args.port.0 c.args.slot.0 _ _ (store_agrees c.args.port.0 c.args.slot.0 r.may.small r.fits.small _ _ _ _ here first r.may.on r.may.agreed.0 r.may.agreed.1 r.may.agreed.2) room r.may.small r.fits.small r.may.agreed.1
     (header_bounds c.args.port.0 c.args.slot.0 c.header-head.result c.header-head.ensures.says.size c.header-head.ensures.none_moved))
@@ -86,7 +86,7 @@ returns-clause-says g c =
     let second = header_stored _ _ _ _ _ _ _ c.from-list.ensures c.from-2.ensures c.store.ensures.does in
     let size = c.store_table.ensures.stores.table.size in
     let cut = length-take (TABLE_HEAD + PRD_BYTES * length c.args.prds.now) c.store_table.ensures.stores.bytes in
-    let H : ℕ → ℕ → Type 0 = λ p s. EncodesHeader c.header-head.result c.is_write.result (length c.args.prds.now) (PORT_BYTES * p + TABLES + TABLE_BYTES * s) in
+    let H : ℕ → ℕ → Type 0 = λ p s. EncodesHeader c.header-head.result c.is_write.result (length c.args.prds.now) (PORT_BYTES * p + TABLES_OFFSET + TABLE_BYTES * s) in
     let heads : EncodesHeader c.header-head.result c.is_write.result (length c.args.prds.now) (table_of c.args.port.0 c.args.slot.0) =
     at_places H c.args.port.0 c.args.slot.0 _ _ c.from-list.ensures c.from.ensures c.header-head.ensures.says in
     stored_says c.args.port.0 c.args.slot.0 r.may.small r.fits.small r.may.agreed.0 r.may.agreed.1 _ _ _ r.may.on r.may.agreed.2 c.args.prds.now c.store_table.ensures.stores.bytes c.header-head.result few size

@@ -1,6 +1,6 @@
 use Rattle.std.proofs.Common.{ℕ, ◌≡◌, ◌*◌, sym, ◌∙◌, subst, arith}
 use Rattle.adapter.specs.Access.{Loads}
-use Rattle.adapter.specs.Rules.{IsFree, IsStable}
+use Rattle.adapter.specs.Rules.{IsUnowned, IsStable}
 use Rattle.refinement.specs.Places.{scratch_of}
 use Rattle.refinement.specs.Slots.{Own, put}
 use Rattle.disk_page.specs.Asking.{page_operation}
@@ -15,7 +15,7 @@ load-requires g c =
     let asked = c.ask.ensures.asks.waiting r.agreed.0 r.agreed.1 r.agreed.2 in
     let waiting = c.wait.ensures.waiting _ _ _ _ asked in
     let clear = c.wait.ensures.over c.if-not-wait.false _ _ _ _ asked in
-    let F : ℕ → Type 0 = λ place. IsStable (IsFree place 512) (g.A.Adapter.device c.wait.new.adapter) in
+    let F : ℕ → Type 0 = λ place. IsStable (IsUnowned place 512) (g.A.Adapter.device c.wait.new.adapter) in
     subst F (sym at) (page_free c.law_base.ensures c.args.port _ _ _ _ _ r.there.0 waiting clear)
 
 pub returns-clause-on : goal.returns-clause-on

@@ -1,4 +1,4 @@
-use Rattle.ata_types.specs.declared.limits.TheConstants.{READINGS}
+use Rattle.ata_types.specs.declared.limits.TheConstants.{MOST_READINGS}
 use Rattle.std.proofs.Common.{ℕ, ◌≡◌, sym, ◌∙◌, subst, arith}
 use Rattle.refinement.specs.Driven.{AnyUse, IsSimulatedAlong}
 use Rattle.disk_page.specs.Asking.{AreInVain, IsAsking}
@@ -35,5 +35,5 @@ returns-then-not-is_set-clause-over g c = λ _.
 
 pub returns-clause-vain : goal.returns-clause-vain
 returns-clause-vain g c = λ _.
-    let all : c.loop-reading._reading ≡ READINGS = omega arith in
+    let all : c.loop-reading._reading ≡ MOST_READINGS = omega arith in
     subst (λ (n : ℕ). IsSimulatedAlong (AreInVain c.args.port n) (IsAsking c.args.port) AnyUse (g.A.Adapter.device c.args.adapter.now) (g.A.Adapter.device c.loop-reading.adapter)) all c.loop-reading.invariant.known.told

@@ -1,6 +1,6 @@
 use Rattle.std.proofs.Common.{ℕ, ◌≡◌, ◌+◌, ◌∙◌, sym, ap, subst}
 use Rattle.ata_types.specs.declared.Port.{Port}
-use Rattle.ata_types.specs.declared.limits.TheConstants.{READINGS}
+use Rattle.ata_types.specs.declared.limits.TheConstants.{MOST_READINGS}
 use Rattle.adapter.specs.Device.{Notes}
 use Rattle.refinement.specs.Driven.{AnyUse, IsControl, IsSimulated}
 use Rattle.port_control.specs.Ports.{IsClearing, IsStopped, IsUsable, BacksFault}
@@ -53,7 +53,7 @@ returns-clause-boots g c =
       | else-shows_device w ↦
           let left = cap_leaves laws _ c.requires.bootable.on.no_reset port.0 _ _ c.read.ensures.does in
           let stays = subst (λ (p : Port). IsStopped (asked.port p.0) → IsStopped (seen.port p.0)) c.port.ensures c.shows_device.ensures.asks.stopped in
-          let none = subst (λ (p : Port). (asked.port p.0).notes.link_count ≡ READINGS → BacksFault NoDevice (seen.port p.0).notes) c.port.ensures (c.shows_device.ensures.asks.none w.if-shows_device.false) in
+          let none = subst (λ (p : Port). (asked.port p.0).notes.link_count ≡ MOST_READINGS → BacksFault NoDevice (seen.port p.0).notes) c.port.ensures (c.shows_device.ensures.asks.none w.if-shows_device.false) in
           let stopped = stays (asked_stopped laws _ _ _ c.read.ensures.does port left c.requires.stopped) in
           let full = ap (λ (n : Notes). n.link_count) left.notes ∙ c.requires.saw in
           seen_absent laws _ _ asked c.read.ensures.does port seen looks _ wanted _ (ap device w.adapter-is) w.found-is stopped (none full)

@@ -5,13 +5,13 @@ use Rattle.hba_regs.specs.Bits.{bit}
 use Rattle.refinement.specs.Facts.{TellsNoTrouble}
 use Rattle.port_control.specs.Looks.{look_of}
 use Rattle.port_control.specs.declared.events.PortEvent.{PortEvent}
-use Rattle.port_control.specs.declared.events.PortEvent.TheVariants.{LinkChanged, BusError, TaskFileError, NoEvent}
+use Rattle.port_control.specs.declared.events.PortEvent.TheVariants.{LinkChanged, FatalError, TaskFileError, NoEvent}
 
 -- the answer by PCS, PRCS, whether DET is 3, HBDS, HBFS, IFS and TFES
 abbrev chosen : Bool → Bool → Bool → Bool → Bool → Bool → Bool → PortEvent
 chosen pcs prcs three hbds hbfs ifs tfes =
     if pcs || prcs || not three then LinkChanged
-    else (if hbds || hbfs || ifs then BusError
+    else (if hbds || hbfs || ifs then FatalError
     else (if tfes then TaskFileError else NoEvent))
 
 lost : (a b c d e f g : Bool) → chosen a b c d e f g ≡ LinkChanged → (a ≡ true) ⊎ (b ≡ true) ⊎ (c ≡ false)
@@ -24,7 +24,7 @@ lost false false true false false true g h = absurd cc
 lost false false true false false false true h = absurd cc
 lost false false true false false false false h = absurd cc
 
-broken : (a b c d e f g : Bool) → chosen a b c d e f g ≡ BusError → ((d ≡ true) ⊎ (e ≡ true) ⊎ (f ≡ true)) × (a ≡ false) × (b ≡ false) × (c ≡ true)
+broken : (a b c d e f g : Bool) → chosen a b c d e f g ≡ FatalError → ((d ≡ true) ⊎ (e ≡ true) ⊎ (f ≡ true)) × (a ≡ false) × (b ≡ false) × (c ≡ true)
 broken true b c d e f g h = absurd cc
 broken false true c d e f g h = absurd cc
 broken false false false d e f g h = absurd cc
@@ -80,7 +80,7 @@ module _ (causes status : ℕ) where
         ]
       ]
 
-  pub answered_broken : look_of causes status ≡ BusError → ((bit causes 28 ≡ true) ⊎ (bit causes 29 ≡ true) ⊎ (bit causes 27 ≡ true)) × (bit causes 6 ≡ false) × (bit causes 22 ≡ false) × (status % 16 ≡ 3)
+  pub answered_broken : look_of causes status ≡ FatalError → ((bit causes 28 ≡ true) ⊎ (bit causes 29 ≡ true) ⊎ (bit causes 27 ≡ true)) × (bit causes 6 ≡ false) × (bit causes 22 ≡ false) × (status % 16 ≡ 3)
   answered_broken h =
       let x = broken (bit causes 6) (bit causes 22) (status % 16 == 3) (bit causes 28) (bit causes 29) (bit causes 27) (bit causes 30) h in
       (x.0, x.1, x.2, eqb-true (status % 16) 3 x.3)
@@ -105,7 +105,7 @@ module _ (causes status : ℕ) where
   told_lost (inr (inl prcs)) = ap (λ (b : Bool). if b then LinkChanged else rest) (two (bit causes 6) (bit causes 22) (not (status % 16 == 3)) prcs)
     where
       rest : PortEvent
-      rest = if bit causes 28 || bit causes 29 || bit causes 27 then BusError else (if bit causes 30 then TaskFileError else NoEvent)
+      rest = if bit causes 28 || bit causes 29 || bit causes 27 then FatalError else (if bit causes 30 then TaskFileError else NoEvent)
 
       two : (a b c : Bool) → b ≡ true → (a || b || c) ≡ true
       two true b c h = refl
@@ -114,7 +114,7 @@ module _ (causes status : ℕ) where
   told_lost (inr (inr none)) = ap (λ (b : Bool). if b then LinkChanged else rest) (three (bit causes 6) (bit causes 22) (status % 16 == 3) (ne_eqb (status % 16) 3 none))
     where
       rest : PortEvent
-      rest = if bit causes 28 || bit causes 29 || bit causes 27 then BusError else (if bit causes 30 then TaskFileError else NoEvent)
+      rest = if bit causes 28 || bit causes 29 || bit causes 27 then FatalError else (if bit causes 30 then TaskFileError else NoEvent)
 
       three : (a b c : Bool) → c ≡ false → (a || b || not c) ≡ true
       three true b c h = refl

@@ -1,4 +1,4 @@
-use Rattle.ata_types.specs.declared.limits.TheConstants.{READINGS}
+use Rattle.ata_types.specs.declared.limits.TheConstants.{MOST_READINGS}
 use Rattle.std.proofs.Common.{◌≡◌, refl, sym, ◌∙◌, arith}
 use Rattle.port_control.proofs.Using.{usable_after}
 use Rattle.port_control.proofs.Ceasing.{stop_may, stop_told, stop_has, falls, falling_on, has_still, fallen, falls_still, told_awaits}
@@ -43,7 +43,7 @@ loop-reading-preserved g c = record {
 pub returns-clause-fails : goal.returns-clause-fails
 returns-clause-fails g c =
     let w = c.loop-reading.invariant.known in
-    let all : c.loop-reading._reading ≡ READINGS = omega arith in
+    let all : c.loop-reading._reading ≡ MOST_READINGS = omega arith in
     let low = w.low in
     let high = w.high (omega (arith, all)) in
     (refl, record { told = told_awaits c.law_base.ensures 0 15 c.args.port _ all _ _ w.told; stuck = omega (arith, all, low, high) })

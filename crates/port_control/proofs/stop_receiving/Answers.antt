@@ -1,4 +1,4 @@
-use Rattle.ata_types.specs.declared.limits.TheConstants.{READINGS}
+use Rattle.ata_types.specs.declared.limits.TheConstants.{MOST_READINGS}
 use Rattle.std.proofs.Common.{◌≡◌, sym, ◌∙◌, arith}
 use Rattle.port_control.proofs.Using.{usable_after}
 use Rattle.port_control.proofs.Ceasing.{empty_may, empty_begins, empties, emptied, empties_told, empties_still, told_awaits}
@@ -52,5 +52,5 @@ loop-reading-preserved g c = record {
 
 pub returns-clause-sticks : goal.returns-clause-sticks
 returns-clause-sticks g c = λ _.
-    let all : c.loop-reading._reading ≡ READINGS = omega arith in
+    let all : c.loop-reading._reading ≡ MOST_READINGS = omega arith in
     told_awaits c.law_base.ensures 4 14 c.args.port _ all _ _ c.loop-reading.invariant.known.told

@@ -1,4 +1,4 @@
-use Rattle.ata_types.specs.declared.limits.TheConstants.{READINGS}
+use Rattle.ata_types.specs.declared.limits.TheConstants.{MOST_READINGS}
 use Rattle.std.proofs.Common.{ℕ, ◌≡◌, subst, arith}
 use Rattle.hba_regs.specs.declared.reg.PortReg.TheVariants.{Ssts}
 use Rattle.port_control.proofs.Looking.{missing_followed, device_seen, device_up, sees_device, without_none, missing_still}
@@ -42,5 +42,5 @@ loop-reading-preserved g c = record {
 
 pub returns-clause-misses : goal.returns-clause-misses
 returns-clause-misses g c = λ _.
-    let all : c.loop-reading._reading ≡ READINGS = omega arith in
+    let all : c.loop-reading._reading ≡ MOST_READINGS = omega arith in
     subst (λ (n : ℕ). ReadsWithout c.args.port Ssts HasLink n (g.A.Adapter.device c.args.adapter.now) (g.A.Adapter.device c.loop-reading.adapter)) all c.loop-reading.invariant.known.misses

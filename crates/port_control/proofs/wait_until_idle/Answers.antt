@@ -1,4 +1,4 @@
-use Rattle.ata_types.specs.declared.limits.TheConstants.{READINGS}
+use Rattle.ata_types.specs.declared.limits.TheConstants.{MOST_READINGS}
 use Rattle.std.proofs.Common.{ℕ, ◌≡◌, sym, ◌∙◌, subst, arith, rules}
 use Rattle.hba_regs.specs.declared.reg.PortReg.TheVariants.{Tfd}
 use Rattle.port_control.proofs.Looking.{busy_followed, busy_saw, busy_waits, busy_quiet, idle_seen, busy_still, without_none}
@@ -37,7 +37,7 @@ returns-then-not-is_bsy_or_drq-clause-waits g c = λ _. busy_waits c.law_base.en
 
 pub returns-clause-stays : goal.returns-clause-stays
 returns-clause-stays g c = λ _.
-    let all : c.loop-reading._reading ≡ READINGS = omega arith in
+    let all : c.loop-reading._reading ≡ MOST_READINGS = omega arith in
     subst (λ (n : ℕ). ReadsWithout c.args.port Tfd ShowsIdle n (g.A.Adapter.device c.args.adapter.now) (g.A.Adapter.device c.loop-reading.adapter)) all c.loop-reading.invariant.known.stays
 
 pub returns-then-not-is_bsy_or_drq-clause-quiet : goal.returns-then-not-is_bsy_or_drq-clause-quiet

@@ -65,7 +65,7 @@ pub fn law_services_leave()
 pub fn law_answers_tell()
     ensures lost { (causes status : ℕ) → look_of causes status ≡ look.LinkChanged
         → (bit causes 6 ≡ true) ⊎ (bit causes 22 ≡ true) ⊎ (status % 16 ≢ 3) }
-    ensures broken { (causes status : ℕ) → look_of causes status ≡ look.BusError
+    ensures broken { (causes status : ℕ) → look_of causes status ≡ look.FatalError
         → ((bit causes 28 ≡ true) ⊎ (bit causes 29 ≡ true) ⊎ (bit causes 27 ≡ true))
         × (bit causes 6 ≡ false) × (bit causes 22 ≡ false) × (status % 16 ≡ 3) }
     ensures failed { (causes status : ℕ) → look_of causes status ≡ look.TaskFileError

@@ -12,7 +12,7 @@ use Rattle.hba_regs.specs.declared.reg.PortReg.TheVariants.{Clb, Clbu, Fb, Fbu, 
 use Rattle.adapter.specs.Access.{Writes}
 use Rattle.adapter.specs.Device.{Bases, Notes, DevicePort, Device}
 use Rattle.adapter.specs.Kept.{Keeps, KeepsOn, KeepsPort, KeepsControls}
-use Rattle.adapter.specs.Rules.{IsOn, HasPort, MayStart, MayReceive, MayStopReceiving, MayCommand, MayWritePort, MayWrite, IsStable}
+use Rattle.adapter.specs.Rules.{IsOn, HasPort, MayStart, MaySetFre, MayStopReceiving, MayWriteCmd, MayWritePort, MayWrite, IsStable}
 use Rattle.adapter.proofs.Calls.{PutAt, put, on_after, on_stays}
 use Rattle.adapter.proofs.KeptLemmas.{law_steps_keep}
 use Rattle.refinement.specs.Driver.{LeavesUses, AllFree, IsWrittenBack}
@@ -41,7 +41,7 @@ module _ (p q : DevicePort) (k : KeepsPort p q) (c : KeepsControls p q) (notes :
     not_busy = ap (λ (n : Notes). bit n.last_tfd 7 || bit n.last_tfd 3) notes ∙ x.not_busy;
   }
 
-  receive_stays : MayReceive p → MayReceive q
+  receive_stays : MaySetFre p → MaySetFre q
   receive_stays x = record {
     fallen = k.fr x.fallen;
     fb = same_base (λ b. b.fb_set) ∙ x.fb;
@@ -51,10 +51,10 @@ module _ (p q : DevicePort) (k : KeepsPort p q) (c : KeepsControls p q) (notes :
   stop_stays : MayStopReceiving p → MayStopReceiving q
   stop_stays x = record { stopped = c.st ∙ x.stopped; fallen = k.cr x.fallen }
 
-  command_stays : (v : ℕ) → MayCommand p v → MayCommand q v
+  command_stays : (v : ℕ) → MayWriteCmd p v → MayWriteCmd q v
   command_stays v x = record {
     start = λ b. ⊎_elim (λ (on : p.st ≡ true). inl (c.st ∙ on)) (λ (y : MayStart p). inr (start_stays y)) (x.start b);
-    receive = λ b. ⊎_elim (λ (on : p.fre ≡ true). inl (c.fre ∙ on)) (λ (y : MayReceive p). inr (receive_stays y)) (x.receive b);
+    receive = λ b. ⊎_elim (λ (on : p.fre ≡ true). inl (c.fre ∙ on)) (λ (y : MaySetFre p). inr (receive_stays y)) (x.receive b);
     stop_receiving = λ b. ⊎_elim
         (λ (off : p.fre ≡ false). inl (c.fre ∙ off))
         (λ (y : MayStopReceiving p × (bit v 0 ≡ false)). inr (stop_stays y.0, y.1))
@@ -175,7 +175,7 @@ module _ (d : Device) (port : Port) (on : IsOn d) (there : HasPort d port.0) whe
 -- ---- PxCMD, as it was last read but for ST and FRE
 
 module _ (port : Port) (was v : ℕ) (d : Device) (on : IsOn d) (there : HasPort d port.0) (last : (d.port port.0).notes.last_cmd ≡ was) where
-  may : MayCommand (d.port port.0) v → IsStable (MayWrite (Px port Cmd) v) d
+  may : MayWriteCmd (d.port port.0) v → IsStable (MayWrite (Px port Cmd) v) d
   may x = write_stays (Px port Cmd) v d (λ p e. cc) (on, there, x)
 
   others : (st fre : Bool) → IsWrittenBack st fre was v → (place : ℕ) → place < 32 → place ≢ 0 → place ≢ 4 → bit v place ≡ bit (d.port port.0).notes.last_cmd place
@@ -197,7 +197,7 @@ module _ (port : Port) (was v : ℕ) (d : Device) (on : IsOn d) (there : HasPort
     others = others false (d.port port.0).fre x;
   })
 
-  pub receiving_may : MayReceive (d.port port.0) → IsWrittenBack (d.port port.0).st true was v → IsStable (MayWrite (Px port Cmd) v) d
+  pub receiving_may : MaySetFre (d.port port.0) → IsWrittenBack (d.port port.0).st true was v → IsStable (MayWrite (Px port Cmd) v) d
   receiving_may ready x = may (record {
     start = λ b. inl (sym x.start ∙ b);
     receive = λ b. inr ready;

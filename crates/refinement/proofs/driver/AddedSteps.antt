@@ -10,7 +10,7 @@ use Rattle.adapter.specs.declared.tape.Entry.{Entry}
 use Rattle.block_machine.specs.State.{Machine}
 use Rattle.block_machine.specs.Steps.{Step}
 use Rattle.block_machine.specs.Left as left
-use Rattle.block_machine.specs.Left.{AllTold}
+use Rattle.block_machine.specs.Left.{AllTellSectors}
 use Rattle.block_machine.specs.Histories.{IsReachable, IsSimulatedBySteps}
 use Rattle.block_machine.proofs.EventLemmas.{after-append}
 use Rattle.refinement.specs.Slots.{SlotStates}

@@ -20,7 +20,7 @@ use Rattle.block_machine.specs.State.{Pending, Machine}
 use Rattle.block_machine.specs.Steps.{Step, Accept, Issue, Touch, End, Age, Again, Answer, Revoke, Release, Unplug, Replace, Store, Load, after_step}
 use Rattle.block_machine.specs.Events.{IsByDevice}
 use Rattle.block_machine.specs.Left as left
-use Rattle.block_machine.specs.Left.{IsTold}
+use Rattle.block_machine.specs.Left.{TellsSectors}
 use Rattle.refinement.specs.Tape.{PutsInDisks}
 use Rattle.block_machine.specs.Histories.{IsReachable, IsSimulatedBySteps}
 use Rattle.block_machine.proofs.HistoryLemmas.{reached_more}
@@ -101,7 +101,7 @@ own_backed d m step own = record {
   plugged = λ q. ([], sym (append-nil (d.port q).plugged), puts step own q);
 }
   where
-    told : (s : Step) → (IsByDevice s → ⊥) → IsTold m s
+    told : (s : Step) → (IsByDevice s → ⊥) → TellsSectors m s
     told (Touch e i block) o = absurd (o tt)
     told (End e) o = tt
     told (Unplug port) o = tt

@@ -10,7 +10,7 @@ use Rattle.hba_regs.specs.declared.reg.PortReg.TheVariants as px
 use Rattle.adapter.specs.Commands.{Meaning, is_queued}
 use Rattle.adapter.specs.Device.{Device}
 use Rattle.adapter.specs.Kept.{Keeps, KeepsOn}
-use Rattle.adapter.specs.Rules.{InUse, IsFree, IsOn, HasPort, MayWrite, IsStable}
+use Rattle.adapter.specs.Rules.{InUse, IsUnowned, IsOn, HasPort, MayWrite, IsStable}
 use Rattle.adapter.specs.Decoding.{DecodesTo}
 use Rattle.adapter.specs.declared.command.Operation.{Operation}
 use Rattle.adapter.proofs.KeptLemmas.{law_steps_keep}
@@ -42,7 +42,7 @@ use Rattle.refinement.proofs.steps.TakenCommand.{own_plain}
 module _ (uses : SlotStates) (m : Machine) (old : Device) (reached : IsReachable m) (a : StateRelation uses m old) where
   -- ---- the driver's own bytes
 
-  pub stores_are_free : (at n : ℕ) → at + n ≤ old.size → MayStore uses at n → IsStable (IsFree at n) old
+  pub stores_are_free : (at n : ℕ) → at + n ≤ old.size → MayStore uses at n → IsStable (IsUnowned at n) old
   stores_are_free at n inside may mid s =
       let f : SimulatesSteps uses m old mid = steps_follow uses m old mid reached a s in
       let r : IsReachable (left.after m f.steps) = reached_more m f.steps reached f.may in
@@ -53,7 +53,7 @@ module _ (uses : SlotStates) (m : Machine) (old : Device) (reached : IsReachable
       }
 
   -- the page of a command of the driver's own that is over
-  pub page_is_free : (port : ℕ) → port < 4 → scratch_of port + 512 ≤ old.size → IsOver (old.port port) 0 → IsStable (IsFree (scratch_of port) 512) old
+  pub page_is_free : (port : ℕ) → port < 4 → scratch_of port + 512 ≤ old.size → IsOver (old.port port) 0 → IsStable (IsUnowned (scratch_of port) 512) old
   page_is_free port below inside over mid s =
       let f : SimulatesSteps uses m old mid = steps_follow uses m old mid reached a s in
       let r : IsReachable (left.after m f.steps) = reached_more m f.steps reached f.may in
@@ -83,7 +83,7 @@ module _ (uses : SlotStates) (m : Machine) (old : Device) (reached : IsReachable
 
   -- ---- a client's bytes
 
-  pub clients_are_free : (client : ClientId) (frame : Frame) (offset n : ℕ) → 4096 * frame.0 + 4096 ≤ old.size → IsOpen m.owner m.lent client frame offset n → IsStable (IsFree (4096 * frame.0 + offset) n) old
+  pub clients_are_free : (client : ClientId) (frame : Frame) (offset n : ℕ) → 4096 * frame.0 + 4096 ≤ old.size → IsOpen m.owner m.lent client frame offset n → IsStable (IsUnowned (4096 * frame.0 + offset) n) old
   clients_are_free client frame offset n inside opens =
       let x = open_in m reached client frame offset n opens in
       still_is_free old frame offset n (unlent_is_still uses m old frame reached a (open_unlent m client frame offset n opens) x.0) inside x.1

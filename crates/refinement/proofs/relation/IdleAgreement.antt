@@ -11,7 +11,7 @@ use Rattle.adapter.specs.Steps.{WereHeld, put_into}
 use Rattle.adapter.specs.declared.tape.Entry.{Entry}
 use Rattle.adapter.specs.Idle.{IsIdle, TellsDisks}
 use Rattle.block_machine.specs.State.{Block, DiskBytes, Machine}
-use Rattle.block_machine.specs.Left.{IsStart}
+use Rattle.block_machine.specs.Left.{IsInitial}
 use Rattle.refinement.specs.Slots.{Free, Serves}
 use Rattle.refinement.specs.Relation.{IsDiskOf, SameMemory, SameSectors, port_at}
 use Rattle.refinement.specs.Returning.{block_if, blocks_put, may_return}
@@ -37,7 +37,7 @@ returns tape lasting port k bytes (inl is) = Contains-append_left (block_if (opt
 returns tape lasting port k bytes (inr (entry, here, is)) = Contains-append_right (block_if (option_map (λ (sectors : ℕ → List ℕ). sectors k) lasting.sectors)) (blocks_put port k (drop lasting.since tape)) (slice_index bytes)
     (in_blocks port k (drop lasting.since tape) entry bytes here is)
 
-pub idle_knows : (m : Machine) (d : Device) → IsStart m → IsIdle d → ((port : ℕ) → IsDiskOf m (d.port port) port) → SameMemory m d.memory →
+pub idle_knows : (m : Machine) (d : Device) → IsInitial m → IsIdle d → ((port : ℕ) → IsDiskOf m (d.port port) port) → SameMemory m d.memory →
     (d.telling ≡ true → (port : ℕ) → SameSectors m (d.port port).disk port) → (d.telling ≡ true → (port k : ℕ) → m.aside (port_at port) k ≡ may_return d.tape (d.port port).lasting port k) → DriverRelation m (idle d)
 idle_knows m d s i disk memory sectors aside = record {
   agrees = record {
@@ -79,7 +79,7 @@ machine_of d rows owner = record {
   next = 1;
 }
 
-pub machine_knows : (d : Device) (rows : List GrantRow) (owner : Frame → Option ClientId) → IsStart (machine_of d rows owner) → IsIdle d
+pub machine_knows : (d : Device) (rows : List GrantRow) (owner : Frame → Option ClientId) → IsInitial (machine_of d rows owner) → IsIdle d
     → TellsDisks d → DriverRelation (machine_of d rows owner) (idle d)
 machine_knows d rows owner start is told =
     idle_knows (machine_of d rows owner) d start is (λ q. record { present = refl; id = refl; size = refl }) (λ f b low small. refl) sectors (λ _ port k. refl)
@@ -90,7 +90,7 @@ machine_knows d rows owner start is told =
         record { told = t.0; tells = t.1; same = λ k b inside small. sym (ap (λ (s : Option (ℕ → List ℕ)). told_bytes s k b) t.1) }
 
 -- with no grants, and frames that are nobody's
-pub unowned_starts : (d : Device) → IsStart (machine_of d [] (λ frame. None))
+pub unowned_starts : (d : Device) → IsInitial (machine_of d [] (λ frame. None))
 unowned_starts d = record {
   book = refl;
   kept = refl;

@@ -3,7 +3,7 @@ use Rattle.ata_types.specs.declared.memory.TheConstants.{DRIVER_FRAMES}
 use Rattle.std.proofs.Common.{ℕ, ◌<◌, ◌≤◌, length, List, sym, ◌∙◌, subst}
 use Rattle.block_machine.specs.State.{Pending, Machine, frame_at}
 use Rattle.block_machine.specs.Steps.{Step, MayStillMove}
-use Rattle.block_machine.specs.Left.{after, IsStart, IsLegal}
+use Rattle.block_machine.specs.Left.{after, IsInitial, IsLegal}
 use Rattle.block_machine.specs.Histories.{IsReachable}
 use Rattle.block_machine.proofs.Configured.{owners_stay}
 use Rattle.block_machine.proofs.Limits.{law_limits_hold}
@@ -13,7 +13,7 @@ use Rattle.block_machine.proofs.Trace.{runs_lives}
 abbrev pub AreClients : Machine → Type 0
 AreClients m = (e : Pending) → MayStillMove m e → (i : ℕ) → i < length e.request.asked.frames.items → DRIVER_FRAMES ≤ (frame_at e.request.asked.frames.items i).0
 
-clients_at : (start : Machine) (past : List Step) → IsStart start → IsLegal start past → AreClients (after start past)
+clients_at : (start : Machine) (past : List Step) → IsInitial start → IsLegal start past → AreClients (after start past)
 clients_at start past s legal e r i lt =
     let owner = (law_limits_hold start past s legal).owned e (runs_lives (after start past) e r) i lt in
     (s.owned (frame_at e.request.asked.frames.items i) e.request.asked.client (sym (owners_stay start past (frame_at e.request.asked.frames.items i)) ∙ owner)).2

@@ -1,5 +1,5 @@
 -- Which bytes a step of the device writes, and that no slot rests on them.
-use Rattle.ata_types.specs.declared.memory.TheConstants.{DRIVER_BYTES, PORT_BYTES, SCRATCH, TABLE_BYTES}
+use Rattle.ata_types.specs.declared.memory.TheConstants.{DRIVER_BYTES, PORT_BYTES, SCRATCH_OFFSET, TABLE_BYTES}
 use Rattle.std.proofs.Common.{ℕ, ◌≡◌, ◌≢◌, ◌⊎◌, ◌<◌, ◌≤◌, ◌+◌, ◌*◌, List, length, sym, subst, arith, inl, inr, ⊎_elim}
 use Rattle.std.proofs.lemmas.Bool.{cases_order}
 use Rattle.adapter.specs.Memory.{patched}
@@ -41,7 +41,7 @@ module _ (port q a : ℕ) (low : PORT_BYTES * port ≤ a) (high : a < PORT_BYTES
   pub same_port : port ≡ q
   same_port = ⊎_elim (λ e. e) (λ x. ⊎_elim (λ (l : port < q). absurd (omega (arith, l, low, high, low', high'))) (λ (g : q < port). absurd (omega (arith, g, low, high, low', high'))) x) (cases_order port q)
 
-table_in : (port slot a : ℕ) → slot < 32 → IsTableByte port slot a → (PORT_BYTES * port ≤ a) × (a < PORT_BYTES * port + SCRATCH)
+table_in : (port slot a : ℕ) → slot < 32 → IsTableByte port slot a → (PORT_BYTES * port ≤ a) × (a < PORT_BYTES * port + SCRATCH_OFFSET)
 table_in port slot a below (inl x) = (omega (arith, x.0), omega (arith, x.1, below))
 table_in port slot a below (inr (inl x)) = (omega (arith, x.0), omega (arith, x.1, below))
 table_in port slot a below (inr (inr x)) = (omega (arith, x.0), omega (arith, x.1, below))
@@ -120,7 +120,7 @@ tables_apart port slot k a sb kb ne t other = ⊎_elim ne (λ y. ⊎_elim (λ (l
     more g (inr (inl x)) (inr y) = omega (arith, x.1, y.0, sb)
     more g (inr (inr x)) (inr y) = omega (arith, g, x.0, y.1)
 
-pub in_free : (port k a : ℕ) → k < 32 → ((list_of port + 32 * k ≤ a) × (a < list_of port + 32 * k + 32)) ⊎ ((table_of port k ≤ a) × (a < table_of port k + TABLE_BYTES)) → (PORT_BYTES * port ≤ a) × (a < PORT_BYTES * port + SCRATCH)
+pub in_free : (port k a : ℕ) → k < 32 → ((list_of port + 32 * k ≤ a) × (a < list_of port + 32 * k + 32)) ⊎ ((table_of port k ≤ a) × (a < table_of port k + TABLE_BYTES)) → (PORT_BYTES * port ≤ a) × (a < PORT_BYTES * port + SCRATCH_OFFSET)
 in_free port k a kb (inl x) = (omega (arith, x.0), omega (arith, x.1, kb))
 in_free port k a kb (inr x) = (omega (arith, x.0), omega (arith, x.1, kb))
 

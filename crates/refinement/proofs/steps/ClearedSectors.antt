@@ -19,7 +19,7 @@ use Rattle.block_machine.specs.State as state
 use Rattle.block_machine.specs.Due.{is_writer}
 use Rattle.block_machine.specs.Steps.{Touch, MayStillMove, after_step, put_sector, put_bytes}
 use Rattle.block_machine.specs.Left as left
-use Rattle.block_machine.specs.Left.{AllTold}
+use Rattle.block_machine.specs.Left.{AllTellSectors}
 use Rattle.block_machine.specs.Events.{AllMay}
 use Rattle.block_machine.proofs.Keeps.{same_port}
 use Rattle.refinement.specs.Places.{scratch_of}
@@ -110,7 +110,7 @@ touches_put e from (suc n) q = touches_put e from n q
 -- what n touches of a trim leave
 record Swept (m : Machine) (e : Pending) (from n : ℕ) : Type 0 where
   may : AllMay m (touch_steps e from n)
-  told : AllTold m (touch_steps e from n)
+  told : AllTellSectors m (touch_steps e from n)
   goes : Goes m (left.after m (touch_steps e from n)) e.request.id
   moves : MayStillMove (left.after m (touch_steps e from n)) (touched_by e from n)
   memory : (left.after m (touch_steps e from n)).memory ≡ m.memory

@@ -4,10 +4,10 @@ use Rattle.std.proofs.lemmas.Bool.{cases_order}
 use Rattle.ata_types.specs.declared.request.Op.{Op}
 use Rattle.ata_types.specs.declared.request.Op.TheVariants.{Read, Write, Trim, Flush}
 use Rattle.ata_types.specs.declared.request.RequestId.{RequestId}
-use Rattle.ata_types.specs.declared.memory.TheConstants.{DRIVER_FRAMES, PORT_BYTES, PRD_BYTES, SCRATCH, TABLE_BYTES, TABLE_HEAD}
+use Rattle.ata_types.specs.declared.memory.TheConstants.{DRIVER_FRAMES, PORT_BYTES, PRD_BYTES, SCRATCH_OFFSET, TABLE_BYTES, TABLE_HEAD}
 use Rattle.adapter.specs.Commands.{Meaning}
 use Rattle.adapter.specs.Device.{FetchedCommand, Device}
-use Rattle.adapter.specs.Rules.{InPlaces, InUse, InCommand, DeviceOwns, IsFree, IsOn, HasPort, MayWrite, MayIssue, IsStable}
+use Rattle.adapter.specs.Rules.{InDataBlocks, InUse, InCommand, DeviceOwns, IsUnowned, IsOn, HasPort, MayWrite, MayIssue, IsStable}
 use Rattle.adapter.specs.Rules as rules
 use Rattle.adapter.specs.Decoding.{DecodesTo}
 use Rattle.adapter.specs.declared.command.Operation.{Operation}
@@ -83,7 +83,7 @@ module _ (uses : slots.SlotStates) (m : Machine) (d : Device) (reached : IsReach
       inl (record { port = port; slot = slot; below = w.port_below; slot_below = w.slot_below; used = used; here = inr (omega (arith, t, low), omega (arith, t, l, told.few, high)) })
 
   -- a byte of the page of the driver's own command
-  of_page : {o : Operation} (h : ServesOwn d.memory d.tape (d.port port) port slot o) → uses port slot ≡ Own o → InUse (d.port port) slot → InPlaces (scratch_of port ∷ []) at → IsUsed uses m d at
+  of_page : {o : Operation} (h : ServesOwn d.memory d.tape (d.port port) port slot o) → uses port slot ≡ Own o → InUse (d.port port) slot → InDataBlocks (scratch_of port ∷ []) at → IsUsed uses m d at
   of_page h u in_use x = inr (inr (inl (record {
     port = port;
     below = h.placed.port_below;
@@ -98,7 +98,7 @@ module _ (uses : slots.SlotStates) (m : Machine) (d : Device) (reached : IsReach
       first (suc n) lt = absurd (omega (arith, lt))
 
   -- a byte of a request's pieces
-  of_places : {id : RequestId} (h : ServesRequest m d.memory (d.port port) port slot id) → uses port slot ≡ Serves id → InUse (d.port port) slot → InPlaces h.places at → IsUsed uses m d at
+  of_places : {id : RequestId} (h : ServesRequest m d.memory (d.port port) port slot id) → uses port slot ≡ Serves id → InUse (d.port port) slot → InDataBlocks h.places at → IsUsed uses m d at
   of_places h u in_use x = by h.pending.request.asked.op refl h.means.places_are
     where
       moved : (op : Op) → h.pending.request.asked.op ≡ op → MovesBytes op → ((length h.places ≡ h.pending.request.asked.count) × ((i : ℕ) → i < h.pending.request.asked.count → slice_index h.places i ≡ place_in h.pending.request.asked.frames.items i)) → IsUsed uses m d at
@@ -127,7 +127,7 @@ module _ (uses : slots.SlotStates) (m : Machine) (d : Device) (reached : IsReach
           let l = x.listed in omega (arith, n, l))
       by Trim is places =
           let one : h.places ≡ scratch_of port ∷ [] = subst (λ (o : Op). ArePlaces o port h.pending.request h.places) is places in
-          let y : InPlaces (scratch_of port ∷ []) at = subst (λ (l : List ℕ). InPlaces l at) one x in
+          let y : InDataBlocks (scratch_of port ∷ []) at = subst (λ (l : List ℕ). InDataBlocks l at) one x in
           let head : slot ≡ 0 = h.means.head is in
           inr (inr (inl (record {
             port = port;
@@ -153,17 +153,17 @@ module _ (uses : slots.SlotStates) (m : Machine) (d : Device) (reached : IsReach
           (λ (y : ((d.port port).bases.clb + 32 * slot ≤ at) × (at < (d.port port).bases.clb + 32 * slot + 32)). of_header h.placed (own_used u) y.0 y.1)
           (λ (y : InCommand d (d.port port) slot at). ⊎_elim
           (λ (z : (y.2.table ≤ at) × (at < y.2.table + TABLE_HEAD + PRD_BYTES * length y.2.prds)). of_table h.placed (own_used u) h.command y.0 (scratch_of port ∷ []) y.1 h.told y.2 z.0 z.1)
-          (λ (z : InPlaces y.1 at). of_page h u in_use (subst (λ (l : List ℕ). InPlaces l at) (says_places d.memory (d.port port).bases.clb slot y.0 h.command y.1 (scratch_of port ∷ []) y.2 h.told.says) z))
+          (λ (z : InDataBlocks y.1 at). of_page h u in_use (subst (λ (l : List ℕ). InDataBlocks l at) (says_places d.memory (d.port port).bases.clb slot y.0 h.command y.1 (scratch_of port ∷ []) y.2 h.told.says) z))
           y.3) x
       by (Serves id) u h = ⊎_elim
           (λ (y : ((d.port port).bases.clb + 32 * slot ≤ at) × (at < (d.port port).bases.clb + 32 * slot + 32)). of_header h.placed (serves_used u) y.0 y.1)
           (λ (y : InCommand d (d.port port) slot at). ⊎_elim
           (λ (z : (y.2.table ≤ at) × (at < y.2.table + TABLE_HEAD + PRD_BYTES * length y.2.prds)). of_table h.placed (serves_used u) h.command y.0 h.places y.1 h.told y.2 z.0 z.1)
-          (λ (z : InPlaces y.1 at). of_places h u in_use (subst (λ (l : List ℕ). InPlaces l at) (says_places d.memory (d.port port).bases.clb slot y.0 h.command y.1 h.places y.2 h.told.says) z))
+          (λ (z : InDataBlocks y.1 at). of_places h u in_use (subst (λ (l : List ℕ). InDataBlocks l at) (says_places d.memory (d.port port).bases.clb slot y.0 h.command y.1 h.places y.2 h.told.says) z))
           y.3) x
 
   -- the pieces of a taken command
-  of_taken : (t : FetchedCommand) → (d.port port).taken slot ≡ Some t → InPlaces t.places at → IsUsed uses m d at
+  of_taken : (t : FetchedCommand) → (d.port port).taken slot ≡ Some t → InDataBlocks t.places at → IsUsed uses m d at
   of_taken t is x = by (uses port slot) refl (a.slot port slot)
     where
       by : (u : SlotState) → uses port slot ≡ u → RelatesSlot m d.memory d.tape (d.port port) port slot u → IsUsed uses m d at
@@ -173,13 +173,13 @@ module _ (uses : slots.SlotStates) (m : Machine) (d : Device) (reached : IsReach
         where
           own : OwnWaits (d.port port) slot ⊎ (OwnTaken d.memory d.tape (d.port port) port slot h.command ⊎ OwnOver d.memory d.tape (d.port port) port slot h.command) → IsUsed uses m d at
           own (inl y) = some_none is y.free
-          own (inr (inl y)) = of_page h u (inr (t, is)) (subst (λ (l : List ℕ). InPlaces l at) (ap (λ (z : FetchedCommand). z.places) (some_same (sym is ∙ y.taken)) ∙ y.places_are) x)
+          own (inr (inl y)) = of_page h u (inr (t, is)) (subst (λ (l : List ℕ). InDataBlocks l at) (ap (λ (z : FetchedCommand). z.places) (some_same (sym is ∙ y.taken)) ∙ y.places_are) x)
           own (inr (inr y)) = some_none is y.over.free
       by (Serves id) u h = stage h.stage
         where
           stage : Stage d.memory (d.port port) port slot h.pending h.command h.places → IsUsed uses m d at
           stage (inl y) = some_none is y.free
-          stage (inr (inl y)) = of_places h u (inr (t, is)) (subst (λ (l : List ℕ). InPlaces l at) (ap (λ (z : FetchedCommand). z.places) (some_same (sym is ∙ y.taken)) ∙ y.places_are) x)
+          stage (inr (inl y)) = of_places h u (inr (t, is)) (subst (λ (l : List ℕ). InDataBlocks l at) (ap (λ (z : FetchedCommand). z.places) (some_same (sym is ∙ y.taken)) ∙ y.places_are) x)
           stage (inr (inr (inl y))) = some_none is y.free
           stage (inr (inr (inr y))) = some_none is y.free
 
@@ -192,7 +192,7 @@ module _ (uses : slots.SlotStates) (m : Machine) (d : Device) (reached : IsReach
 
 -- ---- what lies where
 
-pub of_slot_in : (port slot at : ℕ) → slot < 32 → OfSlot port slot at → (PORT_BYTES * port ≤ at) × (at < PORT_BYTES * port + SCRATCH)
+pub of_slot_in : (port slot at : ℕ) → slot < 32 → OfSlot port slot at → (PORT_BYTES * port ≤ at) × (at < PORT_BYTES * port + SCRATCH_OFFSET)
 of_slot_in port slot at small x = in_free port slot at small x
 
 -- headers and tables of two slots of a port don't meet
@@ -213,7 +213,7 @@ stores_unused uses m d at n byte (inl x) low high clients used =
     let r = in_free x.port x.slot byte x.slot_below y in
     by y r used
   where
-    by : OfSlot x.port x.slot byte → (PORT_BYTES * x.port ≤ byte) × (byte < PORT_BYTES * x.port + SCRATCH) → IsUsed uses m d byte → ⊥
+    by : OfSlot x.port x.slot byte → (PORT_BYTES * x.port ≤ byte) × (byte < PORT_BYTES * x.port + SCRATCH_OFFSET) → IsUsed uses m d byte → ⊥
     by y r (inl u) =
         let s = of_slot_in u.port u.slot byte u.slot_below u.here in
         let e : u.port ≡ x.port = same_port u.port x.port byte s.0 (omega (arith, s.1)) r.0 (omega (arith, r.1)) in

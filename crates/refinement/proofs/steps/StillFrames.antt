@@ -11,7 +11,7 @@ use Rattle.adapter.specs.Commands.{Meaning}
 use Rattle.adapter.specs.Device.{FetchedCommand, DevicePort, Device}
 use Rattle.adapter.specs.Idle.{IsIdle, IsIdlePort}
 use Rattle.adapter.specs.Kept.{KeepsPort}
-use Rattle.adapter.specs.Rules.{InPlaces, InUse, InCommand, IsFree, IsStable}
+use Rattle.adapter.specs.Rules.{InDataBlocks, InUse, InCommand, IsUnowned, IsStable}
 use Rattle.adapter.specs.Rules as rules
 use Rattle.adapter.proofs.KeptLemmas.{law_steps_keep}
 use Rattle.adapter.proofs.SaysLemmas.{says_table, says_prds, says_places}
@@ -39,7 +39,7 @@ over_unused p slot o (inr (t, is)) = absurd (none-some _ (sym o.free ∙ is))
 
 -- what a placed slot's header and bytes say lies below the clients' frames, but for the places
 told_low : (d : Device) (p : DevicePort) (port slot : ℕ) (c : Meaning) (places : List ℕ) (at : ℕ) → IsPlaced p port slot → SlotDecodesTo d.memory p.bases.clb port slot c places → DRIVER_BYTES ≤ at →
-    (((p.bases.clb + 32 * slot ≤ at) × (at < p.bases.clb + 32 * slot + 32)) ⊎ InCommand d p slot at) → InPlaces places at
+    (((p.bases.clb + 32 * slot ≤ at) × (at < p.bases.clb + 32 * slot + 32)) ⊎ InCommand d p slot at) → InDataBlocks places at
 told_low d p port slot c places at w told high (inl x) = absurd (omega (arith, w.list, w.port_below, w.slot_below, x.1, high))
 told_low d p port slot c places at w told high (inr (c', places', s, x)) = ⊎_elim
     (λ (t : (s.table ≤ at) × (at < s.table + TABLE_HEAD + PRD_BYTES * length s.prds)). absurd (
@@ -47,13 +47,13 @@ told_low d p port slot c places at w told high (inr (c', places', s, x)) = ⊎_e
     let prds : s.prds ≡ told.says.prds = says_prds d.memory p.bases.clb slot c' c places' places s told.says in
     let long : length s.prds ≡ length told.says.prds = ap length prds in
     omega (arith, same, told.table_is, long, told.few, t.1, high, w.port_below, w.slot_below)))
-    (λ (i : InPlaces places' at). subst (λ (l : List ℕ). InPlaces l at) (says_places d.memory p.bases.clb slot c' c places' places s told.says) i)
+    (λ (i : InDataBlocks places' at). subst (λ (l : List ℕ). InDataBlocks l at) (says_places d.memory p.bases.clb slot c' c places' places s told.says) i)
     x
 
 -- a command with its one place in the scratch frame
-scratch_low : (port at : ℕ) (places : List ℕ) → port < 4 → places ≡ scratch_of port ∷ [] → DRIVER_BYTES ≤ at → InPlaces places at → ⊥
+scratch_low : (port at : ℕ) (places : List ℕ) → port < 4 → places ≡ scratch_of port ∷ [] → DRIVER_BYTES ≤ at → InDataBlocks places at → ⊥
 scratch_low port at places below is high x =
-    let i : InPlaces (scratch_of port ∷ []) at = subst (λ (l : List ℕ). InPlaces l at) is x in
+    let i : InDataBlocks (scratch_of port ∷ []) at = subst (λ (l : List ℕ). InDataBlocks l at) is x in
     let none : i.number ≡ 0 = let l : i.number < 1 = i.listed in omega (arith, l) in
     let here : slice_index (scratch_of port ∷ []) i.number ≡ scratch_of port = ap (slice_index (scratch_of port ∷ [])) none in
     let to : at < slice_index (scratch_of port ∷ []) i.number + 512 = i.to in
@@ -65,7 +65,7 @@ module _ (uses : SlotStates) (m : Machine) (d : Device) (a : StateRelation uses 
     past = omega (arith, high, from)
 
     -- a request's place in the frame: the frame is lent to it, so it is over
-    place_over : (id : RequestId) → uses port slot ≡ Serves id → (h : ServesRequest m d.memory (d.port port) port slot id) → InUse (d.port port) slot → InPlaces h.places at → ⊥
+    place_over : (id : RequestId) → uses port slot ≡ Serves id → (h : ServesRequest m d.memory (d.port port) port slot id) → InUse (d.port port) slot → InDataBlocks h.places at → ⊥
     place_over id u h used x = by h.pending.request.asked.op refl
       where
         std : Standing m
@@ -99,7 +99,7 @@ module _ (uses : SlotStates) (m : Machine) (d : Device) (a : StateRelation uses 
     said (Serves id) is h used x = place_over id is h used (told_low d (d.port port) port slot h.command h.places at h.placed h.told past x)
 
     -- what it has taken
-    taken : (u : SlotState) → uses port slot ≡ u → RelatesSlot m d.memory d.tape (d.port port) port slot u → (t : FetchedCommand) → (d.port port).taken slot ≡ Some t → InPlaces t.places at → ⊥
+    taken : (u : SlotState) → uses port slot ≡ u → RelatesSlot m d.memory d.tape (d.port port) port slot u → (t : FetchedCommand) → (d.port port).taken slot ≡ Some t → InDataBlocks t.places at → ⊥
     taken Free is h t there x = absurd (none-some _ (sym h.free ∙ there))
     taken Armed is h t there x = absurd (none-some _ (sym h.free ∙ there))
     taken (Own o) is h t there x = own h.stage
@@ -110,14 +110,14 @@ module _ (uses : SlotStates) (m : Machine) (d : Device) (a : StateRelation uses 
         own (inr (inr y)) = absurd (none-some _ (sym y.over.free ∙ there))
     taken (Serves id) is h t there x =
         let known : TakenAs d.memory (d.port port) port slot h.pending h.command h.places t = taken_as d.memory (d.port port) port slot h.pending h.command h.places t there h.stage in
-        place_over id is h (inr (t, there)) (subst (λ (l : List ℕ). InPlaces l at) known.places_are x)
+        place_over id is h (inr (t, there)) (subst (λ (l : List ℕ). InDataBlocks l at) known.places_are x)
 
     unused : rules.DeviceOwns d (d.port port) slot at → ⊥
     unused x = ⊎_elim
         (λ (s : InUse (d.port port) slot × ((((d.port port).bases.clb + 32 * slot ≤ at) × (at < (d.port port).bases.clb + 32 * slot + 32)) ⊎ InCommand d (d.port port) slot at)).
         said (uses port slot) refl (a.slot port slot) s.0 s.1)
-        (λ (y : ((t : FetchedCommand) × ((d.port port).taken slot ≡ Some t) × InPlaces t.places at) ⊎ (((d.port port).fre ≡ true) × ((d.port port).bases.fb ≤ at) × (at < (d.port port).bases.fb + 256))). ⊎_elim
-        (λ (t : (t : FetchedCommand) × ((d.port port).taken slot ≡ Some t) × InPlaces t.places at). taken (uses port slot) refl (a.slot port slot) t.0 t.1 t.2)
+        (λ (y : ((t : FetchedCommand) × ((d.port port).taken slot ≡ Some t) × InDataBlocks t.places at) ⊎ (((d.port port).fre ≡ true) × ((d.port port).bases.fb ≤ at) × (at < (d.port port).bases.fb + 256))). ⊎_elim
+        (λ (t : (t : FetchedCommand) × ((d.port port).taken slot ≡ Some t) × InDataBlocks t.places at). taken (uses port slot) refl (a.slot port slot) t.0 t.1 t.2)
         (λ (f : ((d.port port).fre ≡ true) × ((d.port port).bases.fb ≤ at) × (at < (d.port port).bases.fb + 256)).
         let r = a.received port f.0 in let p = past in omega (arith, r.area, r.below, f.2, p))
         y)
@@ -152,14 +152,14 @@ idle_is_still d frame idle mid s port slot at from to x =
     let none : IsOver (mid.port port) slot = record { issued = k.ci slot (i.ci slot); free = k.free slot (i.ci slot) (i.taken slot) } in
     ⊎_elim
     (λ (u : InUse (mid.port port) slot × ((((mid.port port).bases.clb + 32 * slot ≤ at) × (at < (mid.port port).bases.clb + 32 * slot + 32)) ⊎ InCommand mid (mid.port port) slot at)). over_unused (mid.port port) slot none u.0)
-    (λ (y : ((t : FetchedCommand) × ((mid.port port).taken slot ≡ Some t) × InPlaces t.places at) ⊎ (((mid.port port).fre ≡ true) × ((mid.port port).bases.fb ≤ at) × (at < (mid.port port).bases.fb + 256))). ⊎_elim
-    (λ (t : (t : FetchedCommand) × ((mid.port port).taken slot ≡ Some t) × InPlaces t.places at). over_unused (mid.port port) slot none (inr (t.0, t.1)))
+    (λ (y : ((t : FetchedCommand) × ((mid.port port).taken slot ≡ Some t) × InDataBlocks t.places at) ⊎ (((mid.port port).fre ≡ true) × ((mid.port port).bases.fb ≤ at) × (at < (mid.port port).bases.fb + 256))). ⊎_elim
+    (λ (t : (t : FetchedCommand) × ((mid.port port).taken slot ≡ Some t) × InDataBlocks t.places at). over_unused (mid.port port) slot none (inr (t.0, t.1)))
     (λ (f : ((mid.port port).fre ≡ true) × ((mid.port port).bases.fb ≤ at) × (at < (mid.port port).bases.fb + 256)). absurd (both_ways _ (k.fre i.fre) f.0))
     y)
     x
 
 -- the bytes of a still frame are free
-pub still_is_free : (d : Device) (frame : Frame) (offset n : ℕ) → IsStable (IsStill frame) d → 4096 * frame.0 + 4096 ≤ d.size → offset + n ≤ 4096 → IsStable (IsFree (4096 * frame.0 + offset) n) d
+pub still_is_free : (d : Device) (frame : Frame) (offset n : ℕ) → IsStable (IsStill frame) d → 4096 * frame.0 + 4096 ≤ d.size → offset + n ≤ 4096 → IsStable (IsUnowned (4096 * frame.0 + offset) n) d
 still_is_free d frame offset n still inside within mid s = record {
   inside = let same : mid.size ≡ d.size = (law_steps_keep s).size in omega (arith, same, inside, within);
   unused = λ port slot byte from to u. still mid s port slot byte (omega (arith, from)) (omega (arith, to, within)) u;

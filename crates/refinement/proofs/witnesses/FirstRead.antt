@@ -24,7 +24,7 @@ use Rattle.adapter.proofs.Runs.{Steps-refl}
 use Rattle.adapter.proofs.SaysLemmas.{cut_length}
 use Rattle.block_machine.specs.declared.due.QueueMode.{QueueMode}
 use Rattle.block_machine.specs.Histories.{IsReachable}
-use Rattle.block_machine.specs.Left.{IsStart}
+use Rattle.block_machine.specs.Left.{IsInitial}
 use Rattle.block_machine.specs.State.{Accepted, Pending, Machine}
 use Rattle.block_machine.specs.Steps.{Accept, Issue, May, IsNew, MayStillMove, HasHeld, after_step, newly_accepted, newly_issued}
 use Rattle.block_machine.proofs.HistoryLemmas.{reached_more}
@@ -52,9 +52,9 @@ start_with memory = record empty {
   memory = λ f b. memory (4096 * f.0 + b);
 }
 
-pub starts_with : (memory : ℕ → ℕ) → IsStart (start_with memory)
+pub starts_with : (memory : ℕ → ℕ) → IsInitial (start_with memory)
 starts_with memory =
-    let s : IsStart (record empty { memory = λ f b. memory (4096 * f.0 + b) }) = filled_starts (λ f b. memory (4096 * f.0 + b)) in
+    let s : IsInitial (record empty { memory = λ f b. memory (4096 * f.0 + b) }) = filled_starts (λ f b. memory (4096 * f.0 + b)) in
     record { book = s.book; kept = s.kept; lent = s.lent; next = s.next; few = s.few; rows = s.rows; configured = s.configured; owned = s.owned }
 
 abbrev start : Machine

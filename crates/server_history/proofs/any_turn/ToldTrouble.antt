@@ -25,7 +25,7 @@ use Rattle.error_recovery.specs.declared.Recovered.{Recovered}
 use Rattle.port_boot.specs.States.{RunsOn}
 use Rattle.port_control.specs.Looks.{LooksAt, look_of}
 use Rattle.port_control.specs.declared.events.PortEvent.{PortEvent}
-use Rattle.port_control.specs.declared.events.PortEvent.TheVariants.{BusError, TaskFileError, LinkChanged, NoEvent}
+use Rattle.port_control.specs.declared.events.PortEvent.TheVariants.{FatalError, TaskFileError, LinkChanged, NoEvent}
 use Rattle.server_history.specs.Below.{LawsBelow}
 use Rattle.server_history.specs.ErrorHandling.{EndsStopped, TellsErrorHandling}
 use Rattle.port_control.specs.declared.events.PortError.{PortError}
@@ -89,14 +89,14 @@ gains_more Such old mid new grows g = record {
 pub given_up : (port_error : PortError) (port : Port) (outstanding : ℕ) (queued : Bool) (result : Recovered) (accesses : List Access) (old new : Device)
     → TellsErrorHandling port_error port outstanding queued result accesses old new → port_error ≢ kinds.TaskFileError → EndsStopped result
 given_up kinds.TaskFileError port outstanding queued result accesses old new t other = absurd (other refl)
-given_up kinds.BusError port outstanding queued result accesses old new t other = t
+given_up kinds.FatalError port outstanding queued result accesses old new t other = t
 given_up kinds.LinkChanged port outstanding queued result accesses old new t other = t
 given_up kinds.TimedOut port outstanding queued result accesses old new t other = t
 
 pub lost_or_not : (port_error : PortError) → (port_error ≡ kinds.LinkChanged) ⊎ (port_error ≢ kinds.LinkChanged)
 lost_or_not kinds.LinkChanged = inl refl
 lost_or_not kinds.TaskFileError = inr (λ e. let z : kinds.TaskFileError ≡ kinds.LinkChanged = e in absurd cc)
-lost_or_not kinds.BusError = inr (λ e. let z : kinds.BusError ≡ kinds.LinkChanged = e in absurd cc)
+lost_or_not kinds.FatalError = inr (λ e. let z : kinds.FatalError ≡ kinds.LinkChanged = e in absurd cc)
 lost_or_not kinds.TimedOut = inr (λ e. let z : kinds.TimedOut ≡ kinds.LinkChanged = e in absurd cc)
 
 -- ---- what a look saw
@@ -155,11 +155,11 @@ module _ (laws : LawsBelow) (port : Port) (look : PortEvent) (old seen : Device)
 
   -- ---- the link or the host's bus had failed
 
-  module _ (broken : look ≡ BusError) where
+  module _ (broken : look ≡ FatalError) where
     -- one of those three was shown then, or a fatal error came before PxIS was read
     pub fatal_shown : (new : Device) → Grows l.seen new → ShowsFatal (old.port port.0) ⊎ Gains (IsFatalOf port.0) old new
     fatal_shown new later = ⊎_elim (at 28 (omega arith) (omega arith) refl refl) (λ more. ⊎_elim (at 29 (omega arith) (omega arith) refl refl) (at 27 (omega arith) (omega arith) refl refl) more)
-        (laws.looking.looks_broken l.causes l.status (its BusError broken)).0
+        (laws.looking.looks_broken l.causes l.status (its FatalError broken)).0
       where
         at : (place : ℕ) → 27 ≤ place → place ≤ 29 → is_cause place ≡ true → shown_interrupt (l.seen.port port.0) place ≡ (l.seen.port port.0).is place → bit l.causes place ≡ true
             → ShowsFatal (old.port port.0) ⊎ Gains (IsFatalOf port.0) old new
@@ -189,12 +189,12 @@ module _ (laws : LawsBelow) (port : Port) (look : PortEvent) (old seen : Device)
     where
       by : (told : PortEvent) → look ≡ told → l.status % 16 ≡ 3
       by TaskFileError is = (laws.looking.looks_failed l.causes l.status (its TaskFileError is)).4
-      by BusError is = (laws.looking.looks_broken l.causes l.status (its BusError is)).3
+      by FatalError is = (laws.looking.looks_broken l.causes l.status (its FatalError is)).3
       by NoEvent is = (laws.looking.looks_undisturbed l.causes l.status (its NoEvent is)).1
       by LinkChanged is = absurd (not_lost is)
 
   -- and a failure was shown when the turn began, or came
-  pub errors_shown : (look ≡ TaskFileError) ⊎ (look ≡ BusError) → (new : Device) → Grows l.seen new → ShowsFailure (old.port port.0) ⊎ (Gains (IsFaultOf port.0) old new ⊎ Gains (IsFatalOf port.0) old new)
+  pub errors_shown : (look ≡ TaskFileError) ⊎ (look ≡ FatalError) → (new : Device) → Grows l.seen new → ShowsFailure (old.port port.0) ⊎ (Gains (IsFaultOf port.0) old new ⊎ Gains (IsFatalOf port.0) old new)
   errors_shown error new later = ⊎_elim
       (λ failed. ⊎_elim (λ is. inl (inr is)) (λ came. inr (inl came)) (fault_shown failed new later))
       (λ broken. ⊎_elim (λ is. inl (inl is)) (λ came. inr (inr came)) (fatal_shown broken new later))

@@ -21,7 +21,7 @@ use Rattle.block_machine.specs.Steps.{Step, Again, Answer, May, after_step, stay
 use Rattle.dma_frames.specs.Loan.{Lending}
 use Rattle.dma_frames.specs.Table.{Table, lent_to}
 use Rattle.request_queue.specs.Entries.{HasFewIssues, Held, IsAccepted, IsEarlier, BookIsInOrder, at_entry, requeued_entry, without_entry}
-use Rattle.request_queue.specs.Dispositions.{EndsLoan, Holdings, AreResolved, IsResolved, quarantines_loan, reply_to}
+use Rattle.request_queue.specs.Dispositions.{EndsLoan, Holdings, AreResolved, IsResolved, keeps_loan, reply_to}
 use Rattle.request_queue.specs.Machine.{IsBook, IsEntry}
 use Rattle.request_queue.specs.declared.PendingRequest.{PendingRequest}
 use Rattle.request_queue.specs.declared.disposition.Disposition.{Disposition}
@@ -41,7 +41,7 @@ use Rattle.server_history.proofs.state.RevokedMarks.{tellable, unmarked_has}
 -- ---- fates
 
 -- whether it is kept is told by both alike
-stays_is : (o : Outcome) (e : PendingRequest) (p : Pending) → p.issued ≡ e.issued → stays p o ≡ quarantines_loan o e
+stays_is : (o : Outcome) (e : PendingRequest) (p : Pending) → p.issued ≡ e.issued → stays p o ≡ keeps_loan o e
 stays_is outcome.Ok e p same = refl
 stays_is (outcome.DeviceError status error) e p same = refl
 stays_is outcome.Aborted e p same = refl
@@ -264,10 +264,10 @@ module _ (laws : LawsBelow) (port : Port) (disposition : PendingRequest → Disp
     of_port : x.request.port ≡ port
     of_port = its_entry.port ∙ its_port request rest now mid k m may
 
-    fate_is : keeps_fate (disposition request.entry) request.entry ≡ quarantines_loan o request.entry
+    fate_is : keeps_fate (disposition request.entry) request.entry ≡ keeps_loan o request.entry
     fate_is = ap (λ (f : Disposition). keeps_fate f request.entry) is
 
-    stay : stays x o ≡ quarantines_loan o request.entry
+    stay : stays x o ≡ keeps_loan o request.entry
     stay = stays_is o request.entry x its_entry.issued
 
     reply_is : reply_to request o ≡ reply_of (x, o)
@@ -322,7 +322,7 @@ module _ (laws : LawsBelow) (port : Port) (disposition : PendingRequest → Disp
             told = split ∙ ap (λ (y : List Reply). y ++ later) meets.0 ∙ (λ i. reply_is i ∷ r.tells.told i);
           })
 
-    by : (b : Bool) → quarantines_loan o request.entry ≡ b → MeetsInMachine port disposition (request ∷ rest) replies now new k m
+    by : (b : Bool) → keeps_loan o request.entry ≡ b → MeetsInMachine port disposition (request ∷ rest) replies now new k m
     by false never =
         answers (decided k.parked port.0 request.entry.id) (λ q ne. changed_other k.parked port.0 (but request.entry.id (k.parked port.0)) q ne)
         (λ id there. let w = left_parked request rest now mid k m may id there in (w.0, λ goes. w.1)) []
@@ -369,7 +369,7 @@ module _ (laws : LawsBelow) (port : Port) (disposition : PendingRequest → Disp
         loan_is = λ i. record { frames = sym its_entry.frames i; request = sym its_entry.id i }
 
     pub meet_end : MeetsInMachine port disposition (request ∷ rest) replies now new k m
-    meet_end = by (quarantines_loan o request.entry) refl
+    meet_end = by (keeps_loan o request.entry) refl
 
   -- ---- each fate
 

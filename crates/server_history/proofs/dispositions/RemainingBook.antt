@@ -14,7 +14,7 @@ use Rattle.ata_types.specs.declared.request.RequestId.{RequestId}
 use Rattle.server_history.proofs.state.ListMembers.{contains_cases, contains_there, map_in}
 use Rattle.dma_frames.specs.Table.{Table}
 use Rattle.request_queue.specs.Entries.{HasFewIssues, Held, IsAccepted, IsEarlier, BookIsInOrder, at_entry, has_id, is_of, requeued_entry, without_entry}
-use Rattle.request_queue.specs.Dispositions.{EndsLoan, Holdings, AreResolved, IsResolved, disposition_of, disposition_on, quarantines_loan}
+use Rattle.request_queue.specs.Dispositions.{EndsLoan, Holdings, AreResolved, IsResolved, disposition_of, disposition_on, keeps_loan}
 use Rattle.request_queue.specs.declared.PendingRequest.{PendingRequest}
 use Rattle.request_queue.specs.declared.disposition.FailedRequest.{FailedRequest}
 use Rattle.request_queue.specs.declared.disposition.Disposition.{Disposition}
@@ -258,7 +258,7 @@ module _ (laws : LawsBelow) (port : Port) (disposition : PendingRequest → Disp
     meets_one : FitsEntry (disposition request.entry) request.entry → (f : Disposition) → disposition request.entry ≡ f → (told : List Reply) → IsResolved request f told old mid → HasMet request rest old mid
     meets_one fit Wait is told meets = waited meets.1 (λ o ends. let z : Wait ≡ Complete o = sym is ∙ ends in absurd cc)
     meets_one fit Requeue is told meets = goes_again fit meets.1 is
-    meets_one fit (Complete o) is told meets = answered meets.1 (quarantines_loan o request.entry) (kept_issued o request.entry) meets.2
+    meets_one fit (Complete o) is told meets = answered meets.1 (keeps_loan o request.entry) (kept_issued o request.entry) meets.2
 
   -- ---- one after another
 

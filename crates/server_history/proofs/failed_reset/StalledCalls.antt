@@ -68,7 +68,7 @@ module _ (laws : LawsBelow) (s : ServerState) (t : StuckInvariant s) where
   pub goes : (new : Device) → StuckInvariant (record s { device = new }) → GoesTo s new
   goes new then_is = record {
     holds = holds_off (record s { device = new }) then_is.booked then_is.dead then_is.off;
-    port_error = λ m are port. never_troubled s t.dead (told_by s.device m.ports) (record { device = s.device; moment = m }) (ports_of s) new port are (never_ready s t.dead port.0);
+    port_error = λ m are port. never_troubled s t.dead (told_by s.device m.ports) (record { device = s.device; abstract = m }) (ports_of s) new port are (never_ready s t.dead port.0);
   }
 
   then_stalled : (new : Device) → SameAdapter s.device new → ((port : ℕ) → IsIdlePort (s.device.port port) → IsIdlePort (new.port port)) → (IsOn new → ⊥)
@@ -155,7 +155,7 @@ module _ (laws : LawsBelow) (s : ServerState) (t : StuckInvariant s) where
 
   module _ (first : JointState Device) (past : List (Happening Device DeviceStep)) (leads : LeadsToServer first past s) where
     abbrev old : AbstractState
-    old = (now first past).moment
+    old = (now first past).abstract
 
     abbrev ages : List Step
     ages = Age (λ port. false) ∷ []
@@ -201,7 +201,7 @@ module _ (laws : LawsBelow) (s : ServerState) (t : StuckInvariant s) where
           faults = tt;
           probes = tt;
           boots = λ hung. absurd (not_hung port hung);
-          port_error = never_troubled s t.dead (told_by s.device old.ports) (record { device = s.device; moment = old }) (ports_of s) s.device port leads.stands.ports_are (never_ready s t.dead port.0);
+          port_error = never_troubled s t.dead (told_by s.device old.ports) (record { device = s.device; abstract = old }) (ports_of s) s.device port leads.stands.ports_are (never_ready s t.dead port.0);
           well = λ i. absurd (uninterrupted s.device old.ports port i);
           heeds = tt;
         })

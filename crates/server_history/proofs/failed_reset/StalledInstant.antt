@@ -62,7 +62,7 @@ module _ (s : ServerState) (dead : AreDead s.ports) where
   never_tended port tends = tends.1 (ap state_of (dead port.0 tends.0))
 
   -- so no trouble of it can be lost
-  pub never_troubled : (evidence : Evidence) (old : JointState Device) (ports : Ports) (new : Device) (port : Port) → old.moment.ports ≡ ports_of s → ports.state port ≢ ReadyState
+  pub never_troubled : (evidence : Evidence) (old : JointState Device) (ports : Ports) (new : Device) (port : Port) → old.abstract.ports ≡ ports_of s → ports.state port ≢ ReadyState
       → LosesNoPortError evidence old ports new port
   never_troubled evidence old ports new port were now = record {
     errors = λ ready. absurd (never_ready port.0 (ap (λ (p : Ports). p.state port) (sym were) ∙ ready));
@@ -90,7 +90,7 @@ module _ (s : ServerState) (b : BookInvariant s) (dead : AreDead s.ports) (off :
   slots = record { uses = is.uses; parked = is.parked }
 
   abbrev instant : JointState Device
-  instant = record { device = s.device; moment = record { machine = m; ports = ports_of s } }
+  instant = record { device = s.device; abstract = record { machine = m; ports = ports_of s } }
 
   abbrev HoldsAs : Port → ProbeResult → Type 0
   HoldsAs port f = HoldsOf (wanted_of s.wanted port.0) slots instant port (is_served f) (state_of f)

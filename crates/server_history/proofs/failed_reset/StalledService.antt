@@ -420,7 +420,7 @@ module _ (laws : LawsBelow) (s : ServerState) (t : StuckInvariant s) where
 
     module _ (first : JointState Device) (past : List (Happening Device DeviceStep)) (leads : LeadsToServer first past s) where
       abbrev old : AbstractState
-      old = (now first past).moment
+      old = (now first past).abstract
 
       reached_old : IsReachable old.machine
       reached_old = laws.basic.history_reached s.wanted first past leads.history
@@ -467,7 +467,7 @@ module _ (laws : LawsBelow) (s : ServerState) (t : StuckInvariant s) where
       }
 
       -- what isn't dead isn't served, so that no disk is tried
-      probes : (port : Port) → old.ports.served port ≡ true → ProbesDisk [] (record { device = s.device; moment = old }) (ports_of s) s.device port
+      probes : (port : Port) → old.ports.served port ≡ true → ProbesDisk [] (record { device = s.device; abstract = old }) (ports_of s) s.device port
       probes port its = record {
         shown = λ absent. absurd (let y : Dead ≡ Absent = sym (is_dead port its) ∙ absent in cc);
         absent = λ absent. absurd (let y : Dead ≡ Absent = sym (is_dead port its) ∙ absent in cc);
@@ -497,7 +497,7 @@ module _ (laws : LawsBelow) (s : ServerState) (t : StuckInvariant s) where
             faults = λ alone. absurd (was_never port alone.ready);
             probes = λ its none. probes port its;
             boots = ((λ ready. absurd (was_never port ready)), inl (same_ports port));
-            port_error = never_troubled s t.dead (told_by s.device old.ports) (record { device = s.device; moment = old }) (ports_of s) s.device port leads.stands.ports_are (never_ready s t.dead port.0);
+            port_error = never_troubled s t.dead (told_by s.device old.ports) (record { device = s.device; abstract = old }) (ports_of s) s.device port leads.stands.ports_are (never_ready s t.dead port.0);
             well = λ i. absurd (uninterrupted s.device old.ports port i);
             heeds = λ ready. absurd (was_never port ready);
           })

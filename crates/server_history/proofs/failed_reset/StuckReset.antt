@@ -205,22 +205,22 @@ module _ (laws : LawsBelow) (s new : ServerState) (b : BookInvariant s) (g : Res
     abbrev began : JointState Device
     began = with_device s.device old
 
-    ports_are : old.moment.ports ≡ ports_of s
+    ports_are : old.abstract.ports ≡ ports_of s
     ports_are = leads.stands.ports_are
 
-    fit : AreFit old.moment.ports
+    fit : AreFit old.abstract.ports
     fit = history_fit (Begins s.wanted) (CallCorresponds s.wanted) first past leads.history
 
     evidence : Evidence
-    evidence = stuck_told old.moment.ports
+    evidence = stuck_told old.abstract.ports
 
-    was_served : (port : Port) → old.moment.ports.served port ≡ true → is_served (probe_result_of s.ports port.0) ≡ true
+    was_served : (port : Port) → old.abstract.ports.served port ≡ true → is_served (probe_result_of s.ports port.0) ≡ true
     was_served port its = ap (λ (p : Ports). p.served port) (sym ports_are) ∙ its
 
-    same_disk : (port : Port) → SameDisk old.moment.ports (ports_of n) port
+    same_disk : (port : Port) → SameDisk old.abstract.ports (ports_of n) port
     same_disk port = subst (λ (p : Ports). SameDisk p (ports_of n) port) (sym ports_are) (ap last_serial_of (disk_same port), ap last_sectors_of (disk_same port))
 
-    gets_stuck : (port : Port) → IsStuck old.moment.ports evidence (ports_of n) port
+    gets_stuck : (port : Port) → IsStuck old.abstract.ports evidence (ports_of n) port
     unfolding evidence
     gets_stuck port = (
       served_same port.0 ∙ ap (λ (p : Ports). p.served port) (sym ports_are),
@@ -270,9 +270,9 @@ module _ (laws : LawsBelow) (s new : ServerState) (b : BookInvariant s) (g : Res
 
     event : (h : Happening Device DeviceStep) × (h.event.ask ≡ Reset) × (h.event.said ≡ WasReset None) × LeadsToServer first (h ∷ past) n
     event =
-        let f = follows old.moment.machine (laws.basic.history_reached s.wanted first past leads.history) leads.stands.machine in
+        let f = follows old.abstract.machine (laws.basic.history_reached s.wanted first past leads.history) leads.stands.machine in
         lead_with laws first past s n Reset (WasReset None) evidence f.steps refl leads (holds_off n stalled.booked dead off) (dead_fit n dead stalled.booked.few)
-        f.may (devices_belong {D = DeviceStep} Reset (ports_of n) f.steps f.only) (devices_last f.steps f.only) (devices_lawful old.moment evidence (ports_of n) f.steps f.only)
+        f.may (devices_belong {D = DeviceStep} Reset (ports_of n) f.steps f.only) (devices_last f.steps f.only) (devices_lawful old.abstract evidence (ports_of n) f.steps f.only)
         (λ e o here there same. same_disk e.request.port)
         (f.only, gets_stuck)
         tt
@@ -282,7 +282,7 @@ module _ (laws : LawsBelow) (s new : ServerState) (b : BookInvariant s) (g : Res
         (λ port ready. absurd (never_ready n dead port.0 ready))
         (part f.steps)
         f.backed
-        (stands_then (after old.moment.machine f.steps) f.with_device_alone)
+        (stands_then (after old.abstract.machine f.steps) f.with_device_alone)
 
   pub stuck_adds : ExtendsStuck s new Reset (WasReset None)
   stuck_adds = subst (λ (x : ServerState). ExtendsStuck s x Reset (WasReset None)) (sym g.server) (record { stalled = stalled; adds = event })

@@ -34,7 +34,7 @@ use Rattle.slots.specs.declared.SlotUse.{SlotUse}
 use Rattle.server_history.specs.Below.{LawsBelow}
 use Rattle.server_history.specs.Served.{AnswersBy, AnswersTurn, HasEnded, HasTurn, IsAnsweredIn, IssuesOnly, SameSettings, answers_in}
 use Rattle.server_history.specs.Server.{ServerState, IsMachineOf, SettledInvariant, mode_in, ports_of, remembered_at, slots_at, state_of, used_for}
-use Rattle.server_history.specs.Turns.{InService, ServesPort, IsOfTurn, LeavesOthers, MakesTurn, NamesOnly, server_instant, server_moment}
+use Rattle.server_history.specs.Turns.{InService, ServesPort, IsOfTurn, LeavesOthers, MakesTurn, NamesOnly, joint_state_of, abstract_state_of}
 use Rattle.server_history.proofs.state.AnswerSteps.{answered_in, ended_stood, issuing_answers, may_parts, no_answer, no_answer_issuing, told_so, with_ok}
 use Rattle.server_history.proofs.state.TurnAccesses.{TurnList, turn_list}
 use Rattle.server_history.proofs.healthy_turn.AnswersAndIssues.{turn_apart, turn_settings, turn_slots}
@@ -206,7 +206,7 @@ module _ (laws : LawsBelow) (port : Port) (replies : List Reply) (old new : Serv
     b = x.answers
 
     abbrev began : AbstractState
-    began = server_moment old m
+    began = abstract_state_of old m
 
     -- what holds of its steps
     all_steps : (P : List Step → Type 0) → P [] → ((step : Step) (base : List Step) → IsByDevice step → P base → P (step ∷ base)) → ((e : Pending) (base : List Step) → Contains b.ended e → P base → P (Answer e Ok ∷ base))
@@ -284,7 +284,7 @@ module _ (laws : LawsBelow) (port : Port) (replies : List Reply) (old new : Serv
     )
 
     -- no trouble was shown
-    evidenced : IsEvidencedOf Service (Served replies) list.driven.accesses (server_instant old m) (ports_of new) new.device its port
+    evidenced : IsEvidencedOf Service (Served replies) list.driven.accesses (joint_state_of old m) (ports_of new) new.device its port
     evidenced = record {
       lost = λ here. absurd (nowhere port here);
       gone_all = λ _ loss. absurd (never_lost laws port replies old new t ready turn list port_same m reached is x.steps x.may b answered loss);

@@ -38,7 +38,7 @@ use Rattle.server_history.specs.Below.{LawsBelow}
 use Rattle.server_history.specs.Served.{AnswersBy, Checks, HasEnded, HasTurn, IsAnsweredIn, IsMaskOf, answers_in, done_reply, is_used}
 use Rattle.server_history.proofs.any_turn.TurnSteps.{counts_none}
 use Rattle.server_history.proofs.any_turn.UnusedSlotBits.{unused_clear}
-use Rattle.server_history.specs.Turns.{FindsTurn, InService, TurnCorresponds, server_instant, server_moment}
+use Rattle.server_history.specs.Turns.{FindsTurn, InService, TurnCorresponds, joint_state_of, abstract_state_of}
 use Rattle.server_history.specs.Server.{ServerState, InCallInvariant, IsMachineOf, SettledInvariant, mode_in, ports_of, slots_at, state_of, used_for}
 use Rattle.server_history.proofs.state.AnswerSteps.{answered_in, ended_stood, in_answered, may_parts, no_answer, no_answer_issuing}
 use Rattle.server_history.proofs.state.TurnAccesses.{TurnList, look_does, look_list}
@@ -227,7 +227,7 @@ module _ (laws : LawsBelow) (port : Port) (replies : List Reply) (old new : Serv
             (λ _. told_answered other own (ended_told other own has_ended)),
           )
 
-      finding : FindsDone port list.driven.accesses (server_instant old m) steps
+      finding : FindsDone port list.driven.accesses (joint_state_of old m) steps
       finding = record {
         ci = k.reads.issued;
         sact = k.reads.active;
@@ -252,13 +252,13 @@ module _ (laws : LawsBelow) (port : Port) (replies : List Reply) (old new : Serv
 
   -- no failure was shown
   pub unfailing : ShowsFailure (old.device.port port.0) → ⊥
-  unfailing = never_failed laws port (slots_at old.slots port.0) replies (server_instant old m) new.device turn kept.on turn.quiet
+  unfailing = never_failed laws port (slots_at old.slots port.0) replies (joint_state_of old m) new.device turn kept.on turn.quiet
 
   not_lost : turn.look ≢ LinkChanged
   not_lost lost = let z : NoEvent ≡ LinkChanged = sym turn.quiet ∙ lost in cc
 
   later : Grows turn.seen new.device
-  later = let over = later_driven laws port (slots_at old.slots port.0) replies (server_instant old m) new.device turn kept.on turn.quiet in grows_over laws over.accesses turn.seen new.device over.all
+  later = let over = later_driven laws port (slots_at old.slots port.0) replies (joint_state_of old m) new.device turn kept.on turn.quiet in grows_over laws over.accesses turn.seen new.device over.all
 
   -- nor was a loss
   pub never_lost : ShowsLoss port old.device new.device → ⊥
@@ -287,7 +287,7 @@ module _ (laws : LawsBelow) (port : Port) (replies : List Reply) (old new : Serv
         (laws.recovery.own_on port.0 accesses old.device turn.seen does ((kept.behind port.0 low).own ready) (shows_device laws port old.device turn.seen turn.look turn.looks kept.on not_lost))
         at later steps backed
 
-    serves_ready : ServesReady (server_moment old m) its steps (record { machine = after m steps; ports = ports_of new }) port
+    serves_ready : ServesReady (abstract_state_of old m) its steps (record { machine = after m steps; ports = ports_of new }) port
     serves_ready = record {
       ended = heeded turn.quiet;
       emptied = λ gone. absurd (nowhere port gone);
@@ -311,7 +311,7 @@ module _ (laws : LawsBelow) (port : Port) (replies : List Reply) (old new : Serv
         changed = λ bad. absurd (not_bad bad);
       };
       boots = (λ is port_error. absurd (⊎_elim (λ fatal. unfailing (inl fatal)) never_lost port_error), inl same);
-      port_error = trouble_shown laws port (slots_at old.slots port.0) replies (server_instant old m) new.device turn kept.on turn.quiet its (ports_of new);
+      port_error = trouble_shown laws port (slots_at old.slots port.0) replies (joint_state_of old m) new.device turn kept.on turn.quiet its (ports_of new);
       well = λ i. absurd (uninterrupted i);
       heeds = λ is. serves_ready;
     }

@@ -121,9 +121,9 @@ module _ (s : ServerState) (r : Request) (acc : IsAcceptable (server_situation s
 
     module _ (laws : LawsBelow) (m : Machine) (reached : IsReachable m) (is : IsMachineOf s m) where
       abbrev at : JointState Device
-      at = record { device = s.device; moment = record { machine = m; ports = ports_of s } }
+      at = record { device = s.device; abstract = record { machine = m; ports = ports_of s } }
 
-      allowed : IsAcceptable (events.situation_of at.moment) r
+      allowed : IsAcceptable (events.situation_of at.abstract) r
       allowed = subst (λ (x : Situation). IsAcceptable x r) (sym (situation_is laws s at (record { device_is = refl; ports_are = refl; machine = is }))) acc
 
       pub is_new : IsNew m (request_in m)

@@ -211,14 +211,14 @@ module _ (laws : LawsBelow) (s : ServerState) (k : InCallInvariant s) (r : Reque
         (laws.basic.may m x.steps early (tt, fresh m was is) x.may)
         (belong_on mode port {D = DeviceStep} (Submit r) (ports_of new) (λ p own. (its_ready p own, its_mode p own)) x.steps early x.only (tt, inr refl))
         (last_on mode port x.steps early x.only x.last (tt, λ other h i. false≢true h) (λ other i j. false≢true j))
-        (lawful_on mode port old.moment no_evidence (ports_of new) x.steps early x.only tt)
+        (lawful_on mode port old.abstract no_evidence (ports_of new) x.steps early x.only tt)
         (allowed, (asked, accepts_on mode port x.steps early x.only, refl), same_ports_are, all_issued)
         tt
         driven.accesses
         (driven.all, (row, its_row, All-weaker (IssuesIn port) (IssuesOn row.port) (λ access here. subst (λ (p : Port). IssuesOn p access) (sym port_is) (issuing_is port port_low access here)) driven.accesses driven.only))
         (λ other. All-weaker (IssuesIn port) (LeavesEngine other) (issuing_leaves port other) driven.accesses driven.only)
         (λ other is_ready. due_now other)
-        (λ other. record { finds = tt; faults = tt; probes = tt; boots = tt; port_error = laws.calls.ordinary other (with_device s.device old) new.device driven.accesses (told_by s.device old.moment.ports) (ports_of new) k.on driven.all (All-weaker (IssuesIn port) (SparesRegister Ghc) (issuing_spares_host port) driven.accesses driven.only) (All-weaker (IssuesIn port) (ClearsNone other) (issuing_clears_none port other) driven.accesses driven.only); well = λ i. absurd (uninterrupted s.device old.moment.ports other i); heeds = uninterrupted s.device old.moment.ports other })
+        (λ other. record { finds = tt; faults = tt; probes = tt; boots = tt; port_error = laws.calls.ordinary other (with_device s.device old) new.device driven.accesses (told_by s.device old.abstract.ports) (ports_of new) k.on driven.all (All-weaker (IssuesIn port) (SparesRegister Ghc) (issuing_spares_host port) driven.accesses driven.only) (All-weaker (IssuesIn port) (ClearsNone other) (issuing_clears_none port other) driven.accesses driven.only); well = λ i. absurd (uninterrupted s.device old.abstract.ports other i); heeds = uninterrupted s.device old.abstract.ports other })
         (laws.backed_parts s.device s.device new.device m early x.steps (laws.backed_own s.device m (Accept asked) (λ no. no)) x.backed)
         stands
       where
@@ -226,7 +226,7 @@ module _ (laws : LawsBelow) (s : ServerState) (k : InCallInvariant s) (r : Reque
         old = now first past
 
         m : Machine
-        m = old.moment.machine
+        m = old.abstract.machine
 
         was : IsReachable m
         was = reached laws first past s leads
@@ -258,14 +258,14 @@ module _ (laws : LawsBelow) (s : ServerState) (k : InCallInvariant s) (r : Reque
         its_ready : (p : machine.Pending) → p.request.port ≡ port → (ports_of new).state p.request.port ≡ ReadyState
         its_ready p own = ap (λ (q : Port). state_of (probe_result_of new.ports q.0)) own ∙ ap (λ (found : List ProbeResult). state_of (probe_result_of found port.0)) ports_same_too ∙ ready
 
-        allowed : IsAcceptable (events.situation_of old.moment) r
+        allowed : IsAcceptable (events.situation_of old.abstract) r
         allowed = subst (λ (y : Situation). IsAcceptable y r) (sym (situation_is laws s old leads.stands)) acc
 
         its_row : IsNamed m.rows r row
         its_row = subst (λ (rows : List GrantRow). IsNamed rows r row) (sym is.rows) named
 
-        same_ports_are : SamePorts old.moment.ports (ports_of new)
-        same_ports_are = ports_same old.moment.ports (ports_of new) (leads.stands.ports_are ∙ sym (ap ports_of same))
+        same_ports_are : SamePorts old.abstract.ports (ports_of new)
+        same_ports_are = ports_same old.abstract.ports (ports_of new) (leads.stands.ports_are ∙ sym (ap ports_of same))
 
         all_issued : AllIssued (record { machine = after m (x.steps ++ early); ports = ports_of new })
         all_issued other on = none_due new (after m (x.steps ++ early)) stands (mode_in new other) other (settles.issued other)

@@ -13,7 +13,7 @@ use Rattle.adapter.specs.Access.{Access, Does, Loads, Stores}
 use Rattle.adapter.specs.Access.Access.{Loading, Reading, Storing, Writing}
 use Rattle.adapter.specs.Asked.{Asked}
 use Rattle.adapter.specs.Device.{Device}
-use Rattle.adapter.specs.Rules.{IsFree, IsStable}
+use Rattle.adapter.specs.Rules.{IsUnowned, IsStable}
 use Rattle.adapter.specs.Steps.{Steps}
 use Rattle.adapter.specs.declared.access.DeviceStep.{DeviceStep}
 use Rattle.adapter.specs.declared.command.Operation.TheVariants.{Identify}
@@ -67,7 +67,7 @@ use Rattle.server_history.proofs.state.PortSlots.{not_own, used_there}
 -- ---- what a history leads to
 
 module _ (laws : LawsBelow) (first : JointState Device) (past : List (Happening Device DeviceStep)) (s : ServerState) (leads : LeadsToServer first past s) where
-  pub reached : IsReachable (now first past).moment.machine
+  pub reached : IsReachable (now first past).abstract.machine
   reached = laws.basic.history_reached s.wanted first past leads.history
 
 -- what holds of the server's owners and loans holds of the machine's
@@ -89,7 +89,7 @@ above_table port slot place low small (inr (inr t)) high = omega (arith, low, sm
 
 -- the server's device, at a moment
 abbrev still : ServerState → AbstractState → JointState Device
-still s m = record { device = s.device; moment = m }
+still s m = record { device = s.device; abstract = m }
 
 -- accesses of bytes write no register
 bytes_spare_host : (access : Access) → IsOfBytes access → SparesRegister Ghc access
@@ -121,7 +121,7 @@ Parts s new ask said steps accesses = (m : AbstractState) → m.ports ≡ ports_
 
 module _ (laws : LawsBelow) where
   -- what a request meets is what it meets in the machine
-  pub situation_is : (s : ServerState) (old : JointState Device) → ServerRelation old s → events.situation_of old.moment ≡ server_situation s
+  pub situation_is : (s : ServerState) (old : JointState Device) → ServerRelation old s → events.situation_of old.abstract ≡ server_situation s
   situation_is s old at = λ i. record {
     rows = at.machine.rows i;
     owner = fun_ext at.machine.owner i;
@@ -129,7 +129,7 @@ module _ (laws : LawsBelow) where
     state = ap (λ (ports : Ports). ports.state) at.ports_are i;
     sectors = ap (λ (ports : Ports). ports.sectors) at.ports_are i;
     trims = ap (λ (ports : Ports). ports.trims) at.ports_are i;
-    unanswered = fun_ext (λ (client : ClientId). laws.counts s.book old.moment.machine.book client at.machine.book) i;
+    unanswered = fun_ext (λ (client : ClientId). laws.counts s.book old.abstract.machine.book client at.machine.book) i;
     next = at.machine.next i;
   }
 
@@ -169,33 +169,33 @@ module _ (laws : LawsBelow) where
   none_grounded (Told step) evidence = tt
 
   pub nothing_event : (s : ServerState) (ask : Ask DeviceStep) (said : CallResult) → GoesTo s s.device → ((m : AbstractState) → CameBy m ask said [] s.device s.device)
-      → ((old : JointState Device) → ServerRelation old s → (evidence : Evidence) → IsAnswered ask said old.moment evidence [] (record { machine = old.moment.machine; ports = ports_of s }))
-      → ((old : JointState Device) → IsReachable old.moment.machine → ServerRelation old s → (port : Port) → Issues ask [] old.moment.machine (ports_of s) port)
+      → ((old : JointState Device) → ServerRelation old s → (evidence : Evidence) → IsAnswered ask said old.abstract evidence [] (record { machine = old.abstract.machine; ports = ports_of s }))
+      → ((old : JointState Device) → IsReachable old.abstract.machine → ServerRelation old s → (port : Port) → Issues ask [] old.abstract.machine (ports_of s) port)
       → Parts s s.device ask said [] []
       → ExtendsHistory s s ask said
   nothing_event s ask said goes came answered issues parts first past leads =
       let old : JointState Device = now first past in
-      lead_by laws first past s s ask said [] refl refl leads goes.holds tt tt tt tt (answered old leads.stands (told_by s.device old.moment.ports)) (none_grounded ask (told_by s.device old.moment.ports)) [] (came old.moment)
-      (λ port. All-nil (LeavesEngine port)) (issues old (reached laws first past s leads) leads.stands) (parts old.moment leads.stands.ports_are) (nothing_backed s.device old.moment.machine) leads.stands.machine
+      lead_by laws first past s s ask said [] refl refl leads goes.holds tt tt tt tt (answered old leads.stands (told_by s.device old.abstract.ports)) (none_grounded ask (told_by s.device old.abstract.ports)) [] (came old.abstract)
+      (λ port. All-nil (LeavesEngine port)) (issues old (reached laws first past s leads) leads.stands) (parts old.abstract leads.stands.ports_are) (nothing_backed s.device old.abstract.machine) leads.stands.machine
 
   module _ (s : ServerState) (goes : GoesTo s s.device) where
     pub undone_event : (step : DeviceStep) → ExtendsHistory s s (Told step) (Stepped false)
     undone_event step =
         nothing_event s (Told step) (Stepped false) goes (λ m. (refl, refl))
-        (λ old at evidence. (refl, ports_same old.moment.ports (ports_of s) at.ports_are)) (λ old was at port. tt)
+        (λ old at evidence. (refl, ports_same old.abstract.ports (ports_of s) at.ports_are)) (λ old was at port. tt)
         (λ m are port. record { finds = tt; faults = tt; probes = tt; boots = tt; port_error = goes.port_error m are port; well = λ i. absurd (uninterrupted s.device m.ports port i); heeds = uninterrupted s.device m.ports port })
 
     pub state_event : (port : Port) → ExtendsHistory s s (State port) (Shown ((ports_of s).state port))
     state_event port =
         nothing_event s (State port) (Shown ((ports_of s).state port)) goes (λ m. (refl, refl))
-        (λ old at evidence. (ap (λ (ports : Ports). ports.state port) (sym at.ports_are), refl, ports_same old.moment.ports (ports_of s) at.ports_are)) (λ old was at q. tt)
+        (λ old at evidence. (ap (λ (ports : Ports). ports.state port) (sym at.ports_are), refl, ports_same old.abstract.ports (ports_of s) at.ports_are)) (λ old was at q. tt)
         (λ m are q. record { finds = tt; faults = tt; probes = tt; boots = tt; port_error = goes.port_error m are q; well = λ i. absurd (uninterrupted s.device m.ports q i); heeds = uninterrupted s.device m.ports q })
 
     pub store_refused_event : (client : ClientId) (frame : Frame) (offset : ℕ) (bytes : List ℕ) (fault : MemFault)
         → IsFirstMemFault (owner_of s.table) (lent_to s.table) client frame offset (length bytes) fault → ExtendsHistory s s (StoreAt client frame offset bytes) (store_said (Err fault))
     store_refused_event client frame offset bytes fault is =
         nothing_event s (StoreAt client frame offset bytes) (store_said (Err fault)) goes (λ m. (refl, refl))
-        (λ old at evidence. (ports_same old.moment.ports (ports_of s) at.ports_are, as_told s old.moment.machine at.machine (λ owner lent. IsFirstMemFault owner lent client frame offset (length bytes) fault) is, refl))
+        (λ old at evidence. (ports_same old.abstract.ports (ports_of s) at.ports_are, as_told s old.abstract.machine at.machine (λ owner lent. IsFirstMemFault owner lent client frame offset (length bytes) fault) is, refl))
         (λ old was at port. tt)
         (λ m are port. record { finds = tt; faults = tt; probes = tt; boots = tt; port_error = goes.port_error m are port; well = λ i. absurd (uninterrupted s.device m.ports port i); heeds = uninterrupted s.device m.ports port })
 
@@ -203,7 +203,7 @@ module _ (laws : LawsBelow) where
         → IsFirstMemFault (owner_of s.table) (lent_to s.table) client frame offset count fault → ExtendsHistory s s (LoadAt client frame offset count) (load_said (Err fault) bytes)
     load_refused_event client frame offset count bytes fault is =
         nothing_event s (LoadAt client frame offset count) (load_said (Err fault) bytes) goes (λ m. (refl, refl))
-        (λ old at evidence. (ports_same old.moment.ports (ports_of s) at.ports_are, as_told s old.moment.machine at.machine (λ owner lent. IsFirstMemFault owner lent client frame offset count fault) is, refl))
+        (λ old at evidence. (ports_same old.abstract.ports (ports_of s) at.ports_are, as_told s old.abstract.machine at.machine (λ owner lent. IsFirstMemFault owner lent client frame offset count fault) is, refl))
         (λ old was at port. tt)
         (λ m are port. record { finds = tt; faults = tt; probes = tt; boots = tt; port_error = goes.port_error m are port; well = λ i. absurd (uninterrupted s.device m.ports port i); heeds = uninterrupted s.device m.ports port })
 
@@ -212,16 +212,16 @@ module _ (laws : LawsBelow) where
         → ((m : Machine) → IsMachineOf s m → (port : Port) → (ports_of s).state port ≡ ReadyState → IssuesDue (mode_in s port) [] m port) → ExtendsHistory s s (Submit r) (Submitted (Err refusal))
     submit_refused_event r refusal is undue =
         nothing_event s (Submit r) (Submitted (Err refusal)) goes (λ m. (refl, refl))
-        (λ old at evidence. (subst (λ (x : Situation). IsFirstRefusal x r refusal) (sym (situation_is s old at)) is, refl, ports_same old.moment.ports (ports_of s) at.ports_are))
-        (λ old was at port ready. undue old.moment.machine at.machine port ready)
+        (λ old at evidence. (subst (λ (x : Situation). IsFirstRefusal x r refusal) (sym (situation_is s old at)) is, refl, ports_same old.abstract.ports (ports_of s) at.ports_are))
+        (λ old was at port ready. undue old.abstract.machine at.machine port ready)
         (λ m are port. record { finds = tt; faults = tt; probes = tt; boots = tt; port_error = goes.port_error m are port; well = λ i. absurd (uninterrupted s.device m.ports port i); heeds = uninterrupted s.device m.ports port })
 
     pub revoke_refused_event : (client : ClientId) (number : ℕ) → (HasRow client number s.grants → ⊥)
         → ((m : Machine) → IsMachineOf s m → (port : Port) → (ports_of s).state port ≡ ReadyState → IssuesDue (mode_in s port) [] m port) → ExtendsHistory s s (RevokeOf client number) (WasRevoked None)
     revoke_refused_event client number none undue =
         nothing_event s (RevokeOf client number) (WasRevoked None) goes (λ m. (refl, refl))
-        (λ old at evidence. (λ has. none (subst (HasRow client number) at.machine.rows has), refl, ports_same old.moment.ports (ports_of s) at.ports_are))
-        (λ old was at port ready. undue old.moment.machine at.machine port ready)
+        (λ old at evidence. (λ has. none (subst (HasRow client number) at.machine.rows has), refl, ports_same old.abstract.ports (ports_of s) at.ports_are))
+        (λ old was at port ready. undue old.abstract.machine at.machine port ready)
         (λ m are port. record { finds = tt; faults = tt; probes = tt; boots = tt; port_error = goes.port_error m are port; well = λ i. absurd (uninterrupted s.device m.ports port i); heeds = uninterrupted s.device m.ports port })
 
   -- ---- calls that lead to another device
@@ -235,55 +235,55 @@ module _ (laws : LawsBelow) where
         let old : JointState Device = now first past in
         let at : ServerRelation old s = leads.stands in
         let m = at.machine in
-        let x = (device_adds (known m.uses m.parked s.device) new moves).adds old.moment.machine (reached laws first past s leads) m.knows in
+        let x = (device_adds (known m.uses m.parked s.device) new moves).adds old.abstract.machine (reached laws first past s leads) m.knows in
         let steps : List Step = x.0 in
         lead_by laws first past s then_is (Told step) (Stepped true) steps refl refl leads goes.holds x.1 (devices_belong (Told step) (ports_of s) steps x.3.only) (devices_last steps x.3.only)
-        (devices_lawful old.moment no_evidence (ports_of s) steps x.3.only)
-        (x.3.only, ports_same old.moment.ports (ports_of s) at.ports_are)
+        (devices_lawful old.abstract no_evidence (ports_of s) steps x.3.only)
+        (x.3.only, ports_same old.abstract.ports (ports_of s) at.ports_are)
         tt
         []
         (refl, asked)
         (λ port. All-nil (LeavesEngine port))
         (λ port. tt)
-        (λ port. record { finds = tt; faults = tt; probes = tt; boots = tt; port_error = goes.port_error old.moment at.ports_are port; well = λ i. absurd (uninterrupted s.device old.moment.ports port i); heeds = uninterrupted s.device old.moment.ports port })
+        (λ port. record { finds = tt; faults = tt; probes = tt; boots = tt; port_error = goes.port_error old.abstract at.ports_are port; well = λ i. absurd (uninterrupted s.device old.abstract.ports port i); heeds = uninterrupted s.device old.abstract.ports port })
         x.3.backed
-        (machine_on laws s new old.moment.machine steps m x.3.only x.2)
+        (machine_on laws s new old.abstract.machine steps m x.3.only x.2)
 
     module _ (client : ClientId) (frame : Frame) (offset : ℕ) (bytes : List ℕ) (opens : IsOpen (owner_of s.table) (lent_to s.table) client frame offset (length bytes)) where
       pub load_event : Loads (4096 * frame.0 + offset) bytes s.device new → ExtendsHistory s (record s { device = new }) (LoadAt client frame offset (length bytes)) (load_said (Ok tt) bytes)
       load_event loads first past leads =
           let old : JointState Device = now first past in
           let at : ServerRelation old s = leads.stands in
-          let x = load_ends s new client frame offset bytes opens loads old.moment.machine (reached laws first past s leads) at.machine in
+          let x = load_ends s new client frame offset bytes opens loads old.abstract.machine (reached laws first past s leads) at.machine in
           lead_by laws first past s then_is (LoadAt client frame offset (length bytes)) (load_said (Ok tt) bytes) (Load client frame offset bytes ∷ x.0.steps) refl refl leads goes.holds
           x.0.may (devices_belong {D = DeviceStep} (LoadAt client frame offset (length bytes)) (ports_of s) x.0.steps x.0.only, inr (refl, refl, refl, refl))
           (devices_last x.0.steps x.0.only, λ id h i. false≢true h)
-          (devices_lawful old.moment no_evidence (ports_of s) x.0.steps x.0.only)
-          (ports_same old.moment.ports (ports_of s) at.ports_are, as_told s old.moment.machine at.machine (λ owner lent. IsOpen owner lent client frame offset (length bytes)) opens, ap (λ (rest : List (List ℕ)). bytes ∷ rest) (devices_transfer x.0.steps x.0.only))
+          (devices_lawful old.abstract no_evidence (ports_of s) x.0.steps x.0.only)
+          (ports_same old.abstract.ports (ports_of s) at.ports_are, as_told s old.abstract.machine at.machine (λ owner lent. IsOpen owner lent client frame offset (length bytes)) opens, ap (λ (rest : List (List ℕ)). bytes ∷ rest) (devices_transfer x.0.steps x.0.only))
           tt
           (Loading (4096 * frame.0 + offset) bytes ∷ [])
           ((new, loads, refl), refl)
           (λ port. All-cons (LeavesEngine port) (Loading (4096 * frame.0 + offset) bytes) [] (tt, tt) (All-nil (LeavesEngine port)))
           (λ port. tt)
-          (λ port. record { finds = tt; faults = tt; probes = tt; boots = tt; port_error = goes.port_error old.moment at.ports_are port; well = λ i. absurd (uninterrupted s.device old.moment.ports port i); heeds = uninterrupted s.device old.moment.ports port })
+          (λ port. record { finds = tt; faults = tt; probes = tt; boots = tt; port_error = goes.port_error old.abstract at.ports_are port; well = λ i. absurd (uninterrupted s.device old.abstract.ports port i); heeds = uninterrupted s.device old.abstract.ports port })
           x.0.backed x.1
 
       pub store_event : Stores (4096 * frame.0 + offset) bytes s.device new → ExtendsHistory s (record s { device = new }) (StoreAt client frame offset bytes) (store_said (Ok tt))
       store_event stores first past leads =
           let old : JointState Device = now first past in
           let at : ServerRelation old s = leads.stands in
-          let x = store_ends s new client frame offset bytes opens stores old.moment.machine (reached laws first past s leads) at.machine in
+          let x = store_ends s new client frame offset bytes opens stores old.abstract.machine (reached laws first past s leads) at.machine in
           lead_by laws first past s then_is (StoreAt client frame offset bytes) (store_said (Ok tt)) (Store client frame offset bytes ∷ x.0.steps) refl refl leads goes.holds
           x.0.may (devices_belong {D = DeviceStep} (StoreAt client frame offset bytes) (ports_of s) x.0.steps x.0.only, inr (refl, refl, refl, refl))
           (devices_last x.0.steps x.0.only, λ id h i. false≢true h)
-          (devices_lawful old.moment no_evidence (ports_of s) x.0.steps x.0.only)
-          (ports_same old.moment.ports (ports_of s) at.ports_are, as_told s old.moment.machine at.machine (λ owner lent. IsOpen owner lent client frame offset (length bytes)) opens, ap (λ (rest : List (List ℕ)). bytes ∷ rest) (devices_transfer x.0.steps x.0.only))
+          (devices_lawful old.abstract no_evidence (ports_of s) x.0.steps x.0.only)
+          (ports_same old.abstract.ports (ports_of s) at.ports_are, as_told s old.abstract.machine at.machine (λ owner lent. IsOpen owner lent client frame offset (length bytes)) opens, ap (λ (rest : List (List ℕ)). bytes ∷ rest) (devices_transfer x.0.steps x.0.only))
           tt
           (Storing (4096 * frame.0 + offset) bytes ∷ [])
           ((new, stores, refl), refl)
           (λ port. All-cons (LeavesEngine port) (Storing (4096 * frame.0 + offset) bytes) [] (tt, tt) (All-nil (LeavesEngine port)))
           (λ port. tt)
-          (λ port. record { finds = tt; faults = tt; probes = tt; boots = tt; port_error = goes.port_error old.moment at.ports_are port; well = λ i. absurd (uninterrupted s.device old.moment.ports port i); heeds = uninterrupted s.device old.moment.ports port })
+          (λ port. record { finds = tt; faults = tt; probes = tt; boots = tt; port_error = goes.port_error old.abstract at.ports_are port; well = λ i. absurd (uninterrupted s.device old.abstract.ports port i); heeds = uninterrupted s.device old.abstract.ports port })
           x.0.backed x.1
 
   -- ---- clients' bytes
@@ -293,7 +293,7 @@ module _ (laws : LawsBelow) where
   open_owned owner lent client frame offset count opens = owned (owner frame) client (opens FrameForeign)
 
   pub open_free : (s : ServerState) (client : ClientId) (frame : Frame) (offset count : ℕ) → OwnsClientFrames s.table s.device.size → (m : Machine) → IsReachable m → IsMachineOf s m
-      → IsOpen (owner_of s.table) (lent_to s.table) client frame offset count → IsStable (IsFree (4096 * frame.0 + offset) count) s.device
+      → IsOpen (owner_of s.table) (lent_to s.table) client frame offset count → IsStable (IsUnowned (4096 * frame.0 + offset) count) s.device
   open_free s client frame offset count owners m was is opens =
       laws.client_bytes_free is.uses m s.device was is.knows.agrees client frame offset count (owners frame client (open_owned (owner_of s.table) (lent_to s.table) client frame offset count opens)).1
       (as_told s m is (λ owner lent. IsOpen owner lent client frame offset count) opens)

@@ -14,7 +14,7 @@ use Rattle.identify.specs.declared.wanted.Wanted.{Wanted}
 use Rattle.port_boot.specs.States.{EndsAs}
 use Rattle.server_history.specs.ErrorHandling.{BootsAfter}
 use Rattle.port_control.specs.declared.events.PortError.{PortError}
-use Rattle.port_control.specs.declared.events.PortError.TheVariants.{BusError, TaskFileError, TimedOut, LinkChanged}
+use Rattle.port_control.specs.declared.events.PortError.TheVariants.{FatalError, TaskFileError, TimedOut, LinkChanged}
 
 -- its disk was lost, no device showed, and that was all
 pub record IsFoundAbsent (wanted : Wanted) (port : Port) (port_error : PortError) (found : ProbeResult) (old new : Device) : Type 0 where
@@ -27,5 +27,5 @@ pub boots_or_absent : (port_error : PortError) (wanted : Wanted) (port : Port) (
     → BootsAgain wanted port booted old new ⊎ IsFoundAbsent wanted port port_error booted.found old new
 boots_or_absent LinkChanged wanted port booted old new b = ⊎_elim (λ boots. inl boots.0) (λ absent. inr (record { lost = refl; is = absent.0; starts = absent.1; ended = absent.2 })) b
 boots_or_absent TaskFileError wanted port booted old new b = inl b
-boots_or_absent BusError wanted port booted old new b = inl b
+boots_or_absent FatalError wanted port booted old new b = inl b
 boots_or_absent TimedOut wanted port booted old new b = inl b

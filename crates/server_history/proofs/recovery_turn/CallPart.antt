@@ -26,7 +26,7 @@ use Rattle.server_history.specs.Below.{LawsBelow}
 use Rattle.server_history.specs.ErrorHandling.{HasResolved, HandlesPortError}
 use Rattle.port_control.specs.declared.events.PortError.TheVariants.{TimedOut}
 use Rattle.server_history.specs.Server.{InCallInvariant, IsMachineOf, SettledInvariant, ServerState, mode_in, ports_of, state_of}
-use Rattle.server_history.specs.Turns.{HasPart, InRestart, InService, MakesTurn, OwesTurn, ServesPort, TurnCorresponds, Turn, call_of}
+use Rattle.server_history.specs.Turns.{HasPart, InRestart, InService, MakesTurn, OwesTurn, ServesPort, TurnCorresponds, Turn, ask_of_turn}
 use Rattle.server_history.proofs.recovery_turn.TurnAsCall.{heeds_trouble, ties_recovered}
 use Rattle.server_history.proofs.recovery_turn.DecidedSteps.{DecidesTurn, recovered_decides}
 use Rattle.server_history.proofs.recovery_turn.TurnEvidence.{IsEvident, evident}
@@ -87,7 +87,7 @@ module _ (laws : LawsBelow) (port : Port) (replies : List Reply) (old new : Serv
     d : DecidesTurn port replies old new r (evidence_by r.settled) m
     d = recovered_decides laws port replies old new k ready r looks kept m reached is
 
-    makes : (turn : Turn) → Belong {D = DeviceStep} (call_of turn) (ports_of new) d.steps → OwesTurn turn port e.accesses old new m (evidence_by r.settled) d.steps
+    makes : (turn : Turn) → Belong {D = DeviceStep} (ask_of_turn turn) (ports_of new) d.steps → OwesTurn turn port e.accesses old new m (evidence_by r.settled) d.steps
         → TurnCorresponds turn port replies e.accesses old new m (evidence_by r.settled) d.steps → MakesTurn turn port replies e.accesses old new m
     makes turn belong owes ties = record {
       steps = d.steps;
@@ -107,7 +107,7 @@ module _ (laws : LawsBelow) (port : Port) (replies : List Reply) (old new : Serv
       disk = inr (e.had m is d.steps d.backed);
       keeps = d.keeps;
       issues = d.issues;
-      evidenced = e.evidenced (call_of turn) m;
+      evidenced = e.evidenced (ask_of_turn turn) m;
       faults = e.faults;
       finds = λ _ x issued. found_by_masks laws port replies old new k ready r looks kept e m reached is d;
       ties = ties;

@@ -37,7 +37,7 @@ use Rattle.host_boot.specs.declared.ProbeResult.TheVariants.{Unserved, Ready, Un
 use Rattle.identify.specs.declared.DiskInfo.{DiskInfo}
 use Rattle.port_control.specs.Looks.{IsLooking}
 use Rattle.port_control.specs.declared.events.PortError.{PortError}
-use Rattle.port_control.specs.declared.events.PortError.TheVariants.{BusError, TaskFileError, TimedOut, LinkChanged}
+use Rattle.port_control.specs.declared.events.PortError.TheVariants.{FatalError, TaskFileError, TimedOut, LinkChanged}
 use Rattle.request_queue.specs.Entries.{Held, asks, asks_of, due_ids, is_of}
 use Rattle.request_queue.specs.Dispositions.{disposition_of}
 use Rattle.request_queue.specs.Machine.{IsEntry}
@@ -52,7 +52,7 @@ use Rattle.server_history.specs.Below.{LawsBelow}
 use Rattle.server_history.specs.ErrorHandling.{IsFailed, IsRevalidation, HasResolved, HandlesPortError, holdings_of, requests_of}
 use Rattle.server_history.specs.Served.{HasEnded, answers_in, done_reply}
 use Rattle.server_history.specs.Server.{InCallInvariant, IsMachineOf, ServerState, disk_in, last_disk_of, mode_in, ports_of, remembered_at, last_sectors_of, last_serial_of, slots_at, state_of}
-use Rattle.server_history.specs.Turns.{IsOfTurn, server_moment}
+use Rattle.server_history.specs.Turns.{IsOfTurn, abstract_state_of}
 use Rattle.server_history.proofs.state.AnswerSteps.{answered_in, ended_stood, issuing_answers, may_parts, no_answer, no_answer_issuing, told_so, with_ok}
 use Rattle.server_history.proofs.any_turn.ToldTrouble.{given_up, lost_or_not}
 use Rattle.server_history.proofs.state.DeviceSteps.{devices_belong, devices_lawful}
@@ -83,7 +83,7 @@ pub record DecidesTurn (port : Port) (replies : List Reply) (old new : ServerSta
   pub own : All (IsOfTurn port) steps
   pub belong : Belong {D = DeviceStep} Service (ports_of new) steps
   pub last : IssuesLast steps
-  pub lawful : AllLawful (server_moment old m) evidence (ports_of new) steps
+  pub lawful : AllLawful (abstract_state_of old m) evidence (ports_of new) steps
   pub grounded : r.settled.error_handled.port_error ≢ TimedOut → AllGrounded evidence steps
   pub tells : Tells steps replies
   pub unplugs : UnplugsAll steps (after m steps)
@@ -216,7 +216,7 @@ module _ (laws : LawsBelow) (port : Port) (replies : List Reply) (old new : Serv
       by : (t : PortError) → a.error_handled.port_error ≡ t → Contains (failed_of port t (old.device.port port.0)) port
       by LinkChanged is = absurd (other is)
       by TaskFileError is = first_here port []
-      by BusError is = first_here port []
+      by FatalError is = first_here port []
       by TimedOut is = absurd (unhung is)
 
   -- a dead port
@@ -235,7 +235,7 @@ module _ (laws : LawsBelow) (port : Port) (replies : List Reply) (old new : Serv
     base = until_issues f
 
     abbrev began : AbstractState
-    began = server_moment old m
+    began = abstract_state_of old m
 
     base_reached : IsReachable (after m base)
     base_reached = laws.basic.reached m base reached f.may

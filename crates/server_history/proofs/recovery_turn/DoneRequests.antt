@@ -37,7 +37,7 @@ use Rattle.server_history.specs.ErrorHandling.{IsErrorHandled, HasResolved, Hand
 use Rattle.server_history.specs.Served.{AnswersEach, HasEnded, answers_in, is_used}
 use Rattle.server_history.specs.Server.{ServerState, InCallInvariant, IsMachineOf, mode_in, state_of, used_for}
 use Rattle.server_history.proofs.any_turn.UnusedSlotBits.{unused_clear}
-use Rattle.server_history.specs.Turns.{FindsTurn, server_instant}
+use Rattle.server_history.specs.Turns.{FindsTurn, joint_state_of}
 use Rattle.server_history.proofs.state.AnswerSteps.{answered_in, ended_stood, in_answered, may_parts, no_answer, no_answer_issuing}
 use Rattle.server_history.proofs.healthy_turn.OneAnswer.{answer_kept}
 use Rattle.server_history.proofs.plain_calls.IssueRounds.{not_true}
@@ -230,7 +230,7 @@ module _ (laws : LawsBelow) (port : Port) (replies : List Reply) (old new : Serv
   }
 
   -- what is found done is answered, and nothing else
-  pub finding : FindsDone port evident.accesses (server_instant old m) d.steps
+  pub finding : FindsDone port evident.accesses (joint_state_of old m) d.steps
   finding = record { ci = x.reads.issued; sact = x.reads.active; reads = masks; exact = λ e slot own says. exact e own slot says }
 
   -- and the masks show the bits of a slot that isn't used clear

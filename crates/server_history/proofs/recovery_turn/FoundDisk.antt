@@ -7,7 +7,7 @@ use Rattle.std.specs.Prelude.{List}
 use Rattle.ata_types.specs.declared.Port.{Port}
 use Rattle.ata_types.specs.declared.PortState.{PortState as Shown}
 use Rattle.ata_types.specs.declared.PortState.TheVariants.{Absent, Dead, Foreign, Ready as ReadyState, Unfit}
-use Rattle.ata_types.specs.declared.limits.TheConstants.{READINGS}
+use Rattle.ata_types.specs.declared.limits.TheConstants.{MOST_READINGS}
 use Rattle.hba_regs.specs.declared.reg.PortReg.TheVariants.{Sctl, Ssts, Tfd}
 use Rattle.hba_regs.specs.declared.reg.Reg.TheVariants.{Px}
 use Rattle.adapter.specs.Access.{Access, DoesAll, Writes}
@@ -81,7 +81,7 @@ module _ (laws : LawsBelow) (port : Port) where
     where
       by : (fault : PortFault) → IsStateOfFault state fault → Looks port fault g.resets.ended new → SeesDevice port old new
       by NoDevice told l = absurd (other told)
-      by Busy told l = found_then old g.placed g.resets.sent g.resets.ended l.linked new on g.places g.resets.sends g.resets.ends l.links (without laws port Tfd _ READINGS l.linked new l.waits)
+      by Busy told l = found_then old g.placed g.resets.sent g.resets.ended l.linked new on g.places g.resets.sends g.resets.ends l.links (without laws port Tfd _ MOST_READINGS l.linked new l.waits)
       by (NotAta signature) told l = found_then old g.placed g.resets.sent g.resets.ended l.linked new on g.places g.resets.sends g.resets.ends l.links (linked_then laws port signature g.resets.ended new l)
       by EngineStuck told l = absurd l
 

@@ -39,7 +39,7 @@ use Rattle.block_machine.specs.Events.{Service}
 use Rattle.server_history.specs.Below.{LawsBelow}
 use Rattle.server_history.specs.ErrorHandling.{IsErrorHandled, HasResolved, HandlesPortError}
 use Rattle.server_history.specs.Server.{ServerState, InCallInvariant, ports_of, state_of}
-use Rattle.server_history.specs.Turns.{server_instant}
+use Rattle.server_history.specs.Turns.{joint_state_of}
 use Rattle.server_history.proofs.recovery_turn.MendedPort.{next_dead, state_new}
 use Rattle.server_history.proofs.recovery_turn.TurnEvidence.{IsEvident}
 use Rattle.server_history.proofs.any_turn.ToldTrouble.{given_up}
@@ -234,7 +234,7 @@ module _ (laws : LawsBelow) (port : Port) (replies : List Reply) (old new : Serv
       absurd ((given_up x.port_error port x.outstanding x.queued x.result x.handling.accesses a.mid.device a.device x.tells failed).1 token is))
       (cases_eq (old.device.port port.0).ssts_det 3)
 
-  pub going_well : (m : Machine) → RunsWellAnew (evidence_by a) evident.accesses (server_instant old m) (ports_of new) new.device port
+  pub going_well : (m : Machine) → RunsWellAnew (evidence_by a) evident.accesses (joint_state_of old m) (ports_of new) new.device port
   going_well m _ is_ready none unfailed unbroken how = by x.result.next refl
     where
       by : (n : Next) → x.result.next ≡ n → RunsWell (new.device.port port.0)

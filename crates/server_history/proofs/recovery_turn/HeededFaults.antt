@@ -26,7 +26,7 @@ use Rattle.server_history.proofs.state.ListMembers.{at_cases, contains_cases, co
 use Rattle.host_boot.specs.Taken.{probe_result_of}
 use Rattle.port_control.specs.Looks.{IsLooking}
 use Rattle.port_control.specs.declared.events.PortError.{PortError}
-use Rattle.port_control.specs.declared.events.PortError.TheVariants.{BusError, TaskFileError, TimedOut, LinkChanged}
+use Rattle.port_control.specs.declared.events.PortError.TheVariants.{FatalError, TaskFileError, TimedOut, LinkChanged}
 use Rattle.request_queue.specs.Entries.{Held}
 use Rattle.request_queue.specs.Dispositions.{disposition_of}
 use Rattle.request_queue.specs.Machine.{IsEntry}
@@ -37,7 +37,7 @@ use Rattle.server_history.specs.Below.{LawsBelow}
 use Rattle.server_history.specs.ErrorHandling.{HasResolved, HandlesPortError, requests_of}
 use Rattle.server_history.specs.Served.{IssuesOnly, answers_in}
 use Rattle.server_history.specs.Server.{ServerState, InCallInvariant, IsMachineOf, mode_in, no_slots, state_of, used_for}
-use Rattle.server_history.specs.Turns.{IsOfTurn, server_moment}
+use Rattle.server_history.specs.Turns.{IsOfTurn, abstract_state_of}
 use Rattle.server_history.proofs.state.AnswerSteps.{answered_in, no_answer, no_answer_issuing}
 use Rattle.server_history.proofs.recovery_turn.MendedPort.{interrupted}
 use Rattle.server_history.proofs.recovery_turn.DecidedSteps.{DecidesTurn, failed_named, nobody}
@@ -281,14 +281,14 @@ module _ (laws : LawsBelow) (port : Port) (replies : List Reply) (old new : Serv
       shows there = is_named_if (shows_failure shown) port (failure_shows shown (inl (unfatal shown (named_if_is (shows_fatal shown) port there))))
 
       is_failure : (t : PortError) → Contains (fatal_of port t shown) port → Contains (failed_of port t shown) port
-      is_failure BusError there = first_here port []
+      is_failure FatalError there = first_here port []
       is_failure TaskFileError there = first_here port []
       is_failure LinkChanged there = shows there
       is_failure TimedOut there = shows there
 
   -- ---- all of it
 
-  pub serves_ready : a.error_handled.port_error ≢ TimedOut → ServesReady (server_moment old m) (evidence_by a) d.steps (server_moment new (after m d.steps)) port
+  pub serves_ready : a.error_handled.port_error ≢ TimedOut → ServesReady (abstract_state_of old m) (evidence_by a) d.steps (abstract_state_of new (after m d.steps)) port
   serves_ready unhung = record {
     ended = heeding laws port replies old new k ready r looks kept evident m reached is d;
     emptied = λ here. d.emptied (gone_is port shown a.error_handled.port_error unhung here);

@@ -37,7 +37,7 @@ use Rattle.server_history.specs.Below.{LawsBelow}
 use Rattle.server_history.specs.ErrorHandling.{IsRevalidated, IsErrorHandled, HasResolved, HandlesPortError}
 use Rattle.server_history.specs.Served.{IssuesIn}
 use Rattle.server_history.specs.Server.{ServerState, InCallInvariant, mode_in, ports_of, state_of}
-use Rattle.server_history.specs.Turns.{server_instant}
+use Rattle.server_history.specs.Turns.{joint_state_of}
 use Rattle.server_history.proofs.recovery_turn.MendedPort.{interrupted, next_dead, ready_info, state_new}
 use Rattle.server_history.proofs.recovery_turn.RecoveryAccesses.{IsEarlyPart, IsPart, start_part}
 use Rattle.server_history.proofs.recovery_turn.TurnParts.{evidence_by}
@@ -200,7 +200,7 @@ module _ (laws : LawsBelow) (port : Port) (replies : List Reply) (old new : Serv
           let z : DeadState ≡ ReadyState = sym dead ∙ is_ready in absurd cc
 
   -- the port was interrupted
-  pub lasting : (m : Machine) → LosesNoPortError (evidence_by a) (server_instant old m) (ports_of new) new.device port
+  pub lasting : (m : Machine) → LosesNoPortError (evidence_by a) (joint_state_of old m) (ports_of new) new.device port
   lasting m = record {
     errors = λ _ _. inl (interrupted laws port replies old new k ready r looks kept);
     changes = λ _ _. inl (interrupted laws port replies old new k ready r looks kept);

@@ -5,7 +5,7 @@ use Rattle.std.proofs.lemmas.List.{append-nil}
 use Rattle.std.proofs.lemmas.List.Elements.{All-append, All-cons, All-nil, All-weaker}
 use Rattle.ata_types.specs.declared.Port.{Port}
 use Rattle.ata_types.specs.declared.PortState.{PortState as Shown}
-use Rattle.ata_types.specs.declared.limits.TheConstants.{READINGS}
+use Rattle.ata_types.specs.declared.limits.TheConstants.{MOST_READINGS}
 use Rattle.hba_regs.specs.declared.reg.PortReg.{PortReg}
 use Rattle.hba_regs.specs.declared.reg.PortReg.TheVariants.{Cmd, Clb, Clbu, Fb, Fbu, Ie, Is, Sctl, Serr, Sig, Ssts, Tfd, Ci}
 use Rattle.hba_regs.specs.declared.reg.Reg.{Reg}
@@ -135,8 +135,8 @@ module _ (laws : LawsBelow) (port : Port) where
   signing signature old new f = by_then (linking old f.linked f.links) (linked_then signature old new f)
 
   looking : (fault : PortFault) (old new : Device) → Looks port fault old new → IsDrivenBy (IsBeside port) old new
-  looking NoDevice old new l = without Ssts _ READINGS old new l
-  looking Busy old new l = by_then (linking old l.linked l.links) (without Tfd _ READINGS l.linked new l.waits)
+  looking NoDevice old new l = without Ssts _ MOST_READINGS old new l
+  looking Busy old new l = by_then (linking old l.linked l.links) (without Tfd _ MOST_READINGS l.linked new l.waits)
   looking (NotAta signature) old new l = signing signature old new l
   looking EngineStuck old new l = absurd l
 

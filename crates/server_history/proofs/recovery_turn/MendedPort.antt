@@ -24,7 +24,7 @@ use Rattle.request_queue.specs.declared.disposition.FailedRequest.{FailedRequest
 use Rattle.request_queue.specs.declared.disposition.Revalidation.{Revalidation}
 use Rattle.request_queue.specs.declared.disposition.Revalidation.TheVariants.{Dead, DiskLost, SameDisk as SameProspect}
 use Rattle.port_control.specs.declared.events.PortError.{PortError}
-use Rattle.port_control.specs.declared.events.PortError.TheVariants.{BusError, TaskFileError, TimedOut, LinkChanged}
+use Rattle.port_control.specs.declared.events.PortError.TheVariants.{FatalError, TaskFileError, TimedOut, LinkChanged}
 use Rattle.server_history.specs.Below.{LawsBelow}
 use Rattle.server_history.specs.ErrorHandling.{IsRevalidated, IsRevalidation, IsErrorHandled, IsSameDisk, HasResolved, HandlesPortError}
 use Rattle.server_history.specs.Server.{ServerState, InCallInvariant, disk_in, last_disk_of, is_served, mode_in, ports_of, remembered_at, last_sectors_of, last_serial_of, state_of}
@@ -114,18 +114,18 @@ names_only port port_error shown failed revalidation then = record {
     gone : (t : PortError) → All (λ q. q ≡ port) (gone_of port t shown)
     gone LinkChanged = one
     gone TaskFileError = none
-    gone BusError = none
+    gone FatalError = none
     gone TimedOut = some (shows_loss shown)
 
     failing : (t : PortError) → All (λ q. q ≡ port) (failed_of port t shown)
     failing LinkChanged = some (shows_failure shown)
     failing TaskFileError = one
-    failing BusError = one
+    failing FatalError = one
     failing TimedOut = some (shows_failure shown)
 
     fatal : (t : PortError) → All (λ q. q ≡ port) (fatal_of port t shown)
     fatal TaskFileError = none
-    fatal BusError = one
+    fatal FatalError = one
     fatal LinkChanged = some (shows_fatal shown)
     fatal TimedOut = some (shows_fatal shown)
 

@@ -7,7 +7,7 @@ use Rattle.std.specs.Prelude.{filter, slice_set}
 use Rattle.ata_types.specs.declared.Port.{Port}
 use Rattle.ata_types.specs.declared.PortState.TheVariants.{Ready as ReadyState}
 use Rattle.ata_types.specs.declared.request.Reply.{Reply}
-use Rattle.ata_types.specs.declared.limits.TheConstants.{READINGS}
+use Rattle.ata_types.specs.declared.limits.TheConstants.{MOST_READINGS}
 use Rattle.hba_regs.specs.Bits.{bit}
 use Rattle.adapter.specs.Device.{Device}
 use Rattle.adapter.specs.declared.command.Operation.TheVariants.{Identify}
@@ -108,7 +108,7 @@ module _ (laws : LawsBelow) (port : Port) (old mid : ServerState) (device : Devi
       ∙ ap (λ (cap : ℕ). mode_found cap (probe_result_of mid.ports port.0)) (sym same.cap) ∙ ap (λ (ports : List ProbeResult). mode_found device.cap (probe_result_of ports port.0)) ports_same
 
   -- a port that has to be booted may be
-  pub bootable : (token : Stopped) → r.result.next ≡ next.Restart token → IsBootable port device × IsStopped (device.port port.0) × ((device.port port.0).notes.link_count ≡ READINGS)
+  pub bootable : (token : Stopped) → r.result.next ≡ next.Restart token → IsBootable port device × IsStopped (device.port port.0) × ((device.port port.0).notes.link_count ≡ MOST_READINGS)
   bootable token is = (
     record {
       on = passed.1.on;

@@ -20,7 +20,7 @@ use Rattle.port_control.specs.declared.events.PortEvent.TheVariants as look
 use Rattle.server_history.specs.Below.{LawsBelow}
 use Rattle.server_history.specs.ErrorHandling.{IsFoundOut}
 use Rattle.port_control.specs.declared.events.PortError.{PortError}
-use Rattle.port_control.specs.declared.events.PortError.TheVariants.{BusError, TaskFileError, TimedOut, LinkChanged}
+use Rattle.port_control.specs.declared.events.PortError.TheVariants.{FatalError, TaskFileError, TimedOut, LinkChanged}
 use Rattle.server_history.proofs.any_turn.ToldTrouble.{errors_shown, fatal_shown, loss_shown, no_change, no_fatal, not_missing}
 use Rattle.server_history.proofs.state.FirstMembers.{first_here, nowhere}
 use Rattle.server_history.proofs.recovery_turn.TurnParts.{failed_of, fatal_of, gone_of, is_named_if, named_if_is}
@@ -41,14 +41,14 @@ module _ (laws : LawsBelow) (port : Port) (old seen new : Device) (on : IsOn old
 
   pub failed_all : (t : PortError) → ShowsFailure p → Contains (failed_of port t p) port
   failed_all TaskFileError shows = first_here port []
-  failed_all BusError shows = first_here port []
+  failed_all FatalError shows = first_here port []
   failed_all LinkChanged shows = is_named_if (shows_failure p) port (failure_shows p shows)
   failed_all TimedOut shows = is_named_if (shows_failure p) port (failure_shows p shows)
 
   pub failed_only : (t : PortError) → IsFoundOut port t old seen → Contains (failed_of port t p) port
       → ShowsFailure p ⊎ (Gains (IsFaultOf port.0) old new ⊎ Gains (IsFatalOf port.0) old new)
   failed_only TaskFileError l here = errors_shown laws port look.TaskFileError old seen l on (inl refl) new (since_read look.TaskFileError l)
-  failed_only BusError l here = errors_shown laws port look.BusError old seen l on (inr refl) new (since_read look.BusError l)
+  failed_only FatalError l here = errors_shown laws port look.FatalError old seen l on (inr refl) new (since_read look.FatalError l)
   failed_only LinkChanged l here = inl (unfailed p (named_if_is (shows_failure p) port here))
   failed_only TimedOut same here = inl (unfailed p (named_if_is (shows_failure p) port here))
 
@@ -56,13 +56,13 @@ module _ (laws : LawsBelow) (port : Port) (old seen new : Device) (on : IsOn old
 
   pub fatal_all : (t : PortError) → IsFoundOut port t old seen → ShowsFatal p → Contains (fatal_of port t p) port
   fatal_all TaskFileError l fatal = absurd (no_fatal laws port look.TaskFileError old seen l on refl fatal)
-  fatal_all BusError l fatal = first_here port []
+  fatal_all FatalError l fatal = first_here port []
   fatal_all LinkChanged l fatal = is_named_if (shows_fatal p) port (fatal_shows p fatal)
   fatal_all TimedOut same fatal = is_named_if (shows_fatal p) port (fatal_shows p fatal)
 
   pub fatal_only : (t : PortError) → IsFoundOut port t old seen → Contains (fatal_of port t p) port → ShowsFatal p ⊎ Gains (IsFatalOf port.0) old new
   fatal_only TaskFileError l here = absurd (nowhere port here)
-  fatal_only BusError l here = fatal_shown laws port look.BusError old seen l on refl new (since_read look.BusError l)
+  fatal_only FatalError l here = fatal_shown laws port look.FatalError old seen l on refl new (since_read look.FatalError l)
   fatal_only LinkChanged l here = inl (unfatal p (named_if_is (shows_fatal p) port here))
   fatal_only TimedOut same here = inl (unfatal p (named_if_is (shows_fatal p) port here))
 
@@ -77,7 +77,7 @@ module _ (laws : LawsBelow) (port : Port) (old seen new : Device) (on : IsOn old
 
   pub gone_all : (t : PortError) → IsFoundOut port t old seen → ShowsLoss port old new → Contains (gone_of port t p) port
   gone_all TaskFileError l shows = absurd (unlost_by look.TaskFileError l (λ e. let z : look.TaskFileError ≡ look.LinkChanged = e in cc) shows)
-  gone_all BusError l shows = absurd (unlost_by look.BusError l (λ e. let z : look.BusError ≡ look.LinkChanged = e in cc) shows)
+  gone_all FatalError l shows = absurd (unlost_by look.FatalError l (λ e. let z : look.FatalError ≡ look.LinkChanged = e in cc) shows)
   gone_all LinkChanged l shows = first_here port []
   gone_all TimedOut same shows = is_named_if (shows_loss p) port (loss_shows p (⊎_elim (λ change. inl change) (λ missing. inr missing.0) shows))
 
@@ -87,19 +87,19 @@ module _ (laws : LawsBelow) (port : Port) (old seen new : Device) (on : IsOn old
 
   pub loss : (t : PortError) → IsFoundOut port t old seen → t ≡ LinkChanged → IsLoss
   loss TaskFileError l lost = let z : TaskFileError ≡ LinkChanged = lost in absurd cc
-  loss BusError l lost = let z : BusError ≡ LinkChanged = lost in absurd cc
+  loss FatalError l lost = let z : FatalError ≡ LinkChanged = lost in absurd cc
   loss LinkChanged l lost = loss_shown laws port look.LinkChanged old seen l on refl undue new later
   loss TimedOut same lost = let z : TimedOut ≡ LinkChanged = lost in absurd cc
 
   pub gone_only : (t : PortError) → IsFoundOut port t old seen → Contains (gone_of port t p) port → IsLoss
   gone_only TaskFileError l here = absurd (nowhere port here)
-  gone_only BusError l here = absurd (nowhere port here)
+  gone_only FatalError l here = absurd (nowhere port here)
   gone_only LinkChanged l here = loss_shown laws port look.LinkChanged old seen l on refl undue new later
   gone_only TimedOut same here = ⊎_elim (λ change. inl change) (λ out. inr (inl out)) (unlost p (named_if_is (shows_loss p) port here))
 
 -- unless a request is hung, who is gone was lost
 pub gone_is : (port : Port) (p : DevicePort) (t : PortError) → t ≢ TimedOut → Contains (gone_of port t p) port → t ≡ LinkChanged
 gone_is port p TaskFileError other here = absurd (nowhere port here)
-gone_is port p BusError other here = absurd (nowhere port here)
+gone_is port p FatalError other here = absurd (nowhere port here)
 gone_is port p LinkChanged other here = refl
 gone_is port p TimedOut other here = absurd (other refl)

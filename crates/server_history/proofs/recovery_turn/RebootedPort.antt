@@ -28,7 +28,7 @@ use Rattle.port_control.specs.declared.events.PortError.TheVariants.{TaskFileErr
 use Rattle.server_history.specs.Below.{LawsBelow}
 use Rattle.server_history.specs.ErrorHandling.{IsRevalidated, IsErrorHandled, HasResolved, HandlesPortError}
 use Rattle.server_history.specs.Server.{ServerState, InCallInvariant, disk_in, last_disk_of, is_served, mode_found, mode_in, plain_mode, ports_of, last_sectors_of, last_serial_of, state_of, last_trims_of}
-use Rattle.server_history.specs.Turns.{server_instant}
+use Rattle.server_history.specs.Turns.{joint_state_of}
 use Rattle.server_history.proofs.recovery_turn.MendedPort.{disk_new, disk_old, found_new, issued_as, next_dead, state_new}
 use Rattle.server_history.proofs.recovery_turn.TurnEvidence.{IsEvident}
 use Rattle.server_history.proofs.any_turn.ToldTrouble.{given_up}
@@ -140,7 +140,7 @@ module _ (laws : LawsBelow) (port : Port) (replies : List Reply) (old new : Serv
   pub restarts : x.port_error ≢ TaskFileError → x.port_error ≢ LinkChanged → ((ports_of new).state port ≡ DeadState) ⊎ ResetsLink port evident.accesses
   restarts other there = ⊎_elim (λ dead. inl dead) (λ more. inr (⊎_elim (λ absent. absurd (there absent.0)) (λ resets. resets) more)) (unless_failed other)
 
-  pub reboots : (m : Machine) → BootsAnew Service (Served replies) evident.accesses (server_instant old m) (ports_of new) new.device port
+  pub reboots : (m : Machine) → BootsAnew Service (Served replies) evident.accesses (joint_state_of old m) (ports_of new) new.device port
   reboots m = (
     (λ is_ready port_error. rebooted (unless_failed (λ failed. ⊎_elim
         (λ fatal. nowhere port (subst (λ (t : PortError). Contains (fatal_of port t (old.device.port port.0)) port) failed ((evident.evidenced Service m).fatal_all is_ready fatal)))

@@ -8,7 +8,7 @@ use Rattle.ata_types.specs.declared.PortState.{PortState as Shown}
 use Rattle.ata_types.specs.declared.PortState.TheVariants as shown
 use Rattle.ata_types.specs.declared.PortState.TheVariants.{Dead as DeadState, Ready as ReadyState}
 use Rattle.ata_types.specs.declared.request.RequestId.{RequestId}
-use Rattle.ata_types.specs.declared.limits.TheConstants.{READINGS}
+use Rattle.ata_types.specs.declared.limits.TheConstants.{MOST_READINGS}
 use Rattle.hba_regs.specs.declared.reg.PortReg.TheVariants.{Ci, Sact, Sctl}
 use Rattle.hba_regs.specs.declared.reg.Reg.TheVariants.{Px}
 use Rattle.adapter.specs.Access.{Access}
@@ -114,7 +114,7 @@ pub record IsGivenUp (port : Port) (d : Device) : Type 0 where
 pub record AfterList (port : Port) (port_error : PortError) (then : Next) (found : ProbeResult) (old new : Device) : Type 0 where
   pub driven : IsDrivenBy (IsPart port) old new
   pub sticks : found ≡ Unready DeadState → then ≢ next.Dead → Sticks port driven.accesses
-  pub stuck : found ≡ Unready DeadState → then ≢ next.Dead → (new.port port.0).notes.engine_count ≡ READINGS
+  pub stuck : found ≡ Unready DeadState → then ≢ next.Dead → (new.port port.0).notes.engine_count ≡ MOST_READINGS
   pub resets : (token : Stopped) → then ≡ next.Restart token → found ≢ Unready DeadState → ((port_error ≡ LinkChanged) × (found ≡ Unready shown.Absent)) ⊎ ResetsLink port driven.accesses
   pub unreset : ((token : Stopped) → then ≢ next.Restart token) → All (SparesRegister (Px port Sctl)) driven.accesses
   pub silent : (q : Port) (o : Operation) → q.0 ≢ port.0 → op_of o ≡ None → ((token : Stopped) → then ≡ next.Restart token → (g : IsGivenUp port old) × (g.uses q.0 0 ≡ Own o → ⊥)) → SendsNone q.0 o old new
@@ -129,7 +129,7 @@ module _ (laws : LawsBelow) (port : Port) (low : port.0 < 4) (wanted : Wanted) (
         (followed_silent boots g.uses g.parked (after g.machine x.0) g.free (laws.basic.reached g.machine x.0 g.reached x.1) x.2 q o own
         (λ access is. laws.of_spares port q Ci other access (laws.booting_of port access is)) (λ access is. laws.of_spares port q Sact other access (laws.booting_of port access is)) none)
 
-    boot_list : (found : ProbeResult) (by : IsDrivenBy (IsOfBoot port) asked new) → (found ≡ Unready DeadState → Sticks port by.accesses) → (found ≡ Unready DeadState → (new.port port.0).notes.engine_count ≡ READINGS)
+    boot_list : (found : ProbeResult) (by : IsDrivenBy (IsOfBoot port) asked new) → (found ≡ Unready DeadState → Sticks port by.accesses) → (found ≡ Unready DeadState → (new.port port.0).notes.engine_count ≡ MOST_READINGS)
         → (found ≢ Unready DeadState → ResetsLink port by.accesses) → AfterList port port_error (next.Restart token) found old new
     boot_list found by sticks stuck resets = record {
       driven = record {

@@ -3,7 +3,7 @@ use Rattle.std.proofs.Common.{◌≡◌, List, [], ◌∷◌, refl, sym, subst}
 use Rattle.std.specs.List.{All}
 use Rattle.std.proofs.lemmas.List.Elements.{All-head, All-tail}
 use Rattle.ata_types.specs.declared.Port.{Port}
-use Rattle.ata_types.specs.declared.limits.TheConstants.{READINGS}
+use Rattle.ata_types.specs.declared.limits.TheConstants.{MOST_READINGS}
 use Rattle.hba_regs.specs.declared.reg.Reg.TheVariants.{Ghc}
 use Rattle.adapter.specs.Access.{Access, DoesAll}
 use Rattle.adapter.specs.Device.{Device}
@@ -15,8 +15,8 @@ use Rattle.server_history.proofs.recovery_turn.LinkResets.{recovering_spares}
 use Rattle.server_history.proofs.state.RunningPorts.{link_still}
 
 pub saw_still : LawsBelow → (port : Port) (accesses : List Access) (old new : Device) → All (IsRecovering port) accesses → DoesAll accesses old new → IsOn old
-    → (old.port port.0).notes.link_count ≡ READINGS → (new.port port.0).notes.link_count ≡ READINGS
-saw_still laws port [] old new only is on saw = subst (λ (d : Device). (d.port port.0).notes.link_count ≡ READINGS) (sym is) saw
+    → (old.port port.0).notes.link_count ≡ MOST_READINGS → (new.port port.0).notes.link_count ≡ MOST_READINGS
+saw_still laws port [] old new only is on saw = subst (λ (d : Device). (d.port port.0).notes.link_count ≡ MOST_READINGS) (sym is) saw
 saw_still laws port (access ∷ accesses) old new only (mid, does, rest) on saw =
     let its = All-head (IsRecovering port) access accesses only in
     let spares = laws.of_host port access (laws.recovering_of port access its) in

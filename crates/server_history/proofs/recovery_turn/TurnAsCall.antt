@@ -15,11 +15,11 @@ use Rattle.driver_history.specs.Histories.{IsUnfitOrForeign, HasFaultAlone}
 use Rattle.host_boot.specs.Taken.{probe_result_of}
 use Rattle.port_control.specs.Looks.{IsLooking}
 use Rattle.port_control.specs.declared.events.PortError.{PortError}
-use Rattle.port_control.specs.declared.events.PortError.TheVariants.{BusError, TaskFileError, TimedOut, LinkChanged}
+use Rattle.port_control.specs.declared.events.PortError.TheVariants.{FatalError, TaskFileError, TimedOut, LinkChanged}
 use Rattle.server_history.specs.Below.{LawsBelow}
 use Rattle.server_history.specs.ErrorHandling.{AreQueued, HandlesPortError}
 use Rattle.server_history.specs.Server.{ServerState, InCallInvariant, IsMachineOf, ports_of, slots_at, state_of}
-use Rattle.server_history.specs.Turns.{HeedsPortErrors, InService, TurnCorresponds, server_instant}
+use Rattle.server_history.specs.Turns.{HeedsPortErrors, InService, TurnCorresponds, joint_state_of}
 use Rattle.server_history.proofs.recovery_turn.DecidedSteps.{DecidesTurn}
 use Rattle.server_history.proofs.recovery_turn.TurnEvidence.{IsEvident}
 use Rattle.server_history.proofs.recovery_turn.ToldFault.{faulting}
@@ -61,12 +61,12 @@ module _ (laws : LawsBelow) (port : Port) (replies : List Reply) (old new : Serv
   plainly plain = works_plainly laws r.settled.mid then_kept port then_ready (subst (λ (queued : Bool). AreQueued queued (slots_at r.settled.mid.slots port.0)) plain r.settled.error_handled.alike) ((then_kept.behind port.0 (ready_found old port.0 k ready).0).halts then_ready)
 
   -- where TFES alone was shown, and no fatal error came, a command had failed
-  failing : r.settled.error_handled.port_error ≢ TimedOut → HasFaultAlone port (server_instant old m) new.device → r.settled.error_handled.port_error ≡ TaskFileError
+  failing : r.settled.error_handled.port_error ≢ TimedOut → HasFaultAlone port (joint_state_of old m) new.device → r.settled.error_handled.port_error ≡ TaskFileError
   failing unhung alone = by r.settled.error_handled.port_error refl
     where
       by : (t : PortError) → r.settled.error_handled.port_error ≡ t → r.settled.error_handled.port_error ≡ TaskFileError
       by TaskFileError is = is
-      by BusError is =
+      by FatalError is =
           let here : Contains (fatal_of port r.settled.error_handled.port_error (old.device.port port.0)) port = subst (λ (t : PortError). Contains (fatal_of port t (old.device.port port.0)) port) (sym is) (first_here port []) in
           absurd (⊎_elim alone.shows.fatal (gains_none (IsFatalOf port.0) old.device new.device alone.fatal.gained alone.fatal.tape alone.fatal.none) ((evident.evidenced Service m).fatal_only here).1)
       by LinkChanged is =
@@ -77,7 +77,7 @@ module _ (laws : LawsBelow) (port : Port) (replies : List Reply) (old new : Serv
       by TimedOut is = absurd (unhung is)
 
   -- what a call does of trouble
-  pub heeds_trouble : HeedsPortErrors port evident.accesses (server_instant old m) (evidence_by r.settled) (ports_of new) new.device
+  pub heeds_trouble : HeedsPortErrors port evident.accesses (joint_state_of old m) (evidence_by r.settled) (ports_of new) new.device
   heeds_trouble = record {
     port_error = lasting laws port replies old new k ready r looks kept evident.parts m;
     well = going_well laws port replies old new k ready r looks kept evident plainly m;

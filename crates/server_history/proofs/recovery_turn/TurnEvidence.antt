@@ -6,7 +6,7 @@ use Rattle.ata_types.specs.declared.Port.{Port}
 use Rattle.ata_types.specs.declared.PortState.TheVariants.{Dead as DeadState, Ready as ReadyState}
 use Rattle.ata_types.specs.declared.request.Reply.{Reply}
 use Rattle.ata_types.specs.declared.request.RequestId.{RequestId}
-use Rattle.ata_types.specs.declared.limits.TheConstants.{READINGS}
+use Rattle.ata_types.specs.declared.limits.TheConstants.{MOST_READINGS}
 use Rattle.hba_regs.specs.declared.reg.PortReg.TheVariants.{Cmd}
 use Rattle.hba_regs.specs.declared.reg.Reg.TheVariants.{Ghc, Px}
 use Rattle.adapter.specs.Access.{Access, DoesAll}
@@ -45,7 +45,7 @@ use Rattle.server_history.proofs.any_turn.ShownTrouble.{grows_over}
 use Rattle.server_history.specs.ErrorHandling.{IsFailed, IsRevalidated, IsFoundOut, IsRevalidation, IsErrorHandled, HasResolved, HandlesPortError}
 use Rattle.server_history.specs.Served.{AnswersEach}
 use Rattle.server_history.specs.Server.{ServerState, InCallInvariant, IsMachineOf, ports_of, slots_at, state_of, used_for, mode_in}
-use Rattle.server_history.specs.Turns.{IsOfCommand, LeavesOthers, NamesOnly, TellsFault, server_instant, server_moment}
+use Rattle.server_history.specs.Turns.{IsOfCommand, LeavesOthers, NamesOnly, TellsFault, joint_state_of, abstract_state_of}
 use Rattle.server_history.proofs.healthy_turn.OneAnswer.{answer_kept}
 use Rattle.server_history.proofs.recovery_turn.SparedPorts.{leaves_others}
 use Rattle.server_history.proofs.recovery_turn.MendedPort.{becomes, dead_found, dead_prospect, disk_same, interrupted, its, lost_is, names, ready_info, state_new, stuck_is, next_dead}
@@ -63,7 +63,7 @@ use Rattle.server_history.proofs.recovery_turn.TurnStretches.{TurnParts, accesse
 use Rattle.server_history.proofs.state.FirstMembers.{nowhere}
 use Rattle.port_control.specs.declared.events.PortEvent.TheVariants as look
 use Rattle.port_control.specs.declared.events.PortError.{PortError}
-use Rattle.port_control.specs.declared.events.PortError.TheVariants.{BusError, TaskFileError, TimedOut, LinkChanged}
+use Rattle.port_control.specs.declared.events.PortError.TheVariants.{FatalError, TaskFileError, TimedOut, LinkChanged}
 use Rattle.server_history.proofs.state.TurnAccesses.{look_list, look_does}
 use Rattle.host_boot.specs.Again.{BootsAgain}
 use Rattle.host_boot.specs.declared.Booted.{Booted}
@@ -84,7 +84,7 @@ module _ (laws : LawsBelow) (port : Port) (early part late : List Access) where
   engine_sticks (next.Restart token) engine later = laws.sticks_since early (part ++ late) port (laws.sticks_since part late port (later (λ e. let z : next.Restart token ≡ next.Dead = e in cc)))
   engine_sticks next.Dead engine later = laws.sticks_since early (part ++ late) port (laws.sticks_then part late port engine)
 
-  ends_stuck : (queued : Bool) (then : Next) (old new : Device) → EndsIn queued port then old new → then ≡ next.Dead → (new.port port.0).notes.engine_count ≡ READINGS
+  ends_stuck : (queued : Bool) (then : Next) (old new : Device) → EndsIn queued port then old new → then ≡ next.Dead → (new.port port.0).notes.engine_count ≡ MOST_READINGS
   ends_stuck queued (next.Running token) old new ends is = let z : next.Running token ≡ next.Dead = is in absurd cc
   ends_stuck queued (next.Restart token) old new ends is = let z : next.Restart token ≡ next.Dead = is in absurd cc
   ends_stuck queued next.Dead old new ends is = ends.1
@@ -116,10 +116,10 @@ pub record IsEvident (port : Port) (replies : List Reply) (old new : ServerState
   pub silent : (q : ℕ) → q ≢ port.0 → state_of (probe_result_of old.ports q) ≢ DeadState → SendsNone q ReadLog old.device new.device
   pub names : NamesOnly port (evidence_by r.settled)
   pub becomes : IsServiced (ports_of old) (evidence_by r.settled) (ports_of new) port
-  pub evidenced : (ask : Ask DeviceStep) (m : Machine) → IsEvidencedOf ask (Served replies) accesses (server_instant old m) (ports_of new) new.device (evidence_by r.settled) port
+  pub evidenced : (ask : Ask DeviceStep) (m : Machine) → IsEvidencedOf ask (Served replies) accesses (joint_state_of old m) (ports_of new) new.device (evidence_by r.settled) port
   pub faults : (told : RequestFault) → Contains (evidence_by r.settled).faults told → TellsFault port accesses old new told
   pub had : (m : Machine) → IsMachineOf old m → (steps : List Step) → IsBacked old.device new.device m steps
-      → HadDisk (server_moment old m) steps (server_moment new (after m steps)) port
+      → HadDisk (abstract_state_of old m) steps (abstract_state_of new (after m steps)) port
 
 module _ (laws : LawsBelow) (port : Port) (replies : List Reply) (old new : ServerState) (k : InCallInvariant old) (ready : state_of (probe_result_of old.ports port.0) ≡ ReadyState) (r : HandlesPortError port replies old new)
     (looks : IsSimulated (IsLooking port) AnyUse old.device r.settled.error_handled.seen) (kept : InCallInvariant r.mid) where
@@ -154,10 +154,10 @@ module _ (laws : LawsBelow) (port : Port) (replies : List Reply) (old new : Serv
   undue = ((k.behind port.0 low).runs ready).recorded.linked
 
   -- a dead port's engine was awaited in vain, at last
-  counted : a.found ≡ Unready DeadState → (new.device.port port.0).notes.engine_count ≡ READINGS
+  counted : a.found ≡ Unready DeadState → (new.device.port port.0).notes.engine_count ≡ MOST_READINGS
   counted dead = by x.result.next refl
     where
-      by : (then : Next) → x.result.next ≡ then → (new.device.port port.0).notes.engine_count ≡ READINGS
+      by : (then : Next) → x.result.next ≡ then → (new.device.port port.0).notes.engine_count ≡ MOST_READINGS
       by (next.Running token) is = t.stuck dead (λ e. let z : next.Running token ≡ next.Dead = sym is ∙ e in cc)
       by (next.Restart token) is = t.stuck dead (λ e. let z : next.Restart token ≡ next.Dead = sym is ∙ e in cc)
       by next.Dead is =
@@ -165,7 +165,7 @@ module _ (laws : LawsBelow) (port : Port) (replies : List Reply) (old new : Serv
           ap (λ (s : ServerState). (s.device.port port.0).notes.engine_count) (t.unissued dead) ∙ ap (λ (d : Device). (d.port port.0).notes.engine_count) still.1
           ∙ ends_stuck laws port [] [] [] x.queued x.result.next a.mid.device a.device x.handling.leaves.ends is
 
-  evidenced : (ask : Ask DeviceStep) (m : Machine) → IsEvidencedOf ask (Served replies) (accesses_in t) (server_instant old m) (ports_of new) new.device (its laws port replies old new k ready r looks kept) port
+  evidenced : (ask : Ask DeviceStep) (m : Machine) → IsEvidencedOf ask (Served replies) (accesses_in t) (joint_state_of old m) (ports_of new) new.device (its laws port replies old new k ready r looks kept) port
   evidenced ask m = record {
     lost = λ here.
         let other = lost_is port a.revalidation here in
@@ -276,9 +276,9 @@ module _ (laws : LawsBelow) (port : Port) (replies : List Reply) (old new : Serv
     abbrev Had : Type 0
     Had = (m.present port ≡ true) ⊎ (list_any (changes_disk port) steps ≡ true)
 
-    had_seen : (told : PortEvent) (l : LooksAt port told old.device x.seen) → (told ≡ look.TaskFileError) ⊎ (told ≡ look.BusError) → Had
+    had_seen : (told : PortEvent) (l : LooksAt port told old.device x.seen) → (told ≡ look.TaskFileError) ⊎ (told ≡ look.FatalError) → Had
     had_seen told l error =
-        had_at (look_list port l.causes l.own l.status) x.seen (look_does port told old.device x.seen l) (shows_device laws port old.device x.seen told l k.on (λ lost. ⊎_elim (λ (is : told ≡ look.TaskFileError). let z : look.LinkChanged ≡ look.TaskFileError = sym lost ∙ is in cc) (λ (is : told ≡ look.BusError). let z : look.LinkChanged ≡ look.BusError = sym lost ∙ is in cc) error)) grown_seen m stands steps backed
+        had_at (look_list port l.causes l.own l.status) x.seen (look_does port told old.device x.seen l) (shows_device laws port old.device x.seen told l k.on (λ lost. ⊎_elim (λ (is : told ≡ look.TaskFileError). let z : look.LinkChanged ≡ look.TaskFileError = sym lost ∙ is in cc) (λ (is : told ≡ look.FatalError). let z : look.LinkChanged ≡ look.FatalError = sym lost ∙ is in cc) error)) grown_seen m stands steps backed
 
     had_booted : (booted : Booted) → BootsAgain (wanted_of old.wanted port.0) port booted a.device r.mid.device → ShowsDisk (state_of booted.found) → Had
     had_booted booted b shows =
@@ -301,7 +301,7 @@ module _ (laws : LawsBelow) (port : Port) (replies : List Reply) (old new : Serv
             after : IsRevalidated (wanted_of old.wanted port.0) port x.port_error a.was (next.Restart token) a.device r.mid.device a.found
             after = subst (λ (n : Next). IsRevalidated (wanted_of old.wanted port.0) port x.port_error a.was n a.device r.mid.device a.found) is a.is
 
-    had : HadDisk (server_moment old m) steps (server_moment new (after m steps)) port
+    had : HadDisk (abstract_state_of old m) steps (abstract_state_of new (after m steps)) port
     had shows = by x.port_error refl x.finds
       where
         shows_found : ShowsDisk (state_of a.found)
@@ -309,7 +309,7 @@ module _ (laws : LawsBelow) (port : Port) (replies : List Reply) (old new : Serv
 
         by : (port_error : PortError) → x.port_error ≡ port_error → IsFoundOut port port_error old.device x.seen → Had
         by TaskFileError is l = had_seen look.TaskFileError l (inl refl)
-        by BusError is l = had_seen look.BusError l (inr refl)
+        by FatalError is l = had_seen look.FatalError l (inr refl)
         by LinkChanged is l = had_stopped (λ failed. let z : LinkChanged ≡ TaskFileError = sym is ∙ failed in cc) shows_found
         by TimedOut is same = had_stopped (λ failed. let z : TimedOut ≡ TaskFileError = sym is ∙ failed in cc) shows_found
 

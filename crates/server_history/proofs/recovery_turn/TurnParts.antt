@@ -25,7 +25,7 @@ use Rattle.server_history.specs.ErrorHandling.{IsErrorHandled, HasResolved, requ
 use Rattle.server_history.specs.Served.{HasEnded, answers_in}
 use Rattle.server_history.specs.Server.{ServerState, IsMachineOf}
 use Rattle.port_control.specs.declared.events.PortError.{PortError}
-use Rattle.port_control.specs.declared.events.PortError.TheVariants.{BusError, TimedOut, LinkChanged}
+use Rattle.port_control.specs.declared.events.PortError.TheVariants.{FatalError, TimedOut, LinkChanged}
 use Rattle.server_history.proofs.state.CallEvidence.{shows_failure, shows_fatal, shows_loss}
 use Rattle.std.proofs.lemmas.Bool.{false≢true}
 use Rattle.server_history.proofs.state.FirstMembers.{first_here, nowhere}
@@ -76,7 +76,7 @@ failed_of port TimedOut p = named_if (shows_failure p) port
 failed_of port _ p = port ∷ []
 
 abbrev pub fatal_of : Port → PortError → DevicePort → List Port
-fatal_of port BusError p = port ∷ []
+fatal_of port FatalError p = port ∷ []
 fatal_of port LinkChanged p = named_if (shows_fatal p) port
 fatal_of port TimedOut p = named_if (shows_fatal p) port
 fatal_of port _ p = []

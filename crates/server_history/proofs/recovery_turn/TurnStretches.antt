@@ -9,7 +9,7 @@ use Rattle.ata_types.specs.declared.PortState.TheVariants as shown
 use Rattle.ata_types.specs.declared.PortState.TheVariants.{Absent as AbsentState, Dead as DeadState, Ready as ReadyState}
 use Rattle.ata_types.specs.declared.request.Reply.{Reply}
 use Rattle.ata_types.specs.declared.request.RequestId.{RequestId}
-use Rattle.ata_types.specs.declared.limits.TheConstants.{READINGS}
+use Rattle.ata_types.specs.declared.limits.TheConstants.{MOST_READINGS}
 use Rattle.hba_regs.specs.declared.reg.PortReg.TheVariants.{Ci, Sact, Sctl}
 use Rattle.hba_regs.specs.declared.reg.Reg.TheVariants.{Px}
 use Rattle.adapter.specs.Access.{Access, DoesAll}
@@ -45,7 +45,7 @@ use Rattle.server_history.specs.ErrorHandling.{IsFoundOut, IsErrorHandled, HasRe
 use Rattle.server_history.specs.Served.{IssuesEach, IssuesIn}
 use Rattle.server_history.specs.Server.{ServerState, InCallInvariant, mode_in, state_of, used_for}
 use Rattle.port_control.specs.declared.events.PortError.{PortError}
-use Rattle.port_control.specs.declared.events.PortError.TheVariants.{BusError, TaskFileError, TimedOut, LinkChanged}
+use Rattle.port_control.specs.declared.events.PortError.TheVariants.{FatalError, TaskFileError, TimedOut, LinkChanged}
 use Rattle.server_history.proofs.state.TurnAccesses.{issuing_leaves, issuing_turns, look_does, look_list, look_turns, turn_leaves}
 use Rattle.server_history.proofs.plain_calls.Looks.{finding_kept, finding_silent, found_over, looking_kept, looking_silent}
 use Rattle.server_history.proofs.state.TransferAccesses.{both_read}
@@ -72,7 +72,7 @@ pub record TurnParts (port : Port) (replies : List Reply) (old new : ServerState
   pub kinds : All (IsPart port) r.settled.error_handled.handling.accesses
   pub late : IsDrivenBy (IsPart port) r.settled.device new.device
   pub sticks : r.settled.found ≡ Unready DeadState → r.settled.error_handled.result.next ≢ next.Dead → Sticks port late.accesses
-  pub stuck : r.settled.found ≡ Unready DeadState → r.settled.error_handled.result.next ≢ next.Dead → (new.device.port port.0).notes.engine_count ≡ READINGS
+  pub stuck : r.settled.found ≡ Unready DeadState → r.settled.error_handled.result.next ≢ next.Dead → (new.device.port port.0).notes.engine_count ≡ MOST_READINGS
   pub resets : (token : Stopped) → r.settled.error_handled.result.next ≡ next.Restart token → r.settled.found ≢ Unready DeadState
       → ((r.settled.error_handled.port_error ≡ LinkChanged) × (r.settled.found ≡ Unready AbsentState)) ⊎ ResetsLink port late.accesses
   pub unreset : ((token : Stopped) → r.settled.error_handled.result.next ≢ next.Restart token) → All (SparesRegister (Px port Sctl)) (early.accesses ++ (r.settled.error_handled.handling.accesses ++ late.accesses))
@@ -145,7 +145,7 @@ module _ (laws : LawsBelow) (port : Port) (replies : List Reply) (old new : Serv
 
       by : (port_error : PortError) → IsFoundOut port port_error old.device x.seen → IsDrivenBy IsLookingOn old.device x.seen
       by TaskFileError l = looked look.TaskFileError l
-      by BusError l = looked look.BusError l
+      by FatalError l = looked look.FatalError l
       by LinkChanged l = looked look.LinkChanged l
       by TimedOut same = subst (IsDrivenBy IsLookingOn old.device) (sym same) (record { accesses = []; all = refl; only = All-nil IsLookingOn })
 

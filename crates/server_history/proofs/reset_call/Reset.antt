@@ -65,7 +65,7 @@ use Rattle.server_history.proofs.reset_call.ResetDevice.{IsRebootedBy}
 use Rattle.server_history.specs.Resets.{IsResetRevalidation, IsTakenAgain, IssuePorts, ResetsServer, SettlePorts}
 use Rattle.server_history.specs.Server.{InCallInvariant, IsMachineOf, SettledInvariant, ServerState, disk_in, last_disk_of, is_served, mode_in, ports_of, remembered_at, last_sectors_of, last_serial_of, state_of}
 use Rattle.server_history.specs.Stalled.{BookInvariant}
-use Rattle.server_history.specs.Turns.{server_instant, server_moment}
+use Rattle.server_history.specs.Turns.{joint_state_of, abstract_state_of}
 use Rattle.ata_types.specs.declared.request.Outcome.TheVariants as outcome
 
 -- a port that is found in the state of a dead one is dead
@@ -83,7 +83,7 @@ remembers (Unready state) remembered other = refl
 module _ (laws : ResetLaws) (s taken settled new : ServerState) (replies : List Reply) (booked : BookInvariant s) (takes : IsTakenAgain s taken) (settles : SettlePorts 0 taken.ports replies taken settled) (issues : IssuePorts 0 taken.ports settled new)
     (by : IsRebootedBy s new replies) (first : JointState Device) (past : List (Happening Device DeviceStep)) (leads : LeadsToServer first past s) where
   abbrev was : AbstractState
-  was = (now first past).moment
+  was = (now first past).abstract
 
   abbrev m : Machine
   m = was.machine
@@ -474,7 +474,7 @@ module _ (laws : ResetLaws) (s taken settled new : ServerState) (replies : List 
   -- ---- the disks that it shows
 
   -- a port that shows a disk had one in at some moment
-  had : (port : Port) → HadDisk (server_moment s m) steps end port
+  had : (port : Port) → HadDisk (abstract_state_of s m) steps end port
   had port shows = had_disk laws.below port s saw.seen new.device m saw.accesses saw.does saw.present is (laws.below.looks.tape.grows_more saw.seen taken.device new.device saw.later grows) steps backed
     where
       found_is : probe_result_of new.ports port.0 ≡ probe_result_of takes.host.ports port.0
@@ -494,7 +494,7 @@ module _ (laws : ResetLaws) (s taken settled new : ServerState) (replies : List 
       saw = saw_before laws.below port takes.resets.followed.driven.accesses s.device takes.idle taken.device takes.resets.followed.driven.all
           (taken_saw laws port (probe_result_of takes.host.ports port.0) never (subst (λ (x : ProbeResult). ShowsDisk (state_of x)) found_is shows) takes.host.ports takes.idle taken.device takes.resets.idle refl takes.takes.way)
 
-  answered : AnswersReset (server_moment s m) by.evidence steps replies end
+  answered : AnswersReset (abstract_state_of s m) by.evidence steps replies end
   answered = record {
     tells = tells;
     releases = releases;
@@ -508,11 +508,11 @@ module _ (laws : ResetLaws) (s taken settled new : ServerState) (replies : List 
     disk = had;
   }
 
-  was_is : server_moment s m ≡ was
+  was_is : abstract_state_of s m ≡ was
   was_is = ap (λ (ports : Ports). record { machine = m; ports = ports }) (sym same)
 
-  instant_is : server_instant s m ≡ with_device s.device (now first past)
-  instant_is = ap (λ (moment : AbstractState). record { device = s.device; moment = moment }) was_is
+  instant_is : joint_state_of s m ≡ with_device s.device (now first past)
+  instant_is = ap (λ (abstract : AbstractState). record { device = s.device; abstract = abstract }) was_is
 
   disks : KeepsDisks was end
   disks e o here there same_id = subst (λ (ports : Ports). SameDisk ports (ports_of new) e.request.port) (sym same) (same_disk e.request.port (left_expects e here))

@@ -12,7 +12,7 @@ use Rattle.driver_history.specs.Histories.{BootsAnew, IsOnAndTells, LosesNoPortE
 use Rattle.driver_history.specs.Trace.{IsDriversOwn, IsOfPorts}
 use Rattle.host_boot.specs.Resets.{BeginsReset}
 use Rattle.server_history.specs.Server.{ServerState, ports_of}
-use Rattle.server_history.specs.Turns.{server_instant}
+use Rattle.server_history.specs.Turns.{joint_state_of}
 
 -- The device's part in a reset that ended, whatever machine stands for the server. The accesses begin with the reset, and use registers of served ports alone; the adapter is on then, and
 -- tells of its causes. The evidence names no fault; it names each served port as stopped, each that is dead as stuck, and each other one as lost that isn't ready with its disk.
@@ -26,12 +26,12 @@ pub record IsRebootedBy (s new : ServerState) (replies : List Reply) : Type 0 wh
   pub tells : IsOnAndTells new.device
   pub evidence : Evidence
   pub faults : evidence.faults ≡ []
-  pub evidenced : (m : Machine) (port : Port) → IsEvidencedOf Reset (WasReset (Some replies)) accesses (server_instant s m) (ports_of new) new.device evidence port
+  pub evidenced : (m : Machine) (port : Port) → IsEvidencedOf Reset (WasReset (Some replies)) accesses (joint_state_of s m) (ports_of new) new.device evidence port
   pub stopped : (port : Port) → (ports_of s).served port ≡ true → Contains evidence.stopped port
   pub stuck_all : (port : Port) → (ports_of new).state port ≡ Dead → Contains evidence.stuck port
   pub stuck_only : (port : Port) → Contains evidence.stuck port → (ports_of new).state port ≡ Dead
   pub lost_all : (port : Port) → (ports_of s).served port ≡ true → (ports_of new).state port ≢ Dead
       → ((ports_of new).state port ≡ Ready → SameDisk (ports_of s) (ports_of new) port → ⊥) → Contains evidence.lost port
-  pub boots : (m : Machine) (port : Port) → BootsAnew Reset (WasReset (Some replies)) accesses (server_instant s m) (ports_of new) new.device port
-  pub port_error : (m : Machine) (port : Port) → LosesNoPortError evidence (server_instant s m) (ports_of new) new.device port
-  pub well : (m : Machine) (port : Port) → RunsWellAnew evidence accesses (server_instant s m) (ports_of new) new.device port
+  pub boots : (m : Machine) (port : Port) → BootsAnew Reset (WasReset (Some replies)) accesses (joint_state_of s m) (ports_of new) new.device port
+  pub port_error : (m : Machine) (port : Port) → LosesNoPortError evidence (joint_state_of s m) (ports_of new) new.device port
+  pub well : (m : Machine) (port : Port) → RunsWellAnew evidence accesses (joint_state_of s m) (ports_of new) new.device port

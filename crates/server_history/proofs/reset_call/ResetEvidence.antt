@@ -6,7 +6,7 @@ use Rattle.std.proofs.lemmas.List.Elements.{All-head, All-nil, All-tail, All-wea
 use Rattle.ata_types.specs.declared.Port.{Port}
 use Rattle.ata_types.specs.declared.PortState.TheVariants.{Absent, Ready as ReadyState, Dead as DeadState}
 use Rattle.ata_types.specs.declared.request.Reply.{Reply}
-use Rattle.ata_types.specs.declared.limits.TheConstants.{READINGS}
+use Rattle.ata_types.specs.declared.limits.TheConstants.{MOST_READINGS}
 use Rattle.hba_regs.specs.declared.reg.Reg.{Reg}
 use Rattle.adapter.specs.Access.{Access, DoesAll}
 use Rattle.adapter.specs.Access.Access.{Loading, Reading, Storing, Writing}
@@ -29,7 +29,7 @@ use Rattle.server_history.proofs.reset_call.ResetDevice.{IsRebootedBy}
 use Rattle.server_history.specs.Resets.{IsTakenAgain, ResetsServer}
 use Rattle.server_history.specs.Server.{ServerState, is_served, ports_of, state_of}
 use Rattle.server_history.specs.Stalled.{BookInvariant}
-use Rattle.server_history.specs.Turns.{server_instant}
+use Rattle.server_history.specs.Turns.{joint_state_of}
 use Rattle.server_history.proofs.recovery_turn.MendedPort.{dead_is}
 use Rattle.server_history.proofs.reset_call.BootedPorts.{DidBoot}
 use Rattle.server_history.proofs.state.DrivenAccesses.{by_one}
@@ -213,7 +213,7 @@ module _ (laws : LawsBelow) (s new : ServerState) (replies : List Reply) (k : Bo
       laws.issuing_of q its.0 access its.2,
     )
 
-    counted : (new.device.port port.0).notes.engine_count ≡ READINGS
+    counted : (new.device.port port.0).notes.engine_count ≡ MOST_READINGS
     counted =
         let issuing = issues laws s new replies k r in
         ap (λ (n : Notes). n.engine_count) (notes_over laws port issuing.accesses r.taken.device new.device t.takes.on (All-weaker (IsOfReady 0 ports) (IsOfOther port) others issuing.accesses issuing.only) issuing.all)
@@ -221,9 +221,9 @@ module _ (laws : LawsBelow) (s new : ServerState) (replies : List Reply) (k : Bo
 
   -- ---- what is vouched for
 
-  evidenced : (m : Machine) (port : Port) → IsEvidencedOf Reset (WasReset (Some replies)) list (server_instant s m) new_ports new.device evidence port
+  evidenced : (m : Machine) (port : Port) → IsEvidencedOf Reset (WasReset (Some replies)) list (joint_state_of s m) new_ports new.device evidence port
   evidenced m port =
-      let told = evidenced_of four Reset (WasReset (Some replies)) [] (server_instant s m) new_ports new.device port (λ ready. in_four port (k.few port.0 (served_ready port ready))) (All-nil (LeavesEngine port)) in
+      let told = evidenced_of four Reset (WasReset (Some replies)) [] (joint_state_of s m) new_ports new.device port (λ ready. in_four port (k.few port.0 (served_ready port ready))) (All-nil (LeavesEngine port)) in
       record {
         lost = λ here. let lost = lost_only port here in inr (inr (inr (lost.1, lost.2)));
         gone_all = told.gone_all;
@@ -259,7 +259,7 @@ module _ (laws : LawsBelow) (s new : ServerState) (replies : List Reply) (k : Bo
           ((subst (λ (f : ProbeResult). DidBoot port f part.turn.turn part.turn.start part.turn.end) is part.did).1 lives (λ ready. never_ready port (is ∙ ap Unready ready)))))
           (dead_or_not state)
 
-  port_error : (m : Machine) (port : Port) → LosesNoPortError evidence (server_instant s m) new_ports new.device port
+  port_error : (m : Machine) (port : Port) → LosesNoPortError evidence (joint_state_of s m) new_ports new.device port
   port_error m port = record {
     errors = λ ready _. inl (inl (stopped_all port (served_ready port ready)));
     changes = λ tends _. inl (inl (stopped_all port tends.0));
@@ -268,7 +268,7 @@ module _ (laws : LawsBelow) (s new : ServerState) (replies : List Reply) (k : Bo
     disk = λ ready. let its = ready_info port ready in (shows laws s new replies k r port (ready_low port its.0 its.1) its.0 its.1).disk;
   }
 
-  well : (m : Machine) (port : Port) → RunsWellAnew evidence list (server_instant s m) new_ports new.device port
+  well : (m : Machine) (port : Port) → RunsWellAnew evidence list (joint_state_of s m) new_ports new.device port
   well m port _ ready none unfailed unbroken _ = let its = ready_info port ready in goes_well laws s new replies k r port (ready_low port its.0 its.1) its.0 its.1 none unfailed unbroken
 
   -- the device's part in a reset that ended

@@ -95,14 +95,14 @@ module _ (laws : LawsBelow) (s : ServerState) (client : ClientId) (number : ℕ)
         (revoked.may laws s client number replies mid r m h)
         (revoked.belong laws s client number replies mid r m h (ports_of s))
         (revoked.last laws s client number replies mid r m h)
-        (revoked.lawful laws s client number replies mid r m h old.moment no_evidence (ports_of s))
-        (answers then_is refl refl old.moment leads.stands.ports_are h [] (λ e o here. nowhere (Answer e o) here) refl stands issued)
+        (revoked.lawful laws s client number replies mid r m h old.abstract no_evidence (ports_of s))
+        (answers then_is refl refl old.abstract leads.stands.ports_are h [] (λ e o here. nowhere (Answer e o) here) refl stands issued)
         tt
         []
         (refl, (revoked.has_row laws s client number replies mid r m h, All-nil (IssuesOn port), λ other. refl))
         (λ q. All-nil (LeavesEngine q))
         (λ q ready. none_issued then_is (after m steps) stands steps (revoked.issue_none laws s client number replies mid r m h) (mode_in s q) q (issued q ready))
-        (λ q. record { finds = tt; faults = tt; probes = tt; boots = tt; port_error = goes.port_error old.moment leads.stands.ports_are q; well = λ i. absurd (uninterrupted s.device old.moment.ports q i); heeds = uninterrupted s.device old.moment.ports q })
+        (λ q. record { finds = tt; faults = tt; probes = tt; boots = tt; port_error = goes.port_error old.abstract leads.stands.ports_are q; well = λ i. absurd (uninterrupted s.device old.abstract.ports q i); heeds = uninterrupted s.device old.abstract.ports q })
         (revoked.backed laws s client number replies mid r m h)
         stands
       where
@@ -110,7 +110,7 @@ module _ (laws : LawsBelow) (s : ServerState) (client : ClientId) (number : ℕ)
         old = now first past
 
         m : Machine
-        m = old.moment.machine
+        m = old.abstract.machine
 
         h : MayRevoke s m
         h = may m (reached laws first past s leads) leads.stands.machine
@@ -170,8 +170,8 @@ module _ (laws : LawsBelow) (s : ServerState) (client : ClientId) (number : ℕ)
             (laws.basic.may m x.steps early (revoked.may laws s client number replies mid r m h) x.may)
             (belong_on mode port {D = DeviceStep} (RevokeOf client number) (ports_of new) (λ p own. (its_ready p own, its_mode p own)) x.steps early x.only (revoked.belong laws s client number replies mid r m h (ports_of new)))
             (last_on mode port x.steps early x.only x.last (revoked.last laws s client number replies mid r m h) (λ id late first_too. false≢true (sym (revoked.issue_none laws s client number replies mid r m h id) ∙ first_too)))
-            (lawful_on mode port old.moment no_evidence (ports_of new) x.steps early x.only (revoked.lawful laws s client number replies mid r m h old.moment no_evidence (ports_of new)))
-            (answers new (ap ports_of same) (ap (λ (n : ServerState). n.grants) same) old.moment leads.stands.ports_are h x.steps (no_answer_issuing mode port x.steps x.only) (issuing_answers mode port x.steps early x.only) stands (λ q on. settles.issued q))
+            (lawful_on mode port old.abstract no_evidence (ports_of new) x.steps early x.only (revoked.lawful laws s client number replies mid r m h old.abstract no_evidence (ports_of new)))
+            (answers new (ap ports_of same) (ap (λ (n : ServerState). n.grants) same) old.abstract leads.stands.ports_are h x.steps (no_answer_issuing mode port x.steps x.only) (issuing_answers mode port x.steps early x.only) stands (λ q on. settles.issued q))
             tt
             driven.accesses
             (driven.all, (revoked.has_row laws s client number replies mid r m h, All-weaker (IssuesIn port) (IssuesOn port) (λ access here. issuing_is port port_low access here) driven.accesses driven.only, λ other. absurd (other its_state)))
@@ -182,10 +182,10 @@ module _ (laws : LawsBelow) (s : ServerState) (client : ClientId) (number : ℕ)
               faults = tt;
               probes = tt;
               boots = tt;
-              port_error = laws.calls.ordinary q (with_device s.device old) new.device driven.accesses (told_by s.device old.moment.ports) (ports_of new) k.on driven.all
+              port_error = laws.calls.ordinary q (with_device s.device old) new.device driven.accesses (told_by s.device old.abstract.ports) (ports_of new) k.on driven.all
                   (All-weaker (IssuesIn port) (SparesRegister Ghc) (issuing_spares_host port) driven.accesses driven.only) (All-weaker (IssuesIn port) (ClearsNone q) (issuing_clears_none port q) driven.accesses driven.only);
-              well = λ i. absurd (uninterrupted s.device old.moment.ports q i);
-              heeds = uninterrupted s.device old.moment.ports q;
+              well = λ i. absurd (uninterrupted s.device old.abstract.ports q i);
+              heeds = uninterrupted s.device old.abstract.ports q;
             })
             (laws.backed_parts s.device s.device new.device m early x.steps (revoked.backed laws s client number replies mid r m h) x.backed)
             stands
@@ -194,7 +194,7 @@ module _ (laws : LawsBelow) (s : ServerState) (client : ClientId) (number : ℕ)
             old = now first past
 
             m : Machine
-            m = old.moment.machine
+            m = old.abstract.machine
 
             h : MayRevoke s m
             h = may m (reached laws first past s leads) leads.stands.machine
@@ -211,7 +211,7 @@ module _ (laws : LawsBelow) (s : ServerState) (client : ClientId) (number : ℕ)
             mode : QueueMode
             mode = mode_in s port
 
-            its_state : old.moment.ports.state port ≡ ReadyState
+            its_state : old.abstract.ports.state port ≡ ReadyState
             its_state = ap (λ (ports : Ports). ports.state port) leads.stands.ports_are ∙ ready
 
             its_mode : (p : machine.Pending) → p.request.port ≡ port → (ports_of new).mode p.request.port ≡ mode

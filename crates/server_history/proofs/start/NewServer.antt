@@ -21,7 +21,7 @@ use Rattle.refinement.specs.Spares.{AllFurther, SparesBook}
 use Rattle.refinement.proofs.relation.IdleAgreement.{idle_knows}
 use Rattle.refinement.proofs.steps.SparedBook.{steps_spare}
 use Rattle.block_machine.specs.Histories.{IsReachable}
-use Rattle.block_machine.specs.Left.{after, IsRow, IsStart}
+use Rattle.block_machine.specs.Left.{after, IsRow, IsInitial}
 use Rattle.block_machine.specs.Ports.{AreFit, IsMode}
 use Rattle.block_machine.specs.State.{DiskBytes, Machine, Pending}
 use Rattle.block_machine.specs.Rules.{DifferInName}
@@ -76,7 +76,7 @@ machine_of d rows owner = record {
   next = 1;
 }
 
-machine_knows : (d : Device) (rows : List GrantRow) (owner : Frame → Option ClientId) → IsStart (machine_of d rows owner) → IsIdle d
+machine_knows : (d : Device) (rows : List GrantRow) (owner : Frame → Option ClientId) → IsInitial (machine_of d rows owner) → IsIdle d
     → TellsDisks d → DriverRelation (machine_of d rows owner) (idle d)
 machine_knows d rows owner start is told =
     idle_knows (machine_of d rows owner) d start is (λ q. record { present = refl; id = refl; size = refl }) (λ f b low small. refl) sectors (λ _ port k. refl)
@@ -89,7 +89,7 @@ machine_knows d rows owner start is told =
 -- ---- steps of the device
 
 -- steps that spare the book leave a machine to begin with
-start_on : (m later : Machine) → IsStart m → SparesBook m later → IsStart later
+start_on : (m later : Machine) → IsInitial m → SparesBook m later → IsInitial later
 start_on m later s spares = record {
   book = subst (λ (es : List Pending). AllFurther es later.book) s.book spares.book;
   kept = subst (λ (es : List Pending). AllFurther es later.kept) s.kept spares.kept;
@@ -192,7 +192,7 @@ module _ (laws : TakenLaws) (s : ServerState) (host : Host) (d : Device) (is : I
   abbrev first_machine : Machine
   first_machine = machine_of d s.grants (owner_of s.table)
 
-  start : IsStart first_machine
+  start : IsInitial first_machine
   start = record {
     book = refl;
     kept = refl;
@@ -210,7 +210,7 @@ module _ (laws : TakenLaws) (s : ServerState) (host : Host) (d : Device) (is : I
   uses_are : AreUsesOf s taken.uses
   uses_are port slot = left_as host.ports s.ports s.slots taken.uses port slot (found_as port) (n.unused port slot) (taken.left port slot)
 
-  stands_for : (m : Machine) → IsStart m → SparesBook first_machine m → DriverRelation m (known taken.uses (λ port. []) s.device) → IsMachineOf s m
+  stands_for : (m : Machine) → IsInitial m → SparesBook first_machine m → DriverRelation m (known taken.uses (λ port. []) s.device) → IsMachineOf s m
   stands_for m begun spares knows = record {
     uses = taken.uses;
     used = uses_are;
@@ -281,13 +281,13 @@ module _ (laws : TakenLaws) (s : ServerState) (host : Host) (d : Device) (is : I
       let x = (followed_adds taken.followed (λ port slot. Free) (λ port. []) refl).adds first_machine reached_first (machine_knows d s.grants (owner_of s.table) start is told) in
       let later : Machine = after first_machine x.0 in
       let spares : SparesBook first_machine later = steps_spare first_machine x.0 x.3.only in
-      let begun : IsStart later = start_on first_machine later start spares in
+      let begun : IsInitial later = start_on first_machine later start spares in
       let stands : IsMachineOf s later = stands_for later begun spares x.2 in
       let reached : IsReachable later = reached_more first_machine x.0 reached_first x.1 in
       let kept : InCallInvariant s = kept_by later reached stands in (
         record { kept = kept; issued = none_due },
         (
-          record { device = s.device; moment = record { machine = later; ports = ports_of s } },
+          record { device = s.device; abstract = record { machine = later; ports = ports_of s } },
           record {
             history = ((begun, ports_fit), ((slots s kept later reached stands, holds_with s kept later reached stands), (kept.on, taken.interrupts)));
             stands = record { device_is = refl; ports_are = refl; machine = stands };

@@ -180,26 +180,26 @@ module _ (list : List Port) (d : Device) (ports : Ports) (shows : DevicePort →
 
 -- what is told of such a port has that behind it
 pub evidenced_of : (list : List Port) (ask : Ask DeviceStep) (said : CallResult) (accesses : List Access) (old : JointState Device) (ports : Ports) (new : Device) (port : Port)
-    → (old.moment.ports.state port ≡ Ready → Contains list port) → All (LeavesEngine port) accesses
-    → IsEvidencedOf ask said accesses old ports new (told_of list old.device old.moment.ports) port
+    → (old.abstract.ports.state port ≡ Ready → Contains list port) → All (LeavesEngine port) accesses
+    → IsEvidencedOf ask said accesses old ports new (told_of list old.device old.abstract.ports) port
 evidenced_of list ask said accesses old ports new port there leaves = record {
   lost = λ here. absurd (nowhere port here);
-  gone_all = λ ready loss. is_named list old.device old.moment.ports shows_loss port (there ready) ready (loss_shows (old.device.port port.0) (⊎_elim (λ change. inl change) (λ out. inr out.0) loss));
+  gone_all = λ ready loss. is_named list old.device old.abstract.ports shows_loss port (there ready) ready (loss_shows (old.device.port port.0) (⊎_elim (λ change. inl change) (λ out. inr out.0) loss));
   gone_only = λ here.
-      let x = named_is list old.device old.moment.ports shows_loss port here in
+      let x = named_is list old.device old.abstract.ports shows_loss port here in
       (x.0, ⊎_elim (λ change. inl change) (λ out. inr (inl out)) (unlost (old.device.port port.0) x.1));
-  failed_all = λ ready failure. is_named list old.device old.moment.ports shows_failure port (there ready) ready (failure_shows (old.device.port port.0) failure);
-  failed_only = λ here. let x = named_is list old.device old.moment.ports shows_failure port here in (x.0, inl (unfailed (old.device.port port.0) x.1));
-  fatal_all = λ ready fatal. is_named list old.device old.moment.ports shows_fatal port (there ready) ready (fatal_shows (old.device.port port.0) fatal);
-  fatal_only = λ here. let x = named_is list old.device old.moment.ports shows_fatal port here in (x.0, inl (unfatal (old.device.port port.0) x.1));
+  failed_all = λ ready failure. is_named list old.device old.abstract.ports shows_failure port (there ready) ready (failure_shows (old.device.port port.0) failure);
+  failed_only = λ here. let x = named_is list old.device old.abstract.ports shows_failure port here in (x.0, inl (unfailed (old.device.port port.0) x.1));
+  fatal_all = λ ready fatal. is_named list old.device old.abstract.ports shows_fatal port (there ready) ready (fatal_shows (old.device.port port.0) fatal);
+  fatal_only = λ here. let x = named_is list old.device old.abstract.ports shows_fatal port here in (x.0, inl (unfatal (old.device.port port.0) x.1));
   stopped_all = inl leaves;
   stopped_only = λ here. absurd (nowhere port here);
   stuck_only = λ here. absurd (nowhere port here);
 }
 
 pub evidenced : (ask : Ask DeviceStep) (said : CallResult) (accesses : List Access) (old : JointState Device) (ports : Ports) (new : Device)
-    → ((port : Port) → old.moment.ports.state port ≡ Ready → port.0 < 4) → ((port : Port) → All (LeavesEngine port) accesses)
-    → IsEvidenced ask said accesses old ports new (told_by old.device old.moment.ports)
+    → ((port : Port) → old.abstract.ports.state port ≡ Ready → port.0 < 4) → ((port : Port) → All (LeavesEngine port) accesses)
+    → IsEvidenced ask said accesses old ports new (told_by old.device old.abstract.ports)
 evidenced ask said accesses old ports new low leaves = record {
   faults = λ told here. absurd (nowhere told here);
   port = λ port. evidenced_of four ask said accesses old ports new port (λ ready. in_four port (low port ready)) (leaves port);

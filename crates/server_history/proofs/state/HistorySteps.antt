@@ -169,15 +169,15 @@ happening_with evidence new ask said steps ports = record { event = record { ask
 
 -- with the evidence of one in which no port is stopped
 abbrev pub happening : JointState Device → Device → Ask DeviceStep → CallResult → List Step → Ports → Happening Device DeviceStep
-happening old new ask said steps ports = happening_with (told_by old.device old.moment.ports) new ask said steps ports
+happening old new ask said steps ports = happening_with (told_by old.device old.abstract.ports) new ask said steps ports
 
 -- the instant, with this device
 abbrev pub with_device : Device → JointState Device → JointState Device
-with_device d i = record { device = d; moment = i.moment }
+with_device d i = record { device = d; abstract = i.abstract }
 
 -- whatever machine stands for the server, there holds what holds at each instant
 abbrev pub IsHolding : ServerState → Type 0
-IsHolding s = (m : Machine) → IsReachable m → IsMachineOf s m → HoldsAt s.wanted (record { device = s.device; moment = record { machine = m; ports = ports_of s } })
+IsHolding s = (m : Machine) → IsReachable m → IsMachineOf s m → HoldsAt s.wanted (record { device = s.device; abstract = record { machine = m; ports = ports_of s } })
 
 pub holding : (s : ServerState) → InCallInvariant s → IsHolding s
 holding s k m reached is = (slots s k m reached is, holds_with s k m reached is)
@@ -185,17 +185,17 @@ holding s k m reached is = (slots s k m reached is, holds_with s k m reached is)
 -- a call, with what its event needs
 pub lead_with : LawsBelow → (first : JointState Device) (past : List (Happening Device DeviceStep)) (s new : ServerState) (ask : Ask DeviceStep) (said : CallResult) (evidence : Evidence) (steps : List Step)
     → new.wanted ≡ s.wanted → LeadsToServer first past s → IsHolding new → AreFit (ports_of new)
-    → AllMay (now first past).moment.machine steps → Belong ask (ports_of new) steps → IssuesLast steps
-    → AllLawful (now first past).moment evidence (ports_of new) steps
-    → KeepsDisks (now first past).moment (record { machine = after (now first past).moment.machine steps; ports = ports_of new })
-    → IsAnswered ask said (now first past).moment evidence steps (record { machine = after (now first past).moment.machine steps; ports = ports_of new })
+    → AllMay (now first past).abstract.machine steps → Belong ask (ports_of new) steps → IssuesLast steps
+    → AllLawful (now first past).abstract evidence (ports_of new) steps
+    → KeepsDisks (now first past).abstract (record { machine = after (now first past).abstract.machine steps; ports = ports_of new })
+    → IsAnswered ask said (now first past).abstract evidence steps (record { machine = after (now first past).abstract.machine steps; ports = ports_of new })
     → IsGrounded ask evidence steps
-    → (accesses : List Access) → CameBy (now first past).moment ask said accesses s.device new.device
+    → (accesses : List Access) → CameBy (now first past).abstract ask said accesses s.device new.device
     → IsEvidenced ask said accesses (with_device s.device (now first past)) (ports_of new) new.device evidence
-    → ((port : Port) → Issues ask steps (after (now first past).moment.machine steps) (ports_of new) port)
+    → ((port : Port) → Issues ask steps (after (now first past).abstract.machine steps) (ports_of new) port)
     → ((port : Port) → PortCorresponds (with_device s.device (now first past)) (happening_with evidence new.device ask said steps (ports_of new)) accesses port)
-    → IsBacked s.device new.device (now first past).moment.machine steps
-    → IsMachineOf new (after (now first past).moment.machine steps)
+    → IsBacked s.device new.device (now first past).abstract.machine steps
+    → IsMachineOf new (after (now first past).abstract.machine steps)
     → (h : Happening Device DeviceStep) × (h.event.ask ≡ ask) × (h.event.said ≡ said) × LeadsToServer first (h ∷ past) new
 lead_with laws first past s new ask said evidence steps wanted_is leads holds fit may belong last lawful disks answered grounded accesses came evidenced issues parts backed stands = (
   h,
@@ -218,10 +218,10 @@ lead_with laws first past s new ask said evidence steps wanted_is leads holds fi
     h = happening_with evidence new.device ask said steps (ports_of new)
 
     later : Machine
-    later = after old.moment.machine steps
+    later = after old.abstract.machine steps
 
     reached : IsReachable later
-    reached = laws.basic.reached old.moment.machine steps (laws.basic.history_reached s.wanted first past leads.history) may
+    reached = laws.basic.reached old.abstract.machine steps (laws.basic.history_reached s.wanted first past leads.history) may
 
     ties : CallCorresponds new.wanted (with_device s.device old) h
     ties = record {
@@ -238,21 +238,21 @@ lead_with laws first past s new ask said evidence steps wanted_is leads holds fi
 -- one in which no port is stopped, and each is what it was
 pub lead_by : LawsBelow → (first : JointState Device) (past : List (Happening Device DeviceStep)) (s new : ServerState) (ask : Ask DeviceStep) (said : CallResult) (steps : List Step)
     → new.wanted ≡ s.wanted → ports_of new ≡ ports_of s → LeadsToServer first past s → IsHolding new
-    → AllMay (now first past).moment.machine steps → Belong ask (ports_of new) steps → IssuesLast steps
-    → AllLawful (now first past).moment no_evidence (ports_of new) steps
-    → IsAnswered ask said (now first past).moment (told_by s.device (now first past).moment.ports) steps (record { machine = after (now first past).moment.machine steps; ports = ports_of new })
-    → IsGrounded ask (told_by s.device (now first past).moment.ports) steps
-    → (accesses : List Access) → CameBy (now first past).moment ask said accesses s.device new.device
+    → AllMay (now first past).abstract.machine steps → Belong ask (ports_of new) steps → IssuesLast steps
+    → AllLawful (now first past).abstract no_evidence (ports_of new) steps
+    → IsAnswered ask said (now first past).abstract (told_by s.device (now first past).abstract.ports) steps (record { machine = after (now first past).abstract.machine steps; ports = ports_of new })
+    → IsGrounded ask (told_by s.device (now first past).abstract.ports) steps
+    → (accesses : List Access) → CameBy (now first past).abstract ask said accesses s.device new.device
     → ((port : Port) → All (LeavesEngine port) accesses)
-    → ((port : Port) → Issues ask steps (after (now first past).moment.machine steps) (ports_of new) port)
+    → ((port : Port) → Issues ask steps (after (now first past).abstract.machine steps) (ports_of new) port)
     → ((port : Port) → PortCorresponds (with_device s.device (now first past)) (happening (with_device s.device (now first past)) new.device ask said steps (ports_of new)) accesses port)
-    → IsBacked s.device new.device (now first past).moment.machine steps
-    → IsMachineOf new (after (now first past).moment.machine steps)
+    → IsBacked s.device new.device (now first past).abstract.machine steps
+    → IsMachineOf new (after (now first past).abstract.machine steps)
     → (h : Happening Device DeviceStep) × (h.event.ask ≡ ask) × (h.event.said ≡ said) × LeadsToServer first (h ∷ past) new
 lead_by laws first past s new ask said steps wanted_is ports_is leads holds may belong last lawful answered grounded accesses came leaves issues parts backed stands =
-    lead_with laws first past s new ask said (told_by s.device old.moment.ports) steps wanted_is leads holds (subst AreFit ports fit) may belong last
-    (lawful_told s.device old.moment.ports old.moment (ports_of new) steps lawful)
-    (λ e o here i same. disks_same old.moment.ports (ports_of new) ports e.request.port)
+    lead_with laws first past s new ask said (told_by s.device old.abstract.ports) steps wanted_is leads holds (subst AreFit ports fit) may belong last
+    (lawful_told s.device old.abstract.ports old.abstract (ports_of new) steps lawful)
+    (λ e o here i same. disks_same old.abstract.ports (ports_of new) ports e.request.port)
     answered grounded accesses came
     (evidenced ask said accesses (with_device s.device old) (ports_of new) new.device (λ port ready. (ready_low old port fit ready).1) leaves)
     issues parts backed stands
@@ -260,8 +260,8 @@ lead_by laws first past s new ask said steps wanted_is ports_is leads holds may 
     old : JointState Device
     old = now first past
 
-    ports : old.moment.ports ≡ ports_of new
+    ports : old.abstract.ports ≡ ports_of new
     ports = leads.stands.ports_are ∙ sym ports_is
 
-    fit : AreFit old.moment.ports
+    fit : AreFit old.abstract.ports
     fit = history_fit (Begins s.wanted) (CallCorresponds s.wanted) first past leads.history

@@ -11,7 +11,7 @@ use Rattle.ata_types.specs.declared.request.Outcome.TheVariants as outcome
 use Rattle.ata_types.specs.declared.request.RequestId.{RequestId}
 use Rattle.server_history.proofs.state.ListMembers.{contains_cases}
 use Rattle.request_queue.specs.Entries.{Held, all_marked_under, at_entry, has_id, is_of, marked_under, requeued_entry}
-use Rattle.request_queue.specs.Dispositions.{quarantines_loan}
+use Rattle.request_queue.specs.Dispositions.{keeps_loan}
 use Rattle.request_queue.specs.declared.PendingRequest.{PendingRequest}
 use Rattle.server_history.specs.ErrorHandling.{requests_of}
 use Rattle.server_history.proofs.state.FirstMembers.{nowhere}
@@ -96,7 +96,7 @@ marked_issued port client grant (x ∷ book) =
     by false = refl
 
 -- only an issued request's loan is kept
-pub kept_issued : (o : Outcome) (e : PendingRequest) → quarantines_loan o e ≡ true → e.issued ≡ true
+pub kept_issued : (o : Outcome) (e : PendingRequest) → keeps_loan o e ≡ true → e.issued ≡ true
 kept_issued outcome.Ok e is = absurd (false≢true is)
 kept_issued (outcome.DeviceError status error) e is = absurd (false≢true is)
 kept_issued outcome.Aborted e is = absurd (false≢true is)

@@ -3,7 +3,7 @@ use Rattle.std.proofs.Common.{ℕ, ◌≡◌, ◌≢◌, ◌+◌, ◌%◌, Bool,
 use Rattle.std.specs.Prelude.{min, if◌then◌else◌}
 use Rattle.std.proofs.lemmas.Bool.{cases_eq}
 use Rattle.ata_types.specs.declared.Port.{Port}
-use Rattle.ata_types.specs.declared.limits.TheConstants.{READINGS}
+use Rattle.ata_types.specs.declared.limits.TheConstants.{MOST_READINGS}
 use Rattle.hba_regs.specs.declared.reg.Reg.{Reg}
 use Rattle.hba_regs.specs.declared.reg.Reg.TheVariants.{Px}
 use Rattle.hba_regs.specs.declared.reg.PortReg.TheVariants.{Clb, Clbu, Fb, Fbu, Cmd, Ssts, Sctl}
@@ -31,24 +31,24 @@ record Holds (port : ℕ) (d : Device) : Type 0 where
   cr : (d.port port).cr ≡ true
   fre : (d.port port).fre ≡ true
   bases : (d.port port).bases ≡ programmed port
-  saw : (d.port port).notes.link_count ≡ READINGS
+  saw : (d.port port).notes.link_count ≡ MOST_READINGS
 
 -- a count of 64 stays, whatever PxSSTS shows
-counts_on : (v : ℕ) (p : DevicePort) → p.notes.link_count ≡ READINGS → (note Ssts v p).link_count ≡ READINGS
+counts_on : (v : ℕ) (p : DevicePort) → p.notes.link_count ≡ MOST_READINGS → (note Ssts v p).link_count ≡ MOST_READINGS
 counts_on v p is = by (nat_eq p.sctl_det 0) (nat_eq (v % 16) 3) p.notes.link_count is
   where
-    by : (free seen : Bool) (n : ℕ) → n ≡ READINGS → (if free then (if seen then READINGS else min READINGS (n + 1)) else n) ≡ READINGS
+    by : (free seen : Bool) (n : ℕ) → n ≡ MOST_READINGS → (if free then (if seen then MOST_READINGS else min MOST_READINGS (n + 1)) else n) ≡ MOST_READINGS
     by false seen n e = e
     by true true n e = refl
-    by true false n e = ap (λ (k : ℕ). min READINGS (k + 1)) e
+    by true false n e = ap (λ (k : ℕ). min MOST_READINGS (k + 1)) e
 
-pub link_still : (port : Port) (access : Access) (old new : Device) → IsOn old → SparesRegister (Px port Sctl) access → Does access old new → (old.port port.0).notes.link_count ≡ READINGS → (new.port port.0).notes.link_count ≡ READINGS
+pub link_still : (port : Port) (access : Access) (old new : Device) → IsOn old → SparesRegister (Px port Sctl) access → Does access old new → (old.port port.0).notes.link_count ≡ MOST_READINGS → (new.port port.0).notes.link_count ≡ MOST_READINGS
 link_still port access old new on spares does saw = by access spares does
   where
-    spared : (a : Access) → SparesRegister (Px port Sctl) a → Does a old new → SparesReading (Px port Ssts) a → (new.port port.0).notes.link_count ≡ READINGS
+    spared : (a : Access) → SparesRegister (Px port Sctl) a → Does a old new → SparesReading (Px port Ssts) a → (new.port port.0).notes.link_count ≡ MOST_READINGS
     spared a its did other = ((access_notes port a old new did).link other).1 its ∙ saw
 
-    read : (r : Reg) (v : ℕ) → Does (Reading r v) old new → (new.port port.0).notes.link_count ≡ READINGS
+    read : (r : Reg) (v : ℕ) → Does (Reading r v) old new → (new.port port.0).notes.link_count ≡ MOST_READINGS
     read (Px p Ssts) v did = ⊎_elim
         (λ (e : p.0 ≡ port.0).
         let same : Reads (Px port Ssts) v old new = subst (λ (q : Port). Reads (Px q Ssts) v old new) (same_port p port e) did in
@@ -57,7 +57,7 @@ link_still port access old new on spares does saw = by access spares does
         (cases_eq p.0 port.0)
     read r v did = spared (Reading r v) tt did (λ q. absurd cc)
 
-    by : (a : Access) → SparesRegister (Px port Sctl) a → Does a old new → (new.port port.0).notes.link_count ≡ READINGS
+    by : (a : Access) → SparesRegister (Px port Sctl) a → Does a old new → (new.port port.0).notes.link_count ≡ MOST_READINGS
     by (Writing r v) its did = spared (Writing r v) its did tt
     by (Loading at bytes) its did = spared (Loading at bytes) its did tt
     by (Storing at bytes) its did = spared (Storing at bytes) its did tt

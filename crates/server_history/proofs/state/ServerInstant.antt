@@ -43,7 +43,7 @@ module _ (s : ServerState) (k : InCallInvariant s) (m : Machine) (reached : IsRe
   slots = record { uses = is.uses; parked = is.parked }
 
   abbrev pub instant : JointState Device
-  instant = record { device = s.device; moment = record { machine = m; ports = ports_of s } }
+  instant = record { device = s.device; abstract = record { machine = m; ports = ports_of s } }
 
   none_waits : (port : Port) → state_of (probe_result_of s.ports port.0) ≢ ReadyState → NoneWaits m port
   none_waits port other e here own =

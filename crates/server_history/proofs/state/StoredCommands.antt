@@ -2,7 +2,7 @@
 use Rattle.std.proofs.Common.{ℕ, ◌≡◌, ◌≢◌, ◌⊎◌, ◌<◌, ◌≤◌, ◌+◌, ◌*◌, length, List, inl, inr, refl, subst, ⊎_elim, arith}
 use Rattle.std.proofs.lemmas.Bool.{cases_eq, cases_lt}
 use Rattle.ata_types.specs.declared.Port.{Port}
-use Rattle.ata_types.specs.declared.memory.TheConstants.{PORT_BYTES, SCRATCH, TABLES, TABLE_BYTES}
+use Rattle.ata_types.specs.declared.memory.TheConstants.{PORT_BYTES, SCRATCH_OFFSET, TABLES_OFFSET, TABLE_BYTES}
 use Rattle.hba_regs.specs.declared.reg.PortReg.TheVariants.{Cmd, Clb}
 use Rattle.hba_regs.specs.declared.reg.Reg.TheVariants.{Px}
 use Rattle.adapter.specs.Access.{Access}
@@ -24,7 +24,7 @@ AreApart port slot other k = other ≡ port → k ≡ slot → ⊥
 abbrev pub IsWithin : (port slot place : ℕ) → Type 0
 IsWithin port slot place =
     ((PORT_BYTES * port + 32 * slot ≤ place) × (place < PORT_BYTES * port + 32 * slot + 32))
-    ⊎ ((PORT_BYTES * port + TABLES + TABLE_BYTES * slot ≤ place) × (place < PORT_BYTES * port + TABLES + TABLE_BYTES * slot + TABLE_BYTES))
+    ⊎ ((PORT_BYTES * port + TABLES_OFFSET + TABLE_BYTES * slot ≤ place) × (place < PORT_BYTES * port + TABLES_OFFSET + TABLE_BYTES * slot + TABLE_BYTES))
 
 pub of_table : (port slot place : ℕ) → IsTableByte port slot place → IsWithin port slot place
 of_table port slot place (inl t) = inl (omega (arith, t.0), omega (arith, t.1))
@@ -33,7 +33,7 @@ of_table port slot place (inr (inr t)) = inr (omega (arith, t.0), omega (arith, 
 
 -- and one of the scratch frame
 abbrev IsBeyond : (port place : ℕ) → Type 0
-IsBeyond port place = (PORT_BYTES * port + SCRATCH ≤ place) × (place < PORT_BYTES * port + SCRATCH + 512)
+IsBeyond port place = (PORT_BYTES * port + SCRATCH_OFFSET ≤ place) × (place < PORT_BYTES * port + SCRATCH_OFFSET + 512)
 
 pub of_store : (port slot at place : ℕ) (bytes : List ℕ) → IsTableStore port slot (Storing at bytes) → at ≤ place → place < at + length bytes → IsWithin port slot place
 of_store port slot at place bytes (inl h) from to = inl (omega (arith, h.0, from), omega (arith, h.0, h.1, to))

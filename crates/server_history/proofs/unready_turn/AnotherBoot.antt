@@ -6,7 +6,7 @@ use Rattle.std.specs.List.{All, Contains}
 use Rattle.ata_types.specs.declared.Port.{Port}
 use Rattle.ata_types.specs.declared.PortState.{PortState}
 use Rattle.ata_types.specs.declared.PortState.TheVariants.{Dead as DeadState, Ready as ReadyState}
-use Rattle.ata_types.specs.declared.limits.TheConstants.{READINGS}
+use Rattle.ata_types.specs.declared.limits.TheConstants.{MOST_READINGS}
 use Rattle.hba_regs.specs.Bits.{bit}
 use Rattle.adapter.specs.Access.{Access, DoesAll}
 use Rattle.adapter.specs.Access.Access.{Loading, Reading, Storing, Writing}
@@ -202,7 +202,7 @@ module _ (laws : LawsBelow) (s new : ServerState) (seen : Device) (port : Port) 
   found_then = get_or-set_same s.ports port.0 b.found Unserved listed
 
   -- a dead port's engine was awaited in vain
-  counted : b.found ≡ Unready DeadState → (new.device.port port.0).notes.engine_count ≡ READINGS
+  counted : b.found ≡ Unready DeadState → (new.device.port port.0).notes.engine_count ≡ MOST_READINGS
   counted dead = (subst (λ (f : ProbeResult). StillStandsBehind wanted f port.0 new.device) dead its_stand.behind).1.1
 
   -- ---- the accesses

@@ -36,7 +36,7 @@ use Rattle.request_queue.specs.Entries.{asks_of}
 use Rattle.server_history.specs.Below.{LawsBelow}
 use Rattle.server_history.specs.Server.{AreKept, InCallInvariant, IsMachineOf, IsPortOf, SettledInvariant, ServerState, is_served, mode_at, mode_in, plain_mode, state_of, usable_of, use_of}
 use Rattle.server_history.specs.Probing.{BootsOnce, IsProbedAnew, IsLookedAt, ProbesPort}
-use Rattle.server_history.specs.Turns.{HasPart, InProbe, ProbesUnready, server_moment}
+use Rattle.server_history.specs.Turns.{HasPart, InProbe, ProbesUnready, abstract_state_of}
 use Rattle.port_control.specs.declared.events.PortError.TheVariants.{TimedOut}
 use Rattle.server_history.proofs.unready_turn.AnotherBoot.{accesses, after_it, book_left, does, found_then, its_stand, listed, looking_part, low, never_ready, no_disk, only, others, silent, stuck_if, tells, then_is, unready, until, until_of, whole}
 use Rattle.server_history.proofs.state.DrivenAccesses.{driven_as}
@@ -163,7 +163,7 @@ module _ (laws : LawsBelow) (s new : ServerState) (seen : Device) (port : Port) 
     devices = devices_both p.passes.steps looked.0 p.passes.only looked.4
 
     -- where it shows a disk then, one was in
-    had : HadDisk (server_moment s m) steps (server_moment then (after m steps)) port
+    had : HadDisk (abstract_state_of s m) steps (abstract_state_of then (after m steps)) port
     had shows = by b.anew.result.next b.anew.is (subst (λ (f : ProbeResult). ShowsDisk (state_of f)) (found_then laws s new seen port state k is lives looks b) shows)
       where
         by : (after_it : Next) → IsProbedAnew (wanted_of s.wanted port.0) port after_it b.anew.stopped new.device b.found → ShowsDisk (state_of b.found) → (m.present port ≡ true) ⊎ (list_any (changes_disk port) steps ≡ true)

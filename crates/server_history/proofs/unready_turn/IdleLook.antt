@@ -4,7 +4,7 @@ use Rattle.std.proofs.lemmas.Bool.{false≢true}
 use Rattle.ata_types.specs.declared.Port.{Port}
 use Rattle.ata_types.specs.declared.PortState.{PortState as Shown}
 use Rattle.ata_types.specs.declared.PortState.TheVariants.{Absent, Dead, Foreign, Ready as ReadyState, Unfit}
-use Rattle.ata_types.specs.declared.limits.TheConstants.{READINGS}
+use Rattle.ata_types.specs.declared.limits.TheConstants.{MOST_READINGS}
 use Rattle.hba_regs.specs.Bits.{bit}
 use Rattle.hba_regs.specs.declared.reg.PortReg.TheVariants.{Is, Ssts}
 use Rattle.hba_regs.specs.declared.reg.Reg.TheVariants.{Px}
@@ -97,7 +97,7 @@ module _ (laws : LawsBelow) (wanted : Wanted) (port : Port) (first old new : Dev
   written : now.sctl_written_at ≡ was.sctl_written_at
   written = ap (λ (n : Notes). n.sctl_written_at) at.notes ∙ ap (λ (n : Notes). n.sctl_written_at) noted
 
-  counted : was.link_count ≡ READINGS → now.link_count ≡ READINGS
+  counted : was.link_count ≡ MOST_READINGS → now.link_count ≡ MOST_READINGS
   counted count = link_still port (Reading (Px port Ssts) v) old new on tt reads (ap (λ (n : Notes). n.link_count) noted ∙ count)
 
   -- but for that, the port is left to the device

@@ -7,7 +7,7 @@ use Rattle.std.specs.List.Sorted.{IsPermutation}
 use Rattle.ata_types.specs.declared.Port.{Port}
 use Rattle.ata_types.specs.declared.PortState.TheVariants.{Absent, Dead, Ready as ReadyState}
 use Rattle.ata_types.specs.declared.request.Outcome.TheVariants.{Unplugged}
-use Rattle.ata_types.specs.declared.limits.TheConstants.{READINGS}
+use Rattle.ata_types.specs.declared.limits.TheConstants.{MOST_READINGS}
 use Rattle.adapter.specs.Access.{Access}
 use Rattle.adapter.specs.declared.access.DeviceStep.{DeviceStep}
 use Rattle.refinement.specs.Driver.{IsBacked}
@@ -29,7 +29,7 @@ use Rattle.request_queue.specs.Entries.{Held}
 use Rattle.request_queue.specs.Machine.{IsEntry}
 use Rattle.server_history.specs.Below.{LawsBelow}
 use Rattle.server_history.specs.Server.{InCallInvariant, IsMachineOf, SettledInvariant, ServerState, mode_in, ports_of, state_of}
-use Rattle.server_history.specs.Turns.{InService, InProbe, IsOfTurn, MakesTurn, NamesOnly, OwesTurn, TurnCorresponds, server_instant, server_moment}
+use Rattle.server_history.specs.Turns.{InService, InProbe, IsOfTurn, MakesTurn, NamesOnly, OwesTurn, TurnCorresponds, joint_state_of, abstract_state_of}
 use Rattle.server_history.proofs.state.AnswerSteps.{no_answer}
 use Rattle.server_history.proofs.state.DueRequests.{none_issued}
 use Rattle.server_history.proofs.state.DeviceSteps.{devices_belong, devices_last, devices_lawful}
@@ -50,7 +50,7 @@ pub record TellsTried (port : Port) (stopped stuck : List Port) (accesses : List
   pub becomes : IsServiced (ports_of old) (evidence_tried stopped stuck) (ports_of new) port
   pub engine : All (LeavesEngine port) accesses ⊎ IsInterrupted (evidence_tried stopped stuck) port
   pub stops : Contains stopped port → Stops port accesses
-  pub sticks : Contains stuck port → Sticks port accesses × ((new.device.port port.0).notes.engine_count ≡ READINGS)
+  pub sticks : Contains stuck port → Sticks port accesses × ((new.device.port port.0).notes.engine_count ≡ MOST_READINGS)
 
 -- The device's steps lead a machine that stands for the one server to one that stands for the other.
 pub record AddsTried (port : Port) (old new : ServerState) (m : Machine) : Type 0 where
@@ -59,16 +59,16 @@ pub record AddsTried (port : Port) (old new : ServerState) (m : Machine) : Type 
   pub may : AllMay m steps
   pub stands : IsMachineOf new (after m steps)
   pub backed : IsBacked old.device new.device m steps
-  pub disk : SamePort (ports_of old) (ports_of new) port ⊎ HadDisk (server_moment old m) steps (server_moment new (after m steps)) port
+  pub disk : SamePort (ports_of old) (ports_of new) port ⊎ HadDisk (abstract_state_of old m) steps (abstract_state_of new (after m steps)) port
 
 -- What the turn has done of the port besides: where no disk of it came, what is there was tried, after which no link is due; it was booted anew, unless it is what it was, or dead or
 -- absent; and no trouble of it is lost.
 pub record DoesTried (port : Port) (evidence : Evidence) (accesses : List Access) (old new : ServerState) : Type 0 where
-  pub probes : (m : Machine) → NoneComes port.0 old.device new.device → ProbesDisk accesses (server_instant old m) (ports_of new) new.device port
-  pub linked : (m : Machine) → EndsLinked port (server_instant old m) (ports_of new) new.device
+  pub probes : (m : Machine) → NoneComes port.0 old.device new.device → ProbesDisk accesses (joint_state_of old m) (ports_of new) new.device port
+  pub linked : (m : Machine) → EndsLinked port (joint_state_of old m) (ports_of new) new.device
   pub boots : SamePort (ports_of old) (ports_of new) port ⊎ (((ports_of new).state port ≡ Dead) ⊎ (((ports_of new).state port ≡ Absent) ⊎ ResetsLink port accesses))
-  pub port_error : (m : Machine) → LosesNoPortError evidence (server_instant old m) (ports_of new) new.device port
-  pub well : (m : Machine) → RunsWellAnew evidence accesses (server_instant old m) (ports_of new) new.device port
+  pub port_error : (m : Machine) → LosesNoPortError evidence (joint_state_of old m) (ports_of new) new.device port
+  pub well : (m : Machine) → RunsWellAnew evidence accesses (joint_state_of old m) (ports_of new) new.device port
 
 -- ---- what such a turn makes of a machine
 
@@ -99,7 +99,7 @@ module _ (laws : LawsBelow) (port : Port) (old : ServerState) (k : InCallInvaria
       stuck = t.its_stuck;
     }
 
-    evidenced : (m : Machine) → IsEvidencedOf Service (Served []) accesses (server_instant old m) (ports_of new) new.device its port
+    evidenced : (m : Machine) → IsEvidencedOf Service (Served []) accesses (joint_state_of old m) (ports_of new) new.device its port
     evidenced m = record {
       lost = λ here. absurd (nowhere port here);
       gone_all = λ ready. absurd (unready ready);
@@ -153,7 +153,7 @@ module _ (laws : LawsBelow) (port : Port) (old : ServerState) (k : InCallInvaria
         belong = devices_belong {D = DeviceStep} Service (ports_of new) x.steps x.only;
         last = devices_last x.steps x.only;
         names = names;
-        lawful = devices_lawful (server_moment old m) its (ports_of new) x.steps x.only;
+        lawful = devices_lawful (abstract_state_of old m) its (ports_of new) x.steps x.only;
         owes = owes;
         tells = tells;
         unplugs = unplugs;

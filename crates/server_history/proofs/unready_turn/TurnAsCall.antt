@@ -38,7 +38,7 @@ use Rattle.port_control.specs.Looks.{IsLooking}
 use Rattle.server_history.specs.Below.{LawsBelow}
 use Rattle.server_history.specs.Server.{InCallInvariant, ServerState, is_served, ports_of, state_of}
 use Rattle.server_history.specs.Probing.{BootsOnce, IsProbedAnew, IsLookedAt}
-use Rattle.server_history.specs.Turns.{server_instant}
+use Rattle.server_history.specs.Turns.{joint_state_of}
 use Rattle.port_control.specs.declared.events.PortError.TheVariants.{TimedOut, LinkChanged}
 use Rattle.server_history.proofs.unready_turn.AnotherBoot.{interrupted, never_ready, stuck_if, whole, accesses, afterwards, does, found_then, then_is, until, until_of}
 use Rattle.server_history.proofs.state.DrivenAccesses.{by_none}
@@ -98,7 +98,7 @@ module _ (s : ServerState) (port : Port) (state : PortState) (k : InCallInvarian
         let told = (laws.looks.changes_told port f.causes s.device f.seen k.on.no_reset f.reads).1 came in
         false≢true (sym (unchanged (bit f.causes 6) (bit f.causes 22) (f.status % 16 == 3) (sym f.tells ∙ none)).0 ∙ told)
 
-    rests_tries : NoneComes port.0 s.device seen → (made : List Access) (m : Machine) → ProbesDisk made (server_instant s m) (ports_of s) seen port
+    rests_tries : NoneComes port.0 s.device seen → (made : List Access) (m : Machine) → ProbesDisk made (joint_state_of s m) (ports_of s) seen port
     rests_tries comes made m = record {
       shown = λ absent shows. let f = device_found absent in inr (inr (has_gone laws port f.status s.device seen k.on f.reads shows (gone absent)));
       absent = λ absent shows fresh. inr (inr (gone absent));
@@ -204,13 +204,13 @@ module _ (laws : LawsBelow) (s new : ServerState) (seen : Device) (port : Port) 
   since : (f : FindsSome) → ShowsDisk (state_of f.booted.found) → NoneComes port.0 s.device new.device → NoneComes port.0 f.boots.asked new.device
   since f shows comes = let x = sees f shows in (none_parts laws port s.device f.boots.asked new.device x.before x.since comes).1
 
-  boot_linked : (m : Machine) → EndsLinked port (server_instant s m) (ports_of then) new.device
+  boot_linked : (m : Machine) → EndsLinked port (joint_state_of s m) (ports_of then) new.device
   boot_linked m bad came comes = ⊎_elim
       (λ dead. inr (inl dead))
       (λ f. ⊎_elim (λ shows. inr (inr ((clear f shows).undue (since f shows comes)))) (λ absent. inl absent) f.shows)
       finds
 
-  boot_tries : (m : Machine) → NoneComes port.0 s.device new.device → ProbesDisk made (server_instant s m) (ports_of then) new.device port
+  boot_tries : (m : Machine) → NoneComes port.0 s.device new.device → ProbesDisk made (joint_state_of s m) (ports_of then) new.device port
   boot_tries m comes = record {
     shown = λ absent shows. ⊎_elim (λ dead. inl dead) (λ f. inr (inl f.resets)) finds;
     absent = λ absent shows fresh. ⊎_elim (λ dead. inl dead) (λ f. inr (fresh_then f)) finds;

@@ -36,7 +36,7 @@ use Rattle.driver_history.specs.Histories.{IssuesDue}
 use Rattle.driver_history.specs.Parts.{HasTurnIn, IsOfOther, NamesAlike}
 use Rattle.driver_history.specs.Trace.{IsServing}
 use Rattle.server_history.specs.Below.{LawsBelow}
-use Rattle.server_history.specs.Turns.{HasPart, IsOfCommand, IsStepOf, MakesTurn, TakeTurns, TellsFault, server_moment}
+use Rattle.server_history.specs.Turns.{HasPart, IsOfCommand, IsStepOf, MakesTurn, TakeTurns, TellsFault, abstract_state_of}
 use Rattle.server_history.specs.Server.{ServerState, InCallInvariant, IsMachineOf, SettledInvariant, is_served, mode_in, ports_of, state_of, used_for}
 use Rattle.server_history.proofs.state.DueRequests.{same_book}
 use Rattle.server_history.proofs.any_turn.TurnSteps.{answered_own, issued_before, stood}
@@ -61,7 +61,7 @@ module _ (plan : Plan) (laws : LawsBelow) (s : ServerState) (start : SettledInva
   kept = start.kept
 
   abbrev began : JointState Device
-  began = record { device = s.device; moment = old }
+  began = record { device = s.device; abstract = old }
 
   abbrev state_at : ℕ → PortState
   state_at q = state_of (probe_result_of s.ports q)
@@ -201,15 +201,15 @@ module _ (plan : Plan) (laws : LawsBelow) (s : ServerState) (start : SettledInva
         (λ silent. subst (All (λ (r : Port). state_at r.0 ≡ ReadyState)) (sym silent.1) (All-nil (λ (r : Port). state_at r.0 ≡ ReadyState)))
         silent_or_ready
 
-    its_evidenced : IsEvidencedOf (asks_for plan) (Served its) part.accesses (record { device = c.device; moment = server_moment c m }) (ports_of mid) mid.device x.evidence (port_at n)
-    its_evidenced = subst (λ (ask : Ask DeviceStep). IsEvidencedOf ask (Served its) part.accesses (record { device = c.device; moment = server_moment c m }) (ports_of mid) mid.device x.evidence (port_at n)) (asks_so plan (probe_result_of s.ports n) n) x.evidenced
+    its_evidenced : IsEvidencedOf (asks_for plan) (Served its) part.accesses (record { device = c.device; abstract = abstract_state_of c m }) (ports_of mid) mid.device x.evidence (port_at n)
+    its_evidenced = subst (λ (ask : Ask DeviceStep). IsEvidencedOf ask (Served its) part.accesses (record { device = c.device; abstract = abstract_state_of c m }) (ports_of mid) mid.device x.evidence (port_at n)) (asks_so plan (probe_result_of s.ports n) n) x.evidenced
 
     evidenced_n : IsEvidencedOf (asks_for plan) (Served []) accesses began (ports_of mid) mid.device evidence (port_at n)
     unfolding turn_of
     evidenced_n = subst (λ (list : List Access). IsEvidencedOf (asks_for plan) (Served []) (p.accesses ++ list) began (ports_of mid) mid.device evidence (port_at n)) (append-nil part.accesses)
-        (laws.calls.evidence (port_at n) began (server_moment c m) (ports_of mid) (ports_of mid) mid.device x.evidence evidence (asks_for plan) (Served []) kept.on undue_n turn_of on_mid same_n
+        (laws.calls.evidence (port_at n) began (abstract_state_of c m) (ports_of mid) (ports_of mid) mid.device x.evidence evidence (asks_for plan) (Served []) kept.on undue_n turn_of on_mid same_n
         (same_self (ports_of mid) (port_at n)) alike_n
-        (any_said plan its [] part.accesses (record { device = c.device; moment = server_moment c m }) (ports_of mid) mid.device x.evidence (port_at n) its_evidenced))
+        (any_said plan its [] part.accesses (record { device = c.device; abstract = abstract_state_of c m }) (ports_of mid) mid.device x.evidence (port_at n) its_evidenced))
 
     evidenced_before : (q : Port) → q.0 < n → IsEvidencedOf (asks_for plan) (Served []) p.accesses began (ports_of c) c.device p.evidence q
         → IsEvidencedOf (asks_for plan) (Served []) accesses began (ports_of mid) mid.device evidence q
@@ -277,11 +277,11 @@ module _ (plan : Plan) (laws : LawsBelow) (s : ServerState) (start : SettledInva
 
     joined_lawful : AllLawful old evidence (ports_of mid) all
     joined_lawful = lawful_join old evidence (ports_of mid) x.steps p.steps
-        (lawful_on (server_moment c m) old x.evidence evidence (ports_of mid) (ports_of mid) x.steps
+        (lawful_on (abstract_state_of c m) old x.evidence evidence (ports_of mid) (ports_of mid) x.steps
         (λ e o here.
         let own = answered_of (λ q. q ≡ port_at n) x.steps x.own e o here in
         let w = answered_own laws (port_at n) m x.steps x.own x.may e o here in
-        lawful_lift (server_moment c m) old x.evidence evidence (ports_of mid) (ports_of mid) e o
+        lawful_lift (abstract_state_of c m) old x.evidence evidence (ports_of mid) (ports_of mid) e o
         (was_issued e.request.id w.pending w.here w.id_is w.port_is)
         (λ told there. Contains-append_right p.evidence.faults x.evidence.faults told there)
         (λ there. Contains-append_right p.evidence.lost x.evidence.lost e.request.port there)

@@ -108,7 +108,7 @@ module _ (hung : ℕ → Bool) (laws : LawsBelow) (s : ServerState) (start : Set
   plan = ATick hung
 
   abbrev began : JointState Device
-  began = record { device = s.device; moment = old }
+  began = record { device = s.device; abstract = old }
 
   abbrev Progress : ℕ → ServerState → List Reply → Type 0
   Progress n c replies = progress.Progress plan laws s start old reached at ports_are n c replies

@@ -23,7 +23,7 @@ use Rattle.driver_history.specs.Evidence.{ShowsChange, ShowsFailure}
 use Rattle.driver_history.specs.Histories.{IsUnfitOrForeign, HasFaultAlone, IsAnsweredFaulty, PortCorresponds}
 use Rattle.driver_history.specs.Parts.{HasTurnIn, NamesAlike}
 use Rattle.server_history.specs.Below.{LawsBelow}
-use Rattle.server_history.specs.Turns.{HasPart, HeedsPortErrors, InService, MakesTurn, turn_of}
+use Rattle.server_history.specs.Turns.{HasPart, HeedsPortErrors, InService, MakesTurn, happening_of_turn}
 use Rattle.server_history.specs.Server.{ServerState, InCallInvariant, IsMachineOf, SettledInvariant, ports_of}
 use Rattle.server_history.proofs.any_turn.JoinedParts.{same_then}
 use Rattle.server_history.proofs.any_turn.TurnSteps.{stood}
@@ -38,7 +38,7 @@ module _ (laws : LawsBelow) (s : ServerState) (start : SettledInvariant s) (old 
   kept = start.kept
 
   abbrev began : JointState Device
-  began = record { device = s.device; moment = old }
+  began = record { device = s.device; abstract = old }
 
   abbrev IsDone : ServerState → List Access → List Step → Evidence → Port → Type 0
   IsDone c accesses steps evidence q = progress.IsDone AService laws s start old reached at ports_are c accesses steps evidence q
@@ -67,7 +67,7 @@ module _ (laws : LawsBelow) (s : ServerState) (start : SettledInvariant s) (old 
       abbrev t : HasTurnIn q s.device mid.device
       t = carrying.t AService laws s start old reached at ports_are n c mid before its p part m_reached q apart
 
-      abbrev did : PortCorresponds began (turn_of InService [] c p.evidence p.steps) p.accesses q
+      abbrev did : PortCorresponds began (happening_of_turn InService [] c p.evidence p.steps) p.accesses q
       did = d.ties.0
 
       abbrev serves : ServesReady old p.evidence p.steps (record { machine = m; ports = ports_of c }) q
@@ -135,7 +135,7 @@ module _ (laws : LawsBelow) (s : ServerState) (start : SettledInvariant s) (old 
       heeds_trouble : HeedsPortErrors q accesses began evidence (ports_of mid) mid.device
       heeds_trouble = carrying.trouble_still AService laws s start old reached at ports_are n c mid before its p part m_reached q apart d evidence alike same (λ _. stops_troubled) (λ _. inl undue) (record { port_error = did.port_error; well = did.well })
 
-      pub ties_still : PortCorresponds began (turn_of InService [] mid evidence all) accesses q
+      pub ties_still : PortCorresponds began (happening_of_turn InService [] mid evidence all) accesses q
       ties_still = record {
         finds = λ is_ready e own. carrying.finds_more AService laws s start old reached at ports_are n c mid before its p part m_reached q apart (did.finds is_ready e own);
         faults = λ alone e slot own unended says plain. ⊎_elim

@@ -30,7 +30,7 @@ use Rattle.driver_history.specs.Parts.{HasTurnIn, IsOfOther, NamesAlike}
 use Rattle.driver_history.specs.Trace.{IsServing, ResetsLink}
 use Rattle.driver_history.specs.Holds.{Runs}
 use Rattle.server_history.specs.Below.{LawsBelow}
-use Rattle.server_history.specs.Turns.{HasPart, HeedsPortErrors, MakesTurn, server_moment}
+use Rattle.server_history.specs.Turns.{HasPart, HeedsPortErrors, MakesTurn, abstract_state_of}
 use Rattle.server_history.specs.Server.{ServerState, InCallInvariant, IsMachineOf, SettledInvariant, ports_of, state_of}
 use Rattle.server_history.proofs.any_turn.TurnSteps.{others_were}
 use Rattle.server_history.proofs.whole_call.ServiceAndTick.{Plan, Uses, no_reset, turn_at}
@@ -45,7 +45,7 @@ module _ (plan : Plan) (laws : LawsBelow) (s : ServerState) (start : SettledInva
   kept = start.kept
 
   abbrev began : JointState Device
-  began = record { device = s.device; moment = old }
+  began = record { device = s.device; abstract = old }
 
   abbrev state_at : ℕ → PortState
   state_at q = state_of (probe_result_of s.ports q)
@@ -141,7 +141,7 @@ module _ (plan : Plan) (laws : LawsBelow) (s : ServerState) (start : SettledInva
       pub changed_whole : list_any (changes_disk q) p.steps ≡ true → list_any (changes_disk q) all ≡ true
       changed_whole is = any_append (changes_disk q) x.steps p.steps ∙ or_right _ _ is
 
-      pub disk_still : SamePort (ports_of c) (ports_of mid) q → HadDisk old p.steps (server_moment c m) q → HadDisk old all (server_moment mid (after old.machine all)) q
+      pub disk_still : SamePort (ports_of c) (ports_of mid) q → HadDisk old p.steps (abstract_state_of c m) q → HadDisk old all (abstract_state_of mid (after old.machine all)) q
       disk_still same had shows = ⊎_elim (λ present. inl present) (λ changed. inr (changed_whole changed)) (had (subst ShowsDisk same.1 shows))
 
       -- ---- what is named of it

@@ -30,7 +30,7 @@ use Rattle.driver_history.specs.Holds.{NoneWaits}
 use Rattle.driver_history.specs.Parts.{EndsLinked, IsOfOther}
 use Rattle.driver_history.specs.Trace.{IsServing, LeavesEngine, ResetsLink}
 use Rattle.server_history.specs.Below.{LawsBelow}
-use Rattle.server_history.specs.Turns.{HeedsPortErrors, InService, IsStepOf, server_moment, turn_of}
+use Rattle.server_history.specs.Turns.{HeedsPortErrors, InService, IsStepOf, abstract_state_of, happening_of_turn}
 use Rattle.server_history.proofs.whole_call.ServiceAndTick.{AService, ATick, OwesBy, Plan, TakesTurn, Uses, asks_for, owes_nothing, ready_takes}
 use Rattle.server_history.specs.Server.{ServerState, InCallInvariant, IsMachineOf, SettledInvariant, mode_at, mode_in, ports_of, remembered_at, slots_at, state_of}
 use Rattle.server_history.proofs.state.DueRequests.{none_issued}
@@ -46,12 +46,12 @@ use Rattle.server_history.proofs.unready_turn.UnfitPort.{bad_tends}
 pub record IsRestarted (old : JointState Device) (port : Port) (accesses : List Access) (c : ServerState) (evidence : Evidence) (steps : List Step) : Type 0 where
   pub finds : FindsDone port accesses old steps
   pub boots : (state_of (probe_result_of c.ports port.0) ≡ Dead) ⊎ ResetsLink port accesses
-  pub ended : AnswersEnded old.moment.machine steps port
+  pub ended : AnswersEnded old.abstract.machine steps port
   pub interrupts : IsInterrupted evidence port
-  pub anew : NoneKeepsIssue steps (after old.moment.machine steps) port
+  pub anew : NoneKeepsIssue steps (after old.abstract.machine steps) port
   pub another : (e : Pending) → Contains steps (Answer e Unplugged) → e.request.port ≡ port
-      → (state_of (probe_result_of c.ports port.0) ≢ Dead) × (state_of (probe_result_of c.ports port.0) ≡ ReadyState → SameDisk old.moment.ports (ports_of c) port → ⊥)
-  pub disk : HadDisk old.moment steps (server_moment c (after old.moment.machine steps)) port
+      → (state_of (probe_result_of c.ports port.0) ≢ Dead) × (state_of (probe_result_of c.ports port.0) ≡ ReadyState → SameDisk old.abstract.ports (ports_of c) port → ⊥)
+  pub disk : HadDisk old.abstract steps (abstract_state_of c (after old.abstract.machine steps)) port
   pub heeds : HeedsPortErrors port accesses old evidence (ports_of c) c.device
 
 -- It has let the port rest.
@@ -64,12 +64,12 @@ pub record HasRested (old : AbstractState) (port : Port) (accesses : List Access
 
 -- A tick has restarted the port, or let it rest.
 pub record HasTicked (hung : ℕ → Bool) (s : ServerState) (old : AbstractState) (port : Port) (accesses : List Access) (c : ServerState) (evidence : Evidence) (steps : List Step) : Type 0 where
-  pub restarted : old.ports.state port ≡ ReadyState → hung port.0 ≡ true → IsRestarted (record { device = s.device; moment = old }) port accesses c evidence steps
+  pub restarted : old.ports.state port ≡ ReadyState → hung port.0 ≡ true → IsRestarted (record { device = s.device; abstract = old }) port accesses c evidence steps
   pub rested : (old.ports.state port ≡ ReadyState → hung port.0 ≡ true → ⊥) → HasRested old port accesses c evidence steps
 
 abbrev pub TiesSoFar : Plan → ServerState → AbstractState → Port → List Access → ServerState → Evidence → List Step → Type 0
 TiesSoFar AService s old port accesses c evidence steps =
-    PortCorresponds (record { device = s.device; moment = old }) (turn_of InService [] c evidence steps) accesses port × EndsLinked port (record { device = s.device; moment = old }) (ports_of c) c.device
+    PortCorresponds (record { device = s.device; abstract = old }) (happening_of_turn InService [] c evidence steps) accesses port × EndsLinked port (record { device = s.device; abstract = old }) (ports_of c) c.device
 TiesSoFar (ATick hung) s old port accesses c evidence steps = HasTicked hung s old port accesses c evidence steps
 
 -- nothing is done of a port that had no turn
@@ -119,7 +119,7 @@ module _ (plan : Plan) (laws : LawsBelow) (s : ServerState) (start : SettledInva
   kept = start.kept
 
   abbrev pub began : JointState Device
-  began = record { device = s.device; moment = old }
+  began = record { device = s.device; abstract = old }
 
   abbrev pub state_at : ℕ → PortState
   state_at q = state_of (probe_result_of s.ports q)
@@ -134,7 +134,7 @@ module _ (plan : Plan) (laws : LawsBelow) (s : ServerState) (start : SettledInva
   -- What is so of a port that had its turn, or none, at the end of what was done so far.
   pub record IsDone (c : ServerState) (accesses : List Access) (steps : List Step) (evidence : Evidence) (q : Port) : Type 0 where
     pub becomes : IsServiced old.ports evidence (ports_of c) q
-    pub disk : SamePort old.ports (ports_of c) q ⊎ HadDisk old steps (server_moment c (after old.machine steps)) q
+    pub disk : SamePort old.ports (ports_of c) q ⊎ HadDisk old steps (abstract_state_of c (after old.machine steps)) q
     pub keeps : SameDisk old.ports (ports_of c) q ⊎ NoneWaits (after old.machine steps) q
     pub evidenced : IsEvidencedOf (asks_for plan) (Served []) accesses began (ports_of c) c.device evidence q
     pub ties : TiesSoFar plan s old q accesses c evidence steps

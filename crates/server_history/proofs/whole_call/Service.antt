@@ -37,7 +37,7 @@ use Rattle.server_history.proofs.whole_call.AllTurns.{Whole, go, turns_kept}
 
 module _ (laws : LawsBelow) (s new : ServerState) (replies : List Reply) (start : SettledInvariant s) (serves : ServePorts 0 s.ports replies s new) (first : JointState Device) (past : List (Happening Device DeviceStep)) (leads : LeadsToServer first past s) where
   abbrev old : AbstractState
-  old = (now first past).moment
+  old = (now first past).abstract
 
   at : IsMachineOf s old.machine
   at = leads.stands.machine

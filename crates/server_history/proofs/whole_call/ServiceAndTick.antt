@@ -22,7 +22,7 @@ use Rattle.driver_history.specs.Histories.{TendsPort}
 use Rattle.host_boot.specs.declared.ProbeResult.{ProbeResult}
 use Rattle.host_boot.specs.declared.ProbeResult.TheVariants.{Ready, Unready, Unserved}
 use Rattle.server_history.specs.Server.{ServerState, is_served, state_of}
-use Rattle.server_history.specs.Turns.{AtRest, InRestart, InService, InProbe, IsStepOf, OwesTurn, Turn, call_of}
+use Rattle.server_history.specs.Turns.{AtRest, InRestart, InService, InProbe, IsStepOf, OwesTurn, Turn, ask_of_turn}
 use Rattle.server_history.proofs.any_turn.JoinedParts.{joined}
 use Rattle.server_history.proofs.state.CallEvidence.{no_evidence}
 use Rattle.server_history.proofs.any_turn.TurnsInOrder.{grounded_join, grounded_on}
@@ -47,13 +47,13 @@ abbrev pub asks_for : Plan → Ask DeviceStep
 asks_for AService = Service
 asks_for (ATick hung) = Tick
 
-pub asks_so : (plan : Plan) (found : ProbeResult) (n : ℕ) → call_of (turn_at plan found n) ≡ asks_for plan
+pub asks_so : (plan : Plan) (found : ProbeResult) (n : ℕ) → ask_of_turn (turn_at plan found n) ≡ asks_for plan
 asks_so AService (Ready info) n = refl
 asks_so AService (Unready state) n = refl
 asks_so AService Unserved n = refl
 asks_so (ATick hung) found n = by (hung n)
   where
-    by : (b : Bool) → call_of (if b then InRestart else AtRest) ≡ Tick
+    by : (b : Bool) → ask_of_turn (if b then InRestart else AtRest) ≡ Tick
     by true = refl
     by false = refl
 
@@ -175,13 +175,13 @@ ready_or_silent AService Unserved n port accesses old new m its steps takes o = 
 ready_or_silent (ATick hung) found n port accesses old new m its steps takes o = inl takes
 
 -- it is no reset
-pub not_reset : (plan : Plan) (found : ProbeResult) (n : ℕ) (said : List Reply) → IsEndedReset (call_of (turn_at plan found n)) (Served said) → ⊥
+pub not_reset : (plan : Plan) (found : ProbeResult) (n : ℕ) (said : List Reply) → IsEndedReset (ask_of_turn (turn_at plan found n)) (Served said) → ⊥
 not_reset AService (Ready info) n said is = is
 not_reset AService (Unready state) n said is = is
 not_reset AService Unserved n said is = is
 not_reset (ATick hung) found n said is = by (hung n) is
   where
-    by : (b : Bool) → IsEndedReset (call_of (if b then InRestart else AtRest)) (Served said) → ⊥
+    by : (b : Bool) → IsEndedReset (ask_of_turn (if b then InRestart else AtRest)) (Served said) → ⊥
     by true reset = reset
     by false reset = reset
 

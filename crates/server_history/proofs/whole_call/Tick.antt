@@ -45,7 +45,7 @@ use Rattle.request_queue.specs.Machine.{IsEntry}
 use Rattle.server_history.specs.Below.{LawsBelow}
 use Rattle.server_history.specs.Histories.{ExtendsSettled, LeadsToServer}
 use Rattle.server_history.specs.Server.{ServerState, InCallInvariant, IsMachineOf, SettledInvariant, mode_in, ports_of, state_of}
-use Rattle.server_history.specs.Turns.{AtRest, HasPart, HeedsPortErrors, InRestart, InService, IsStepOf, Ticks, TicksPort, a_tick_older, server_instant, is_ready}
+use Rattle.server_history.specs.Turns.{AtRest, HasPart, HeedsPortErrors, InRestart, InService, IsStepOf, Ticks, TicksPort, a_tick_older, joint_state_of, is_ready}
 use Rattle.server_history.proofs.plain_calls.OlderRequests.{older_by, older_ended, older_issued, older_request, older_settled, older_stands, serves_on}
 use Rattle.server_history.proofs.plain_calls.Acceptances.{any_in}
 use Rattle.server_history.proofs.state.DueRequests.{none_due, none_issued}
@@ -131,7 +131,7 @@ module _ (laws : LawsBelow) (port : Port) (low : port.0 < 4) (c : ServerState) (
       disk = inl same;
       keeps = inl (refl, refl);
       issues = λ ready. none_issued c m is [] (λ id. refl) (mode_in c port) port (settled.issued port);
-      evidenced = evidenced_of (port ∷ []) Tick (Served []) [] (server_instant c m) (ports_of c) c.device port (λ ready. contains_here port [] port refl) (All-nil (LeavesEngine port));
+      evidenced = evidenced_of (port ∷ []) Tick (Served []) [] (joint_state_of c m) (ports_of c) c.device port (λ ready. contains_here port [] port refl) (All-nil (LeavesEngine port));
       faults = λ told here. absurd (nowhere told here);
       ties = tt;
       finds = λ is. let z : AtRest ≡ InService = is in absurd cc;
@@ -195,7 +195,7 @@ module _ (laws : LawsBelow) (s new : ServerState) (replies : List Reply) (start 
   kept = start.kept
 
   abbrev was : AbstractState
-  was = (now first past).moment
+  was = (now first past).abstract
 
   at : IsMachineOf s was.machine
   at = leads.stands.machine
@@ -328,7 +328,7 @@ module _ (laws : LawsBelow) (s new : ServerState) (replies : List Reply) (start 
           )
 
   -- each port was restarted, or let rest
-  restarted_or_not : (port : Port) → (IsToRestart port × IsRestarted (record { device = s.device; moment = old }) port p.accesses new p.evidence p.steps) ⊎ ((IsToRestart port → ⊥) × HasRested old port p.accesses new p.evidence p.steps)
+  restarted_or_not : (port : Port) → (IsToRestart port × IsRestarted (record { device = s.device; abstract = old }) port p.accesses new p.evidence p.steps) ⊎ ((IsToRestart port → ⊥) × HasRested old port p.accesses new p.evidence p.steps)
   restarted_or_not port = ⊎_elim
       (λ (is : was.ports.state port ≡ ReadyState). ⊎_elim
       (λ (so : hung port.0 ≡ true). inl ((is, so), (done port).ties.restarted is so))
@@ -365,7 +365,7 @@ module _ (laws : LawsBelow) (s new : ServerState) (replies : List Reply) (start 
   any_of : (f : Step → Bool) → f (Age ready) ≡ false → list_any f steps ≡ list_any f p.steps
   any_of f none = any_append f p.steps (Age ready ∷ []) ∙ ap (λ (b : Bool). list_any f p.steps || (b || false)) none ∙ or_none (list_any f p.steps)
 
-  finds_before : (port : Port) → FindsDone port p.accesses (record { device = s.device; moment = old }) p.steps → FindsDone port p.accesses (with_device s.device (now first past)) steps
+  finds_before : (port : Port) → FindsDone port p.accesses (record { device = s.device; abstract = old }) p.steps → FindsDone port p.accesses (with_device s.device (now first past)) steps
   finds_before port f = record {
     ci = f.ci;
     sact = f.sact;
@@ -398,7 +398,7 @@ module _ (laws : LawsBelow) (s new : ServerState) (replies : List Reply) (start 
 
   -- a port that is to be restarted was
   module _ (port : Port) (h : HasTimedOut was port) where
-    restart : IsRestarted (record { device = s.device; moment = old }) port p.accesses new p.evidence p.steps
+    restart : IsRestarted (record { device = s.device; abstract = old }) port p.accesses new p.evidence p.steps
     restart = (done port).ties.restarted h.ready (is_restarted port h).1
 
   restarts : RestartsTimedOut was p.evidence steps end
@@ -485,11 +485,11 @@ module _ (laws : LawsBelow) (s new : ServerState) (replies : List Reply) (start 
 
   -- ---- what it has done of each port
 
-  trouble_of : (port : Port) → HeedsPortErrors port p.accesses (record { device = s.device; moment = old }) p.evidence (ports_of new) new.device
+  trouble_of : (port : Port) → HeedsPortErrors port p.accesses (record { device = s.device; abstract = old }) p.evidence (ports_of new) new.device
   trouble_of port = ⊎_elim
       (λ r. r.1.heeds)
       (λ r. record {
-        port_error = laws.calls.ordinary port (record { device = s.device; moment = old }) new.device p.accesses p.evidence (ports_of new) kept.on p.does
+        port_error = laws.calls.ordinary port (record { device = s.device; abstract = old }) new.device p.accesses p.evidence (ports_of new) kept.on p.does
             (All-weaker (IsServing (Uses plan old.ports)) (SparesRegister Ghc) (λ access serving. serving.1) p.accesses p.serving)
             (All-weaker (IsOfOther port) (ClearsNone port) (other_clears_none port) p.accesses r.1.others);
         well = λ i. absurd (r.1.uninterrupted i);

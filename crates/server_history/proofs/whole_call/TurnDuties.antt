@@ -29,7 +29,7 @@ use Rattle.driver_history.specs.Evidence.{ShowsChange, ShowsFailure}
 use Rattle.driver_history.specs.Histories.{BootsAnew, FindsDone, IsUnfitOrForeign, HasFaultAlone, IsAnsweredFaulty, IsIssuedOn, PortCorresponds}
 use Rattle.driver_history.specs.Parts.{HasTurnIn, NamesAlike}
 use Rattle.server_history.specs.Below.{LawsBelow}
-use Rattle.server_history.specs.Turns.{HasPart, HeedsPortErrors, InService, MakesTurn, TurnCorresponds, Turn, server_instant, server_moment, turn_of}
+use Rattle.server_history.specs.Turns.{HasPart, HeedsPortErrors, InService, MakesTurn, TurnCorresponds, Turn, joint_state_of, abstract_state_of, happening_of_turn}
 use Rattle.server_history.specs.Server.{HasCommand, ServerState, InCallInvariant, IsMachineOf, SettledInvariant, ports_of, state_of}
 use Rattle.server_history.proofs.any_turn.JoinedParts.{same_then}
 use Rattle.server_history.proofs.whole_call.TurnResults as lifting
@@ -44,7 +44,7 @@ module _ (laws : LawsBelow) (s : ServerState) (start : SettledInvariant s) (old 
   kept = start.kept
 
   abbrev began : JointState Device
-  began = record { device = s.device; moment = old }
+  began = record { device = s.device; abstract = old }
 
   abbrev state_at : ℕ → PortState
   state_at q = state_of (probe_result_of s.ports q)
@@ -104,10 +104,10 @@ module _ (laws : LawsBelow) (s : ServerState) (start : SettledInvariant s) (old 
     whole_is = lifting.whole_is AService laws s start old reached at ports_are n c mid before its p next part m_reached on_mid
 
     module _ (evidence : Evidence) (alike : NamesAlike (port_at n) x.evidence evidence) (same_n : SamePort old.ports (ports_of c) (port_at n)) where
-      abbrev did : PortCorresponds (server_instant c m) (turn_of InService its mid x.evidence x.steps) part.accesses (port_at n)
+      abbrev did : PortCorresponds (joint_state_of c m) (happening_of_turn InService its mid x.evidence x.steps) part.accesses (port_at n)
       did = its_ties
 
-      abbrev serves : ServesReady (server_moment c m) x.evidence x.steps (record { machine = after m x.steps; ports = ports_of mid }) (port_at n)
+      abbrev serves : ServesReady (abstract_state_of c m) x.evidence x.steps (record { machine = after m x.steps; ports = ports_of mid }) (port_at n)
       serves = did.heeds ready_c
 
       finding : (e : Pending) → IsIssuedOn (port_at n) old.machine e → FindsDone (port_at n) accesses began all
@@ -140,8 +140,8 @@ module _ (laws : LawsBelow) (s : ServerState) (start : SettledInvariant s) (old 
             ap (λ (y : Meaning). is_queued y.operation) same.0 ∙ k.kind ∙ used_plain
 
         -- so it is in the turn
-        alone_now : HasFaultAlone (port_at n) (server_instant c m) mid.device
-        alone_now = laws.calls.alone_then (port_at n) began (server_moment c m) mid.device kept.on undue t on_mid ready_c alone
+        alone_now : HasFaultAlone (port_at n) (joint_state_of c m) mid.device
+        alone_now = laws.calls.alone_then (port_at n) began (abstract_state_of c m) mid.device kept.on undue t on_mid ready_c alone
 
         -- the fault that is shown then is of that slot, which is in use
         faults : HasFaults c.device.tape (c.device.port n) n
@@ -231,7 +231,7 @@ module _ (laws : LawsBelow) (s : ServerState) (start : SettledInvariant s) (old 
       heeds_trouble : HeedsPortErrors (port_at n) accesses began evidence (ports_of mid) mid.device
       heeds_trouble = lifting.trouble_whole AService laws s start old reached at ports_are n c mid before its p next part m_reached on_mid evidence alike same_n (λ _. stops_troubled) (λ _. inl undue) (record { port_error = did.port_error; well = did.well })
 
-      pub ties_whole : PortCorresponds began (turn_of InService [] mid evidence all) accesses (port_at n)
+      pub ties_whole : PortCorresponds began (happening_of_turn InService [] mid evidence all) accesses (port_at n)
       ties_whole = record {
         finds = λ _ e own. finding e own;
         faults = λ alone e slot own unended says plain. fault_told alone e slot own unended says plain;
@@ -242,7 +242,7 @@ module _ (laws : LawsBelow) (s : ServerState) (start : SettledInvariant s) (old 
           changed = λ bad. absurd (not_bad bad);
         };
         boots = subst (λ (list : List Access). BootsAnew Service (Served []) (p.accesses ++ list) began (ports_of mid) mid.device (port_at n)) (append-nil part.accesses)
-            (laws.calls.call_boots (port_at n) began (server_moment c m) (ports_of mid) (ports_of mid) mid.device (Served its) (Served []) kept.on (λ _. undue) t on_mid same_self same_n did.boots);
+            (laws.calls.call_boots (port_at n) began (abstract_state_of c m) (ports_of mid) (ports_of mid) mid.device (Served its) (Served []) kept.on (λ _. undue) t on_mid same_self same_n did.boots);
         port_error = heeds_trouble.port_error;
         well = heeds_trouble.well;
         heeds = λ _. heeds_whole;

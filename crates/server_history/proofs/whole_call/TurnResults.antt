@@ -36,7 +36,7 @@ use Rattle.driver_history.specs.Parts.{HasTurnIn, IsOfOther, NamesAlike}
 use Rattle.driver_history.specs.Trace.{LeavesCommand, LeavesEngine, ResetsLink}
 use Rattle.driver_history.specs.Holds.{Runs}
 use Rattle.server_history.specs.Below.{LawsBelow}
-use Rattle.server_history.specs.Turns.{FindsTurn, HasPart, HeedsPortErrors, MakesTurn, server_instant, server_moment}
+use Rattle.server_history.specs.Turns.{FindsTurn, HasPart, HeedsPortErrors, MakesTurn, joint_state_of, abstract_state_of}
 use Rattle.server_history.proofs.whole_call.ServiceAndTick.{Plan, TakesTurn, not_reset, turn_at}
 use Rattle.server_history.specs.Server.{ServerState, InCallInvariant, IsMachineOf, SettledInvariant, ports_of, state_of, used_for}
 use Rattle.server_history.proofs.any_turn.TurnSteps.{IsSame, counts_none}
@@ -67,7 +67,7 @@ module _ (plan : Plan) (laws : LawsBelow) (s : ServerState) (start : SettledInva
   kept = start.kept
 
   abbrev began : JointState Device
-  began = record { device = s.device; moment = old }
+  began = record { device = s.device; abstract = old }
 
   abbrev state_at : ℕ → PortState
   state_at q = state_of (probe_result_of s.ports q)
@@ -134,7 +134,7 @@ module _ (plan : Plan) (laws : LawsBelow) (s : ServerState) (start : SettledInva
     pub changed_whole : list_any (changes_disk (port_at n)) x.steps ≡ true → list_any (changes_disk (port_at n)) all ≡ true
     changed_whole is = any_append (changes_disk (port_at n)) x.steps p.steps ∙ or_left _ _ is
 
-    pub disk_whole : HadDisk (server_moment c m) x.steps (server_moment mid (after m x.steps)) (port_at n) → HadDisk old all (server_moment mid (after old.machine all)) (port_at n)
+    pub disk_whole : HadDisk (abstract_state_of c m) x.steps (abstract_state_of mid (after m x.steps)) (port_at n) → HadDisk old all (abstract_state_of mid (after old.machine all)) (port_at n)
     disk_whole had shows = ⊎_elim
         (λ present. ⊎_elim (λ was. inl was) (λ changed. inr (any_append (changes_disk (port_at n)) x.steps p.steps ∙ or_right _ _ changed)) (present_before old.machine (port_at n) p.steps present))
         (λ changed. inr (changed_whole changed))
@@ -166,15 +166,15 @@ module _ (plan : Plan) (laws : LawsBelow) (s : ServerState) (start : SettledInva
     -- what it did of trouble the call did so far
     module _ (evidence : Evidence) (alike : NamesAlike (port_at n) x.evidence evidence) (same_n : SamePort old.ports (ports_of c) (port_at n))
         (stops_troubled : (state_of (probe_result_of c.ports n) ≡ ReadyState) ⊎ (state_of (probe_result_of mid.ports n) ≡ ReadyState) → ShowsFailure (c.device.port n) ⊎ ShowsChange (c.device.port n) → IsInterrupted x.evidence (port_at n))
-        (linked : state_of (probe_result_of mid.ports n) ≡ ReadyState → ((s.device.port n).link_due ≡ false) ⊎ ResetsLink (port_at n) part.accesses) (did : HeedsPortErrors (port_at n) part.accesses (server_instant c m) x.evidence (ports_of mid) mid.device) where
+        (linked : state_of (probe_result_of mid.ports n) ≡ ReadyState → ((s.device.port n).link_due ≡ false) ⊎ ResetsLink (port_at n) part.accesses) (did : HeedsPortErrors (port_at n) part.accesses (joint_state_of c m) x.evidence (ports_of mid) mid.device) where
       same_self : SamePort (ports_of mid) (ports_of mid) (port_at n)
       same_self = (refl, refl, refl, refl, refl, refl)
 
       pub trouble_whole : HeedsPortErrors (port_at n) accesses began evidence (ports_of mid) mid.device
       trouble_whole = record {
-        port_error = laws.calls.call_trouble (port_at n) began (server_moment c m) (ports_of mid) (ports_of mid) mid.device x.evidence evidence kept.on t on_mid same_self alike same_n set_since stops_troubled did.port_error;
+        port_error = laws.calls.call_trouble (port_at n) began (abstract_state_of c m) (ports_of mid) (ports_of mid) mid.device x.evidence evidence kept.on t on_mid same_self alike same_n set_since stops_troubled did.port_error;
         well = subst (λ (list : List Access). RunsWellAnew evidence (p.accesses ++ list) began (ports_of mid) mid.device (port_at n)) (append-nil part.accesses)
-            (laws.calls.call_well (port_at n) began (server_moment c m) (ports_of mid) (ports_of mid) mid.device x.evidence evidence kept.on t on_mid linked same_self alike (λ ready_mid. (runs_then ready_mid).recorded.known) did.well);
+            (laws.calls.call_well (port_at n) began (abstract_state_of c m) (ports_of mid) (ports_of mid) mid.device x.evidence evidence kept.on t on_mid linked same_self alike (λ ready_mid. (runs_then ready_mid).recorded.known) did.well);
       }
 
     -- ---- a ready port

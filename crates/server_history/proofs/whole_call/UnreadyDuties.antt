@@ -22,7 +22,7 @@ use Rattle.host_boot.specs.declared.ProbeResult.{ProbeResult}
 use Rattle.host_boot.specs.declared.ProbeResult.TheVariants.{Ready, Unready, Unserved}
 use Rattle.server_history.specs.Below.{LawsBelow}
 use Rattle.server_history.specs.Server.{ServerState, InCallInvariant, IsMachineOf, SettledInvariant, ports_of, state_of}
-use Rattle.server_history.specs.Turns.{HasPart, HeedsPortErrors, InService, InProbe, MakesTurn, TurnCorresponds, Turn, server_instant, server_moment, turn_of}
+use Rattle.server_history.specs.Turns.{HasPart, HeedsPortErrors, InService, InProbe, MakesTurn, TurnCorresponds, Turn, joint_state_of, abstract_state_of, happening_of_turn}
 use Rattle.server_history.proofs.whole_call.EarlierResults as carrying
 use Rattle.server_history.proofs.any_turn.JoinedParts.{dead_or_not}
 use Rattle.server_history.proofs.whole_call.TurnResults as lifting
@@ -41,7 +41,7 @@ module _ (laws : LawsBelow) (s : ServerState) (start : SettledInvariant s) (old 
   kept = start.kept
 
   abbrev began : JointState Device
-  began = record { device = s.device; moment = old }
+  began = record { device = s.device; abstract = old }
 
   abbrev IsDone : ServerState → List Access → List Step → Evidence → Port → Type 0
   IsDone c accesses steps evidence q = progress.IsDone AService laws s start old reached at ports_are c accesses steps evidence q
@@ -78,7 +78,7 @@ module _ (laws : LawsBelow) (s : ServerState) (start : SettledInvariant s) (old 
     its_ties : TurnCorresponds InProbe (port_at n) its part.accesses c mid m x.evidence x.steps
     its_ties = subst (λ (turn : Turn). TurnCorresponds turn (port_at n) its part.accesses c mid m x.evidence x.steps) (is_tried (probe_result_of s.ports n) n unready) x.ties
 
-    abbrev did : PortCorresponds (server_instant c m) (turn_of InProbe its mid x.evidence x.steps) part.accesses (port_at n)
+    abbrev did : PortCorresponds (joint_state_of c m) (happening_of_turn InProbe its mid x.evidence x.steps) part.accesses (port_at n)
     did = its_ties.0
 
     abbrev t : HasTurnIn (port_at n) s.device mid.device
@@ -115,20 +115,20 @@ module _ (laws : LawsBelow) (s : ServerState) (start : SettledInvariant s) (old 
       heeds = lifting.trouble_whole AService laws s start old reached at ports_are n c mid before its p next part m_reached on_mid evidence alike same_n
           (λ ready port_error. ⊎_elim (λ before. absurd (never_then before)) stopped ready) (λ ready. inr (resets ready)) (record { port_error = did.port_error; well = did.well })
 
-      pub tried_whole : PortCorresponds began (turn_of InService [] mid evidence all) accesses (port_at n) × EndsLinked (port_at n) began (ports_of mid) mid.device
+      pub tried_whole : PortCorresponds began (happening_of_turn InService [] mid evidence all) accesses (port_at n) × EndsLinked (port_at n) began (ports_of mid) mid.device
       tried_whole = (
         record {
           finds = λ ready. absurd (never ready);
           faults = λ alone. absurd (never alone.ready);
           probes = λ served comes. subst (λ (list : List Access). ProbesDisk (p.accesses ++ list) began (ports_of mid) mid.device (port_at n)) (append-nil part.accesses)
-              (laws.calls.call_tries (port_at n) began (server_moment c m) (ports_of mid) (ports_of mid) mid.device kept.on t on_mid same_self same_n (there (port_at n)) its_ties.1 (λ none. did.probes (same_n.0 ∙ served) none) comes);
+              (laws.calls.call_tries (port_at n) began (abstract_state_of c m) (ports_of mid) (ports_of mid) mid.device kept.on t on_mid same_self same_n (there (port_at n)) its_ties.1 (λ none. did.probes (same_n.0 ∙ served) none) comes);
           boots = subst (λ (list : List Access). BootsAnew Service (Served []) (p.accesses ++ list) began (ports_of mid) mid.device (port_at n)) (append-nil part.accesses)
-              (laws.calls.call_boots (port_at n) began (server_moment c m) (ports_of mid) (ports_of mid) mid.device (Served its) (Served []) kept.on (λ ready. absurd (never ready)) t on_mid same_self same_n did.boots);
+              (laws.calls.call_boots (port_at n) began (abstract_state_of c m) (ports_of mid) (ports_of mid) mid.device (Served its) (Served []) kept.on (λ ready. absurd (never ready)) t on_mid same_self same_n did.boots);
           port_error = heeds.port_error;
           well = heeds.well;
           heeds = λ ready. absurd (never ready);
         },
-        laws.calls.call_linked (port_at n) began (server_moment c m) (ports_of mid) (ports_of mid) mid.device kept.on t on_mid same_self same_n its_ties.1,
+        laws.calls.call_linked (port_at n) began (abstract_state_of c m) (ports_of mid) (ports_of mid) mid.device kept.on t on_mid same_self same_n its_ties.1,
       )
 
   -- ---- another port's turn after it
@@ -147,7 +147,7 @@ module _ (laws : LawsBelow) (s : ServerState) (start : SettledInvariant s) (old 
     abbrev accesses_then : List Access
     accesses_then = p.accesses ++ part.accesses
 
-    abbrev so_far : PortCorresponds began (turn_of InService [] c p.evidence p.steps) p.accesses q
+    abbrev so_far : PortCorresponds began (happening_of_turn InService [] c p.evidence p.steps) p.accesses q
     so_far = d.ties.0
 
     abbrev turn : HasTurnIn q s.device mid.device
@@ -175,7 +175,7 @@ module _ (laws : LawsBelow) (s : ServerState) (start : SettledInvariant s) (old 
     heeds_still = carrying.trouble_still AService laws s start old reached at ports_are n c mid before its p part m_reached q apart d evidence alike same
         (λ ready port_error. ⊎_elim (λ before. absurd (unready before)) stopped_so_far ready) (λ ready. inr (reset_so_far ready)) (record { port_error = so_far.port_error; well = so_far.well })
 
-    pub tried_still : PortCorresponds began (turn_of InService [] mid evidence steps_then) accesses_then q × EndsLinked q began (ports_of mid) mid.device
+    pub tried_still : PortCorresponds began (happening_of_turn InService [] mid evidence steps_then) accesses_then q × EndsLinked q began (ports_of mid) mid.device
     tried_still = (
       record {
         finds = λ ready. absurd (unready ready);

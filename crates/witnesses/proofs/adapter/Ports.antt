@@ -17,7 +17,7 @@ use Rattle.adapter.specs.FirstRead.{first_disk, no_disk, quiet_port, first_read_
 use Rattle.adapter.specs.Guarded.{IsGuardedSlot, IsGuardedPort, Passing}
 use Rattle.adapter.specs.Idle.{IsIdle, IsIdlePort, IsSane}
 use Rattle.adapter.specs.Memory.{changed}
-use Rattle.adapter.specs.Rules.{IsProgrammed, MayCommand, MayIssue}
+use Rattle.adapter.specs.Rules.{IsProgrammed, MayWriteCmd, MayIssue}
 use Rattle.adapter.specs.Decoding.{DecodesTo}
 use Rattle.witnesses.specs.Runs.{AccessOrStep, IsAsReset, IsReachableByRun, IsSafe, MayAllCome, run, after_event}
 use Rattle.witnesses.proofs.adapter.Scene.{memory, memory_bytes}
@@ -153,7 +153,7 @@ one_bit : (n k : ℕ) → bit (2 ^ n) k ≡ true → k ≡ n
 one_bit n k set = elim (eqb_tells k n) [ inl same ↦ same.1 | inr other ↦ absurd (true-false set (no_bit n k other.1)) ]
 
 -- PxCMD: FRE is set; ST is set beside it
-pub may_receive : (p : DevicePort) → p.fr ≡ false → p.bases.fb_set ≡ true → p.bases.fbu_set ≡ true → same_others 0x10 p.notes.last_cmd 32 ≡ true → MayCommand p 0x10
+pub may_receive : (p : DevicePort) → p.fr ≡ false → p.bases.fb_set ≡ true → p.bases.fbu_set ≡ true → same_others 0x10 p.notes.last_cmd 32 ≡ true → MayWriteCmd p 0x10
 may_receive p fallen fb fbu same = record {
   start = λ h. absurd (true-false h refl);
   receive = λ _. inr (record { fallen = fallen; fb = fb; fbu = fbu });
@@ -162,7 +162,7 @@ may_receive p fallen fb fbu same = record {
 }
 
 pub may_start : (p : DevicePort) → p.cr ≡ false → p.fre ≡ true → IsProgrammed p → p.notes.last_ssts % 16 ≡ 3
-    → bit p.notes.last_tfd 7 || bit p.notes.last_tfd 3 ≡ false → same_others 0x11 p.notes.last_cmd 32 ≡ true → MayCommand p 0x11
+    → bit p.notes.last_tfd 7 || bit p.notes.last_tfd 3 ≡ false → same_others 0x11 p.notes.last_cmd 32 ≡ true → MayWriteCmd p 0x11
 may_start p fallen receives programmed link not_busy same = record {
   start = λ _. inr (record { fallen = fallen; receives = receives; programmed = programmed; link = link; not_busy = not_busy });
   receive = λ _. inl receives;

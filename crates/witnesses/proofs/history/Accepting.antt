@@ -89,7 +89,7 @@ abbrev pub issued_for : ℕ → Machine
 issued_for age = record issuing { book = waiting_for age ∷ [] }
 
 abbrev pub issued_at : ℕ → JointState Device
-issued_at age = record { device = submitted; moment = record { machine = issued_for age; ports = both } }
+issued_at age = record { device = submitted; abstract = record { machine = issued_for age; ports = both } }
 
 may_issue : May (after start (Accept (issuing_on.accepted submission) ∷ [])) (Issue plain waits)
 may_issue = ((0, omega arith, refl), record { here = (0, omega arith, refl); clear = refl; slot = λ h. absurd (true≢false h) }, λ e h. absurd (nowhere e h), granted 0 (0, omega arith, refl) refl)
@@ -167,7 +167,7 @@ is_issued = record {
 abbrev pub submit : Happening Device DeviceStep
 submit = issuing_on.submit submission
 
-pub submit_happens : Happens first.moment submit.event
+pub submit_happens : Happens first.abstract submit.event
 submit_happens = happens_so submission is_issued
 
 pub submit_ties : CallCorresponds (Any ∷ Any ∷ []) first submit
@@ -204,7 +204,7 @@ the_answer told e o here = let same : Answer e o ≡ Answer waiting told = only 
 
 -- and the other port is left alone, if it isn't named
 pub leaves_other : (told : Outcome) (evidence : Evidence) (new : AbstractState) → IsUnnamed evidence (port_at 1) → count_by (tells_fault (port_at 1)) (Answer waiting told ∷ []) ≤ 1 → SamePort both new.ports (port_at 1)
-    → ServesReady submitted_at.moment evidence (Answer waiting told ∷ []) new (port_at 1)
+    → ServesReady submitted_at.abstract evidence (Answer waiting told ∷ []) new (port_at 1)
 leaves_other told evidence new un single same = record {
   ended = λ e here at_port ended. absurd (not_ended 0 e here ended);
   emptied = λ g. absurd (un.gone g);

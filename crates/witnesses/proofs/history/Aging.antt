@@ -36,14 +36,14 @@ use Rattle.witnesses.proofs.history.Submitting.{issued, submitted}
 
 -- ---- who is hung
 
-pub hung_at : (age : ℕ) → 2 ≤ age → HasTimedOut (issued_at age).moment (port_at 0)
+pub hung_at : (age : ℕ) → 2 ≤ age → HasTimedOut (issued_at age).abstract (port_at 0)
 hung_at age old = record { ready = refl; pending = waiting_for age; here = (0, omega arith, refl); port_is = refl; issued = refl; old_enough = old }
 
 -- port 0 alone is ever
-pub hung_first : (age : ℕ) (port : Port) → HasTimedOut (issued_at age).moment port → port ≡ port_at 0
+pub hung_first : (age : ℕ) (port : Port) → HasTimedOut (issued_at age).abstract port → port ≡ port_at 0
 hung_first age port h = sym h.port_is ∙ ap (λ (e : Pending). e.request.port) (in_book age h.pending h.here)
 
-pub not_hung : (age : ℕ) → age < 2 → (port : Port) → HasTimedOut (issued_at age).moment port → ⊥
+pub not_hung : (age : ℕ) → age < 2 → (port : Port) → HasTimedOut (issued_at age).abstract port → ⊥
 not_hung age young port h =
     let same : h.pending.age ≡ age = ap (λ (e : Pending). e.age) (in_book age h.pending h.here) in
     let old = h.old_enough in
@@ -108,7 +108,7 @@ module _ (age : ℕ) where
   )
 
   module _ (young : age < 2) where
-    restarts_none : RestartsTimedOut (issued_at age).moment nothing (ages ∷ []) (issued_at (suc age)).moment
+    restarts_none : RestartsTimedOut (issued_at age).abstract nothing (ages ∷ []) (issued_at (suc age)).abstract
     restarts_none = record {
       ports = λ port. inl (not_hung age young port, (refl, refl, refl, refl, refl, refl));
       again = λ e here. absurd (unrepeated e here);
@@ -120,7 +120,7 @@ module _ (age : ℕ) where
       disk = λ port h. absurd (not_hung age young port h);
     }
 
-    pub tick_happens : Happens (issued_at age).moment tick.event
+    pub tick_happens : Happens (issued_at age).abstract tick.event
     tick_happens = record {
       may = (tt, tt);
       belong = (tt, inr tt);
@@ -155,7 +155,7 @@ module _ (age : ℕ) where
     unfoldable pub tick_ties : CallCorresponds (Any ∷ Any ∷ []) (issued_at age) tick
     tick_ties = record {
       accesses = [];
-      came = (refl, All-nil (IsServing (HasTimedOut (issued_at age).moment)));
+      came = (refl, All-nil (IsServing (HasTimedOut (issued_at age).abstract)));
       backed = backed;
       evidenced = record { faults = λ f here. absurd (nowhere f here); port = λ port. evidenced port.0 };
       grounded = tt;

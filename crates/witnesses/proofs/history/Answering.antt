@@ -125,7 +125,7 @@ becomes n = (
     changes (suc zero) = inr (inl (named 1))
     changes (suc (suc n)) = inl (refl, refl, refl, refl, refl, refl)
 
-had_disk : (n : ℕ) → SamePort both one (port_at n) ⊎ HadDisk submitted_at.moment service_steps lost_at.moment (port_at n)
+had_disk : (n : ℕ) → SamePort both one (port_at n) ⊎ HadDisk submitted_at.abstract service_steps lost_at.abstract (port_at n)
 had_disk zero = inl (refl, refl, refl, refl, refl, refl)
 had_disk (suc zero) = inr (λ shows. absurd shows)
 had_disk (suc (suc n)) = inl (refl, refl, refl, refl, refl, refl)
@@ -254,7 +254,7 @@ service_finds : (n : ℕ) (e : Pending) → IsIssuedOn (port_at n) issuing e →
 service_finds zero e on = done_there
 service_finds (suc n) e on = absurd (none_there 0 n e on)
 
-heeds : (n : ℕ) → both.state (port_at n) ≡ Ready → ServesReady submitted_at.moment loss_evidence service_steps lost_at.moment (port_at n)
+heeds : (n : ℕ) → both.state (port_at n) ≡ Ready → ServesReady submitted_at.abstract loss_evidence service_steps lost_at.abstract (port_at n)
 heeds zero is = record {
   ended = λ e here at_port done. absurd (not_ended 0 e here done);
   emptied = λ g e here. absurd (nowhere e here);
@@ -318,7 +318,7 @@ well zero = λ why. absurd (⊎_elim (unnamed 0 (omega arith)).stopped (unnamed 
 well (suc zero) = λ why ready. absurd (let x : Absent ≡ Ready = ready in cc)
 well (suc (suc n)) = λ why. absurd (⊎_elim (unnamed (suc (suc n)) (omega arith)).stopped (unnamed (suc (suc n)) (omega arith)).stuck why)
 
-service_happens : Happens submitted_at.moment service.event
+service_happens : Happens submitted_at.abstract service.event
 service_happens = record {
   may = (
     (

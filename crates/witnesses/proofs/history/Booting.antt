@@ -6,7 +6,7 @@ use Rattle.hba_regs.specs.declared.reg.PortReg.{PortReg}
 use Rattle.hba_regs.specs.declared.reg.PortReg.TheVariants.{Clb, Clbu, Fb, Fbu, Is, Cmd, Tfd, Sig, Ssts, Sctl, Serr}
 use Rattle.adapter.specs.Access.{Access, DoesAll, PortShows, Reads, Writes, note, port_written}
 use Rattle.adapter.specs.Device.{DevicePort, Device}
-use Rattle.adapter.specs.Rules.{MayCommand}
+use Rattle.adapter.specs.Rules.{MayWriteCmd}
 use Rattle.adapter.specs.Steps.{MayLinkUp, device_after, with_link, with_reset}
 use Rattle.adapter.specs.Steps.DeviceTransition.{LinkUp, ResetEnds}
 use Rattle.refinement.specs.Relation.{port_at}
@@ -150,7 +150,7 @@ does = (
 
 -- ---- by the rules
 
-may_hear : (k : ℕ) → MayCommand (asked_again k) 0x10
+may_hear : (k : ℕ) → MayWriteCmd (asked_again k) 0x10
 may_hear k = record {
   start = λ set. absurd (false≢true set);
   receive = λ set. inr (record { fallen = refl; fb = refl; fbu = refl });

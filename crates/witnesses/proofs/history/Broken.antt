@@ -72,7 +72,7 @@ becomes n = (λ is. absurd (not_dead n is), λ _. (may_become (port_at 0 ∷ [])
     changes zero = inr (inl (named 0))
     changes (suc n) = inl (others_same n)
 
-had_disk : (n : ℕ) → SamePort both one (port_at n) ⊎ HadDisk broken_at.moment (answer ∷ []) (booted_at outset).moment (port_at n)
+had_disk : (n : ℕ) → SamePort both one (port_at n) ⊎ HadDisk broken_at.abstract (answer ∷ []) (booted_at outset).abstract (port_at n)
 had_disk zero = inr (λ shows. inl refl)
 had_disk (suc n) = inl (others_same n)
 
@@ -90,7 +90,7 @@ of_tended = (tended, ((λ is. cc, tended), ((λ is. cc, tt), (tended, of_served 
 
 -- ---- what it owes each port
 
-heeds : (n : ℕ) → both.state (port_at n) ≡ Ready → ServesReady broken_at.moment fatal_evidence (answer ∷ []) (booted_at outset).moment (port_at n)
+heeds : (n : ℕ) → both.state (port_at n) ≡ Ready → ServesReady broken_at.abstract fatal_evidence (answer ∷ []) (booted_at outset).abstract (port_at n)
 heeds zero is = record {
   ended = λ e here at_port ended. absurd (not_ended 0 e here ended);
   emptied = λ g. absurd (nowhere (port_at 0) g);
@@ -102,7 +102,7 @@ heeds zero is = record {
   disk = λ shows. inl refl;
   calm = inl (inl (named 0));
 }
-heeds (suc zero) is = leaves_other outcome.Unplugged fatal_evidence (booted_at outset).moment (unnamed restart is_restart 0) (omega arith) (refl, refl, refl, refl, refl, refl)
+heeds (suc zero) is = leaves_other outcome.Unplugged fatal_evidence (booted_at outset).abstract (unnamed restart is_restart 0) (omega arith) (refl, refl, refl, refl, refl, refl)
 heeds (suc (suc n)) is = absurd (let x : Absent ≡ Ready = is in cc)
 
 boots : (n : ℕ) → BootsAnew Service (Served replies) fatal_accesses broken_at one booted (port_at n)
@@ -114,7 +114,7 @@ service_finds : (n : ℕ) (e : Pending) → IsIssuedOn (port_at n) issuing e →
 service_finds zero e on = finds restart is_restart
 service_finds (suc n) e on = absurd (none_there 0 n e on)
 
-happens : Happens broken_at.moment service.event
+happens : Happens broken_at.abstract service.event
 happens = record {
   may = (tt, ((0, omega arith, refl), tt));
   belong = (tt, inr tt);

@@ -16,7 +16,7 @@ use Rattle.adapter.specs.Access.{Access, DoesAll, PortShows, Reads, Stores, Writ
 use Rattle.adapter.specs.Access.Access.{Reading, Writing, Loading, Storing}
 use Rattle.adapter.specs.Device.{DevicePort, Device}
 use Rattle.adapter.specs.Memory.{changed, patched}
-use Rattle.adapter.specs.Rules.{MayCommand, MayStart}
+use Rattle.adapter.specs.Rules.{MayWriteCmd, MayStart}
 use Rattle.adapter.specs.Steps.{Can, StepLeads, DeviceTransition, Steps, device_after}
 use Rattle.adapter.specs.Steps.DeviceTransition.{Fall}
 use Rattle.adapter.specs.declared.tape.Entry.{Entry}
@@ -126,7 +126,7 @@ pub other_bit : (k : ℕ) → k ≢ 0 → bit 1 k ≡ false
 other_bit k ne = same_above 1 0 refl k ne ∙ no_bit k
 
 -- ST may be cleared where FRE is set, and where the value is as it was read but for ST
-pub may_stop : (p : DevicePort) (v was : ℕ) → bit v 0 ≡ false → bit v 4 ≡ true → p.fre ≡ true → p.notes.last_cmd ≡ was → v / 2 ≡ was / 2 → MayCommand p v
+pub may_stop : (p : DevicePort) (v was : ℕ) → bit v 0 ≡ false → bit v 4 ≡ true → p.fre ≡ true → p.notes.last_cmd ≡ was → v / 2 ≡ was / 2 → MayWriteCmd p v
 may_stop p v was clear receives fre read half = record {
   start = λ h. absurd (true≢false (sym h ∙ clear));
   receive = λ h. inl fre;
@@ -135,7 +135,7 @@ may_stop p v was clear receives fre read half = record {
 }
 
 -- and ST may be set so, where the port may start
-pub may_start : (p : DevicePort) (v was : ℕ) → bit v 4 ≡ true → p.fre ≡ true → p.notes.last_cmd ≡ was → v / 2 ≡ was / 2 → MayStart p → MayCommand p v
+pub may_start : (p : DevicePort) (v was : ℕ) → bit v 4 ≡ true → p.fre ≡ true → p.notes.last_cmd ≡ was → v / 2 ≡ was / 2 → MayStart p → MayWriteCmd p v
 may_start p v was receives fre read half may = record {
   start = λ h. inr may;
   receive = λ h. inl fre;

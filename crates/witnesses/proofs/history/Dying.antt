@@ -73,7 +73,7 @@ reset = record {
 }
 
 abbrev pending_at : JointState Device
-pending_at = record { device = pending; moment = record { machine = issuing; ports = dead } }
+pending_at = record { device = pending; abstract = record { machine = issuing; ports = dead } }
 
 not_on : IsOn pending → ⊥
 not_on on = absurd (true≢false on.no_reset)
@@ -87,10 +87,10 @@ still_knows m k = record {
 
 -- what holds of each port, where requests are port 0's alone
 port_dead : (m : Machine) → ((n : ℕ) → n ≢ 0 → NoneWaits m (port_at n)) → ((n : ℕ) → n ≢ 0 → NoneKept m (port_at n)) → (n : ℕ)
-    → HoldsOf (wanted_of (Any ∷ Any ∷ []) n) first_slots (record { device = pending; moment = record { machine = m; ports = dead } }) (port_at n) (dead.served (port_at n)) (dead.state (port_at n))
+    → HoldsOf (wanted_of (Any ∷ Any ∷ []) n) first_slots (record { device = pending; abstract = record { machine = m; ports = dead } }) (port_at n) (dead.served (port_at n)) (dead.state (port_at n))
 port_dead m waits kept zero = record { why = inr not_on; waits = λ on. absurd (not_on on) }
 port_dead m waits kept (suc zero) = record { why = inr not_on; waits = λ on. absurd (not_on on) }
-port_dead m waits kept (suc (suc n)) = unserved_at first_slots (record { device = pending; moment = record { machine = m; ports = dead } }) (suc (suc n)) refl refl
+port_dead m waits kept (suc (suc n)) = unserved_at first_slots (record { device = pending; abstract = record { machine = m; ports = dead } }) (suc (suc n)) refl refl
     (record { free = λ slot. refl; unparked = refl }) (waits (suc (suc n)) (omega arith)) (kept (suc (suc n)) (omega arith))
 
 all_dead : (n : ℕ) → dead.served (port_at n) ≡ true → dead.state (port_at n) ≡ Dead
@@ -99,7 +99,7 @@ all_dead (suc zero) is = refl
 all_dead (suc (suc n)) is = absurd (true≢false (sym is))
 
 holds_dead : (m : Machine) → DriverRelation m (at_slots first_slots pending) → ((n : ℕ) → n ≢ 0 → NoneWaits m (port_at n)) → ((n : ℕ) → n ≢ 0 → NoneKept m (port_at n))
-    → HoldsWith (Any ∷ Any ∷ []) first_slots (record { device = pending; moment = record { machine = m; ports = dead } })
+    → HoldsWith (Any ∷ Any ∷ []) first_slots (record { device = pending; abstract = record { machine = m; ports = dead } })
 holds_dead m knows waits kept = record {
   knows = knows;
   served = λ port low. served_of pages read_memory (issued ∷ second ∷ []) port.0;
@@ -138,7 +138,7 @@ stuck_is zero = (refl, λ is. (refl, (0, omega arith, refl)), (refl, refl))
 stuck_is (suc zero) = (refl, λ is. (refl, (1, omega arith, refl)), (refl, refl))
 stuck_is (suc (suc n)) = (refl, λ is. absurd (true≢false (sym is)), (refl, refl))
 
-reset_happens : Happens submitted_at.moment reset.event
+reset_happens : Happens submitted_at.abstract reset.event
 reset_happens = record {
   may = tt;
   belong = tt;
@@ -284,7 +284,7 @@ becomes (suc (suc n)) = (
   ),
 )
 
-service_happens : Happens pending_at.moment service.event
+service_happens : Happens pending_at.abstract service.event
 service_happens = record {
   may = (tt, ((0, omega arith, refl), tt));
   belong = (tt, inr tt);

@@ -224,7 +224,7 @@ module _ (c : Discovery) where
     not_ended : (e : Pending) → Contains c.machine.book e → e.ended ≡ true → ⊥
     not_ended e here at = true≢false (sym at ∙ is.unended e here)
 
-    heeds : (n : ℕ) → ServesReady before.moment nothing steps served_at.moment (port_at n)
+    heeds : (n : ℕ) → ServesReady before.abstract nothing steps served_at.abstract (port_at n)
     heeds n = record {
       ended = λ e here at_port done. absurd (not_ended e here done);
       emptied = λ g. absurd (nowhere (port_at n) g);
@@ -249,7 +249,7 @@ module _ (c : Discovery) where
     gained_calm : (n : ℕ) → All (IsCalm n) gained
     gained_calm n = All-from_recursion (IsCalm n) gained ((λ x. x, λ x. x, λ x. x), ((λ x. x, λ x. x, λ x. x), tt))
 
-    pub service_happens : Happens before.moment service.event
+    pub service_happens : Happens before.abstract service.event
     service_happens = record {
       may = (
         (

@@ -9,7 +9,7 @@ use Rattle.std.specs.List.{Contains, All}
 use Rattle.ata_types.specs.declared.Port.{Port}
 use Rattle.ata_types.specs.declared.PortState.TheVariants.{Absent, Foreign, Ready, Unfit}
 use Rattle.ata_types.specs.declared.request.RequestId.{RequestId}
-use Rattle.ata_types.specs.declared.limits.TheConstants.{READINGS}
+use Rattle.ata_types.specs.declared.limits.TheConstants.{MOST_READINGS}
 use Rattle.adapter.specs.Access.{Access, named_causes}
 use Rattle.adapter.specs.Device.{DevicePort, Device}
 use Rattle.adapter.specs.Device.Halt.{NotHalted, HaltedPlain, HaltedQueued}
@@ -63,8 +63,8 @@ serves_first (suc port) slot id is = absurd (let x : Free ≡ Serves id = is in 
 
 -- ---- ports
 
-pub unserved_at : (s : InSlots) (i : JointState Device) (port : ℕ) → i.moment.ports.state (port_at port) ≡ Absent → i.device.port port ≡ quiet_port → HasNothing s port → NoneWaits i.moment.machine (port_at port)
-    → NoneKept i.moment.machine (port_at port) → IsUnservedAt s i (port_at port)
+pub unserved_at : (s : InSlots) (i : JointState Device) (port : ℕ) → i.abstract.ports.state (port_at port) ≡ Absent → i.device.port port ≡ quiet_port → HasNothing s port → NoneWaits i.abstract.machine (port_at port)
+    → NoneKept i.abstract.machine (port_at port) → IsUnservedAt s i (port_at port)
 unserved_at s i port absent quiet slots waits kept = record {
   absent = absent;
   idle = subst IsIdlePort (sym quiet) (record { st = refl; cr = refl; fre = refl; fr = refl; ci = λ s. refl; sact = λ s. refl; taken = λ s. refl });
@@ -78,7 +78,7 @@ unfaulted : IsFaulted NotHalted → ⊥
 unfaulted f = ⊎_elim (λ a. let x : NotHalted ≡ HaltedPlain = a in cc) (λ a. let x : NotHalted ≡ HaltedQueued = a in cc) f
 
 -- a port runs on which no fault is on record
-pub runs_on : (port : ℕ) (d : Device) → (d.port port).st ≡ true → (d.port port).cr ≡ true → (d.port port).fre ≡ true → (d.port port).bases ≡ programmed port → (d.port port).notes.link_count ≡ READINGS
+pub runs_on : (port : ℕ) (d : Device) → (d.port port).st ≡ true → (d.port port).cr ≡ true → (d.port port).fre ≡ true → (d.port port).bases ≡ programmed port → (d.port port).notes.link_count ≡ MOST_READINGS
     → (d.port port).notes.st_set_at ≤ length d.tape → (d.port port).link_due ≡ false → (d.port port).is 30 ≡ false → (d.port port).halt ≡ NotHalted → Runs port d
 runs_on port d st cr fre bases saw known linked calm whole = record {
   st = st;
@@ -123,7 +123,7 @@ requests_none s i port mode free unparked = record {
     unserved slot id is = let z : Free ≡ Serves id = sym (free slot) ∙ is in cc
 
 -- slot 0 of port 0 serves the one request, by a command of its kind
-pub requests_first : (i : JointState Device) (mode : QueueMode) → 1 ≤ mode.usable → ((e : Pending) → Contains i.moment.machine.book e → IsOfKind mode i.device 0 0 e) → HasRequests first_slots i (port_at 0) mode
+pub requests_first : (i : JointState Device) (mode : QueueMode) → 1 ≤ mode.usable → ((e : Pending) → Contains i.abstract.machine.book e → IsOfKind mode i.device 0 0 e) → HasRequests first_slots i (port_at 0) mode
 requests_first i mode usable kind = record {
   clients = clients;
   low = λ slot above. low slot (omega (arith, usable, above));
@@ -140,7 +140,7 @@ requests_first i mode usable kind = record {
     low zero above = absurd (omega (arith, above))
     low (suc slot) above = refl
 
-    kinds : (slot : ℕ) (e : Pending) → Contains i.moment.machine.book e → uses_first 0 slot ≡ Serves e.request.id → IsOfKind mode i.device 0 slot e
+    kinds : (slot : ℕ) (e : Pending) → Contains i.abstract.machine.book e → uses_first 0 slot ≡ Serves e.request.id → IsOfKind mode i.device 0 slot e
     kinds zero e here u = kind e here
     kinds (suc slot) e here u = absurd (let z : Free ≡ Serves e.request.id = u in cc)
 
@@ -180,7 +180,7 @@ unfailing p calm fails = ⊎_elim (λ fatal. absurd (true≢false (sym fatal.set
 
 -- a port that isn't named, wasn't stopped, and showed no trouble if it was ready
 pub unnamed_evidenced : (ask : Ask DeviceStep) (said : CallResult) (accesses : List Access) (old : JointState Device) (ports : Ports) (new : Device) (evidence : Evidence) (port : Port) → IsUnnamed evidence port
-    → (old.moment.ports.state port ≡ Ready → (ShowsLoss port old.device new → ⊥) × (ShowsFailure (old.device.port port.0) → ⊥)) → All (LeavesEngine port) accesses
+    → (old.abstract.ports.state port ≡ Ready → (ShowsLoss port old.device new → ⊥) × (ShowsFailure (old.device.port port.0) → ⊥)) → All (LeavesEngine port) accesses
     → IsEvidencedOf ask said accesses old ports new evidence port
 unnamed_evidenced ask said accesses old ports new evidence port un calm left = record {
   lost = λ h. absurd (un.lost h);
@@ -198,7 +198,7 @@ unnamed_evidenced ask said accesses old ports new evidence port un calm left = r
 -- ---- disks that are there
 
 -- a ready port isn't tried
-pub tries_ready : (accesses : List Access) (old : JointState Device) (ports : Ports) (new : Device) (port : Port) → old.moment.ports.state port ≡ Ready → ProbesDisk accesses old ports new port
+pub tries_ready : (accesses : List Access) (old : JointState Device) (ports : Ports) (new : Device) (port : Port) → old.abstract.ports.state port ≡ Ready → ProbesDisk accesses old ports new port
 tries_ready accesses old ports new port ready = record {
   shown = λ is. absurd (not_absent is);
   absent = λ is. absurd (not_absent is);
@@ -206,10 +206,10 @@ tries_ready accesses old ports new port ready = record {
   changed = λ bad. absurd (not_bad bad);
 }
   where
-    not_absent : old.moment.ports.state port ≡ Absent → ⊥
+    not_absent : old.abstract.ports.state port ≡ Absent → ⊥
     not_absent is = let x : Ready ≡ Absent = sym ready ∙ is in cc
 
-    not_bad : IsUnfitOrForeign old.moment.ports port → ⊥
+    not_bad : IsUnfitOrForeign old.abstract.ports port → ⊥
     not_bad (inl is) = let x : Ready ≡ Foreign = sym ready ∙ is in cc
     not_bad (inr is) = let x : Ready ≡ Unfit is.0 = sym ready ∙ is.1 in cc
 
@@ -240,8 +240,8 @@ each xs goes all k d low = goes _ (all k d low)
 
 -- where a port showed no trouble, and none came, there is none to be heeded
 pub no_trouble : (evidence : Evidence) (old : JointState Device) (ports : Ports) (new : Device) (port : Port) (gained : List Entry) → new.tape ≡ old.device.tape ++ gained → All (IsCalm port.0) gained
-    → (old.moment.ports.served port ≡ true → old.moment.ports.state port ≡ Ready)
-    → (old.moment.ports.state port ≡ Ready → (ShowsLoss port old.device new → ⊥) × (ShowsFailure (old.device.port port.0) → ⊥)) → LosesNoPortError evidence old ports new port
+    → (old.abstract.ports.served port ≡ true → old.abstract.ports.state port ≡ Ready)
+    → (old.abstract.ports.state port ≡ Ready → (ShowsLoss port old.device new → ⊥) × (ShowsFailure (old.device.port port.0) → ⊥)) → LosesNoPortError evidence old ports new port
 no_trouble evidence old ports new port gained is none served calm = record {
   errors = λ ready why. absurd (⊎_elim (calm ready).1 (λ came. ⊎_elim faults fatals came) why);
   changes = λ tends why. absurd (⊎_elim (λ change. (calm (served tends.0)).0 (inl change)) plugs why);

@@ -98,27 +98,27 @@ restarting_tick = record {
   device = booted;
 }
 
-hung : HasTimedOut (issued_at 2).moment (port_at 0)
+hung : HasTimedOut (issued_at 2).abstract (port_at 0)
 hung = hung_at 2 (omega arith)
 
 -- what is of port 0 alone is of a hung port
-is_hung : (port : Port) → port ≡ port_at 0 → HasTimedOut (issued_at 2).moment port
-is_hung port is = subst (HasTimedOut (issued_at 2).moment) (sym is) hung
+is_hung : (port : Port) → port ≡ port_at 0 → HasTimedOut (issued_at 2).abstract port
+is_hung port is = subst (HasTimedOut (issued_at 2).abstract) (sym is) hung
 
 -- no other port is hung
-other : (n : ℕ) → HasTimedOut (issued_at 2).moment (port_at (suc n)) → ⊥
+other : (n : ℕ) → HasTimedOut (issued_at 2).abstract (port_at (suc n)) → ⊥
 other n h = let same = ap (λ (p : Port). p.0) (hung_first 2 (port_at (suc n)) h) in omega (arith, same)
 
-interrupted : (port : Port) → IsInterrupted (restart_evidence []) port → HasTimedOut (issued_at 2).moment port
+interrupted : (port : Port) → IsInterrupted (restart_evidence []) port → HasTimedOut (issued_at 2).abstract port
 interrupted port (inl h) = is_hung port (ap port_at (named_is 0 port.0 h))
 interrupted port (inr h) = absurd (nowhere port h)
 
 -- it becomes what a restart may make of it, and the others stay as they are
-becomes : (n : ℕ) → ((HasTimedOut (issued_at 2).moment (port_at n) → ⊥) × SamePort both one (port_at n)) ⊎ (HasTimedOut (issued_at 2).moment (port_at n) × MayBecome both (restart_evidence []) one (port_at n))
+becomes : (n : ℕ) → ((HasTimedOut (issued_at 2).abstract (port_at n) → ⊥) × SamePort both one (port_at n)) ⊎ (HasTimedOut (issued_at 2).abstract (port_at n) × MayBecome both (restart_evidence []) one (port_at n))
 becomes zero = inr (hung, may_become [] 0)
 becomes (suc n) = inl (other n, others_same n)
 
-restarts_hung : RestartsTimedOut (issued_at 2).moment (restart_evidence []) steps (booted_at outset).moment
+restarts_hung : RestartsTimedOut (issued_at 2).abstract (restart_evidence []) steps (booted_at outset).abstract
 restarts_hung = record {
   ports = λ port. becomes port.0;
   again = λ e here. absurd (unrepeated e here);
@@ -133,7 +133,7 @@ restarts_hung = record {
     not_ready_first : (port : Port) → port ≡ port_at 0 → one.state port ≡ Ready → ⊥
     not_ready_first port is ready = not_ready_then (subst (λ (p : Port). one.state p ≡ Ready) is ready)
 
-happens : Happens (issued_at 2).moment restarting_tick.event
+happens : Happens (issued_at 2).abstract restarting_tick.event
 happens = record {
   may = ((tt, tt), ((0, omega arith, refl), tt));
   belong = ((tt, inr tt), inr (inl tt));
@@ -153,7 +153,7 @@ happens = record {
 
 -- ---- what it owes each port
 
-finds_there : (n : ℕ) → HasTimedOut (issued_at 2).moment (port_at n) → FindsDone (port_at n) restarting (issued_at 2) steps
+finds_there : (n : ℕ) → HasTimedOut (issued_at 2).abstract (port_at n) → FindsDone (port_at n) restarting (issued_at 2) steps
 finds_there zero h = finds restart is_restart
 finds_there (suc n) h = absurd (other n h)
 
@@ -175,7 +175,7 @@ part_of n = record {
 ties : CallCorresponds (Any ∷ Any ∷ []) (issued_at 2) restarting_tick
 ties = record {
   accesses = restarting;
-  came = (restarts outset, serving (HasTimedOut (issued_at 2).moment) restarting (of_served (HasTimedOut (issued_at 2).moment) hung));
+  came = (restarts outset, serving (HasTimedOut (issued_at 2).abstract) restarting (of_served (HasTimedOut (issued_at 2).abstract) hung));
   backed = backed restart is_restart;
   evidenced = record { faults = λ f here. absurd (nowhere f here); port = λ port. evidenced restart is_restart port.0 };
   grounded = tt;

@@ -168,7 +168,7 @@ module _ (c : Submission) where
     pub agreeing : Agreeing c.disk c.slots_then issuing [] c.memory_then c.port_then
     pub takes : MayTake c.disk c.machine c.id c.sector c.frame_number
     pub may : May (after c.machine (Accept accepted ∷ [])) (Issue (mode_of queueing_cap c.disk.info) (newly_accepted accepted))
-    pub all_issued : AllIssued submitted_at.moment
+    pub all_issued : AllIssued submitted_at.abstract
     pub due : (port : Port) → IssuesDue (mode_of queueing_cap c.disk.info) submit_steps issuing port
     pub does : DoesAll c.accesses before.device submitted_at.device
     pub only : All (IssuesOn (port_at 0)) c.accesses
@@ -188,7 +188,7 @@ module _ (c : Submission) where
           (sym (only (unanswered (newly_accepted accepted)) r here)) (λ _. due, λ _. issued)
 
   module _ (is : IsIssued) where
-    pub submit_happens : Happens before.moment submit.event
+    pub submit_happens : Happens before.abstract submit.event
     submit_happens = record {
       may = ((tt, is_new c.disk c.machine c.id c.sector c.frame_number is.takes), is.may);
       belong = ((tt, inr refl), inr (refl, refl));

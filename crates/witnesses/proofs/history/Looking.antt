@@ -9,7 +9,7 @@ use Rattle.hba_regs.specs.declared.reg.PortReg.{PortReg}
 use Rattle.hba_regs.specs.declared.reg.PortReg.TheVariants.{Is, Cmd, Ssts, Serr}
 use Rattle.adapter.specs.Access.{DoesAll, PortShows, Reads, Writes, note, port_written, shown_interrupt}
 use Rattle.adapter.specs.Device.{DevicePort, Device}
-use Rattle.adapter.specs.Rules.{MayCommand}
+use Rattle.adapter.specs.Rules.{MayWriteCmd}
 use Rattle.adapter.specs.Steps.{Can, device_after}
 use Rattle.adapter.specs.Steps.DeviceTransition.{Unplug}
 use Rattle.adapter.specs.declared.tape.Entry.{Entry}
@@ -146,7 +146,7 @@ does = (
 
 -- ---- by the rules
 
-may_command : MayCommand commanded 0x4010
+may_command : MayWriteCmd commanded 0x4010
 may_command = record {
   start = λ set. absurd (false≢true set);
   receive = λ set. inl refl;

@@ -60,7 +60,7 @@ all_touched zero low = refl
 all_touched (suc i) low = absurd (omega (arith, low))
 
 abbrev pub lost_at : JointState Device
-lost_at = record { device = lost; moment = record { machine = served; ports = one } }
+lost_at = record { device = lost; abstract = record { machine = served; ports = one } }
 
 -- ---- what holds
 

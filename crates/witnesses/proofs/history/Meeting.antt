@@ -50,7 +50,7 @@ use Rattle.witnesses.proofs.history.Submitting.{issued, others_clear, second, su
 -- ---- what holds
 
 abbrev pub broken_at : JointState Device
-broken_at = record { device = dev broken; moment = record { machine = issuing; ports = both } }
+broken_at = record { device = dev broken; abstract = record { machine = issuing; ports = both } }
 
 -- the fatal error is the one entry that the tape has gained
 abbrev pub gained : List Entry
@@ -133,7 +133,7 @@ meeting = record {
   device = dev broken;
 }
 
-pub meeting_happens : Happens submitted_at.moment meeting.event
+pub meeting_happens : Happens submitted_at.abstract meeting.event
 meeting_happens = record {
   may = tt;
   belong = tt;

@@ -62,7 +62,7 @@ abbrev without : Machine
 without = after answered (going ∷ [])
 
 abbrev unplugged_at : JointState Device
-unplugged_at = record { device = unplugged; moment = record { machine = without; ports = unfit_ports } }
+unplugged_at = record { device = unplugged; abstract = record { machine = without; ports = unfit_ports } }
 
 abbrev one_absent : Ports
 one_absent = showing plain_disks.info (true ∷ true ∷ []) (Absent ∷ Unfit 8 ∷ [])
@@ -78,7 +78,7 @@ service = record {
 }
 
 abbrev looked_at : JointState Device
-looked_at = record { device = looked_over; moment = record { machine = without; ports = one_absent } }
+looked_at = record { device = looked_over; abstract = record { machine = without; ports = one_absent } }
 
 -- ---- the ports
 
@@ -125,13 +125,13 @@ becomes n = (
     changes zero = inr (inl (named 0))
     changes (suc n) = inl (same_past n)
 
-had_disk : (n : ℕ) → SamePort unfit_ports one_absent (port_at n) ⊎ HadDisk unplugged_at.moment [] looked_at.moment (port_at n)
+had_disk : (n : ℕ) → SamePort unfit_ports one_absent (port_at n) ⊎ HadDisk unplugged_at.abstract [] looked_at.abstract (port_at n)
 had_disk zero = inr (λ shows. absurd shows)
 had_disk (suc n) = inl (same_past n)
 
 -- ---- the disk is taken out
 
-unplug_happens : Happens rebooted_at.moment unplug.event
+unplug_happens : Happens rebooted_at.abstract unplug.event
 unplug_happens = record {
   may = (tt, refl);
   belong = (tt, inl tt);
@@ -255,7 +255,7 @@ unplug_ties = record {
 
 -- ---- the service
 
-answers : AnswersService unplugged_at.moment evidence [] [] looked_at.moment
+answers : AnswersService unplugged_at.abstract evidence [] [] looked_at.abstract
 answers = record {
   tells = record { answers = []; same = IsPermutation-refl _; ordered = λ i j d less low. absurd (omega (arith, less, low)); told = refl };
   dead = λ e o here. absurd (nowhere (Answer e o) here);
@@ -267,7 +267,7 @@ answers = record {
   disk = λ port. had_disk port.0;
 }
 
-service_happens : Happens unplugged_at.moment service.event
+service_happens : Happens unplugged_at.abstract service.event
 service_happens = record {
   may = tt;
   belong = tt;

@@ -15,7 +15,7 @@ use Rattle.refinement.specs.Relation.{ServeApart, HaveSlots, IsReceiving, SameMe
 use Rattle.refinement.specs.Driver.{DriverRelation}
 use Rattle.refinement.specs.Slots.{Free, Serves, IsEmptySlot, IsMove, RelatesSlot}
 use Rattle.block_machine.specs.Histories.{JointState}
-use Rattle.block_machine.specs.Left.{IsStart}
+use Rattle.block_machine.specs.Left.{IsInitial}
 use Rattle.block_machine.specs.Ports.{Ports, AreFit}
 use Rattle.block_machine.specs.State.{Machine, Pending}
 use Rattle.block_machine.specs.Steps.{NoneKept}
@@ -45,9 +45,9 @@ start = record empty {
   disks = λ p k b. k;
 }
 
-pub starts : IsStart start
+pub starts : IsInitial start
 starts =
-    let s : IsStart empty = empty_starts in
+    let s : IsInitial empty = empty_starts in
     record { book = s.book; kept = s.kept; lent = s.lent; next = s.next; few = s.few; rows = s.rows; configured = s.configured; owned = s.owned }
 
 -- ---- device and machine agree
@@ -205,7 +205,7 @@ module _ (disk : Kind) (s : InSlots) (m : Machine) (more : List Entry) (memory :
   served_with = device_with (sent disk.page ++ more) memory (p ∷ second ∷ [])
 
   abbrev pub instant_with : JointState Device
-  instant_with = record { device = served_with; moment = record { machine = m; ports = two_ready disk } }
+  instant_with = record { device = served_with; abstract = record { machine = m; ports = two_ready disk } }
 
   -- port 1 is ready as long as its disk is in
   pub second_ready : All (λ e. IsMove 1 Identify e → ⊥) more → ((slot : ℕ) → s.uses 1 slot ≡ Free) → s.parked 1 ≡ [] → m.kept ≡ [] → IsReadyAt Any s instant_with (port_at 1)

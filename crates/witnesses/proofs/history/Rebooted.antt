@@ -27,7 +27,7 @@ use Rattle.refinement.specs.Tape.{AllOwn, PutsInDisks}
 use Rattle.refinement.specs.Witness.{first_id}
 use Rattle.block_machine.specs.Events.{Ask, CallResult, UnplugsAll}
 use Rattle.block_machine.specs.Histories.{JointState}
-use Rattle.block_machine.specs.Left.{AllTold, after}
+use Rattle.block_machine.specs.Left.{AllTellSectors, after}
 use Rattle.block_machine.specs.Ports.{AreFit, Evidence, MayBecome, Ports, SamePort}
 use Rattle.block_machine.specs.State.{Machine, Pending}
 use Rattle.block_machine.specs.Steps.{Step, Answer}
@@ -111,7 +111,7 @@ module _ (c : Outset) where
   booted = dev (tape c) (unfit c)
 
   abbrev pub booted_at : JointState Device
-  booted_at = record { device = booted; moment = record { machine = answered; ports = one } }
+  booted_at = record { device = booted; abstract = record { machine = answered; ports = one } }
 
   free : (n k : ℕ) → IsEmptySlot (having (unfit c ∷ second ∷ []) n) k
   free zero k = record { issued = refl; free = refl; unarmed = refl }
@@ -235,7 +235,7 @@ module _ (c : Restart) where
   old_device = dev (tape c.outset) c.port
 
   abbrev pub old : JointState Device
-  old = record { device = old_device; moment = record { machine = c.machine; ports = both } }
+  old = record { device = old_device; abstract = record { machine = c.machine; ports = both } }
 
   abbrev pub accesses : List Access
   accesses = c.looked ++ restarting
@@ -256,7 +256,7 @@ module _ (c : Restart) where
     pub running : All (LeavesCommand (port_at 0)) c.looked
     pub unfound : (e : Pending) (slot : ℕ) → ServesRequest c.machine read_memory c.port 0 slot e.request.id → bit 1 slot ≡ false → ⊥
     pub told : (e : Pending) (o : Outcome) → Contains c.steps (Answer e o) → o ≡ outcome.Unplugged
-    pub own : AllOwn c.steps × AllTold c.machine c.steps × ((n : ℕ) → PutsInDisks n [] c.steps)
+    pub own : AllOwn c.steps × AllTellSectors c.machine c.steps × ((n : ℕ) → PutsInDisks n [] c.steps)
     pub plugged : issued.plugged ≡ c.port.plugged ++ []
 
   module _ (is : IsRestart) where

@@ -64,7 +64,7 @@ abbrev answered : Machine
 answered = after issuing (answer ∷ [])
 
 abbrev recovered_at : JointState Device
-recovered_at = record { device = recovered; moment = record { machine = answered; ports = both } }
+recovered_at = record { device = recovered; abstract = record { machine = answered; ports = both } }
 
 free : (n k : ℕ) → IsEmptySlot (having (started ∷ second ∷ []) n) k
 free zero k = record { issued = refl; free = refl; unarmed = refl }
@@ -200,7 +200,7 @@ service_finds : (n : ℕ) (e : Pending) → IsIssuedOn (port_at n) issuing e →
 service_finds zero e on = finds
 service_finds (suc n) e on = absurd (none_there 0 n e on)
 
-heeds : (n : ℕ) → both.state (port_at n) ≡ Ready → ServesReady submitted_at.moment fault_evidence (answer ∷ []) recovered_at.moment (port_at n)
+heeds : (n : ℕ) → both.state (port_at n) ≡ Ready → ServesReady submitted_at.abstract fault_evidence (answer ∷ []) recovered_at.abstract (port_at n)
 heeds zero is = record {
   ended = λ e here at_port ended. absurd (not_ended 0 e here ended);
   emptied = λ g. absurd (nowhere (port_at 0) g);
@@ -212,7 +212,7 @@ heeds zero is = record {
   disk = λ shows. inl refl;
   calm = inl (inl (named 0));
 }
-heeds (suc zero) is = leaves_other (outcome.DeviceError 0x41 0x40) fault_evidence recovered_at.moment (unnamed 0) (omega arith) (refl, refl, refl, refl, refl, refl)
+heeds (suc zero) is = leaves_other (outcome.DeviceError 0x41 0x40) fault_evidence recovered_at.abstract (unnamed 0) (omega arith) (refl, refl, refl, refl, refl, refl)
 heeds (suc (suc n)) is = absurd (let x : Absent ≡ Ready = is in cc)
 
 -- the fault is the one entry that the tape has gained
@@ -293,7 +293,7 @@ backed = record {
 unplugged_not : (e : Pending) → Contains (answer ∷ []) (Answer e outcome.Unplugged) → ⊥
 unplugged_not e here = let x : outcome.Unplugged ≡ outcome.DeviceError 0x41 0x40 = (the_answer (outcome.DeviceError 0x41 0x40) e outcome.Unplugged here).1 in cc
 
-happens : Happens submitted_at.moment service.event
+happens : Happens submitted_at.abstract service.event
 happens = record {
   may = (tt, ((0, omega arith, refl), tt));
   belong = (tt, inr tt);

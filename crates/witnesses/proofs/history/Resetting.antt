@@ -78,7 +78,7 @@ abbrev pub answered : Machine
 answered = after issuing steps
 
 abbrev pub rebooted_at : JointState Device
-rebooted_at = record { device = rebooted; moment = record { machine = answered; ports = unfit_ports } }
+rebooted_at = record { device = rebooted; abstract = record { machine = answered; ports = unfit_ports } }
 
 -- ---- the ports
 
@@ -146,7 +146,7 @@ had zero shows = refl
 had (suc zero) shows = refl
 had (suc (suc n)) shows = absurd shows
 
-answers : AnswersReset submitted_at.moment evidence steps replies rebooted_at.moment
+answers : AnswersReset submitted_at.abstract evidence steps replies rebooted_at.abstract
 answers = record {
   tells = record { answers = (waiting, outcome.Unplugged) ∷ []; same = IsPermutation-refl _; ordered = λ i j d less low. absurd (omega (arith, less, low)); told = refl };
   releases = record { later = answer ∷ []; earlier = []; split = refl; before = tt; once = refl };
@@ -163,7 +163,7 @@ answers = record {
   disk = λ port shows. inl (had port.0 shows);
 }
 
-pub happens : Happens submitted_at.moment reset.event
+pub happens : Happens submitted_at.abstract reset.event
 happens = record {
   may = ((tt, tt), ((0, omega arith, refl), tt));
   belong = ((tt, inr tt), inr tt);

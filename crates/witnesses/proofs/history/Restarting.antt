@@ -7,7 +7,7 @@ use Rattle.hba_regs.specs.declared.reg.PortReg.TheVariants.{Clb, Clbu, Fb, Fbu, 
 use Rattle.adapter.specs.Access.{DoesAll, PortShows, Reads, Writes, note, port_written}
 use Rattle.adapter.specs.Device.{Notes, DevicePort, Device}
 use Rattle.adapter.specs.Memory.{changed}
-use Rattle.adapter.specs.Rules.{MayCommand}
+use Rattle.adapter.specs.Rules.{MayWriteCmd}
 use Rattle.adapter.specs.Steps.{Can, DeviceTransition, device_after, with_link}
 use Rattle.adapter.specs.Steps.DeviceTransition.{FrFall, LinkUp}
 use Rattle.adapter.specs.declared.tape.Entry.{Entry}
@@ -154,7 +154,7 @@ module _ (c : Outset) where
 
   -- ---- by the rules
 
-  may_close : MayCommand commanded_again 0x4000
+  may_close : MayWriteCmd commanded_again 0x4000
   may_close = record {
     start = λ set. absurd (false≢true set);
     receive = λ set. absurd (false≢true set);
@@ -162,7 +162,7 @@ module _ (c : Outset) where
     others = λ place low start receive. same_beside 0x4000 0x4010 refl refl refl refl place start receive;
   }
 
-  may_hear : MayCommand asked_again 0x10
+  may_hear : MayWriteCmd asked_again 0x10
   may_hear = record {
     start = λ set. absurd (false≢true set);
     receive = λ set. inr (record { fallen = refl; fb = refl; fbu = refl });

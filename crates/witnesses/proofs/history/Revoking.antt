@@ -53,7 +53,7 @@ revoke = record {
 unanswered_then : (e : Pending) (o : Outcome) → Contains steps (Answer e o) → ⊥
 unanswered_then e o here = let same : Answer e o ≡ Revoke client 0 = only (Revoke client 0) (Answer e o) here in cc
 
-happens : Happens (issued_at 0).moment revoke.event
+happens : Happens (issued_at 0).abstract revoke.event
 happens = record {
   may = (tt, granted 0 (0, omega arith, refl) refl);
   belong = (tt, inr (refl, refl));

@@ -5,7 +5,7 @@ use Rattle.adapter.specs.Device.{Device}
 use Rattle.error_recovery.specs.declared.Recovered.{Recovered}
 use Rattle.server_history.specs.ErrorHandling.{EndsStopped, TellsErrorHandling}
 use Rattle.port_control.specs.declared.events.PortError.{PortError}
-use Rattle.port_control.specs.declared.events.PortError.TheVariants.{BusError, TaskFileError, TimedOut, LinkChanged}
+use Rattle.port_control.specs.declared.events.PortError.TheVariants.{FatalError, TaskFileError, TimedOut, LinkChanged}
 use Rattle.block_server.proofs.Counting.{mending_stops}
 use Rattle.block_server.proofs.recovery.recover_or_stop.Goals as goal
 
@@ -13,7 +13,7 @@ use Rattle.block_server.proofs.recovery.recover_or_stop.Goals as goal
 tells : (port_error : PortError) (port : Port) (outstanding : ℕ) (queued : Bool) (result : Recovered) (accesses : List Access) (old new : Device) → port_error ≢ TaskFileError → EndsStopped result
     → TellsErrorHandling port_error port outstanding queued result accesses old new
 tells TaskFileError port outstanding queued result accesses old new other ends = absurd (other refl)
-tells BusError port outstanding queued result accesses old new other ends = ends
+tells FatalError port outstanding queued result accesses old new other ends = ends
 tells LinkChanged port outstanding queued result accesses old new other ends = ends
 tells TimedOut port outstanding queued result accesses old new other ends = ends
 

@@ -1,4 +1,4 @@
-use Rattle.ata_types.specs.declared.limits.TheConstants.{READINGS}
+use Rattle.ata_types.specs.declared.limits.TheConstants.{MOST_READINGS}
 use Rattle.std.proofs.Common.{◌≡◌, sym, ◌∙◌, arith}
 use Rattle.host_boot.proofs.Awaiting.{resetting_begins, resetting_ends, resetting_goes_on, resetting_sticks}
 use Rattle.host_boot.proofs.resetting.reset.Goals as goal
@@ -20,5 +20,5 @@ loop-reading-preserved g c = record {
 
 pub returns-clause-stuck : goal.returns-clause-stuck
 returns-clause-stuck g c =
-    let all : c.loop-reading._reading ≡ READINGS = omega arith in
+    let all : c.loop-reading._reading ≡ MOST_READINGS = omega arith in
     resetting_sticks c.law_base.ensures _ _ _ all c.loop-reading.invariant.known

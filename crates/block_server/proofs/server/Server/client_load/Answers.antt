@@ -1,7 +1,7 @@
 use Rattle.std.proofs.Common.{ℕ, length, Ok, Err, sym, ap, ◌∙◌, subst, rules}
 use Rattle.std.proofs.lemmas.Result.{err_from_is_err_and}
 use Rattle.adapter.specs.Access.{Loads}
-use Rattle.adapter.specs.Rules.{IsFree, IsStable}
+use Rattle.adapter.specs.Rules.{IsUnowned, IsStable}
 use Rattle.block_machine.specs.Events.{LoadAt}
 use Rattle.block_machine.specs.Refusals.{IsFirstMemFault, IsOpen}
 use Rattle.dma_frames.specs.Table.{owner_of, lent_to}
@@ -28,7 +28,7 @@ returns-in_err-address-clause-adds g c =
 pub load-requires : goal.load-requires
 load-requires g c =
     let P : ServerView g.row.A.Denot → Type 0 = λ v. IsOpen (owner_of v.table) (lent_to v.table) c.args.client c.args.frame c.args.offset (length c.args.out.now) in
-    subst (λ (at : ℕ). IsStable (IsFree at (length c.args.out.now)) (g.A.Adapter.device c.self.inside.adapter)) (sym c.in_ok-address.ensures.ok.1)
+    subst (λ (at : ℕ). IsStable (IsUnowned at (length c.args.out.now)) (g.A.Adapter.device c.self.inside.adapter)) (sym c.in_ok-address.ensures.ok.1)
     (let s = server_of g.A.Adapter.device (seen c.self.inside) in
     let opened = subst P (sym c.self.view_is) c.in_ok-address.ensures.ok.0 in
     let booked = holds_either c.self.inside.stuck c.self.invariant (λ _ settled. c.law_a_server_is_booked.ensures.kept s settled.kept) (λ _ stalled. stalled.booked) in
