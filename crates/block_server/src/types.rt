@@ -1,11 +1,11 @@
 // Why a server isn't made, and why it makes no more calls of a list.
-use configuration::Kind;
+use configuration::FaultKind;
 
 /// Why no server was made.
 #[derive(Clone, Copy, Debug, PartialEq, Eq)]
 pub enum ServerError {
     /// The configuration breaks a rule; the least kind of fault is told.
-    BadConfig(Kind),
+    BadConfig(FaultKind),
     /// Memory for it was refused.
     NoMemory,
 }

@@ -1,9 +1,18 @@
 -- Runs of neighbouring frames, and the PRDs that cover them.
-use Rattle.std.specs.Prelude.{◌≡◌, ◌≢◌, ℕ, ◌+◌, ◌-◌, ◌*◌, ◌/◌, ◌<◌, ◌≤◌, min, List, [], ◌∷◌, length, drop}
+use Rattle.std.specs.Prelude.{◌≡◌, ◌≢◌, ℕ, ◌+◌, ◌-◌, ◌*◌, ◌/◌, ◌%◌, ◌<◌, ◌≤◌, min, List, [], ◌∷◌, length, drop}
 use Rattle.ata_types.specs.declared.memory.TheConstants.{FRAME_BYTES}
+use Rattle.ata_types.specs.declared.limits.TheConstants.{MOST_REQUEST_FRAMES}
 use Rattle.ata_types.specs.declared.request.Frame.{Frame}
 use Rattle.adapter.specs.declared.command.Prd.{Prd}
 use Rattle.command_table.specs.Places.{frame_number}
+
+-- So many bytes, of words of two, fill the frames: the last of them perhaps in part, but at least one byte of it. There
+-- are no more frames than a request may name.
+pub record FillFrames (frames : List Frame) (bytes : ℕ) : Type 0 where
+  pub room : length frames ≤ MOST_REQUEST_FRAMES
+  pub even : bytes % 2 ≡ 0
+  pub within : bytes ≤ FRAME_BYTES * length frames
+  pub last : FRAME_BYTES * length frames < bytes + FRAME_BYTES
 
 -- The first n frames, at least one, are the longest run from the first on: their numbers rise by one, and the next
 -- frame, if there is one, doesn't go on so.

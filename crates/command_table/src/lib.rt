@@ -19,7 +19,7 @@ ghost use Rattle.refinement.specs.Places.{list_of, scratch_of};
 ghost use Rattle.refinement.specs.Slots.{SlotDecodesTo};
 ghost use Rattle.command_table.specs.Written.{FitsTable, IsStoreWithBlock, IsTable, IsTableFor, IsTableStore, IsUnused, MayWriteTable, StoresTable};
 ghost use Rattle.command_table.specs.Places.{places_of};
-ghost use Rattle.command_table.specs.Runs.{AreJoined, IsLongestRun};
+ghost use Rattle.command_table.specs.Runs.{AreJoined, FillFrames, IsLongestRun};
 ghost use Rattle.command_table.specs.Bytes.{StoresBytes};
 ghost use Rattle.adapter.specs.Counted.{MakesAtMost};
 ghost use Rattle.command_table.specs.Costs.{BLOCK_ACCESSES, TABLE_ACCESSES};
@@ -86,10 +86,7 @@ fn prd_bytes(prd: &Prd) -> [u8; 16]
 /// The PRDs that cover the first bytes of the frames, in order: one for each longest run of frames whose numbers rise
 /// by one, so of 512 KiB at most (AHCI 1.3.1, 4.2.3.3, allows 4 MiB). The last one covers the rest of the bytes.
 pub fn prds(frames: &[Frame], bytes: u32) -> ArrayVec<Prd, MOST_REQUEST_FRAMES>
-    requires room { length frames.now ≤ MOST_REQUEST_FRAMES }
-    requires even { bytes % 2 ≡ 0 }
-    requires within { bytes ≤ FRAME_BYTES * length frames.now }
-    requires last { FRAME_BYTES * length frames.now < bytes + FRAME_BYTES }
+    requires fill { FillFrames frames.now bytes }
     ensures joined { AreJoined frames.now bytes result.items }
     ensures number { length result.items ≤ length frames.now }
     ensures allowed { All IsAllowedPrd result.items }

@@ -14,7 +14,7 @@ use Rattle.configuration.specs.Ranges.{IsClientConfig}
 use Rattle.configuration.specs.Rules.{ConfiguresPort, IsInRange, MeetsAll}
 use Rattle.configuration.specs.declared.ClientConfig.{ClientConfig}
 use Rattle.configuration.specs.declared.Config.{Config}
-use Rattle.configuration.specs.declared.Kind.TheVariants.{OutOfRange, Duplicate, SharedFrames, UnknownPort}
+use Rattle.configuration.specs.declared.FaultKind.TheVariants.{OutOfRange, Duplicate, SharedFrames, UnknownPort}
 use Rattle.dma_frames.specs.Table.{FrameExtent, ExtentsApart}
 use Rattle.identify.specs.declared.wanted.Wanted.{Wanted}
 use Rattle.identify.specs.declared.wanted.Wanted.TheVariants.{Nothing}

@@ -7,8 +7,8 @@ use Rattle.toml.specs.Data.{Members}
 use Rattle.configuration.specs.declared.ClientConfig.{ClientConfig}
 use Rattle.configuration.specs.declared.Config.{Config}
 use Rattle.configuration.specs.declared.GrantConfig.{GrantConfig}
-use Rattle.configuration.specs.declared.Kind.{Kind}
-use Rattle.configuration.specs.declared.Kind.TheVariants.{NotToml, WrongKeys, WrongTypes, OutOfRange, Duplicate, SharedFrames, UnknownClient, UnknownPort}
+use Rattle.configuration.specs.declared.FaultKind.{FaultKind}
+use Rattle.configuration.specs.declared.FaultKind.TheVariants.{NotToml, WrongKeys, WrongTypes, OutOfRange, Duplicate, SharedFrames, UnknownClient, UnknownPort}
 use Rattle.configuration.specs.declared.PortConfig.{PortConfig}
 use Rattle.configuration.specs.Ranges.{IsClientConfig, IsGrant, IsPort, IsRights, IsSerialText}
 use Rattle.configuration.specs.Rules.{FramesApart, DifferInId, DifferInGrant, DifferInNumber, HasClient, ConfiguresPort, IsTrim, Meets}
@@ -117,7 +117,7 @@ grant-alike g h same is = record {
 }
 
 -- the same values meet the same rules
-pub meets-alike : (c d : Config) (kind : Kind) → Same c d → Meets c kind → Meets d kind
+pub meets-alike : (c d : Config) (kind : FaultKind) → Same c d → Meets c kind → Meets d kind
 unfolding ConfiguresPort
 meets-alike c d NotToml same h = tt
 meets-alike c d WrongKeys same h = tt

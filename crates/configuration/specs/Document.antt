@@ -6,8 +6,8 @@ use Rattle.toml.specs.Parse.{parse_document}
 use Rattle.configuration.specs.declared.Config.{Config}
 use Rattle.configuration.specs.declared.ConfigFault.{ConfigFault}
 use Rattle.configuration.specs.declared.ConfigFault.TheVariants.{Refused, NoMemory}
-use Rattle.configuration.specs.declared.Kind.{Kind}
-use Rattle.configuration.specs.declared.Kind.TheVariants.{NotToml, WrongKeys, WrongTypes, OutOfRange}
+use Rattle.configuration.specs.declared.FaultKind.{FaultKind}
+use Rattle.configuration.specs.declared.FaultKind.TheVariants.{NotToml, WrongKeys, WrongTypes, OutOfRange}
 use Rattle.configuration.specs.Schema.{HasAllKeys, HasAllTypes}
 use Rattle.configuration.specs.Rules.{MeetsAll, IsFirstUnmet}
 use Rattle.configuration.specs.Tables.{Spells}
@@ -21,12 +21,12 @@ pub record IsRead (document : Members) (c : Config) : Type 0 where
 
 -- The least kind of fault that a document has. Where its keys and types are right, and it has the values of no
 -- `Config`, whose numbers aren't negative, one of its numbers is negative, and so out of range.
-pub data IsDocumentFault (document : Members) : Kind → Type 0 where
+pub data IsDocumentFault (document : Members) : FaultKind → Type 0 where
   keys : (HasAllKeys document → ⊥) → IsDocumentFault document WrongKeys
   types : HasAllKeys document → (HasAllTypes document → ⊥) → IsDocumentFault document WrongTypes
   negative : HasAllKeys document → HasAllTypes document → ((c : Config) → Spells document c → ⊥)
       → IsDocumentFault document OutOfRange
-  rule : (kind : Kind) (c : Config) → HasAllKeys document → HasAllTypes document → Spells document c
+  rule : (kind : FaultKind) (c : Config) → HasAllKeys document → HasAllTypes document → Spells document c
       → IsFirstUnmet c kind → IsDocumentFault document kind
 
 -- the text is UTF-8 and a TOML document, which is this one
@@ -39,12 +39,12 @@ abbrev pub IsReadFrom : List ℕ → Config → Type 0
 IsReadFrom text c = (document : Members) × IsDocument text document × IsRead document c
 
 -- the least kind of fault that a text has
-pub data IsToldOf (text : List ℕ) : Kind → Type 0 where
+pub data IsToldOf (text : List ℕ) : FaultKind → Type 0 where
   unreadable : ((document : Members) → IsDocument text document → ⊥) → IsToldOf text NotToml
-  document : (kind : Kind) (document : Members) → IsDocument text document → IsDocumentFault document kind
+  document : (kind : FaultKind) (document : Members) → IsDocument text document → IsDocumentFault document kind
       → IsToldOf text kind
 
 -- memory ran out, or the kind is so
-abbrev pub IsFault : (Kind → Type 0) → ConfigFault → Type 0
+abbrev pub IsFault : (FaultKind → Type 0) → ConfigFault → Type 0
 IsFault P (Refused kind) = P kind
 IsFault P NoMemory = Unit {0}

@@ -8,8 +8,8 @@ use Rattle.configuration.specs.declared.Config.{Config}
 use Rattle.configuration.specs.declared.PortConfig.{PortConfig}
 use Rattle.configuration.specs.declared.ClientConfig.{ClientConfig}
 use Rattle.configuration.specs.declared.GrantConfig.{GrantConfig}
-use Rattle.configuration.specs.declared.Kind.{Kind}
-use Rattle.configuration.specs.declared.Kind.TheVariants.{NotToml, WrongKeys, WrongTypes, OutOfRange, Duplicate, SharedFrames, UnknownClient, UnknownPort}
+use Rattle.configuration.specs.declared.FaultKind.{FaultKind}
+use Rattle.configuration.specs.declared.FaultKind.TheVariants.{NotToml, WrongKeys, WrongTypes, OutOfRange, Duplicate, SharedFrames, UnknownClient, UnknownPort}
 use Rattle.configuration.specs.Ranges.{IsPort, IsClientConfig, IsGrant}
 
 pub record HasNumbersInRange (c : Config) : Type 0 where
@@ -63,7 +63,7 @@ unfoldable pub ConfiguresPort : List PortConfig → ℕ → Type 0
 ConfiguresPort ports number = Any (λ p. p.number ≡ number) ports
 
 -- What the values have to meet, by the kind of fault that it is else. The first three kinds are of texts alone.
-abbrev pub Meets : Config → Kind → Type 0
+abbrev pub Meets : Config → FaultKind → Type 0
 Meets c NotToml = Unit {0}
 Meets c WrongKeys = Unit {0}
 Meets c WrongTypes = Unit {0}
@@ -74,7 +74,7 @@ Meets c UnknownClient = All (λ g. HasClient c.client.items g.client) c.grant.it
 Meets c UnknownPort = All (λ g. ConfiguresPort c.port.items g.port) c.grant.items
 
 -- the kinds' numbers say which is told first
-abbrev pub kind_number : Kind → ℕ
+abbrev pub kind_number : FaultKind → ℕ
 kind_number NotToml = 1
 kind_number WrongKeys = 2
 kind_number WrongTypes = 3
@@ -86,8 +86,8 @@ kind_number UnknownPort = 8
 
 -- the values meet every rule
 abbrev pub MeetsAll : Config → Type 0
-MeetsAll c = (kind : Kind) → Meets c kind
+MeetsAll c = (kind : FaultKind) → Meets c kind
 
 -- the values don't meet this rule, and meet those before it
-abbrev pub IsFirstUnmet : Config → Kind → Type 0
-IsFirstUnmet c kind = (Meets c kind → ⊥) × ((k : Kind) → kind_number k < kind_number kind → Meets c k)
+abbrev pub IsFirstUnmet : Config → FaultKind → Type 0
+IsFirstUnmet c kind = (Meets c kind → ⊥) × ((k : FaultKind) → kind_number k < kind_number kind → Meets c k)

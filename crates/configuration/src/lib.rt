@@ -83,7 +83,7 @@ pub struct Config {
 
 /// What is wrong with a configuration. Of several kinds that of the least number is told (this project's own).
 #[derive(Clone, Copy, Debug, PartialEq, Eq, Error)]
-pub enum Kind {
+pub enum FaultKind {
     /// The text isn't a TOML document in UTF-8.
     #[error("the text isn't a TOML document")]
     NotToml,
@@ -110,20 +110,20 @@ pub enum Kind {
     UnknownPort,
 }
 
-impl Kind {
+impl FaultKind {
     /// The kind's number, 1 to 8: the least that applies is told.
     pub fn number(self) -> u8
         ensures { result ≡ kind_number self }
     {
         match self {
-            Kind::NotToml => 1,
-            Kind::WrongKeys => 2,
-            Kind::WrongTypes => 3,
-            Kind::OutOfRange => 4,
-            Kind::Duplicate => 5,
-            Kind::SharedFrames => 6,
-            Kind::UnknownClient => 7,
-            Kind::UnknownPort => 8,
+            FaultKind::NotToml => 1,
+            FaultKind::WrongKeys => 2,
+            FaultKind::WrongTypes => 3,
+            FaultKind::OutOfRange => 4,
+            FaultKind::Duplicate => 5,
+            FaultKind::SharedFrames => 6,
+            FaultKind::UnknownClient => 7,
+            FaultKind::UnknownPort => 8,
         }
     }
 }
@@ -133,7 +133,7 @@ impl Kind {
 pub enum ConfigFault {
     /// Something is wrong with the configuration.
     #[error("{0}")]
-    Refused(Kind),
+    Refused(FaultKind),
     /// Memory ran out.
     #[error("no memory")]
     NoMemory,

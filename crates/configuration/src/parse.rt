@@ -8,7 +8,7 @@ ghost use Rattle.configuration.specs.Schema.{HasAllKeys, HasAllTypes, HasKeys, H
 
 use super::read::ReadFault;
 use super::schema::{Key, ValueType, tables_have_keys, tables_have_types};
-use super::{Config, ConfigFault, Kind};
+use super::{Config, ConfigFault, FaultKind};
 use std::alloc::Global;
 use toml::Table;
 
@@ -203,14 +203,14 @@ impl Config {
             → HasAllKeys (table_view table.now) × HasAllTypes (table_view table.now) }
     {
         if !has_all_keys(table) {
-            return Err(ConfigFault::Refused(Kind::WrongKeys));
+            return Err(ConfigFault::Refused(FaultKind::WrongKeys));
         }
         if !has_all_types(table) {
-            return Err(ConfigFault::Refused(Kind::WrongTypes));
+            return Err(ConfigFault::Refused(FaultKind::WrongTypes));
         }
         let config = match Config::from_table(alloc, table) {
             Ok(config) => config,
-            Err(ReadFault::NoValue) => return Err(ConfigFault::Refused(Kind::OutOfRange)),
+            Err(ReadFault::NoValue) => return Err(ConfigFault::Refused(FaultKind::OutOfRange)),
             Err(ReadFault::NoMemory) => return Err(ConfigFault::NoMemory),
         };
         match config.check() {
@@ -232,7 +232,7 @@ impl Config {
         match toml::table_from_slice(alloc, text) {
             Ok(table) => Config::from_document(alloc, &table),
             Err(error) if error.is_memory() => Err(ConfigFault::NoMemory),
-            Err(_) => Err(ConfigFault::Refused(Kind::NotToml)),
+            Err(_) => Err(ConfigFault::Refused(FaultKind::NotToml)),
         }
     }
 }

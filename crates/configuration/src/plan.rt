@@ -8,7 +8,7 @@ ghost use Rattle.configuration.specs.Ranges.{IsClientConfig, IsGrant, IsPort, Is
 ghost use Rattle.configuration.specs.Rules.{DifferInNumber};
 ghost use Rattle.configuration.specs.Parts.{owner_extent, rights_of, row_of, filled_serial, wanted_disk, AreWantedOf, IsWantedIn};
 
-use crate::{ClientConfig, Config, GrantConfig, Kind, PortConfig};
+use crate::{ClientConfig, Config, FaultKind, GrantConfig, PortConfig};
 use arrayvec::ArrayVec;
 use ata_types::{
     CLIENTS, ClientId, Frame, GrantRow, MOST_FRAMES, MOST_GRANTS, PORTS, Port, Rights, Sector,
@@ -47,7 +47,7 @@ impl Plan {
     /// each port that it names the disk with the serial number that it asks for, or any disk. A configuration that
     /// breaks a rule has no plan: the least of its kinds of fault is told. No memory is taken.
     #[inline(never)]
-    pub fn of(config: &Config) -> Result<Plan, Kind>
+    pub fn of(config: &Config) -> Result<Plan, FaultKind>
         ensures sound { OnOk result (MeetsAll config.now) }
         ensures made { IfOk result (IsPlanOf config.now) }
         ensures fits { IfOk result IsPlan }

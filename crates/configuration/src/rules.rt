@@ -4,7 +4,7 @@ ghost use Rattle.std.specs.Prelude.{◌≡◌, ◌↔◌, IsTrue, IfErr, OnOk, A
 ghost use Rattle.configuration.specs.Ranges.{IsClientConfig, IsGrant, IsPort, IsRights, IsSerialText, without_first};
 ghost use Rattle.configuration.specs.Rules.{FramesApart, DifferInId, DifferInGrant, DifferInNumber, HasClient, ConfiguresPort};
 
-use super::{ClientConfig, Config, GrantConfig, Kind, PortConfig};
+use super::{ClientConfig, Config, FaultKind, GrantConfig, PortConfig};
 use ata_types::{CLIENTS, DRIVER_FRAMES, FEWEST_FRAMES, MOST_FRAMES, MOST_GRANTS, PORTS, SLOTS};
 
 /// The most command slots that a port can have, and the greatest queue depth that a disk can have.
@@ -273,24 +273,24 @@ impl Config {
 
     /// Says whether these values may configure a server, and else which kind of fault they have: of the kinds 4 to 8
     /// the least that applies (this project's own). What `parse` gives has none.
-    pub fn check(&self) -> Result<(), Kind>
+    pub fn check(&self) -> Result<(), FaultKind>
         ensures sound { OnOk result (MeetsAll self.now) }
         ensures broken { IfErr result (IsFirstUnmet self.now) }
     {
         if !self.is_in_range() {
-            return Err(Kind::OutOfRange);
+            return Err(FaultKind::OutOfRange);
         }
         if !self.names_once() {
-            return Err(Kind::Duplicate);
+            return Err(FaultKind::Duplicate);
         }
         if !self.has_frames_apart() {
-            return Err(Kind::SharedFrames);
+            return Err(FaultKind::SharedFrames);
         }
         if !self.has_clients() {
-            return Err(Kind::UnknownClient);
+            return Err(FaultKind::UnknownClient);
         }
         if !self.has_ports() {
-            return Err(Kind::UnknownPort);
+            return Err(FaultKind::UnknownPort);
         }
         Ok(())
     }

@@ -35,6 +35,12 @@ pub record MayAsk (port : ℕ) (d : Device) : Type 0 where
   pub det : (d.port port).sctl_det ≡ 0
   pub known : (d.port port).notes.st_set_at ≤ length d.tape
 
+-- A page may be awaited: PxCI can be read, and PxSCTL.DET is 0, so that its readings are counted.
+pub record MayAwaitPage (port : Port) (d : Device) : Type 0 where
+  pub on : IsOn d
+  pub there : HasPort d port.0
+  pub det : (d.port port.0).sctl_det ≡ 0
+
 -- A page may be asked for: slot 0 of such a port is unused, and memory has the driver's areas.
 pub record MayGetPage (port : Port) (d : Device) : Type 0 where
   pub on : IsOn d

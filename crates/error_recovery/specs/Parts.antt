@@ -1,5 +1,5 @@
 -- The parts of a recovery: the port is stopped and quieted, started again, and asked for its log (this project's own).
-use Rattle.std.specs.Prelude.{ℕ, Bool, true, false, ◌≡◌, ◌⊎◌, ◌<◌, ◌≤◌, ◌%◌, List, ◌∷◌, length, Option, None, Some}
+use Rattle.std.specs.Prelude.{ℕ, Bool, true, false, ◌≡◌, ◌⊎◌, ◌<◌, ◌≤◌, ◌%◌, List, ◌∷◌, length, Option, None, Some, IfSome}
 use Rattle.ata_types.specs.declared.Port.{Port}
 use Rattle.ata_types.specs.declared.memory.TheConstants.{DRIVER_BYTES}
 use Rattle.hba_regs.specs.Bits.{bit}
@@ -8,6 +8,7 @@ use Rattle.hba_regs.specs.declared.reg.Reg.TheVariants.{Px}
 use Rattle.adapter.specs.Access.{Access}
 use Rattle.adapter.specs.Access.Access.{Reading}
 use Rattle.adapter.specs.Device.{Device}
+use Rattle.adapter.specs.Device.Halt.{NotHalted}
 use Rattle.adapter.specs.Rules.{IsOn, HasPort}
 use Rattle.adapter.specs.declared.command.Operation.TheVariants.{Identify, ReadLog}
 use Rattle.refinement.specs.Driven.{RelatesWith, AnyUse, IsSimulated, IsControl, IsSimulatedAlong, SendsNone}
@@ -18,7 +19,7 @@ use Rattle.refinement.specs.Links.{PlugsNone}
 use Rattle.refinement.specs.Recovering.{IsLinked, RunsLinked, WorksPlainly}
 use Rattle.refinement.specs.Started.{IsStarted, IsUp}
 use Rattle.refinement.specs.Slots.{Own}
-use Rattle.disk_page.specs.Asking.{ReadsPage}
+use Rattle.disk_page.specs.Asking.{LeavesRunning, ReadsPage}
 use Rattle.identify.specs.Log.{TellsError, TellsNoError}
 use Rattle.identify.specs.declared.error_log.FailedSlot.{FailedSlot}
 use Rattle.port_control.specs.Engines.{Sticks, Stops}
@@ -119,3 +120,11 @@ ReadsLog port outstanding (Some failed) old new = (page : List ℕ) × ReadsPage
 ReadsLog port outstanding None old new = ReadsPage port ReadLog None old new
     ⊎ ((page : List ℕ) × ReadsPage port ReadLog (Some page) old new
     × (TellsNoError page ⊎ NamesForeign outstanding page))
+
+-- The log was asked for. The port runs still, without a halt where a slot is named, and no other command of the
+-- driver's own was sent.
+pub record AsksLog (port : Port) (outstanding : ℕ) (named : Option FailedSlot) (old new : Device) : Type 0 where
+  pub reads : ReadsLog port outstanding named old new
+  pub leaves : LeavesRunning port.0 old new
+  pub running : IfSome named (λ _. (new.port port.0).halt ≡ NotHalted)
+  pub silent : SendsNone port.0 Identify old new

@@ -2,6 +2,7 @@
 use Rattle.std.specs.Prelude.{ℕ, Bool, true, false, ◌≡◌, ◌≢◌, ◌⊎◌, ◌<◌, ◌≤◌, ◌%◌, ◌++◌, List, All, Option, None, Some, length}
 use Rattle.ata_types.specs.declared.Port.{Port}
 use Rattle.ata_types.specs.declared.limits.TheConstants.{MOST_READINGS}
+use Rattle.ata_types.specs.declared.memory.TheConstants.{DRIVER_BYTES}
 use Rattle.hba_regs.specs.Bits.{bit}
 use Rattle.hba_regs.specs.declared.reg.PortReg.{PortReg}
 use Rattle.hba_regs.specs.declared.reg.PortReg.TheVariants.{Ci}
@@ -9,6 +10,7 @@ use Rattle.hba_regs.specs.declared.reg.Reg.TheVariants.{Px}
 use Rattle.adapter.specs.Access.{Access}
 use Rattle.adapter.specs.Device.{Device}
 use Rattle.adapter.specs.Device.Halt.{LogOnly, NotHalted}
+use Rattle.adapter.specs.Rules.{IsOn, HasPort}
 use Rattle.adapter.specs.declared.command.Operation.{Operation}
 use Rattle.adapter.specs.declared.command.Operation.TheVariants.{Identify, ReadLog}
 use Rattle.adapter.specs.declared.tape.Fault as tape_fault
@@ -42,6 +44,15 @@ FitsFor queued port uses = queued ≡ false → (slot : ℕ) → slot ≢ 0 → 
 -- so tell the outstanding slots, by bit
 abbrev pub IsAloneIn : Bool → ℕ → Type 0
 IsAloneIn queued outstanding = queued ≡ false → (slot : ℕ) → slot < 32 → bit outstanding slot ≡ true → slot ≡ 0
+
+-- An error of the port may be handled while these commands are outstanding, queued ones or plain ones: the adapter is
+-- on, and has the port and the driver's memory; and what its slots are used for is known.
+pub record MayHandleError (port : Port) (outstanding : ℕ) (queued : Bool) (d : Device) : Type 0 where
+  pub on : IsOn d
+  pub there : HasPort d port.0
+  pub room : DRIVER_BYTES ≤ d.size
+  pub agreed : RelatesWith (FitsFor queued port.0) d
+  pub alone : IsAloneIn queued outstanding
 
 -- A fault has halted the port, which runs with its areas in their places; a device with a link was seen last, no
 -- COMRESET is being sent, and the faults since ST was set are on record.

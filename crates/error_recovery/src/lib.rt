@@ -10,14 +10,12 @@
 ghost use Rattle.std.specs.Prelude.{ℕ, Bool, true, false, None, Some, ◌≡◌, ◌<◌, ◌≤◌, ◌%◌, ◌/◌, IfSome, IfNone};
 ghost use Rattle.hba_regs.specs.Bits.{bit};
 ghost use Rattle.adapter.specs.Device.{Device};
-ghost use Rattle.adapter.specs.Device.Halt.{NotHalted};
 ghost use Rattle.adapter.specs.Rules.{IsOn, HasPort};
-ghost use Rattle.adapter.specs.declared.command.Operation.TheVariants.{Identify};
-ghost use Rattle.refinement.specs.Driven.{RelatesWith, AnyUse, SendsNone};
+ghost use Rattle.refinement.specs.Driven.{RelatesWith, AnyUse};
 ghost use Rattle.refinement.specs.Driver.{AllFree};
-ghost use Rattle.disk_page.specs.Asking.{LeavesRunning, MayAsk};
-ghost use Rattle.error_recovery.specs.Parts.{StopGetsStuck, StartsAgain, HasDriverMemory, MayGoOn, Quiets, ReadsLog, Resumes};
-ghost use Rattle.error_recovery.specs.Recovery.{FitsFor, StopsForReset, IsAloneIn, IsNamedSlot, MayRecover, Parts, Recovers};
+ghost use Rattle.disk_page.specs.Asking.{MayAsk};
+ghost use Rattle.error_recovery.specs.Parts.{AsksLog, StopGetsStuck, StartsAgain, HasDriverMemory, MayGoOn, Quiets, Resumes};
+ghost use Rattle.error_recovery.specs.Recovery.{StopsForReset, IsNamedSlot, MayHandleError, MayRecover, Parts, Recovers};
 ghost use Rattle.adapter.specs.Counted.{MakesAtMost};
 ghost use Rattle.disk_page.specs.Costs.{PAGE_ACCESSES};
 ghost use Rattle.port_control.specs.Costs.{START_ACCESSES, STOP_ACCESSES};
@@ -27,7 +25,7 @@ mod lawful;
 pub mod laws;
 
 use adapter::Adapter;
-use ata_types::{DRIVER_BYTES, Port, Slot};
+use ata_types::{Port, Slot};
 use disk_page::{Page, read_page};
 use hba_regs::{PortReg, Reg, TaskFile, is_set, without_bit};
 pub use identify::FailedSlot;
@@ -75,9 +73,8 @@ fn quiet<A: Adapter>(adapter: &mut A, port: Port) -> Option<StoppedAndCleared>
     requires may { MayRecover port.0 (A.device adapter.old) }
     requires agreed { RelatesWith AnyUse (A.device adapter.old) }
     ensures on { IsOn (A.device adapter.new) }
-    ensures names { IfSome result (λ q. q.stopped.port ≡ port) }
-    ensures quiets { IfSome result (λ q. Quiets port q.fault.0 q.shown.0 (A.device adapter.old)
-        (A.device adapter.new)) }
+    ensures quiets { IfSome result (λ q. (q.stopped.port ≡ port)
+        × Quiets port q.fault.0 q.shown.0 (A.device adapter.old) (A.device adapter.new)) }
     ensures sticks { IfNone result (StopGetsStuck port (A.device adapter.old) (A.device adapter.new)) }
     ensures cost { MakesAtMost QUIET_ACCESSES (A.access_count adapter.old) (A.access_count adapter.new) }
 {
@@ -112,11 +109,8 @@ fn read_log<A: Adapter>(adapter: &mut A, port: Port, outstanding: u32) -> Option
     requires may { MayAsk port.0 (A.device adapter.old) }
     requires agreed { RelatesWith (λ uses. AllFree uses port.0) (A.device adapter.old) }
     ensures on { IsOn (A.device adapter.new) }
-    ensures leaves { LeavesRunning port.0 (A.device adapter.old) (A.device adapter.new) }
     ensures agreed { RelatesWith AnyUse (A.device adapter.new) }
-    ensures reads { ReadsLog port outstanding result (A.device adapter.old) (A.device adapter.new) }
-    ensures running { IfSome result (λ _. ((A.device adapter.new).port port.0).halt ≡ NotHalted) }
-    ensures silent { SendsNone port.0 Identify (A.device adapter.old) (A.device adapter.new) }
+    ensures asks { AsksLog port outstanding result (A.device adapter.old) (A.device adapter.new) }
     ensures cost { MakesAtMost PAGE_ACCESSES (A.access_count adapter.old) (A.access_count adapter.new) }
 {
     let Some(page) = read_page(adapter, port, Page::Errors) else {
@@ -254,12 +248,8 @@ fn unnamed(outstanding: u32, next: Next) -> Recovered
 /// isn't outstanding, the port is stopped again, nobody is named, and it has to be booted. Where an engine is stuck for
 /// 64 readings of PxCMD, the port is dead, and nobody is named.
 pub fn recover<A: Adapter>(adapter: &mut A, port: Port, outstanding: u32, queued: bool) -> Recovered
-    requires on { IsOn (A.device adapter.old) }
-    requires there { HasPort (A.device adapter.old) port.0 }
-    requires room { DRIVER_BYTES ≤ (A.device adapter.old).size }
-    requires agreed { RelatesWith (FitsFor queued port.0) (A.device adapter.old) }
+    requires ready { MayHandleError port outstanding queued (A.device adapter.old) }
     requires may { MayRecover port.0 (A.device adapter.old) }
-    requires alone { IsAloneIn queued outstanding }
     ensures on { IsOn (A.device adapter.new) }
     ensures recovers { Recovers port outstanding queued result (A.device adapter.old) (A.device adapter.new) }
     ensures cost { MakesAtMost RECOVER_ACCESSES (A.access_count adapter.old) (A.access_count adapter.new) }

@@ -9,11 +9,11 @@ use std::marker::Model;
 
 /// How many keys were compared.
 #[derive(Drop)]
-pub struct Compared {
+pub struct Comparisons {
     count: u32,
 }
 
-impl Model for Compared {
+impl Model for Comparisons {
     ghost use Rattle.std.specs.Prelude.{ℕ};
 
     ghost Value = { ℕ };
@@ -21,12 +21,12 @@ impl Model for Compared {
     ghost view = { λ c. c.count };
 }
 
-impl Compared {
+impl Comparisons {
     /// None was compared yet.
     pub fn none() -> Self
         ensures { result ≡ 0 }
     {
-        Compared { count: 0 }
+        Comparisons { count: 0 }
     }
 
     /// How many were.
@@ -65,7 +65,7 @@ impl GrantKey {
     }
 
     /// The key's order to this name. The comparison is counted.
-    pub fn order(&self, client: ClientId, number: u8, compared: &mut Compared) -> Ordering
+    pub fn order(&self, client: ClientId, number: u8, compared: &mut Comparisons) -> Ordering
         requires { compared.old + 1 < 2 ^ 32 }
         ensures counted { compared.new ≡ compared.old + 1 }
         ensures order { IsOrderOf self.now (client, number) result }

@@ -17,7 +17,7 @@ mod key;
 
 use ata_types::{ClientId, GrantRow, MOST_REQUEST_SECTORS, Op, Request, Rule};
 use dma_frames::FrameTable;
-pub use key::Compared;
+pub use key::Comparisons;
 use key::GrantKey;
 use std::alloc::{AllocError, Global};
 use std::cmp::Ordering;
@@ -59,7 +59,7 @@ impl Grants {
     }
 
     /// The place of the client's row under this number, if there is one. At most 7 keys are compared.
-    pub fn find(&self, client: ClientId, number: u8, compared: &mut Compared) -> Option<usize>
+    pub fn find(&self, client: ClientId, number: u8, compared: &mut Comparisons) -> Option<usize>
         requires room { compared.old + 7 < 2 ^ 32 }
         ensures place { IsRowAt client number self.now result }
         ensures counts { compared.old ≤ compared.new }
@@ -72,7 +72,7 @@ impl Grants {
     pub fn row(&self, client: ClientId, number: u8) -> Option<GrantRow>
         ensures { (row : GrantRow) → (result ≡ Some row) ↔ (Contains self.now row × Names client number row) }
     {
-        let mut compared = Compared::none();
+        let mut compared = Comparisons::none();
         match self.find(client, number, &mut compared) {
             Some(place) => Some(self.rows[place]),
             None => None,
@@ -86,7 +86,7 @@ impl Grants {
             × (self.new ≡ without_row client number self.old)) }
         ensures none { result ≡ None → (self.new ≡ self.old) × (HasRow client number self.old → ⊥) }
     {
-        let mut compared = Compared::none();
+        let mut compared = Comparisons::none();
         let place = self.find(client, number, &mut compared)?;
         self.keys.remove(place);
         let row = self.rows.remove(place);
@@ -119,7 +119,7 @@ fn find_key(
     keys: &[GrantKey],
     client: ClientId,
     number: u8,
-    compared: &mut Compared,
+    compared: &mut Comparisons,
 ) -> Option<usize>
     requires few { length keys.now ≤ 64 }
     requires order { AreInOrder keys.now }
@@ -147,7 +147,7 @@ pub fn decide(request: &Request, grants: &Grants, table: &FrameTable) -> Result<
     ensures ok { OnOk result (BreaksNone grants.now (owner_of table.now) (lent_to table.now) request.now) }
     ensures err { IfErr result (IsFirstBroken grants.now (owner_of table.now) (lent_to table.now) request.now) }
 {
-    let mut compared = Compared::none();
+    let mut compared = Comparisons::none();
     let Some(place) = grants.find(request.client, request.grant, &mut compared) else {
         return Err(Rule::NoGrant);
     };

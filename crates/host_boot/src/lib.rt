@@ -88,8 +88,7 @@ fn survey<A: Adapter>(adapter: &mut A) -> (Capabilities, u32)
     ensures leaves { LeavesPorts (A.device adapter.old) (A.device adapter.new) }
     ensures followed { IsSimulated IsOfHost AnyUse (A.device adapter.old) (A.device adapter.new) }
     ensures surveys { IsDrivenBy IsSurvey (A.device adapter.old) (A.device adapter.new) }
-    ensures capable { result.0.0 ≡ (A.device adapter.new).cap }
-    ensures there { result.1 ≡ (A.device adapter.new).pi }
+    ensures told { (result.0.0 ≡ (A.device adapter.new).cap) × (result.1 ≡ (A.device adapter.new).pi) }
     ensures cost { MakesAtMost 2 (A.access_count adapter.old) (A.access_count adapter.new) }
 {
     law_base();

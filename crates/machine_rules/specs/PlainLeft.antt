@@ -1,9 +1,9 @@
 -- The small histories of the plain program as histories of the machine. The newest stands first.
 use Rattle.std.specs.Prelude.{◌≡◌, ◌⊎◌, ℕ, ◌+◌, ◌%◌, ◌<◌, ◌≤◌, true, List, [], map, Option, Some, None, IfSome, IfNone}
 use Rattle.ata_types.specs.declared.Port.{Port}
-use Rattle.machine_rules.specs.declared.history.Filled.{Filled}
-use Rattle.machine_rules.specs.declared.history.Happened.{Happened}
-use Rattle.machine_rules.specs.declared.history.Happened.TheVariants.{Touched, Plugged}
+use Rattle.machine_rules.specs.declared.history.HistoryRequest.{HistoryRequest}
+use Rattle.machine_rules.specs.declared.history.DiskEvent.{DiskEvent}
+use Rattle.machine_rules.specs.declared.history.DiskEvent.TheVariants.{Touched, Plugged}
 use Rattle.block_machine.specs.Due.{is_writer}
 use Rattle.block_machine.specs.State.{Accepted, Machine}
 use Rattle.block_machine.specs.Steps.{Step, Touch, Replace, newly_accepted}
@@ -14,7 +14,7 @@ abbrev pub byte_of : ℕ → ℕ → ℕ
 byte_of fill n = (fill + n) % 256
 
 -- a request of this fill: its i-th sector has the byte of i
-abbrev pub accepted_of : Filled → Accepted
+abbrev pub accepted_of : HistoryRequest → Accepted
 accepted_of r = record {
   id = r.id;
   port = r.port;
@@ -30,12 +30,12 @@ accepted_of r = record {
 }
 
 -- a happening as a step
-abbrev pub step_of : Happened → Step
+abbrev pub step_of : DiskEvent → Step
 step_of (Touched r i) = Touch (newly_accepted (accepted_of r)) i (λ b. byte_of r.fill i)
 step_of (Plugged port fill) = Replace port 0 0 (λ k b. byte_of fill k)
 
 -- happenings as steps
-abbrev pub history_of : List Happened → List Step
+abbrev pub history_of : List DiskEvent → List Step
 history_of happened = map step_of happened
 
 -- a machine whose disks have this fill: sector k has the byte of k
@@ -56,19 +56,19 @@ start_filled fill = record {
 }
 
 -- the step is a touch of sector k by this write or trim, of the read's port and accepted before it
-pub record IsWriterNow (read : Filled) (k : ℕ) (step : Step) (w : Filled) : Type 0 where
+pub record IsWriterNow (read : HistoryRequest) (k : ℕ) (step : Step) (w : HistoryRequest) : Type 0 where
   pub writes : is_writer w.op ≡ true
   pub here : w.port ≡ read.port
   pub earlier : w.id.0 < read.id.0
   pub touched : IsTouch step (accepted_of w) k
 
 -- the one accepted later, if there are two
-abbrev pub IsLater : Option Filled → Filled → Filled → Type 0
+abbrev pub IsLater : Option HistoryRequest → HistoryRequest → HistoryRequest → Type 0
 IsLater None new found = found ≡ new
 IsLater (Some old) new found = (new.id.0 ≤ found.id.0) × (old.id.0 ≤ found.id.0) × ((found ≡ new) ⊎ (found ≡ old))
 
 -- the last in order of acceptance of those that wrote the sector, or none did
-pub record IsLastWriter (port : Port) (k n before : ℕ) (history : List Step) (found : Option Filled) : Type 0 where
+pub record IsLastWriter (port : Port) (k n before : ℕ) (history : List Step) (found : Option HistoryRequest) : Type 0 where
   pub wrote : IfSome found (λ w. Wrote port k n before history (accepted_of w))
   pub last : IfSome found (λ w. (other : Accepted) → Wrote port k n before history other → other.id.0 ≤ w.id.0)
   pub none : IfNone found ((other : Accepted) → Wrote port k n before history other → ⊥)

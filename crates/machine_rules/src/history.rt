@@ -10,7 +10,7 @@ use block_machine::is_writer;
 
 /// A request of a small history. A write has, in all places of its i-th sector, the byte `fill` + i, modulo 256.
 #[derive(Clone, Copy, Debug, Default, PartialEq, Eq)]
-pub struct Filled {
+pub struct HistoryRequest {
     pub id: RequestId,
     pub port: Port,
     pub op: Op,
@@ -20,16 +20,16 @@ pub struct Filled {
 
 /// What happened to a disk.
 #[derive(Clone, Copy, Debug, PartialEq, Eq)]
-pub enum Happened {
+pub enum DiskEvent {
     /// A sector of a request was moved or cleared, by its number in the request.
-    Touched(Filled, u32),
+    Touched(HistoryRequest, u32),
     /// A disk was put in. With `fill` as the number here, it has the byte `fill` + k, modulo 256, in all places of
     /// sector k.
     Plugged(Port, u8),
 }
 
 /// How many disks were put in at the port.
-fn plug_count(port: Port, history: &[Happened]) -> usize
+fn plug_count(port: Port, history: &[DiskEvent]) -> usize
     ensures count { result ≡ left.plug_count port (history_of history.now) }
     ensures few { result ≤ length history.now }
 {
@@ -38,7 +38,7 @@ fn plug_count(port: Port, history: &[Happened]) -> usize
         Some((newest, past)) => {
             let count = plug_count(port, past);
             match newest {
-                Happened::Plugged(at, _) if at.0 == port.0 => count + 1,
+                DiskEvent::Plugged(at, _) if at.0 == port.0 => count + 1,
                 _ => count,
             }
         }
@@ -46,20 +46,20 @@ fn plug_count(port: Port, history: &[Happened]) -> usize
 }
 
 /// Whether this is a touch of the sector by the request.
-fn touches(read: &Filled, sector: u64, happened: &Happened) -> bool
+fn touches(read: &HistoryRequest, sector: u64, happened: &DiskEvent) -> bool
     ensures { result ≡ left.touches read.now.id sector (step_of happened.now) }
 {
     match happened {
-        Happened::Touched(request, number) => {
+        DiskEvent::Touched(request, number) => {
             let touched = request.range.first.0 as u128 + *number as u128;
             request.id.0 == read.id.0 && touched == sector as u128
         }
-        Happened::Plugged(_, _) => false,
+        DiskEvent::Plugged(_, _) => false,
     }
 }
 
 /// The number of the disk that was in when the read last touched the sector.
-fn disk_number_read(read: &Filled, sector: u64, history: &[Happened]) -> usize
+fn disk_number_read(read: &HistoryRequest, sector: u64, history: &[DiskEvent]) -> usize
     ensures { result ≡ left.disk_number_read (accepted_of read.now) sector (history_of history.now) }
 {
     match history.split_first() {
@@ -82,7 +82,7 @@ fn byte_of(fill: u8, number: u64) -> u8
 }
 
 /// The fill that the disk with this number had when it was put in.
-fn fill_when_plugged(start: u8, port: Port, number: usize, history: &[Happened]) -> u8
+fn fill_when_plugged(start: u8, port: Port, number: usize, history: &[DiskEvent]) -> u8
     ensures { (k b : ℕ)
         → left.bytes_when_plugged (start_filled start) port number
         (history_of history.now) k b ≡ plain_left.byte_of result k }
@@ -90,21 +90,21 @@ fn fill_when_plugged(start: u8, port: Port, number: usize, history: &[Happened])
     match history.split_first() {
         None => start,
         Some((newest, past)) => match newest {
-            Happened::Plugged(at, fill) if at.0 == port.0 && plug_count(port, past) + 1 == number =>
-                { *fill }
+            DiskEvent::Plugged(at, fill)
+                if at.0 == port.0 && plug_count(port, past) + 1 == number => { *fill }
             _ => fill_when_plugged(start, port, number, past),
         },
     }
 }
 
 /// Whether this is a touch of the sector of the read by an earlier write or trim of its port.
-fn writes(read: &Filled, sector: u64, happened: &Happened) -> Option<Filled>
+fn writes(read: &HistoryRequest, sector: u64, happened: &DiskEvent) -> Option<HistoryRequest>
     ensures some { IfSome result (IsWriterNow read.now sector (step_of happened.now)) }
-    ensures none { IfNone result ((w : Filled)
+    ensures none { IfNone result ((w : HistoryRequest)
         → IsWriterNow read.now sector (step_of happened.now) w → ⊥) }
 {
     match happened {
-        Happened::Touched(writer, number) => {
+        DiskEvent::Touched(writer, number) => {
             let touched = writer.range.first.0 as u128 + *number as u128;
             let here = writer.port.0 == read.port.0 && touched == sector as u128;
             if here && is_writer(writer.op) && writer.id.0 < read.id.0 {
@@ -113,12 +113,12 @@ fn writes(read: &Filled, sector: u64, happened: &Happened) -> Option<Filled>
                 None
             }
         }
-        Happened::Plugged(_, _) => None,
+        DiskEvent::Plugged(_, _) => None,
     }
 }
 
 /// The later of the two in order of acceptance; the second where they are one.
-fn later(old: Option<Filled>, new: Filled) -> Filled
+fn later(old: Option<HistoryRequest>, new: HistoryRequest) -> HistoryRequest
     ensures { IsLater old new result }
 {
     match old {
@@ -129,7 +129,12 @@ fn later(old: Option<Filled>, new: Filled) -> Filled
 
 /// The last in order of acceptance of the writes and trims accepted before the read that touched the sector while the
 /// disk with this number was in.
-fn last_writer(read: &Filled, sector: u64, disk: usize, history: &[Happened]) -> Option<Filled>
+fn last_writer(
+    read: &HistoryRequest,
+    sector: u64,
+    disk: usize,
+    history: &[DiskEvent],
+) -> Option<HistoryRequest>
     ensures { IsLastWriter read.now.port sector disk read.now.id.0 (history_of history.now) result }
 {
     match history.split_first() {
@@ -145,7 +150,7 @@ fn last_writer(read: &Filled, sector: u64, disk: usize, history: &[Happened]) ->
 }
 
 /// What a write or trim puts on the sector: its own byte, or zeros.
-fn written(writer: Filled, sector: u64) -> u8
+fn written(writer: HistoryRequest, sector: u64) -> u8
     ensures { (b : ℕ)
         → written_by writer.op (accepted_of writer).held (sector - writer.range.first.0) b ≡ result }
 {
@@ -157,7 +162,7 @@ fn written(writer: Filled, sector: u64) -> u8
 
 /// What the writes and trims accepted before the read left on the sector, as the byte in all its places. The newest
 /// happening stands first, and the disks had the fill `start` before the first.
-pub fn left(start: u8, history: &[Happened], read: &Filled, sector: u64) -> u8
+pub fn left(start: u8, history: &[DiskEvent], read: &HistoryRequest, sector: u64) -> u8
     ensures { (block : Block) × left.IsLeft (start_filled start) (history_of history.now)
         (accepted_of read.now) sector block
         × ((b : ℕ) → block b ≡ result) }

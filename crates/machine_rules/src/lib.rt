@@ -10,5 +10,5 @@ pub mod laws;
 mod refuse;
 
 pub use due::{due_list, is_due};
-pub use history::{Filled, Happened, left};
+pub use history::{DiskEvent, HistoryRequest, left};
 pub use refuse::{PortShown, Tables};

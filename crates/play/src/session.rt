@@ -20,7 +20,7 @@ use adapter::{Adapter, DeviceStep, Stepped};
 use ata_types::Call;
 use block_server::laws::law_runs_keep_their_promise;
 use block_server::{Sayings, Server};
-use configuration::{Config, ConfigFault, Kind};
+use configuration::{Config, ConfigFault, FaultKind};
 use device_model::{Model, NoMemory, Watched};
 use script::{BadLine, check_script, first_line, read_asked};
 use sector_store::SectorStore;
@@ -33,7 +33,7 @@ pub enum Ended {
     /// Every line was played, and all is printed.
     Done,
     /// The configuration has a fault; of several that of the least number is told. Nothing is printed.
-    Config(Kind),
+    Config(FaultKind),
     /// The first line of the script that is spelled as none has this number. Nothing is printed.
     Line(u64),
     /// Memory was refused. Without a model, it was before the first line, and nothing is printed. With one, what the

@@ -9,16 +9,14 @@
 
 ghost use Rattle.std.specs.Prelude.{ℕ, ◌≡◌, ◌≢◌, ◌<◌, ◌≤◌, ◌||◌, true, false, IfOk, IfErr, OnOk};
 ghost use Rattle.hba_regs.specs.Bits.{bit};
-ghost use Rattle.hba_regs.specs.declared.reg.PortReg.TheVariants.{Ssts, Tfd};
 ghost use Rattle.adapter.specs.Rules.{IsOn};
 ghost use Rattle.refinement.specs.Driven.{AnyUse, IsControl, IsSimulated, IsSimulatedAlong};
 ghost use Rattle.refinement.specs.Driver.{AllFree};
-ghost use Rattle.refinement.specs.Errors.{NoneComes};
-ghost use Rattle.refinement.specs.Facts.{IsAfterReset, IsAwaited, IsQuiet, IsUnflagged};
-ghost use Rattle.refinement.specs.Started.{IsUp, IsComingUp};
+ghost use Rattle.refinement.specs.Facts.{IsAfterReset};
 ghost use Rattle.port_control.specs.Calls.{AsksForDevice, FindsDisk, FindsFault, MayBeginReceiving, MayBeStarted, MayForget, MayResetLink, StaysReceiving, Starts, StaysStopped};
 ghost use Rattle.port_control.specs.Engines.{FailsToStopReceiving, StopsReceiving};
-ghost use Rattle.port_control.specs.Ports.{FailsToStopPort, FailsToReceive, PortStops, Receives, WritesCommand, IsPlacing, IsClearing, IsResetting, IsUsable, IsStopped, ReceivesFises, SawDevice, SawIdle, BacksFault, SameBeside, HasStopped, HasLink, ShowsIdle, ReadsWithout, ReadsUntil, ClearsErrors, FindsSignature, Looks, WasReset, HasClearErrors, FindsAwaited, Forgets, ShowsSignature, programmed};
+ghost use Rattle.port_control.specs.Parts.{AwaitsIdle, ClearsFre, FindsDevice, LeavesNoError, MissesDevice, PlacesAreas, SeesDisk, SeesFault, SendsComreset};
+ghost use Rattle.port_control.specs.Ports.{FailsToStopPort, FailsToReceive, PortStops, Receives, WritesCommand, IsPlacing, IsClearing, IsResetting, IsUsable, IsStopped, ReceivesFises, SawDevice, BacksFault, SameBeside, HasStopped, Forgets, programmed};
 ghost use Rattle.adapter.specs.Counted.{MakesAtMost};
 ghost use Rattle.port_control.specs.Costs.{AWAIT_DEVICE_ACCESSES, CLEAR_ACCESSES, COMRESET_ACCESSES, FORGET_ACCESSES, RECEIVE_ACCESSES, SHOW_ACCESSES, START_ACCESSES, STOP_ACCESSES};
 
@@ -129,16 +127,13 @@ pub fn stop<A: Adapter>(adapter: &mut A, port: Port) -> Result<Stopped, PortFaul
 fn stop_receiving<A: Adapter>(adapter: &mut A, port: Port) -> bool
     requires usable { IsUsable AnyUse port (A.device adapter.old) }
     requires stopped { IsStopped ((A.device adapter.old).port port.0) }
+    ensures clears { ClearsFre ((A.device adapter.old).port port.0) ((A.device adapter.new).port port.0) }
     ensures stops { result ≡ true → IsSimulatedAlong (StopsReceiving port) (IsControl WritesCommand port) AnyUse
         (A.device adapter.old) (A.device adapter.new) }
-    ensures sticks { result ≡ false → IsSimulatedAlong (FailsToStopReceiving port) (IsControl WritesCommand port) AnyUse
-        (A.device adapter.old) (A.device adapter.new) }
-    ensures stopped { IsStopped ((A.device adapter.new).port port.0) }
-    ensures fre { ((A.device adapter.new).port port.0).fre ≡ false }
-    ensures bases { ((A.device adapter.new).port port.0).bases ≡ ((A.device adapter.old).port port.0).bases }
-    ensures same { SameBeside ((A.device adapter.old).port port.0) ((A.device adapter.new).port port.0) }
     ensures fallen { result ≡ true → ((A.device adapter.new).port port.0).fr ≡ false }
-    ensures stuck { result ≡ false → BacksFault PortFault.EngineStuck ((A.device adapter.new).port port.0).notes }
+    ensures sticks { result ≡ false → IsSimulatedAlong (FailsToStopReceiving port) (IsControl WritesCommand port) AnyUse
+        (A.device adapter.old) (A.device adapter.new)
+        × BacksFault PortFault.EngineStuck ((A.device adapter.new).port port.0).notes }
     ensures cost { MakesAtMost STOP_ACCESSES (A.access_count adapter.old) (A.access_count adapter.new) }
 {
     law_base();
@@ -159,9 +154,7 @@ fn place<A: Adapter>(adapter: &mut A, port: Port)
     requires quiet { IsAfterReset ((A.device adapter.old).port port.0) }
     requires room { DRIVER_BYTES ≤ (A.device adapter.old).size }
     ensures followed { IsSimulated (IsControl IsPlacing port) AnyUse (A.device adapter.old) (A.device adapter.new) }
-    ensures quiet { IsAfterReset ((A.device adapter.new).port port.0) }
-    ensures bases { ((A.device adapter.new).port port.0).bases ≡ programmed port.0 }
-    ensures same { SameBeside ((A.device adapter.old).port port.0) ((A.device adapter.new).port port.0) }
+    ensures places { PlacesAreas port.0 ((A.device adapter.old).port port.0) ((A.device adapter.new).port port.0) }
     ensures cost { MakesAtMost 4 (A.access_count adapter.old) (A.access_count adapter.new) }
 {
     law_base();
@@ -220,11 +213,7 @@ fn send_comreset<A: Adapter>(adapter: &mut A, port: Port)
     requires usable { IsUsable AnyUse port (A.device adapter.old) }
     requires receives { ReceivesFises port.0 ((A.device adapter.old).port port.0) }
     ensures followed { IsSimulated (IsControl IsResetting port) AnyUse (A.device adapter.old) (A.device adapter.new) }
-    ensures receives { ReceivesFises port.0 ((A.device adapter.new).port port.0) }
-    ensures reset { WasReset port (λ ended new. new ≡ ended) (A.device adapter.old) (A.device adapter.new) }
-    ensures awaited { IsAwaited ((A.device adapter.new).port port.0) }
-    ensures coming { NoneComes port.0 (A.device adapter.old) (A.device adapter.new) → IsComingUp
-        ((A.device adapter.new).port port.0) }
+    ensures sends { SendsComreset port (A.device adapter.old) (A.device adapter.new) }
     ensures cost { MakesAtMost 2 (A.access_count adapter.old) (A.access_count adapter.new) }
 {
     law_base();
@@ -237,13 +226,8 @@ fn wait_for_device<A: Adapter>(adapter: &mut A, port: Port) -> bool
     requires usable { IsUsable AnyUse port (A.device adapter.old) }
     requires det { ((A.device adapter.old).port port.0).sctl_det ≡ 0 }
     ensures followed { IsSimulated (IsControl IsClearing port) AnyUse (A.device adapter.old) (A.device adapter.new) }
-    ensures saw { result ≡ true → SawDevice ((A.device adapter.new).port port.0).notes }
-    ensures missing { result ≡ false → BacksFault PortFault.NoDevice ((A.device adapter.new).port port.0).notes }
-    ensures sees { result ≡ true → ReadsUntil port Ssts HasLink (A.device adapter.old) (A.device adapter.new) }
-    ensures misses { result ≡ false → ReadsWithout port Ssts HasLink MOST_READINGS (A.device adapter.old)
-        (A.device adapter.new) }
-    ensures up { result ≡ true → NoneComes port.0 (A.device adapter.old) (A.device adapter.new)
-        → IsComingUp ((A.device adapter.old).port port.0) → IsUp ((A.device adapter.new).port port.0) }
+    ensures finds { result ≡ true → FindsDevice port (A.device adapter.old) (A.device adapter.new) }
+    ensures misses { result ≡ false → MissesDevice port (A.device adapter.old) (A.device adapter.new) }
     ensures cost { MakesAtMost MOST_READINGS (A.access_count adapter.old) (A.access_count adapter.new) }
 {
     law_base();
@@ -263,10 +247,7 @@ fn clear_errors<A: Adapter>(adapter: &mut A, port: Port)
     ensures followed { IsSimulated (IsControl IsClearing port) AnyUse (A.device adapter.old) (A.device adapter.new) }
     ensures saw { SawDevice ((A.device adapter.old).port port.0).notes → SawDevice
         ((A.device adapter.new).port port.0).notes }
-    ensures calm { (place : ℕ) → place < 32 → ((A.device adapter.new).port port.0).is place ≡ false }
-    ensures clears { ClearsErrors port (A.device adapter.old) (A.device adapter.new) }
-    ensures clear { ((A.device adapter.old).port port.0).link_due ≡ false → HasClearErrors port.0
-        (A.device adapter.old) (A.device adapter.new) }
+    ensures clears { LeavesNoError port (A.device adapter.old) (A.device adapter.new) }
     ensures cost { MakesAtMost CLEAR_ACCESSES (A.access_count adapter.old) (A.access_count adapter.new) }
 {
     law_base();
@@ -310,15 +291,7 @@ fn wait_until_idle<A: Adapter>(adapter: &mut A, port: Port) -> bool
     requires det { ((A.device adapter.old).port port.0).sctl_det ≡ 0 }
     requires saw { SawDevice ((A.device adapter.old).port port.0).notes }
     ensures followed { IsSimulated (IsControl IsClearing port) AnyUse (A.device adapter.old) (A.device adapter.new) }
-    ensures saw { SawDevice ((A.device adapter.new).port port.0).notes }
-    ensures idle { result ≡ true → SawIdle ((A.device adapter.new).port port.0).notes }
-    ensures busy { result ≡ false → BacksFault PortFault.Busy ((A.device adapter.new).port port.0).notes }
-    ensures waits { result ≡ true → ReadsUntil port Tfd ShowsIdle (A.device adapter.old) (A.device adapter.new) }
-    ensures stays { result ≡ false → ReadsWithout port Tfd ShowsIdle MOST_READINGS (A.device adapter.old)
-        (A.device adapter.new) }
-    ensures quiet { IsAwaited ((A.device adapter.old).port port.0) → IsUnflagged ((A.device adapter.old).port port.0)
-        → bit ((A.device adapter.new).port port.0).notes.last_tfd 3 ≡ false
-        → IsQuiet ((A.device adapter.new).port port.0) }
+    ensures awaits { AwaitsIdle port result (A.device adapter.old) (A.device adapter.new) }
     ensures cost { MakesAtMost MOST_READINGS (A.access_count adapter.old) (A.access_count adapter.new) }
 {
     law_base();
@@ -337,18 +310,8 @@ fn look<A: Adapter>(adapter: &mut A, port: Port) -> Result<(), PortFault>
     requires receives { ReceivesFises port.0 ((A.device adapter.old).port port.0) }
     requires det { ((A.device adapter.old).port port.0).sctl_det ≡ 0 }
     ensures followed { IsSimulated (IsControl IsClearing port) AnyUse (A.device adapter.old) (A.device adapter.new) }
-    ensures ready { OnOk result (let notes = ((A.device adapter.new).port port.0).notes in SawDevice notes
-        × SawIdle notes × (notes.last_sig ≡ 0x101)) }
-    ensures fault { IfErr result (λ fault. BacksFault fault ((A.device adapter.new).port port.0).notes
-        × (fault ≢ PortFault.EngineStuck)) }
-    ensures looks { OnOk result (FindsSignature port 0x101 (A.device adapter.old) (A.device adapter.new)) }
-    ensures looks_at_fault { IfErr result (λ fault. Looks port fault (A.device adapter.old) (A.device adapter.new)) }
-    ensures found { OnOk result (FindsAwaited port.0 (A.device adapter.old) (A.device adapter.new)) }
-    ensures found_at_fault { IfErr result (λ fault. fault ≢ PortFault.NoDevice → FindsAwaited port.0
-        (A.device adapter.old) (A.device adapter.new)) }
-    ensures signature { OnOk result (ShowsSignature ((A.device adapter.new).port port.0)) }
-    ensures signature_at_fault { IfErr result (λ fault. (signature : ℕ) → fault ≡ PortFault.NotAta signature
-        → ShowsSignature ((A.device adapter.new).port port.0)) }
+    ensures sees { OnOk result (SeesDisk port (A.device adapter.old) (A.device adapter.new)) }
+    ensures fault { IfErr result (λ fault. SeesFault port fault (A.device adapter.old) (A.device adapter.new)) }
     ensures cost { MakesAtMost AWAIT_DEVICE_ACCESSES (A.access_count adapter.old) (A.access_count adapter.new) }
 {
     law_base();

@@ -1,7 +1,7 @@
 // What a configuration asks of a server, and which values break its rules. Texts of configurations stand in the cases
 // of the program.
 use ata_types::{ClientId, Frame, GrantRow, Port, Rights, Sector};
-use configuration::{ClientConfig, Config, GrantConfig, Kind, Plan, PortConfig};
+use configuration::{ClientConfig, Config, GrantConfig, FaultKind, Plan, PortConfig};
 use identify::Wanted;
 use std::alloc::Global;
 use std::test::Fail;
@@ -136,11 +136,11 @@ fn values_that_break_a_rule_are_refused(rt: HostRuntime) -> Result<(), Fail> {
     for (added, kind) in [
         (Added::Client(8, 255, 1), None),
         (Added::Grant(8, 1, 0), None),
-        (Added::Grant(1, 1, 1), Some(Kind::UnknownPort)),
-        (Added::Grant(2, 1, 0), Some(Kind::UnknownClient)),
-        (Added::Client(3, 115, 1), Some(Kind::SharedFrames)),
-        (Added::Port(0), Some(Kind::Duplicate)),
-        (Added::Client(1, u64::MAX, u64::MAX), Some(Kind::OutOfRange)),
+        (Added::Grant(1, 1, 1), Some(FaultKind::UnknownPort)),
+        (Added::Grant(2, 1, 0), Some(FaultKind::UnknownClient)),
+        (Added::Client(3, 115, 1), Some(FaultKind::SharedFrames)),
+        (Added::Port(0), Some(FaultKind::Duplicate)),
+        (Added::Client(1, u64::MAX, u64::MAX), Some(FaultKind::OutOfRange)),
     ] {
         match added {
             Added::Port(number) => config.port.push(PortConfig {

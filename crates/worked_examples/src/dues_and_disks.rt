@@ -2,7 +2,7 @@
 use arrayvec::ArrayVec;
 use ata_types::{Op, Port, Range, RequestId, Sector};
 use block_machine::{QueueMode, Unanswered};
-use machine_rules::{Filled, Happened, due_list, left};
+use machine_rules::{HistoryRequest, DiskEvent, due_list, left};
 use std::process::Abort;
 
 /// A request in a book: its id, port, operation, first sector and sectors, and whether it is issued.
@@ -176,7 +176,7 @@ fn due_requests_are_told(rt: HostRuntime) {
     }
 }
 
-const LONG_WRITE: Filled = Filled {
+const LONG_WRITE: HistoryRequest = HistoryRequest {
     id: RequestId(1),
     port: Port(0),
     op: Op::Write,
@@ -187,7 +187,7 @@ const LONG_WRITE: Filled = Filled {
     fill: 7,
 };
 
-const LONG_READ: Filled = Filled {
+const LONG_READ: HistoryRequest = HistoryRequest {
     id: RequestId(2),
     port: Port(0),
     op: Op::Read,
@@ -198,7 +198,7 @@ const LONG_READ: Filled = Filled {
     fill: 0,
 };
 
-const FIRST_WRITE: Filled = Filled {
+const FIRST_WRITE: HistoryRequest = HistoryRequest {
     id: RequestId(1),
     port: Port(0),
     op: Op::Write,
@@ -209,7 +209,7 @@ const FIRST_WRITE: Filled = Filled {
     fill: 1,
 };
 
-const SECOND_READ: Filled = Filled {
+const SECOND_READ: HistoryRequest = HistoryRequest {
     id: RequestId(2),
     port: Port(0),
     op: Op::Read,
@@ -220,7 +220,7 @@ const SECOND_READ: Filled = Filled {
     fill: 0,
 };
 
-const THIRD_WRITE: Filled = Filled {
+const THIRD_WRITE: HistoryRequest = HistoryRequest {
     id: RequestId(3),
     port: Port(0),
     op: Op::Write,
@@ -231,7 +231,7 @@ const THIRD_WRITE: Filled = Filled {
     fill: 3,
 };
 
-const FOURTH_TRIM: Filled = Filled {
+const FOURTH_TRIM: HistoryRequest = HistoryRequest {
     id: RequestId(4),
     port: Port(0),
     op: Op::Trim,
@@ -242,7 +242,7 @@ const FOURTH_TRIM: Filled = Filled {
     fill: 0,
 };
 
-const FIFTH_READ: Filled = Filled {
+const FIFTH_READ: HistoryRequest = HistoryRequest {
     id: RequestId(5),
     port: Port(0),
     op: Op::Read,
@@ -253,7 +253,7 @@ const FIFTH_READ: Filled = Filled {
     fill: 0,
 };
 
-const SECOND_WRITE: Filled = Filled {
+const SECOND_WRITE: HistoryRequest = HistoryRequest {
     id: RequestId(2),
     port: Port(0),
     op: Op::Write,
@@ -264,7 +264,7 @@ const SECOND_WRITE: Filled = Filled {
     fill: 2,
 };
 
-const THIRD_READ: Filled = Filled {
+const THIRD_READ: HistoryRequest = HistoryRequest {
     id: RequestId(3),
     port: Port(0),
     op: Op::Read,
@@ -275,7 +275,7 @@ const THIRD_READ: Filled = Filled {
     fill: 0,
 };
 
-const WRITE_FROM_100: Filled = Filled {
+const WRITE_FROM_100: HistoryRequest = HistoryRequest {
     id: RequestId(1),
     port: Port(0),
     op: Op::Write,
@@ -286,7 +286,7 @@ const WRITE_FROM_100: Filled = Filled {
     fill: 1,
 };
 
-const WRITE_FROM_104: Filled = Filled {
+const WRITE_FROM_104: HistoryRequest = HistoryRequest {
     id: RequestId(2),
     port: Port(0),
     op: Op::Write,
@@ -297,7 +297,7 @@ const WRITE_FROM_104: Filled = Filled {
     fill: 2,
 };
 
-const READ_FROM_98: Filled = Filled {
+const READ_FROM_98: HistoryRequest = HistoryRequest {
     id: RequestId(3),
     port: Port(0),
     op: Op::Read,
@@ -308,7 +308,7 @@ const READ_FROM_98: Filled = Filled {
     fill: 0,
 };
 
-const WRITE_FROM_96: Filled = Filled {
+const WRITE_FROM_96: HistoryRequest = HistoryRequest {
     id: RequestId(1),
     port: Port(0),
     op: Op::Write,
@@ -319,7 +319,7 @@ const WRITE_FROM_96: Filled = Filled {
     fill: 7,
 };
 
-const WRITE_THERE: Filled = Filled {
+const WRITE_THERE: HistoryRequest = HistoryRequest {
     id: RequestId(1),
     port: Port(1),
     op: Op::Write,
@@ -331,77 +331,77 @@ const WRITE_THERE: Filled = Filled {
 };
 
 // What happened, the latest first.
-const CUT_SHORT: &[Happened] = &[
-    Happened::Touched(LONG_WRITE, 1),
-    Happened::Touched(LONG_WRITE, 0),
+const CUT_SHORT: &[DiskEvent] = &[
+    DiskEvent::Touched(LONG_WRITE, 1),
+    DiskEvent::Touched(LONG_WRITE, 0),
 ];
 
-const ANOTHER_DISK: &[Happened] = &[
-    Happened::Touched(LONG_READ, 0),
-    Happened::Plugged(Port(0), 9),
-    Happened::Touched(LONG_WRITE, 1),
-    Happened::Touched(LONG_WRITE, 0),
+const ANOTHER_DISK: &[DiskEvent] = &[
+    DiskEvent::Touched(LONG_READ, 0),
+    DiskEvent::Plugged(Port(0), 9),
+    DiskEvent::Touched(LONG_WRITE, 1),
+    DiskEvent::Touched(LONG_WRITE, 0),
 ];
 
-const WRITTEN_AGAIN: &[Happened] = &[
-    Happened::Touched(FIFTH_READ, 0),
-    Happened::Touched(FOURTH_TRIM, 0),
-    Happened::Touched(THIRD_WRITE, 0),
-    Happened::Touched(SECOND_READ, 0),
-    Happened::Touched(FIRST_WRITE, 0),
-    Happened::Touched(FIRST_WRITE, 0),
+const WRITTEN_AGAIN: &[DiskEvent] = &[
+    DiskEvent::Touched(FIFTH_READ, 0),
+    DiskEvent::Touched(FOURTH_TRIM, 0),
+    DiskEvent::Touched(THIRD_WRITE, 0),
+    DiskEvent::Touched(SECOND_READ, 0),
+    DiskEvent::Touched(FIRST_WRITE, 0),
+    DiskEvent::Touched(FIRST_WRITE, 0),
 ];
 
-const AN_EARLIER_ONE_AGAIN: &[Happened] = &[
-    Happened::Touched(THIRD_READ, 0),
-    Happened::Touched(FIRST_WRITE, 0),
-    Happened::Touched(SECOND_WRITE, 0),
-    Happened::Touched(FIRST_WRITE, 0),
+const AN_EARLIER_ONE_AGAIN: &[DiskEvent] = &[
+    DiskEvent::Touched(THIRD_READ, 0),
+    DiskEvent::Touched(FIRST_WRITE, 0),
+    DiskEvent::Touched(SECOND_WRITE, 0),
+    DiskEvent::Touched(FIRST_WRITE, 0),
 ];
 
-const PLUGGED: &[Happened] = &[
-    Happened::Touched(SECOND_READ, 0),
-    Happened::Plugged(Port(1), 4),
-    Happened::Plugged(Port(0), 8),
-    Happened::Touched(FIRST_WRITE, 0),
+const PLUGGED: &[DiskEvent] = &[
+    DiskEvent::Touched(SECOND_READ, 0),
+    DiskEvent::Plugged(Port(1), 4),
+    DiskEvent::Plugged(Port(0), 8),
+    DiskEvent::Touched(FIRST_WRITE, 0),
 ];
 
-const PLUGGED_AND_WRITTEN: &[Happened] = &[
-    Happened::Touched(SECOND_READ, 0),
-    Happened::Touched(FIRST_WRITE, 0),
-    Happened::Plugged(Port(0), 8),
-    Happened::Touched(FIRST_WRITE, 0),
+const PLUGGED_AND_WRITTEN: &[DiskEvent] = &[
+    DiskEvent::Touched(SECOND_READ, 0),
+    DiskEvent::Touched(FIRST_WRITE, 0),
+    DiskEvent::Plugged(Port(0), 8),
+    DiskEvent::Touched(FIRST_WRITE, 0),
 ];
 
-const PLUGGED_LATER: &[Happened] = &[
-    Happened::Plugged(Port(0), 8),
-    Happened::Touched(SECOND_READ, 0),
-    Happened::Touched(FIRST_WRITE, 0),
+const PLUGGED_LATER: &[DiskEvent] = &[
+    DiskEvent::Plugged(Port(0), 8),
+    DiskEvent::Touched(SECOND_READ, 0),
+    DiskEvent::Touched(FIRST_WRITE, 0),
 ];
 
-const ACROSS: &[Happened] = &[
-    Happened::Touched(READ_FROM_98, 7),
-    Happened::Touched(READ_FROM_98, 6),
-    Happened::Touched(READ_FROM_98, 5),
-    Happened::Touched(READ_FROM_98, 1),
-    Happened::Touched(WRITE_FROM_104, 0),
-    Happened::Touched(WRITE_FROM_100, 4),
-    Happened::Touched(WRITE_FROM_100, 3),
+const ACROSS: &[DiskEvent] = &[
+    DiskEvent::Touched(READ_FROM_98, 7),
+    DiskEvent::Touched(READ_FROM_98, 6),
+    DiskEvent::Touched(READ_FROM_98, 5),
+    DiskEvent::Touched(READ_FROM_98, 1),
+    DiskEvent::Touched(WRITE_FROM_104, 0),
+    DiskEvent::Touched(WRITE_FROM_100, 4),
+    DiskEvent::Touched(WRITE_FROM_100, 3),
 ];
 
-const HERE: &[Happened] = &[
-    Happened::Touched(SECOND_READ, 0),
-    Happened::Touched(WRITE_FROM_96, 4),
+const HERE: &[DiskEvent] = &[
+    DiskEvent::Touched(SECOND_READ, 0),
+    DiskEvent::Touched(WRITE_FROM_96, 4),
 ];
 
-const THERE: &[Happened] = &[
-    Happened::Touched(SECOND_READ, 0),
-    Happened::Touched(WRITE_THERE, 4),
+const THERE: &[DiskEvent] = &[
+    DiskEvent::Touched(SECOND_READ, 0),
+    DiskEvent::Touched(WRITE_THERE, 4),
 ];
 
 /// A case's name, what happened on a disk that is filled from 5 on, the read, a sector, and the byte that is left on
 /// it.
-const LEFT: &[(&str, &[Happened], Filled, u64, u8)] = &[
+const LEFT: &[(&str, &[DiskEvent], HistoryRequest, u64, u8)] = &[
     ("a write that was cut short", CUT_SHORT, LONG_READ, 100, 7),
     ("its second sector", CUT_SHORT, LONG_READ, 101, 8),
     (

@@ -10,8 +10,8 @@ pub loop-covered-init : goal.loop-covered-init
 loop-covered-init c = record {
   number = let e = ap length c.new-entries.ensures in omega (arith, e);
   room = omega arith;
-  within = let w = c.requires.within in omega (arith, w);
-  last = let l = c.requires.last in omega (arith, l);
+  within = let w = c.requires.fill.within in omega (arith, w);
+  last = let l = c.requires.fill.last in omega (arith, l);
   joined = λ es j. subst (λ (xs : List Prd). AreJoined c.args.frames.now c.args.bytes (xs ++ es)) (sym c.new-entries.ensures) j;
 }
 
@@ -49,13 +49,13 @@ returns c =
     let number = v.number in
     let room = v.room in
     let over = c.loop-covered-test.false in
-    let fits : Fits frames c.args.bytes = record { within = c.requires.within; last = c.requires.last } in
+    let fits : Fits frames c.args.bytes = record { within = c.requires.fill.within; last = c.requires.fill.last } in
     let j : AreJoined frames c.args.bytes c.loop-covered.entries.items =
     subst (AreJoined frames c.args.bytes) (append-nil c.loop-covered.entries.items) (v.joined [] (drop_all c.loop-covered.covered frames over, omega (arith, within, over))) in
     record {
       joined = j;
       number = omega (arith, number, room);
-      allowed = all_allowed c.loop-covered.entries.items frames c.args.bytes fits c.requires.even (let few = c.requires.room in omega (arith, few)) j;
+      allowed = all_allowed c.loop-covered.entries.items frames c.args.bytes fits c.requires.fill.even (let few = c.requires.fill.room in omega (arith, few)) j;
       whole = λ whole. all_whole c.loop-covered.entries.items frames c.args.bytes whole j;
       places = λ whole. joined_cover frames c.args.bytes c.loop-covered.entries.items fits j whole;
     }

@@ -42,3 +42,8 @@ returns-clause-says g c = λ m meaning fields one.
 pub returns-clause-block : goal.returns-clause-block
 returns-clause-block g c =
     block_there c.args.port.0 _ c.requires.may.small (at_scratch c.args.port.0 _ _ c.from.ensures c.from-2.ensures) c.args.block.now c.told-block _ _ c.store.ensures.does
+
+pub prds-prds-requires : goal.prds-prds-requires
+prds-prds-requires g c = record {
+  fill = record { room = omega arith; even = omega arith; within = omega arith; last = omega arith };
+}

@@ -1,4 +1,4 @@
-use Rattle.std.proofs.Common.{refl, le_trans}
+use Rattle.std.proofs.Common.{arith, refl, le_trans}
 use Rattle.refinement.specs.Slots.{Own, put}
 use Rattle.disk_page.specs.Asking.{page_operation}
 use Rattle.disk_page.proofs.Asking.{page_is_told, stored_then, may_after, ask_permitted, asked_to, asked_det, asked_on, asked_there, asked_later, asked_waits, stores_leave, stores_asking, stores_agree, stores_silent, stores_there, stores_room}
@@ -40,3 +40,8 @@ returns-clause-asks g c =
       det = asked_det c.law_base.ensures c.args.port c.args.page _ _ w.on (stores_there c.law_base.ensures c.args.port _ _ r.on w.followed r.there) (stores_room c.law_base.ensures c.args.port _ _ r.on w.followed r.room)
           (may_after c.args.port.0 _ _ (stores_leave c.law_base.ensures c.args.port _ _ r.on w.followed) r.may) told c.write.ensures.does;
     }
+
+pub prds-prds-requires : goal.prds-prds-requires
+prds-prds-requires g c = record {
+  fill = record { room = omega arith; even = omega arith; within = omega arith; last = omega arith };
+}

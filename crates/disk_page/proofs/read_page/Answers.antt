@@ -33,11 +33,11 @@ returns-clause-on g c =
 pub returns-then-not-wait-clause-gets : goal.returns-then-not-wait-clause-gets
 returns-then-not-wait-clause-gets g c =
     let r = c.requires.may in
-    let told = asked_in_vain c.law_base.ensures c.args.port (λ uses. put uses c.args.port.0 0 (Own (page_operation c.args.page))) _ _ _ c.ask.ensures.asks.followed (c.wait.ensures.vain c.if-not-wait.true) in
+    let told = asked_in_vain c.law_base.ensures c.args.port (λ uses. put uses c.args.port.0 0 (Own (page_operation c.args.page))) _ _ _ c.ask.ensures.asks.followed (c.wait.ensures.vain c.if-not-wait.true).1 in
     record {
       leaves = asking_leaves_running c.law_base.ensures c.args.port _ _ r.on told.followed.driven;
       agrees = λ uses free agreed. (c.wait.ensures.waiting _ _ _ _ (c.ask.ensures.asks.waiting uses free agreed)).agreed;
-      reads = (c.wait.ensures.still c.if-not-wait.true, told);
+      reads = ((c.wait.ensures.vain c.if-not-wait.true).0, told);
       running = tt;
       silent = λ o page differs. (c.wait.ensures.waiting _ _ _ _ (c.ask.ensures.asks.waiting r.agreed.0 r.agreed.1 r.agreed.2)).silent o page differs;
     }

@@ -1,5 +1,5 @@
 use Rattle.ata_types.specs.declared.limits.TheConstants.{MOST_READINGS}
-use Rattle.std.proofs.Common.{ℕ, ◌≡◌, sym, ◌∙◌, subst, arith}
+use Rattle.std.proofs.Common.{ℕ, ◌≡◌, sym, ◌∙◌, subst, arith, rules}
 use Rattle.refinement.specs.Driven.{AnyUse, IsSimulatedAlong}
 use Rattle.disk_page.specs.Asking.{AreInVain, IsAsking}
 use Rattle.disk_page.proofs.Asking.{pending_first, pending_again, pending_over}
@@ -7,7 +7,7 @@ use Rattle.disk_page.proofs.wait.Goals as goal
 
 pub loop-reading-init : goal.loop-reading-init
 loop-reading-init g c = record {
-  known = pending_first c.law_base.ensures c.args.port _ c.requires.on c.requires.there c.requires.det;
+  known = pending_first c.law_base.ensures c.args.port _ c.requires.may.on c.requires.may.there c.requires.may.det;
   cost = omega arith;
 }
 
@@ -36,4 +36,4 @@ returns-then-not-is_set-clause-over g c = λ _.
 pub returns-clause-vain : goal.returns-clause-vain
 returns-clause-vain g c = λ _.
     let all : c.loop-reading._reading ≡ MOST_READINGS = omega arith in
-    subst (λ (n : ℕ). IsSimulatedAlong (AreInVain c.args.port n) (IsAsking c.args.port) AnyUse (g.A.Adapter.device c.args.adapter.now) (g.A.Adapter.device c.loop-reading.adapter)) all c.loop-reading.invariant.known.told
+    (search rules, subst (λ (n : ℕ). IsSimulatedAlong (AreInVain c.args.port n) (IsAsking c.args.port) AnyUse (g.A.Adapter.device c.args.adapter.now) (g.A.Adapter.device c.loop-reading.adapter)) all c.loop-reading.invariant.known.told)

@@ -40,7 +40,7 @@ returns-in-Some-clause-recovers g c = λ old r.
     let log = g.A.Adapter.device c.read_log.new.adapter in
     let P : Port → Type 0 = λ p. LeavesRunning p.0 start log × SendsNone p.0 Identify start log × ((log.port p.0).halt ≡ NotHalted) × ReadsLog p c.args.outstanding (Some c.in-Some.failed) start log in
     let e = c.in-Some.ensures in
-    let x = subst P same (e.leaves, e.silent, e.running, e.reads) in
+    let x = subst P same (e.asks.leaves, e.asks.silent, e.asks.running, e.asks.reads) in
     names_one c.law_base.ensures port c.args.outstanding true _ _ old _ r _ c.go_on-running.ensures.goes _ refl x.0 x.1 c.in-Some.failed c.others-again.result c.go_on-running.result c.go_on-running.ensures.names
     x.2 x.3 c.others-again.ensures
 
@@ -50,7 +50,7 @@ stop-requires g c =
     let R : Port → Type 0 = λ p. ReadsLog p c.args.outstanding None (g.A.Adapter.device c.go_on-running.new.adapter) (g.A.Adapter.device c.read_log.new.adapter) in
     let H : Port → Type 0 = λ p. HasPort (g.A.Adapter.device c.read_log.new.adapter) p.0 in
     let e = c.in_default.ensures in
-    record { usable = record { on = e.on; there = subst H (sym same) (log_room c.law_base.ensures c.args.quieted.stopped.port c.args.outstanding _ _ e.on (subst R same e.reads) c.go_on-running.ensures.goes.room).there; agreed = e.agreed } }
+    record { usable = record { on = e.on; there = subst H (sym same) (log_room c.law_base.ensures c.args.quieted.stopped.port c.args.outstanding _ _ e.on (subst R same e.asks.reads) c.go_on-running.ensures.goes.room).there; agreed = e.agreed } }
 
 pub returns-in-Ok-clause-recovers : goal.returns-in-Ok-clause-recovers
 returns-in-Ok-clause-recovers g c = λ old r.
@@ -61,7 +61,7 @@ returns-in-Ok-clause-recovers g c = λ old r.
     let new = g.A.Adapter.device c.stop.new.adapter in
     let P : Port → Type 0 = λ p. LeavesRunning p.0 start log × SendsNone p.0 Identify start log × ReadsLog p c.args.outstanding None start log × PortStops p log new × HasStopped (log.port p.0) (new.port p.0) in
     let e = c.in_default.ensures in
-    let x = subst P same (e.leaves, e.silent, e.reads, c.in-Ok.ensures.halts, c.stop.ensures.has) in
+    let x = subst P same (e.asks.leaves, e.asks.silent, e.asks.reads, c.in-Ok.ensures.halts, c.stop.ensures.has) in
     let R : recovered.Recovered → Type 0 = λ result. Recovers port c.args.outstanding true result old new in
     subst R (sym c.unnamed-in-Ok.ensures)
     (restarts c.law_base.ensures port c.args.outstanding true _ _ old _ r _ c.go_on-running.ensures.goes _ refl x.0 x.1 _ c.in-Ok.stopped (c.in-Ok.ensures.names ∙ same) x.4 x.3 x.2)
@@ -75,7 +75,7 @@ returns-in-Err-clause-recovers g c = λ old r.
     let new = g.A.Adapter.device c.stop.new.adapter in
     let P : Port → Type 0 = λ p. LeavesRunning p.0 start log × SendsNone p.0 Identify start log × ReadsLog p c.args.outstanding None start log × FailsToStopPort p log new × HasStopped (log.port p.0) (new.port p.0) in
     let e = c.in_default.ensures in
-    let x = subst P same (e.leaves, e.silent, e.reads, c.in-Err.ensures.fails.1, c.stop.ensures.has) in
+    let x = subst P same (e.asks.leaves, e.asks.silent, e.asks.reads, c.in-Err.ensures.fails.1, c.stop.ensures.has) in
     let R : recovered.Recovered → Type 0 = λ result. Recovers port c.args.outstanding true result old new in
     subst R (sym c.unnamed-in-Err.ensures)
     (gets_stuck c.law_base.ensures port c.args.outstanding true _ _ old _ r _ c.go_on-running.ensures.goes _ refl x.0 x.1 _ x.4 x.3 x.2)

@@ -26,6 +26,8 @@ clear_error_state-shown-requires g c = record {
 }
 
 pub returns-clause-quiets : goal.returns-clause-quiets
-returns-clause-quiets g c =
-    quiets c.law_base.ensures c.args.port _ _ _ c.requires.room c.requires.may c.requires.agreed c.read.ensures.does _ c.stop.ensures.has c.in-Ok.ensures.halts _ _
-    c.clear_error_state-shown.ensures.followed c.clear_error_state-shown.ensures.forgets
+returns-clause-quiets g c = (
+  c.in-Ok.ensures.names,
+  quiets c.law_base.ensures c.args.port _ _ _ c.requires.room c.requires.may c.requires.agreed c.read.ensures.does _ c.stop.ensures.has c.in-Ok.ensures.halts _ _
+      c.clear_error_state-shown.ensures.followed c.clear_error_state-shown.ensures.forgets,
+)

@@ -1,5 +1,6 @@
-use Rattle.std.proofs.Common.{ℕ, inr, refl, sym, ◌∙◌, ap, arith}
+use Rattle.std.proofs.Common.{ℕ, ◌≡◌, inl, inr, refl, sym, ◌∙◌, ap, arith}
 use Rattle.hba_regs.specs.Bits.{bit}
+use Rattle.adapter.specs.declared.command.Operation.TheVariants.{Identify, ReadLog}
 use Rattle.error_recovery.proofs.Starting.{tag_is_small}
 use Rattle.error_recovery.proofs.read_log.Goals as goal
 
@@ -19,22 +20,50 @@ is_set-requires g c =
     let same = c.from.ensures in
     omega (arith, small, same)
 
-pub returns-then-is_set-clause-reads : goal.returns-then-is_set-clause-reads
-returns-then-is_set-clause-reads g c =
-    let told = (c.in-Some-parse_log.ensures.told c.in-Some-parse_log.failed).0 refl in
-    (_, c.in-Some.ensures.gets.reads, told, ap (λ (n : ℕ). bit c.args.outstanding n) (sym c.from.ensures) ∙ (sym c.is_set.ensures ∙ c.if-is_set.true))
+pub returns-in_default-clause-asks : goal.returns-in_default-clause-asks
+returns-in_default-clause-asks g c =
+    record {
+      reads = inl c.in_default.ensures.gets.reads;
+      leaves = c.in_default.ensures.gets.leaves;
+      running = tt;
+      silent = c.in_default.ensures.gets.silent Identify refl (λ (e : Identify ≡ ReadLog). absurd (cc));
+    }
 
-pub returns-else-is_set-clause-reads : goal.returns-else-is_set-clause-reads
-returns-else-is_set-clause-reads g c =
+pub returns-in_default-parse_log-clause-asks : goal.returns-in_default-parse_log-clause-asks
+returns-in_default-parse_log-clause-asks g c =
+    record {
+      reads = inr (_, c.in-Some.ensures.gets.reads, inl (c.in_default-parse_log.ensures.none.0 refl));
+      leaves = c.in-Some.ensures.gets.leaves;
+      running = tt;
+      silent = c.in-Some.ensures.gets.silent Identify refl (λ (e : Identify ≡ ReadLog). absurd (cc));
+    }
+
+pub returns-then-is_set-clause-asks : goal.returns-then-is_set-clause-asks
+returns-then-is_set-clause-asks g c =
     let told = (c.in-Some-parse_log.ensures.told c.in-Some-parse_log.failed).0 refl in
-    inr (
-      _,
-      c.in-Some.ensures.gets.reads,
-      inr (record {
-        tag = _;
-        status = _;
-        error = _;
-        tells = told;
-        foreign = ap (λ (n : ℕ). bit c.args.outstanding n) (sym c.from.ensures) ∙ (sym c.is_set.ensures ∙ c.if-is_set.false);
-      }),
-    )
+    record {
+      reads = (_, c.in-Some.ensures.gets.reads, told, ap (λ (n : ℕ). bit c.args.outstanding n) (sym c.from.ensures) ∙ (sym c.is_set.ensures ∙ c.if-is_set.true));
+      leaves = c.in-Some.ensures.gets.leaves;
+      running = c.in-Some.ensures.gets.running c.requires.agreed;
+      silent = c.in-Some.ensures.gets.silent Identify refl (λ (e : Identify ≡ ReadLog). absurd (cc));
+    }
+
+pub returns-else-is_set-clause-asks : goal.returns-else-is_set-clause-asks
+returns-else-is_set-clause-asks g c =
+    let told = (c.in-Some-parse_log.ensures.told c.in-Some-parse_log.failed).0 refl in
+    record {
+      reads = inr (
+        _,
+        c.in-Some.ensures.gets.reads,
+        inr (record {
+          tag = _;
+          status = _;
+          error = _;
+          tells = told;
+          foreign = ap (λ (n : ℕ). bit c.args.outstanding n) (sym c.from.ensures) ∙ (sym c.is_set.ensures ∙ c.if-is_set.false);
+        }),
+      );
+      leaves = c.in-Some.ensures.gets.leaves;
+      running = tt;
+      silent = c.in-Some.ensures.gets.silent Identify refl (λ (e : Identify ≡ ReadLog). absurd (cc));
+    }

@@ -20,11 +20,8 @@ returns-clause-leaves g c = λ port.
 pub returns-clause-followed : goal.returns-clause-followed
 returns-clause-followed g c = hosted_then c.law_base.ensures _ _ _ (cap_followed c.law_base.ensures _ _ _ c.read.ensures.does) (pi_followed c.law_base.ensures _ _ _ c.read-implemented.ensures.does)
 
-pub returns-clause-capable : goal.returns-clause-capable
-returns-clause-capable g c = cap_is c.law_base.ensures _ _ _ _ _ c.read.ensures.does c.read-implemented.ensures.does
-
-pub returns-clause-there : goal.returns-clause-there
-returns-clause-there g c = pi_is _ _ _ c.read-implemented.ensures.does
+pub returns-clause-told : goal.returns-clause-told
+returns-clause-told g c = (cap_is c.law_base.ensures _ _ _ _ _ c.read.ensures.does c.read-implemented.ensures.does, pi_is _ _ _ c.read-implemented.ensures.does)
 
 pub returns-clause-surveys : goal.returns-clause-surveys
 returns-clause-surveys g c = by_then c.law_base.ensures (by_one IsSurvey (Reading Cap c.read.result) _ _ tt c.read.ensures.does) (by_one IsSurvey (Reading Pi c.read-implemented.result) _ _ tt c.read-implemented.ensures.does)

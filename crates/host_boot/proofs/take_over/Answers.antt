@@ -25,8 +25,8 @@ loop-number-init g c =
         surveys = c.survey-implemented.ensures.surveys;
         boots = refl;
       };
-      there = c.survey-implemented.ensures.there;
-      capable = c.survey-implemented.ensures.capable;
+      there = c.survey-implemented.ensures.told.1;
+      capable = c.survey-implemented.ensures.told.0;
       cost = omega arith;
     }
 

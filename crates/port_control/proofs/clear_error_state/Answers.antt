@@ -13,13 +13,13 @@ read-requires g c =
 
 pub returns-clause-followed : goal.returns-clause-followed
 returns-clause-followed g c =
-    forgets_followed c.law_base.ensures c.args.port _ _ _ _ (record { on = c.requires.may.on; there = c.requires.may.there; agreed = c.requires.may.agreed }) c.requires.may.receives c.requires.may.undue c.requires.may.det c.clear_errors.ensures.followed c.clear_errors.ensures.clears c.read.ensures.does
+    forgets_followed c.law_base.ensures c.args.port _ _ _ _ (record { on = c.requires.may.on; there = c.requires.may.there; agreed = c.requires.may.agreed }) c.requires.may.receives c.requires.may.undue c.requires.may.det c.clear_errors.ensures.followed c.clear_errors.ensures.clears.clears c.read.ensures.does
 
 pub returns-clause-on : goal.returns-clause-on
 returns-clause-on g c =
-    forgets_on c.law_base.ensures c.args.port _ _ _ _ (record { on = c.requires.may.on; there = c.requires.may.there; agreed = c.requires.may.agreed }) c.requires.may.receives c.requires.may.undue c.requires.may.det c.clear_errors.ensures.followed c.clear_errors.ensures.clears c.read.ensures.does
+    forgets_on c.law_base.ensures c.args.port _ _ _ _ (record { on = c.requires.may.on; there = c.requires.may.there; agreed = c.requires.may.agreed }) c.requires.may.receives c.requires.may.undue c.requires.may.det c.clear_errors.ensures.followed c.clear_errors.ensures.clears.clears c.read.ensures.does
 
 pub returns-clause-forgets : goal.returns-clause-forgets
 returns-clause-forgets g c =
-    forgets c.law_base.ensures c.args.port _ _ _ _ (record { on = c.requires.may.on; there = c.requires.may.there; agreed = c.requires.may.agreed }) c.requires.may.receives c.requires.may.undue c.requires.may.det c.clear_errors.ensures.followed c.clear_errors.ensures.clears c.read.ensures.does
-    c.clear_errors.ensures.calm (c.clear_errors.ensures.clear c.requires.may.undue)
+    forgets c.law_base.ensures c.args.port _ _ _ _ (record { on = c.requires.may.on; there = c.requires.may.there; agreed = c.requires.may.agreed }) c.requires.may.receives c.requires.may.undue c.requires.may.det c.clear_errors.ensures.followed c.clear_errors.ensures.clears.clears c.read.ensures.does
+    c.clear_errors.ensures.clears.calm (c.clear_errors.ensures.clears.clear c.requires.may.undue)

@@ -13,11 +13,9 @@ returns-clause-followed g c = clears c.law_base.ensures _ _ _ _ c.requires.usabl
 pub returns-clause-saw : goal.returns-clause-saw
 returns-clause-saw g c = cleared_saw c.law_base.ensures _ _ _ _ c.requires.usable c.write.ensures.does c.write-2.ensures.does
 
-pub returns-clause-calm : goal.returns-clause-calm
-returns-clause-calm g c = cleared_calm c.law_base.ensures _ _ _ _ c.requires.usable c.write.ensures.does c.write-2.ensures.does
-
-pub returns-clause-clear : goal.returns-clause-clear
-returns-clause-clear g c = cleared_clear c.law_base.ensures _ _ _ _ c.requires.usable c.write.ensures.does c.write-2.ensures.does
-
 pub returns-clause-clears : goal.returns-clause-clears
-returns-clause-clears g c = cleared_by c.law_base.ensures _ _ _ _ c.requires.usable c.write.ensures.does c.write-2.ensures.does
+returns-clause-clears g c = record {
+  clears = cleared_by c.law_base.ensures _ _ _ _ c.requires.usable c.write.ensures.does c.write-2.ensures.does;
+  calm = cleared_calm c.law_base.ensures _ _ _ _ c.requires.usable c.write.ensures.does c.write-2.ensures.does;
+  clear = cleared_clear c.law_base.ensures _ _ _ _ c.requires.usable c.write.ensures.does c.write-2.ensures.does;
+}

@@ -16,18 +16,18 @@ returns-in-Ok-clause-on g c = both_on c.law_base.ensures c.args.receiving.port _
 
 pub returns-in-Ok-clause-resets : goal.returns-in-Ok-clause-resets
 returns-in-Ok-clause-resets g c = record {
-  receives = (looked c.law_base.ensures c.args.receiving.port _ _ _ (record { on = c.requires.may.on; there = c.requires.may.there; agreed = c.requires.may.agreed }) c.send_comreset.ensures.followed c.look.ensures.followed).receiving c.send_comreset.ensures.receives;
-  coming = both_coming c.law_base.ensures c.args.receiving.port _ _ _ (record { on = c.requires.may.on; there = c.requires.may.there; agreed = c.requires.may.agreed }) c.send_comreset.ensures.followed c.look.ensures.followed c.send_comreset.ensures.coming;
+  receives = (looked c.law_base.ensures c.args.receiving.port _ _ _ (record { on = c.requires.may.on; there = c.requires.may.there; agreed = c.requires.may.agreed }) c.send_comreset.ensures.followed c.look.ensures.followed).receiving c.send_comreset.ensures.sends.receives;
+  coming = both_coming c.law_base.ensures c.args.receiving.port _ _ _ (record { on = c.requires.may.on; there = c.requires.may.there; agreed = c.requires.may.agreed }) c.send_comreset.ensures.followed c.look.ensures.followed c.send_comreset.ensures.sends.coming;
 }
 
 pub returns-in-Ok-clause-finds : goal.returns-in-Ok-clause-finds
 returns-in-Ok-clause-finds g c = (
   refl,
   record {
-    reset = reset_on c.args.receiving.port (FindsSignature c.args.receiving.port 0x101) _ _ _ c.send_comreset.ensures.reset c.in-Ok.ensures.looks (looked c.law_base.ensures c.args.receiving.port _ _ _ (record { on = c.requires.may.on; there = c.requires.may.there; agreed = c.requires.may.agreed }) c.send_comreset.ensures.followed c.look.ensures.followed);
-    ready = c.in-Ok.ensures.ready;
-    found = both_found c.law_base.ensures c.args.receiving.port _ _ _ (record { on = c.requires.may.on; there = c.requires.may.there; agreed = c.requires.may.agreed }) c.send_comreset.ensures.followed c.look.ensures.followed c.send_comreset.ensures.coming c.send_comreset.ensures.awaited c.in-Ok.ensures.found;
-    signature = c.in-Ok.ensures.signature;
+    reset = reset_on c.args.receiving.port (FindsSignature c.args.receiving.port 0x101) _ _ _ c.send_comreset.ensures.sends.reset c.in-Ok.ensures.sees.looks (looked c.law_base.ensures c.args.receiving.port _ _ _ (record { on = c.requires.may.on; there = c.requires.may.there; agreed = c.requires.may.agreed }) c.send_comreset.ensures.followed c.look.ensures.followed);
+    ready = c.in-Ok.ensures.sees.ready;
+    found = both_found c.law_base.ensures c.args.receiving.port _ _ _ (record { on = c.requires.may.on; there = c.requires.may.there; agreed = c.requires.may.agreed }) c.send_comreset.ensures.followed c.look.ensures.followed c.send_comreset.ensures.sends.coming c.send_comreset.ensures.sends.awaited c.in-Ok.ensures.sees.found;
+    signature = c.in-Ok.ensures.sees.signature;
   },
 )
 
@@ -39,17 +39,17 @@ returns-in-Err-clause-on g c = both_on c.law_base.ensures c.args.receiving.port 
 
 pub returns-in-Err-clause-resets : goal.returns-in-Err-clause-resets
 returns-in-Err-clause-resets g c = record {
-  receives = (looked c.law_base.ensures c.args.receiving.port _ _ _ (record { on = c.requires.may.on; there = c.requires.may.there; agreed = c.requires.may.agreed }) c.send_comreset.ensures.followed c.look.ensures.followed).receiving c.send_comreset.ensures.receives;
-  coming = both_coming c.law_base.ensures c.args.receiving.port _ _ _ (record { on = c.requires.may.on; there = c.requires.may.there; agreed = c.requires.may.agreed }) c.send_comreset.ensures.followed c.look.ensures.followed c.send_comreset.ensures.coming;
+  receives = (looked c.law_base.ensures c.args.receiving.port _ _ _ (record { on = c.requires.may.on; there = c.requires.may.there; agreed = c.requires.may.agreed }) c.send_comreset.ensures.followed c.look.ensures.followed).receiving c.send_comreset.ensures.sends.receives;
+  coming = both_coming c.law_base.ensures c.args.receiving.port _ _ _ (record { on = c.requires.may.on; there = c.requires.may.there; agreed = c.requires.may.agreed }) c.send_comreset.ensures.followed c.look.ensures.followed c.send_comreset.ensures.sends.coming;
 }
 
 pub returns-in-Err-clause-fault : goal.returns-in-Err-clause-fault
 returns-in-Err-clause-fault g c = (
   refl,
   record {
-    reset = reset_on c.args.receiving.port (Looks c.args.receiving.port c.in-Err.fault) _ _ _ c.send_comreset.ensures.reset c.in-Err.ensures.looks_at_fault (looked c.law_base.ensures c.args.receiving.port _ _ _ (record { on = c.requires.may.on; there = c.requires.may.there; agreed = c.requires.may.agreed }) c.send_comreset.ensures.followed c.look.ensures.followed);
-    fault = c.in-Err.ensures.fault;
-    found = λ other. both_found c.law_base.ensures c.args.receiving.port _ _ _ (record { on = c.requires.may.on; there = c.requires.may.there; agreed = c.requires.may.agreed }) c.send_comreset.ensures.followed c.look.ensures.followed c.send_comreset.ensures.coming c.send_comreset.ensures.awaited (c.in-Err.ensures.found_at_fault other);
-    signature = c.in-Err.ensures.signature_at_fault;
+    reset = reset_on c.args.receiving.port (Looks c.args.receiving.port c.in-Err.fault) _ _ _ c.send_comreset.ensures.sends.reset c.in-Err.ensures.fault.looks (looked c.law_base.ensures c.args.receiving.port _ _ _ (record { on = c.requires.may.on; there = c.requires.may.there; agreed = c.requires.may.agreed }) c.send_comreset.ensures.followed c.look.ensures.followed);
+    fault = c.in-Err.ensures.fault.fault;
+    found = λ other. both_found c.law_base.ensures c.args.receiving.port _ _ _ (record { on = c.requires.may.on; there = c.requires.may.there; agreed = c.requires.may.agreed }) c.send_comreset.ensures.followed c.look.ensures.followed c.send_comreset.ensures.sends.coming c.send_comreset.ensures.sends.awaited (c.in-Err.ensures.fault.found other);
+    signature = c.in-Err.ensures.fault.signature;
   },
 )

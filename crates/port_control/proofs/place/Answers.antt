@@ -38,29 +38,15 @@ returns-clause-followed g c =
     let f = fbu_placed c.law_base.ensures c.args.port _ _ _ _ e c.write-4.ensures.does in
     f.followed
 
-pub returns-clause-quiet : goal.returns-clause-quiet
-returns-clause-quiet g c =
+pub returns-clause-places : goal.returns-clause-places
+returns-clause-places g c =
     let a = placed_first c.law_base.ensures c.args.port _ c.requires.usable c.requires.quiet c.requires.room in
     let b = clb_placed c.law_base.ensures c.args.port _ _ _ _ a _ (ap (λ n. PORT_BYTES * n) c.from-list.ensures) c.write.ensures.does in
     let d = clbu_placed c.law_base.ensures c.args.port _ _ _ _ b c.write-2.ensures.does in
     let e = fb_placed c.law_base.ensures c.args.port _ _ _ _ d _ (ap (λ n. PORT_BYTES * n + RECEIVED_OFFSET) c.from-list.ensures) c.write-3.ensures.does in
     let f = fbu_placed c.law_base.ensures c.args.port _ _ _ _ e c.write-4.ensures.does in
-    f.quiet
-
-pub returns-clause-bases : goal.returns-clause-bases
-returns-clause-bases g c =
-    let a = placed_first c.law_base.ensures c.args.port _ c.requires.usable c.requires.quiet c.requires.room in
-    let b = clb_placed c.law_base.ensures c.args.port _ _ _ _ a _ (ap (λ n. PORT_BYTES * n) c.from-list.ensures) c.write.ensures.does in
-    let d = clbu_placed c.law_base.ensures c.args.port _ _ _ _ b c.write-2.ensures.does in
-    let e = fb_placed c.law_base.ensures c.args.port _ _ _ _ d _ (ap (λ n. PORT_BYTES * n + RECEIVED_OFFSET) c.from-list.ensures) c.write-3.ensures.does in
-    let f = fbu_placed c.law_base.ensures c.args.port _ _ _ _ e c.write-4.ensures.does in
-    f.bases ∙ programmed_by c.args.port.0 _ ((g.A.Adapter.device c.args.adapter.now).port c.args.port.0).bases (ap (λ n. PORT_BYTES * n) c.from-list.ensures)
-
-pub returns-clause-same : goal.returns-clause-same
-returns-clause-same g c =
-    let a = placed_first c.law_base.ensures c.args.port _ c.requires.usable c.requires.quiet c.requires.room in
-    let b = clb_placed c.law_base.ensures c.args.port _ _ _ _ a _ (ap (λ n. PORT_BYTES * n) c.from-list.ensures) c.write.ensures.does in
-    let d = clbu_placed c.law_base.ensures c.args.port _ _ _ _ b c.write-2.ensures.does in
-    let e = fb_placed c.law_base.ensures c.args.port _ _ _ _ d _ (ap (λ n. PORT_BYTES * n + RECEIVED_OFFSET) c.from-list.ensures) c.write-3.ensures.does in
-    let f = fbu_placed c.law_base.ensures c.args.port _ _ _ _ e c.write-4.ensures.does in
-    f.same
+    record {
+      quiet = f.quiet;
+      bases = f.bases ∙ programmed_by c.args.port.0 _ ((g.A.Adapter.device c.args.adapter.now).port c.args.port.0).bases (ap (λ n. PORT_BYTES * n) c.from-list.ensures);
+      same = f.same;
+    }

@@ -8,7 +8,7 @@ use Rattle.port_control.proofs.Stretching.{followed_then, followed_wider, told_b
 
 pub returns-then-not-stop_receiving-clause-on : goal.returns-then-not-stop_receiving-clause-on
 returns-then-not-stop_receiving-clause-on g c =
-    let first = usable_after c.law_base.ensures Commanding c.args.stopped.port _ _ (record { on = c.requires.may.on; there = c.requires.may.there; agreed = c.requires.may.agreed }) (c.stop_receiving.ensures.sticks c.if-not-stop_receiving.true).followed in
+    let first = usable_after c.law_base.ensures Commanding c.args.stopped.port _ _ (record { on = c.requires.may.on; there = c.requires.may.there; agreed = c.requires.may.agreed }) (c.stop_receiving.ensures.sticks c.if-not-stop_receiving.true).0.followed in
     first.on
 
 pub returns-then-not-stop_receiving-clause-fails : goal.returns-then-not-stop_receiving-clause-fails
@@ -17,10 +17,10 @@ returns-then-not-stop_receiving-clause-fails g c =
       refl,
       refl,
       record {
-        told = told_wider c.law_base.ensures Commanding Placing c.args.stopped.port _ _ (λ r is. inl is) (FailsToStopReceiving c.args.stopped.port) (c.stop_receiving.ensures.sticks stuck);
-        stuck = c.stop_receiving.ensures.stuck stuck;
-        fre = c.stop_receiving.ensures.fre;
-        bases = c.stop_receiving.ensures.bases;
+        told = told_wider c.law_base.ensures Commanding Placing c.args.stopped.port _ _ (λ r is. inl is) (FailsToStopReceiving c.args.stopped.port) (c.stop_receiving.ensures.sticks stuck).0;
+        stuck = (c.stop_receiving.ensures.sticks stuck).1;
+        fre = c.stop_receiving.ensures.clears.fre;
+        bases = c.stop_receiving.ensures.clears.bases;
       },
     )
 

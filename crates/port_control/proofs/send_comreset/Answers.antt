@@ -11,14 +11,10 @@ write-requires-2 g c = ending_may c.law_base.ensures _ _ _ c.requires.usable c.r
 pub returns-clause-followed : goal.returns-clause-followed
 returns-clause-followed g c = reset_followed c.law_base.ensures _ _ _ c.requires.usable c.requires.receives c.write.ensures.does _ c.write-2.ensures.does
 
-pub returns-clause-receives : goal.returns-clause-receives
-returns-clause-receives g c = reset_receives c.law_base.ensures _ _ _ c.requires.usable c.requires.receives c.write.ensures.does _ c.write-2.ensures.does
-
-pub returns-clause-reset : goal.returns-clause-reset
-returns-clause-reset g c = was_reset c.law_base.ensures _ _ _ c.requires.usable c.requires.receives c.write.ensures.does _ c.write-2.ensures.does
-
-pub returns-clause-coming : goal.returns-clause-coming
-returns-clause-coming g c = reset_coming c.law_base.ensures _ _ _ c.requires.usable c.requires.receives c.write.ensures.does _ c.write-2.ensures.does
-
-pub returns-clause-awaited : goal.returns-clause-awaited
-returns-clause-awaited g c = reset_awaited c.law_base.ensures _ _ _ c.requires.usable c.requires.receives c.write.ensures.does _ c.write-2.ensures.does
+pub returns-clause-sends : goal.returns-clause-sends
+returns-clause-sends g c = record {
+  reset = was_reset c.law_base.ensures _ _ _ c.requires.usable c.requires.receives c.write.ensures.does _ c.write-2.ensures.does;
+  receives = reset_receives c.law_base.ensures _ _ _ c.requires.usable c.requires.receives c.write.ensures.does _ c.write-2.ensures.does;
+  awaited = reset_awaited c.law_base.ensures _ _ _ c.requires.usable c.requires.receives c.write.ensures.does _ c.write-2.ensures.does;
+  coming = reset_coming c.law_base.ensures _ _ _ c.requires.usable c.requires.receives c.write.ensures.does _ c.write-2.ensures.does;
+}

@@ -1,5 +1,5 @@
 use Rattle.ata_types.specs.declared.limits.TheConstants.{MOST_READINGS}
-use Rattle.std.proofs.Common.{◌≡◌, sym, ◌∙◌, arith}
+use Rattle.std.proofs.Common.{◌≡◌, sym, ◌∙◌, arith, rules}
 use Rattle.port_control.proofs.Using.{usable_after}
 use Rattle.port_control.proofs.Ceasing.{empty_may, empty_begins, empties, emptied, empties_told, empties_still, told_awaits}
 use Rattle.port_control.proofs.stop_receiving.Goals as goal
@@ -29,17 +29,10 @@ loop-reading-init g c = record {
 pub returns-then-not-receive_running-clause-stops : goal.returns-then-not-receive_running-clause-stops
 returns-then-not-receive_running-clause-stops g c = λ _. empties_told c.law_base.ensures _ _ _ _ _ _ c.loop-reading.invariant.known c.read-in-loop-reading.ensures.does (sym c.receive_running.ensures ∙ c.if-not-receive_running.true)
 
-pub returns-then-not-receive_running-clause-stopped : goal.returns-then-not-receive_running-clause-stopped
-returns-then-not-receive_running-clause-stopped g c = (empties c.law_base.ensures _ _ _ _ _ _ c.loop-reading.invariant.known c.read-in-loop-reading.ensures.does).stopped
-
-pub returns-then-not-receive_running-clause-fre : goal.returns-then-not-receive_running-clause-fre
-returns-then-not-receive_running-clause-fre g c = (empties c.law_base.ensures _ _ _ _ _ _ c.loop-reading.invariant.known c.read-in-loop-reading.ensures.does).fre
-
-pub returns-then-not-receive_running-clause-bases : goal.returns-then-not-receive_running-clause-bases
-returns-then-not-receive_running-clause-bases g c = (empties c.law_base.ensures _ _ _ _ _ _ c.loop-reading.invariant.known c.read-in-loop-reading.ensures.does).bases
-
-pub returns-then-not-receive_running-clause-same : goal.returns-then-not-receive_running-clause-same
-returns-then-not-receive_running-clause-same g c = (empties c.law_base.ensures _ _ _ _ _ _ c.loop-reading.invariant.known c.read-in-loop-reading.ensures.does).same
+pub returns-then-not-receive_running-clause-clears : goal.returns-then-not-receive_running-clause-clears
+returns-then-not-receive_running-clause-clears g c =
+    let has = empties c.law_base.ensures _ _ _ _ _ _ c.loop-reading.invariant.known c.read-in-loop-reading.ensures.does in
+    record { stopped = has.stopped; fre = has.fre; bases = has.bases; same = has.same }
 
 pub returns-then-not-receive_running-clause-fallen : goal.returns-then-not-receive_running-clause-fallen
 returns-then-not-receive_running-clause-fallen g c = λ _. emptied c.law_base.ensures _ _ _ _ _ _ c.loop-reading.invariant.known c.read-in-loop-reading.ensures.does (sym c.receive_running.ensures ∙ c.if-not-receive_running.true)
@@ -53,4 +46,9 @@ loop-reading-preserved g c = record {
 pub returns-clause-sticks : goal.returns-clause-sticks
 returns-clause-sticks g c = λ _.
     let all : c.loop-reading._reading ≡ MOST_READINGS = omega arith in
-    told_awaits c.law_base.ensures 4 14 c.args.port _ all _ _ c.loop-reading.invariant.known.told
+    (told_awaits c.law_base.ensures 4 14 c.args.port _ all _ _ c.loop-reading.invariant.known.told, search rules)
+
+pub returns-clause-clears : goal.returns-clause-clears
+returns-clause-clears g c =
+    let has = c.loop-reading.invariant.known.has in
+    record { stopped = has.stopped; fre = has.fre; bases = has.bases; same = has.same }

@@ -1,5 +1,5 @@
 use Rattle.ata_types.specs.declared.limits.TheConstants.{MOST_READINGS}
-use Rattle.std.proofs.Common.{ℕ, ◌≡◌, subst, arith}
+use Rattle.std.proofs.Common.{ℕ, ◌≡◌, subst, arith, rules}
 use Rattle.hba_regs.specs.declared.reg.PortReg.TheVariants.{Ssts}
 use Rattle.port_control.proofs.Looking.{missing_followed, device_seen, device_up, sees_device, without_none, missing_still}
 use Rattle.port_control.specs.Ports.{HasLink, ReadsWithout}
@@ -25,14 +25,12 @@ loop-reading-init g c = record {
 pub returns-then-detection-eq-DEVICE_WITH_LINK-clause-followed : goal.returns-then-detection-eq-DEVICE_WITH_LINK-clause-followed
 returns-then-detection-eq-DEVICE_WITH_LINK-clause-followed g c = missing_followed c.law_base.ensures _ _ _ _ _ _ c.loop-reading.invariant.known c.read.ensures.does
 
-pub returns-then-detection-eq-DEVICE_WITH_LINK-clause-saw : goal.returns-then-detection-eq-DEVICE_WITH_LINK-clause-saw
-returns-then-detection-eq-DEVICE_WITH_LINK-clause-saw g c = λ _. device_seen c.law_base.ensures _ _ _ _ _ _ c.loop-reading.invariant.known c.read.ensures.does (omega arith)
-
-pub returns-then-detection-eq-DEVICE_WITH_LINK-clause-up : goal.returns-then-detection-eq-DEVICE_WITH_LINK-clause-up
-returns-then-detection-eq-DEVICE_WITH_LINK-clause-up g c = λ _. device_up c.law_base.ensures _ _ _ _ _ _ c.loop-reading.invariant.known c.read.ensures.does (omega arith)
-
-pub returns-then-detection-eq-DEVICE_WITH_LINK-clause-sees : goal.returns-then-detection-eq-DEVICE_WITH_LINK-clause-sees
-returns-then-detection-eq-DEVICE_WITH_LINK-clause-sees g c = λ _. sees_device c.law_base.ensures _ _ _ _ _ _ c.loop-reading.invariant.known c.read.ensures.does (omega arith) (omega arith)
+pub returns-then-detection-eq-DEVICE_WITH_LINK-clause-finds : goal.returns-then-detection-eq-DEVICE_WITH_LINK-clause-finds
+returns-then-detection-eq-DEVICE_WITH_LINK-clause-finds g c = λ _. record {
+  sees = sees_device c.law_base.ensures _ _ _ _ _ _ c.loop-reading.invariant.known c.read.ensures.does (omega arith) (omega arith);
+  saw = device_seen c.law_base.ensures _ _ _ _ _ _ c.loop-reading.invariant.known c.read.ensures.does (omega arith);
+  up = device_up c.law_base.ensures _ _ _ _ _ _ c.loop-reading.invariant.known c.read.ensures.does (omega arith);
+}
 
 pub loop-reading-preserved : goal.loop-reading-preserved
 loop-reading-preserved g c = record {
@@ -43,4 +41,7 @@ loop-reading-preserved g c = record {
 pub returns-clause-misses : goal.returns-clause-misses
 returns-clause-misses g c = λ _.
     let all : c.loop-reading._reading ≡ MOST_READINGS = omega arith in
-    subst (λ (n : ℕ). ReadsWithout c.args.port Ssts HasLink n (g.A.Adapter.device c.args.adapter.now) (g.A.Adapter.device c.loop-reading.adapter)) all c.loop-reading.invariant.known.misses
+    record {
+      misses = subst (λ (n : ℕ). ReadsWithout c.args.port Ssts HasLink n (g.A.Adapter.device c.args.adapter.now) (g.A.Adapter.device c.loop-reading.adapter)) all c.loop-reading.invariant.known.misses;
+      fault = search rules;
+    }

@@ -26,22 +26,19 @@ loop-reading-init g c = record {
 pub returns-then-not-is_bsy_or_drq-clause-followed : goal.returns-then-not-is_bsy_or_drq-clause-followed
 returns-then-not-is_bsy_or_drq-clause-followed g c = busy_followed c.law_base.ensures _ _ _ _ _ _ c.loop-reading.invariant.known c.read.ensures.does
 
-pub returns-then-not-is_bsy_or_drq-clause-saw : goal.returns-then-not-is_bsy_or_drq-clause-saw
-returns-then-not-is_bsy_or_drq-clause-saw g c = busy_saw c.law_base.ensures _ _ _ _ _ _ c.loop-reading.invariant.known c.read.ensures.does
-
-pub returns-then-not-is_bsy_or_drq-clause-idle : goal.returns-then-not-is_bsy_or_drq-clause-idle
-returns-then-not-is_bsy_or_drq-clause-idle g c = λ _. idle_seen c.law_base.ensures _ _ _ _ _ _ c.loop-reading.invariant.known c.read.ensures.does (sym c.is_bsy_or_drq.ensures ∙ c.if-not-is_bsy_or_drq.true)
-
-pub returns-then-not-is_bsy_or_drq-clause-waits : goal.returns-then-not-is_bsy_or_drq-clause-waits
-returns-then-not-is_bsy_or_drq-clause-waits g c = λ _. busy_waits c.law_base.ensures _ _ _ _ _ _ c.loop-reading.invariant.known c.read.ensures.does (omega arith) (sym c.is_bsy_or_drq.ensures ∙ c.if-not-is_bsy_or_drq.true)
-
-pub returns-clause-stays : goal.returns-clause-stays
-returns-clause-stays g c = λ _.
-    let all : c.loop-reading._reading ≡ MOST_READINGS = omega arith in
-    subst (λ (n : ℕ). ReadsWithout c.args.port Tfd ShowsIdle n (g.A.Adapter.device c.args.adapter.now) (g.A.Adapter.device c.loop-reading.adapter)) all c.loop-reading.invariant.known.stays
-
-pub returns-then-not-is_bsy_or_drq-clause-quiet : goal.returns-then-not-is_bsy_or_drq-clause-quiet
-returns-then-not-is_bsy_or_drq-clause-quiet g c = λ awaited unflagged. busy_quiet c.law_base.ensures _ _ _ _ _ _ c.loop-reading.invariant.known c.read.ensures.does (awaited, unflagged)
+pub returns-then-not-is_bsy_or_drq-clause-awaits : goal.returns-then-not-is_bsy_or_drq-clause-awaits
+returns-then-not-is_bsy_or_drq-clause-awaits g c =
+    let known = c.loop-reading.invariant.known in
+    let clear = sym c.is_bsy_or_drq.ensures ∙ c.if-not-is_bsy_or_drq.true in
+    record {
+      saw = busy_saw c.law_base.ensures _ _ _ _ _ _ known c.read.ensures.does;
+      idle = λ _. (
+        idle_seen c.law_base.ensures _ _ _ _ _ _ known c.read.ensures.does clear,
+        busy_waits c.law_base.ensures _ _ _ _ _ _ known c.read.ensures.does (omega arith) clear,
+      );
+      busy = λ is. absurd (cc);
+      quiet = λ awaited unflagged. busy_quiet c.law_base.ensures _ _ _ _ _ _ known c.read.ensures.does (awaited, unflagged);
+    }
 
 pub loop-reading-preserved : goal.loop-reading-preserved
 loop-reading-preserved g c = record {
@@ -49,8 +46,15 @@ loop-reading-preserved g c = record {
   cost = omega arith;
 }
 
-pub returns-clause-busy : goal.returns-clause-busy
-returns-clause-busy g c = search rules
-
-pub returns-clause-quiet : goal.returns-clause-quiet
-returns-clause-quiet g c = search rules
+pub returns-clause-awaits : goal.returns-clause-awaits
+returns-clause-awaits g c =
+    let all : c.loop-reading._reading ≡ MOST_READINGS = omega arith in
+    record {
+      saw = c.loop-reading.invariant.known.saw;
+      idle = λ is. absurd (cc);
+      busy = λ _. (
+        search rules,
+        subst (λ (n : ℕ). ReadsWithout c.args.port Tfd ShowsIdle n (g.A.Adapter.device c.args.adapter.now) (g.A.Adapter.device c.loop-reading.adapter)) all c.loop-reading.invariant.known.stays,
+      );
+      quiet = search rules;
+    }

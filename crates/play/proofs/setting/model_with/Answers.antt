@@ -1,7 +1,7 @@
 use Rattle.std.proofs.Common.{arith, subst, sym, ◌∙◌, refl}
 use Rattle.std.proofs.lemmas.Result.{IfOk-weaker}
 use Rattle.configuration.specs.Rules.{IsTrim}
-use Rattle.configuration.specs.declared.Kind.TheVariants.{OutOfRange}
+use Rattle.configuration.specs.declared.FaultKind.TheVariants.{OutOfRange}
 use Rattle.play.proofs.setting.model_with.Goals as goal
 
 pub overflow_cast-settings : goal.overflow_cast-settings

@@ -2,7 +2,7 @@ use Rattle.ata_types.specs.declared.memory.TheConstants.{MOST_FRAMES}
 use Rattle.std.proofs.Common.{◌∙◌, All, AllPairs, ap, arith, length, map, refl, subst, sym}
 use Rattle.configuration.specs.Ranges.{IsClientConfig, IsGrant, IsPort}
 use Rattle.configuration.specs.Rules.{DifferInNumber}
-use Rattle.configuration.specs.declared.Kind.TheVariants.{Duplicate}
+use Rattle.configuration.specs.declared.FaultKind.TheVariants.{Duplicate}
 use Rattle.configuration.proofs.Fits.{clients_within, few_clients, in_range, plan_fits}
 use Rattle.configuration.specs.Parts.{AreWantedOf, row_of, owner_extent}
 use Rattle.configuration.proofs.plan.Plan.of.Goals as goal

@@ -1,0 +1,75 @@
+-- What the parts of this crate's calls do (AHCI 1.3.1, 3.3, 10.3.2 and 10.4.2).
+use Rattle.std.specs.Prelude.{ℕ, Bool, true, false, ◌≡◌, ◌≢◌, ◌<◌}
+use Rattle.ata_types.specs.declared.Port.{Port}
+use Rattle.ata_types.specs.declared.limits.TheConstants.{MOST_READINGS}
+use Rattle.hba_regs.specs.Bits.{bit}
+use Rattle.hba_regs.specs.declared.reg.PortReg.TheVariants.{Ssts, Tfd}
+use Rattle.adapter.specs.Device.{Device, DevicePort}
+use Rattle.refinement.specs.Errors.{NoneComes}
+use Rattle.refinement.specs.Facts.{IsAfterReset, IsAwaited, IsQuiet, IsUnflagged}
+use Rattle.refinement.specs.Started.{IsUp, IsComingUp}
+use Rattle.port_control.specs.Ports.{BacksFault, ClearsErrors, FindsAwaited, FindsSignature, HasClearErrors, HasLink, IsStopped, Looks, ReadsUntil, ReadsWithout, ReceivesFises, SameBeside, SawDevice, SawIdle, ShowsIdle, ShowsSignature, WasReset, programmed}
+use Rattle.port_control.specs.declared.PortFault.{PortFault}
+use Rattle.port_control.specs.declared.PortFault.TheVariants.{Busy, EngineStuck, NoDevice, NotAta}
+
+-- FRE was cleared, whether FR fell or not: the port is stopped still, with its areas where they were, and PxSCTL.DET
+-- and what readings noted, but of PxCMD, as they were.
+pub record ClearsFre (old new : DevicePort) : Type 0 where
+  pub stopped : IsStopped new
+  pub fre : new.fre ≡ false
+  pub bases : new.bases ≡ old.bases
+  pub same : SameBeside old new
+
+-- The command list and the received FIS area are in their places, and nothing else has changed.
+pub record PlacesAreas (port : ℕ) (old new : DevicePort) : Type 0 where
+  pub quiet : IsAfterReset new
+  pub bases : new.bases ≡ programmed port
+  pub same : SameBeside old new
+
+-- COMRESET was sent and ended: the port receives FISes still, and awaits its link, which comes up where no disk came.
+pub record SendsComreset (port : Port) (old new : Device) : Type 0 where
+  pub reset : WasReset port (λ ended now. now ≡ ended) old new
+  pub receives : ReceivesFises port.0 (new.port port.0)
+  pub awaited : IsAwaited (new.port port.0)
+  pub coming : NoneComes port.0 old new → IsComingUp (new.port port.0)
+
+-- A device with a link was awaited, and found.
+pub record FindsDevice (port : Port) (old new : Device) : Type 0 where
+  pub sees : ReadsUntil port Ssts HasLink old new
+  pub saw : SawDevice (new.port port.0).notes
+  pub up : NoneComes port.0 old new → IsComingUp (old.port port.0) → IsUp (new.port port.0)
+
+-- Or it was awaited in vain.
+pub record MissesDevice (port : Port) (old new : Device) : Type 0 where
+  pub misses : ReadsWithout port Ssts HasLink MOST_READINGS old new
+  pub fault : BacksFault NoDevice (new.port port.0).notes
+
+-- No cause is told of before, and no error where no link was due.
+pub record LeavesNoError (port : Port) (old new : Device) : Type 0 where
+  pub clears : ClearsErrors port old new
+  pub calm : (place : ℕ) → place < 32 → (new.port port.0).is place ≡ false
+  pub clear : (old.port port.0).link_due ≡ false → HasClearErrors port.0 old new
+
+-- A device was awaited that is neither busy nor asks for a transfer, and this was found. Where the link was awaited,
+-- and PxTFD shows no DRQ by now, nothing is due.
+pub record AwaitsIdle (port : Port) (found : Bool) (old new : Device) : Type 0 where
+  pub saw : SawDevice (new.port port.0).notes
+  pub idle : found ≡ true → SawIdle (new.port port.0).notes × ReadsUntil port Tfd ShowsIdle old new
+  pub busy : found ≡ false → BacksFault Busy (new.port port.0).notes
+      × ReadsWithout port Tfd ShowsIdle MOST_READINGS old new
+  pub quiet : IsAwaited (old.port port.0) → IsUnflagged (old.port port.0)
+      → bit (new.port port.0).notes.last_tfd 3 ≡ false → IsQuiet (new.port port.0)
+
+-- An ATA disk was found that is idle.
+pub record SeesDisk (port : Port) (old new : Device) : Type 0 where
+  pub looks : FindsSignature port 0x101 old new
+  pub ready : let notes = (new.port port.0).notes in SawDevice notes × SawIdle notes × (notes.last_sig ≡ 0x101)
+  pub found : FindsAwaited port.0 old new
+  pub signature : ShowsSignature (new.port port.0)
+
+-- Or this fault was found in its place.
+pub record SeesFault (port : Port) (told : PortFault) (old new : Device) : Type 0 where
+  pub looks : Looks port told old new
+  pub fault : BacksFault told (new.port port.0).notes × (told ≢ EngineStuck)
+  pub found : told ≢ NoDevice → FindsAwaited port.0 old new
+  pub signature : (signature : ℕ) → told ≡ NotAta signature → ShowsSignature (new.port port.0)
