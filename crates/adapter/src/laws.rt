@@ -1,5 +1,5 @@
 // Laws of the definitions, for the crates above: the clause is the theorem. Nothing that runs calls these functions.
-ghost use Rattle.std.specs.Prelude.{◌<◌, ◌≡◌, ◌+◌, ◌*◌, ◌≤◌, ◌++◌, ℕ, Some, Bool, true, false, List, All, Contains, if◌then◌else◌, is_some};
+ghost use Rattle.std.specs.Prelude.{◌<◌, ◌≡◌, ◌+◌, ◌*◌, ◌≤◌, ◌++◌, ℕ, Some, Bool, true, false, List, All, Contains, if◌then◌else◌, is_some, length, slice_index};
 ghost use Rattle.ata_types.specs.declared.Port.{Port};
 ghost use Rattle.ata_types.specs.declared.memory.TheConstants.{FRAME_BYTES, HEADER_BYTES, RECEIVED_BYTES};
 ghost use Rattle.hba_regs.specs.declared.reg.PortReg.{PortReg};
@@ -16,6 +16,7 @@ ghost use Rattle.adapter.specs.FirstRead.{first_read, first_read_sector};
 ghost use Rattle.adapter.specs.Guarded.{Passing, Spares, IsGuarded, IsApart};
 ghost use Rattle.adapter.specs.Idle.{IsIdle, IsSane};
 ghost use Rattle.adapter.specs.Kept.{Keeps, KeepsControls};
+ghost use Rattle.adapter.specs.Memory.{bytes_at, patched};
 ghost use Rattle.adapter.specs.OneCommand.{NoneHasCommand, HasOneCommand, IsElsewhere, is_read_alone, is_unwritten, standing};
 ghost use Rattle.adapter.specs.ReadDone.{IsReadDone, MayBeRead, read_of};
 ghost use Rattle.adapter.specs.Pending.{LeavesIe, KeepsIsBit, SetsCause, EnablesAllCauses, interrupts, cleared, flushed, flushing, flush_taken};
@@ -34,6 +35,21 @@ pub fn law_steps_compose()
 /// What a device was told to do is some of its steps.
 pub fn law_what_is_asked_is_steps()
     ensures { (s : DeviceStep) (old new : Device) → Asked s old new → Steps old new }
+{}
+
+/// What is put into memory is read again, and every other byte is as it was. Memories that agree on some bytes have the
+/// same bytes there. As many are read as were asked for, in order.
+pub fn law_memory_keeps_bytes()
+    ensures put { (memory : ℕ → ℕ) (at : ℕ) (bytes : List ℕ)
+        → bytes_at (patched memory at bytes) at (length bytes) ≡ bytes }
+    ensures apart { (memory : ℕ → ℕ) (at : ℕ) (bytes : List ℕ) (place : ℕ)
+        → (at ≤ place → place < at + length bytes → ⊥) → patched memory at bytes place ≡ memory place }
+    ensures same { (old new : ℕ → ℕ) (at count : ℕ)
+        → ((place : ℕ) → at ≤ place → place < at + count → new place ≡ old place)
+        → bytes_at new at count ≡ bytes_at old at count }
+    ensures counts { (memory : ℕ → ℕ) (at count : ℕ) → length (bytes_at memory at count) ≡ count }
+    ensures each { (memory : ℕ → ℕ) (at count i : ℕ) → i < count
+        → slice_index (bytes_at memory at count) i ≡ memory (at + i) }
 {}
 
 /// A scribble fills the received FIS area, and then PRDBC of one slot after another whose command is taken.

@@ -1,5 +1,5 @@
 -- Rows only go and owners stay what they were, so clients are those of the start, and at most 128 requests are unanswered.
-use Rattle.std.proofs.Common.{◌≡◌, ℕ, ◌+◌, ◌*◌, ◌≤◌, Bool, cond, not, ◌==◌, List, [], ◌∷◌, length, zero, suc, inl, inr, ⊎_elim, refl, ap, ◌∙◌, arith, eq-eqb, le_refl}
+use Rattle.std.proofs.Common.{◌≡◌, ℕ, ◌+◌, ◌*◌, ◌≤◌, Bool, cond, not, ◌==◌, List, [], ◌∷◌, length, zero, suc, inl, inr, ⊎_elim, refl, sym, ap, ◌∙◌, subst, arith, eq-eqb, le_refl}
 use Rattle.std.proofs.lemmas.Bool.{cases_eq}
 use Rattle.std.proofs.lemmas.List.Kept.{AllPairs-filter}
 use Rattle.std.specs.List.{AllPairs, Contains}
@@ -7,6 +7,7 @@ use Rattle.ata_types.specs.declared.request.ClientId.{ClientId}
 use Rattle.ata_types.specs.declared.request.Frame.{Frame}
 use Rattle.ata_types.specs.declared.grant.GrantRow.{GrantRow}
 use Rattle.ata_types.specs.declared.limits.TheConstants.{MOST_UNANSWERED}
+use Rattle.block_machine.specs.Histories.{IsReachable}
 use Rattle.block_machine.specs.State.{Accepted, Pending, Machine}
 use Rattle.block_machine.specs.Rules.{DifferInName, is_under}
 use Rattle.block_machine.specs.Steps.{Step, Accept, Revoke, after_step, unanswered_of}
@@ -33,6 +34,12 @@ differ_step m _ differ = differ
 pub rows_differ : (m : Machine) (h : List Step) → AllPairs DifferInName m.rows → AllPairs DifferInName (after m h).rows
 rows_differ m [] differ = differ
 rows_differ m (step ∷ past) differ = differ_step (after m past) step (rows_differ m past differ)
+
+-- so the rows of a machine that is reached do
+pub names_differ : (m : Machine) → IsReachable m → AllPairs DifferInName m.rows
+names_differ m reached =
+    subst (λ (n : Machine). AllPairs DifferInName n.rows) (sym reached.is)
+    (rows_differ reached.first reached.past reached.starts.rows)
 
 pub owner_step : (m : Machine) (step : Step) (f : Frame) → (after_step m step).owner f ≡ m.owner f
 owner_step m (Accept r) f = refl

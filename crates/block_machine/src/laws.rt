@@ -1,9 +1,12 @@
 //! Laws about the definitions in specs/. The clause of each function is the law; the functions do nothing, and nothing
 //! calls them. `D` are the steps that a device can be told to do: a law on runs holds for any device.
 
-ghost use Rattle.std.specs.Prelude.{◌≡◌, ◌≢◌, ◌↔◌, ◌<◌, ℕ, Bool, IsTrue, true, false, List, [], ◌∷◌, ◌++◌, ◌≤◌, ◌&&◌, nat_lt, Some, length, map, count_by, Contains};
+ghost use Rattle.std.specs.Prelude.{◌≡◌, ◌≢◌, ◌↔◌, ◌<◌, ℕ, Bool, IsTrue, true, false, List, [], ◌∷◌, ◌++◌, ◌≤◌, ◌&&◌, nat_lt, Option, Some, All, length, map, count_by, Contains};
 ghost use Rattle.ata_types.specs.declared.Port.{Port};
+ghost use Rattle.ata_types.specs.declared.PortState.TheVariants.{Ready};
+ghost use Rattle.ata_types.specs.declared.request.ClientId.{ClientId};
 ghost use Rattle.ata_types.specs.declared.request.Frame.{Frame};
+ghost use Rattle.ata_types.specs.declared.request.Request.{Request};
 ghost use Rattle.ata_types.specs.declared.request.RequestId.{RequestId};
 ghost use Rattle.ata_types.specs.declared.grant.GrantRow.{GrantRow};
 ghost use Rattle.ata_types.specs.declared.request.Outcome.{Outcome};
@@ -11,6 +14,9 @@ ghost use Rattle.ata_types.specs.declared.request.Op.TheVariants.{Read};
 ghost use Rattle.block_machine.specs.declared.due.QueueMode.{QueueMode};
 ghost use Rattle.block_machine.specs.declared.due.Unanswered.{Unanswered};
 ghost use Rattle.block_machine.specs.Due.{IsDue, IsInOrder, is_plain, issued_count, is_due, ahead, due_ahead, free_slots, with_issued, with_waiting, without_request, of_port, due_of, AreAllDueInOrder};
+ghost use Rattle.block_machine.specs.Ports.{Ports, AreFit};
+ghost use Rattle.block_machine.specs.Refusals.{Situation, IsAcceptable, IsOpen};
+ghost use Rattle.block_machine.specs.Rules.{Names};
 ghost use Rattle.block_machine.specs.State.{Block, Accepted, Pending, Machine, unanswered};
 ghost use Rattle.block_machine.specs.Steps.{Step, Touch, End, Issue, Again, Answer, Age, after_step, May, IsNew, IsLiving, AllTouched};
 ghost use Rattle.block_machine.specs.Left.{IsInitial, IsLegal, AllTellSectors, HoldsLeft, after};
@@ -142,6 +148,27 @@ pub fn law_frames_keep_bytes()
     ensures { (start : Machine) (history : List Step) (e : Pending) → IsInitial start
         → IsLegal start history
         → IsLiving (after start history) e → IsHeld (after start history) e.request }
+{}
+
+/// In a machine that is reached a client and a number name one row at most.
+pub fn law_a_name_is_of_one_row()
+    ensures { (m : Machine) (client : ClientId) (number : ℕ) (a b : GrantRow) → IsReachable m → Contains m.rows a
+        → Names client number a → Contains m.rows b → Names client number b → a ≡ b }
+{}
+
+/// The frames of an acceptable request are its client's, and so is an open frame.
+pub fn law_frames_are_their_clients()
+    ensures acceptable { (s : Situation) (r : Request) → IsAcceptable s r
+        → All (λ frame. s.owner frame ≡ Some r.client) r.frames.items }
+    ensures open { (owner : Frame → Option ClientId) (lent : Frame → Option RequestId) (client : ClientId)
+        (frame : Frame) (offset count : ℕ) → IsOpen owner lent client frame offset count
+        → owner frame ≡ Some client }
+{}
+
+/// A port that is ready is served, and one of the first four.
+pub fn law_ready_ports_are_served()
+    ensures { (ports : Ports) (port : Port) → AreFit ports → ports.state port ≡ Ready
+        → (ports.served port ≡ true) × (port.0 < 4) }
 {}
 
 /// The limits hold after every history.

@@ -1,6 +1,7 @@
 -- Stores into the header and the table of an unused slot.
 use Rattle.std.proofs.Common.{ℕ, ◌≡◌, ◌⊎◌, ◌+◌, ◌*◌, ◌%◌, ◌<◌, ◌≤◌, Bool, List, [], ◌∷◌, length, take, refl, sym, ◌∙◌, ap, inl, inr, arith, slice_index_or}
 use Rattle.byteorder.specs.Endian.{little_from}
+use Rattle.std.proofs.lemmas.List.Elements.{All-weaker}
 use Rattle.std.specs.List.{All}
 use Rattle.ata_types.specs.declared.Port.{Port}
 use Rattle.ata_types.specs.declared.memory.TheConstants.{DRIVER_BYTES, PORT_FRAMES, PRD_BYTES, SCRATCH_FRAME, TABLE_BYTES, TABLE_HEAD}
@@ -17,19 +18,14 @@ use Rattle.adapter.specs.Encoding.{EncodesCommand, EncodesHeader, EncodesPrd}
 use Rattle.adapter.specs.declared.command.Command.{Command}
 use Rattle.adapter.specs.declared.command.Operation.{Operation}
 use Rattle.adapter.specs.declared.command.Prd.{Prd}
-use Rattle.adapter.proofs.MemoryLemmas.{bytes_same, patched_apart, patched_bytes}
 use Rattle.refinement.specs.Driven.{AnyAccess, IsRelated, IsDrivenBy, IsSimulated, IsOf, NoneWrites}
 use Rattle.refinement.specs.Links.{SameAdapter}
 use Rattle.refinement.specs.Driver.{LeavesFree, MayStore, MissesTable}
 use Rattle.refinement.specs.Places.{list_of, scratch_of, table_of}
 use Rattle.refinement.specs.Slots.{SlotStates, SlotDecodesTo}
-use Rattle.refinement.proofs.driver.PortAccesses.{agreed_on}
-use Rattle.refinement.proofs.driver.Stretches.{driven_as, followed_as, followed_store, followed_then}
-use Rattle.refinement.proofs.steps.UnusedSlots.{told_is_left}
-use Rattle.refinement.proofs.device.AdapterOverAccesses.{access_on, access_same}
-use Rattle.refinement.proofs.driver.UnusedOverCalls.{stores_leave, told_beside}
-use Rattle.refinement.proofs.driver.PermittedAccesses.{stores_are_free}
 use Rattle.command_table.specs.Bytes.{part}
+use Rattle.command_table.specs.Laws.{Laws}
+use Rattle.command_table.specs.Laws.Fragment.{Tables, TablesAndBlock}
 use Rattle.command_table.specs.Written.{IsTableFor, IsHeader, IsInTable, IsStoreWithBlock, IsTableStore, IsUnused}
 use Rattle.command_table.specs.Places.{places_of}
 use Rattle.command_table.proofs.Saying.{table_says}
@@ -44,10 +40,10 @@ may_store uses port slot at bytes below small free here = inl (record { port = p
     of (inr t) = inr t
 
 -- whatever the device does first
-pub store_free : (uses : SlotStates) (d : Device) (port slot at : ℕ) (bytes : List ℕ) → IsRelated uses d → DRIVER_BYTES ≤ d.size → port < 4 → slot < 32 → IsUnused port slot uses → IsTableStore port slot (Storing at bytes) →
+pub store_free : Laws → (uses : SlotStates) (d : Device) (port slot at : ℕ) (bytes : List ℕ) → IsRelated uses d → DRIVER_BYTES ≤ d.size → port < 4 → slot < 32 → IsUnused port slot uses → IsTableStore port slot (Storing at bytes) →
     IsStable (IsUnowned at (length bytes)) d
-store_free uses d port slot at bytes a room below small free here =
-    stores_are_free uses a.machine d a.reached a.knows.agrees at (length bytes)
+store_free laws uses d port slot at bytes a room below small free here =
+    laws.free uses a.machine d a.reached a.knows.agrees at (length bytes)
     (elim here [ inl h ↦ let place = h.0 in let size = h.1 in omega (arith, room, place, size, below, small) | inr table ↦ let t = table.1 in omega (arith, room, t) ])
     (may_store uses port slot at bytes below small free here)
 
@@ -66,29 +62,29 @@ table_spares port slot r (Writing s v) here = absurd here
 
 -- ---- one store
 
-module _ (port slot : ℕ) (below : port < 4) (small : slot < 32) (at : ℕ) (bytes : List ℕ) (old new : Device) (here : IsTableStore port slot (Storing at bytes)) (call : Stores at bytes old new) where
+module _ (laws : Laws) (port slot : ℕ) (below : port < 4) (small : slot < 32) (at : ℕ) (bytes : List ℕ) (old new : Device) (here : IsTableStore port slot (Storing at bytes)) (call : Stores at bytes old new) where
   pub store_followed : IsSimulated (IsTableStore port slot) (IsUnused port slot) old new
-  store_followed = followed_store (IsTableStore port slot) (IsUnused port slot) at bytes old new here (λ uses free. may_store uses port slot at bytes below small free here) call
+  store_followed = laws.fragments.stores (Tables port slot) at bytes old new here (λ uses free. may_store uses port slot at bytes below small free here) call
 
   pub store_on : IsOn old → IsOn new
-  store_on on = access_on (Storing at bytes) old new on (λ v e. absurd cc) call
+  store_on on = laws.on (Storing at bytes) old new on (λ v e. absurd cc) call
 
   pub store_there : bytes_at new.memory at (length bytes) ≡ bytes
-  store_there = ap (λ (d : Device). bytes_at d.memory at (length bytes)) call.effect ∙ patched_bytes call.mid.memory at bytes
+  store_there = ap (λ (d : Device). bytes_at d.memory at (length bytes)) call.effect ∙ laws.memory.put call.mid.memory at bytes
 
   pub store_size : new.size ≡ old.size
-  store_size = (access_same (Storing at bytes) old new call).size
+  store_size = (laws.adapter (Storing at bytes) old new call).size
 
   module _ (on : IsOn old) (uses : SlotStates) (free : IsUnused port slot uses) (a : IsRelated uses old) where
     pub store_left : LeavesFree uses (record old { memory = patched old.memory at bytes }) new
-    store_left = stores_leave uses a.machine old new a.reached a.knows.agrees on.no_reset at bytes call
+    store_left = laws.stores uses a.machine old new a.reached a.knows.agrees on.no_reset at bytes call
 
     pub store_agrees : IsRelated uses new
-    store_agrees = agreed_on (IsTableStore port slot) (IsUnused port slot) uses old new free store_followed a
+    store_agrees = laws.fragments.agreed (Tables port slot) (λ uses. uses) uses old new free store_followed a
 
 -- ---- the table, and then the header
 
-module _ (port slot : ℕ) (below : port < 4) (small : slot < 32) (uses : SlotStates) (free : IsUnused port slot uses) (old mid new : Device) (on : IsOn old) (a : IsRelated uses old)
+module _ (laws : Laws) (port slot : ℕ) (below : port < 4) (small : slot < 32) (uses : SlotStates) (free : IsUnused port slot uses) (old mid new : Device) (on : IsOn old) (a : IsRelated uses old)
     (prds : List Prd) (table header : List ℕ) (few : length prds ≤ MOST_REQUEST_FRAMES) (size : TABLE_HEAD + PRD_BYTES * length prds ≤ length table) (front : length (take (TABLE_HEAD + PRD_BYTES * length prds) table) ≡ TABLE_HEAD + PRD_BYTES * length prds)
     (first : Stores (table_of port slot) (take (TABLE_HEAD + PRD_BYTES * length prds) table) old mid) (second : Stores (list_of port + 32 * slot) header mid new)
     (writes : Bool) (command : Command) (direction : (o : Operation) (s first count : ℕ) → command ≡ command_of o s first count → writes ≡ reads_memory o) (fis : EncodesCommand (part table 0 20) command)
@@ -101,10 +97,10 @@ module _ (port slot : ℕ) (below : port < 4) (small : slot < 32) (uses : SlotSt
   in_header = inl (refl, heads.size, none_moved)
 
   mid_on : IsOn mid
-  mid_on = store_on port slot below small (table_of port slot) _ old mid in_table first on
+  mid_on = store_on laws port slot below small (table_of port slot) _ old mid in_table first on
 
   mid_agrees : IsRelated uses mid
-  mid_agrees = store_agrees port slot below small (table_of port slot) _ old mid in_table first on uses free a
+  mid_agrees = store_agrees laws port slot below small (table_of port slot) _ old mid in_table first on uses free a
 
   -- the memory that the second store leaves at once
   abbrev stored : ℕ → ℕ
@@ -112,24 +108,24 @@ module _ (port slot : ℕ) (below : port < 4) (small : slot < 32) (uses : SlotSt
 
   table_stays : (at : ℕ) → table_of port slot ≤ at → at < table_of port slot + (TABLE_HEAD + PRD_BYTES * length prds) → stored at ≡ patched old.memory (table_of port slot) (take (TABLE_HEAD + PRD_BYTES * length prds) table) at
   table_stays at low high =
-      patched_apart mid.memory (list_of port + 32 * slot) header at (λ from to. let h = heads.size in absurd (omega (arith, h, small, low, to)))
-      ∙ (store_left port slot below small (table_of port slot) _ old mid in_table first on uses free a).tables port slot at below small
+      laws.memory.apart mid.memory (list_of port + 32 * slot) header at (λ from to. let h = heads.size in absurd (omega (arith, h, small, low, to)))
+      ∙ (store_left laws port slot below small (table_of port slot) _ old mid in_table first on uses free a).tables port slot at below small
       (inr (inr (low, omega (arith, few))))
 
   table_there : bytes_at stored (table_of port slot) (TABLE_HEAD + PRD_BYTES * length prds) ≡ take (TABLE_HEAD + PRD_BYTES * length prds) table
   table_there =
-      bytes_same (patched old.memory (table_of port slot) (take (TABLE_HEAD + PRD_BYTES * length prds) table)) stored (table_of port slot) (TABLE_HEAD + PRD_BYTES * length prds) table_stays
+      laws.memory.same (patched old.memory (table_of port slot) (take (TABLE_HEAD + PRD_BYTES * length prds) table)) stored (table_of port slot) (TABLE_HEAD + PRD_BYTES * length prds) table_stays
       ∙ ap (bytes_at (patched old.memory (table_of port slot) (take (TABLE_HEAD + PRD_BYTES * length prds) table)) (table_of port slot)) (sym front)
-      ∙ patched_bytes old.memory (table_of port slot) (take (TABLE_HEAD + PRD_BYTES * length prds) table)
+      ∙ laws.memory.put old.memory (table_of port slot) (take (TABLE_HEAD + PRD_BYTES * length prds) table)
 
   header_there : bytes_at stored (list_of port + 32 * slot) 32 ≡ header
-  header_there = ap (bytes_at stored (list_of port + 32 * slot)) (sym heads.size) ∙ patched_bytes mid.memory (list_of port + 32 * slot) header
+  header_there = ap (bytes_at stored (list_of port + 32 * slot)) (sym heads.size) ∙ laws.memory.put mid.memory (list_of port + 32 * slot) header
 
   pub stored_says : (m : Meaning) (places : List ℕ) → IsTableFor slot command prds m places → SlotDecodesTo new.memory (list_of port) port slot m places
   stored_says m places is =
-      let x = table_says stored (list_of port) slot (table_of port slot) prds table header few size table_there header_there writes command direction fis each heads m places is in
-      told_is_left uses (record mid { memory = stored }) new
-      (store_left port slot below small (list_of port + 32 * slot) header mid new in_header second mid_on uses free mid_agrees)
+      let x = table_says laws.memory stored (list_of port) slot (table_of port slot) prds table header few size table_there header_there writes command direction fis each heads m places is in
+      laws.told uses (record mid { memory = stored }) new
+      (store_left laws port slot below small (list_of port + 32 * slot) header mid new in_header second mid_on uses free mid_agrees)
       port slot m places below small
       (record { says = x.0; table_is = x.1; few = let same = x.2 in rw same few })
 
@@ -144,41 +140,41 @@ block_misses port at n is place (inr (inr table)) from to = let t = table.1 in o
 may_store_block : (uses : SlotStates) (port at : ℕ) (block : List ℕ) → port < 4 → at ≡ scratch_of port → length block ≡ 512 → IsUnused port 0 uses → MayStore uses at (length block)
 may_store_block uses port at block below is size free = inr (record { port = port; below = below; free = free; from = omega (arith, is); to = omega (arith, is, size) })
 
-pub block_free : (uses : SlotStates) (d : Device) (port at : ℕ) (block : List ℕ) → IsRelated uses d → DRIVER_BYTES ≤ d.size → port < 4 → at ≡ scratch_of port → length block ≡ 512 → IsUnused port 0 uses →
+pub block_free : Laws → (uses : SlotStates) (d : Device) (port at : ℕ) (block : List ℕ) → IsRelated uses d → DRIVER_BYTES ≤ d.size → port < 4 → at ≡ scratch_of port → length block ≡ 512 → IsUnused port 0 uses →
     IsStable (IsUnowned at (length block)) d
-block_free uses d port at block a room below is size free =
-    stores_are_free uses a.machine d a.reached a.knows.agrees at (length block) (omega (arith, room, below, is, size)) (may_store_block uses port at block below is size free)
+block_free laws uses d port at block a room below is size free =
+    laws.free uses a.machine d a.reached a.knows.agrees at (length block) (omega (arith, room, below, is, size)) (may_store_block uses port at block below is size free)
 
-module _ (port at : ℕ) (below : port < 4) (is : at ≡ scratch_of port) (block : List ℕ) (size : length block ≡ 512) (old new : Device) (call : Stores at block old new) where
+module _ (laws : Laws) (port at : ℕ) (below : port < 4) (is : at ≡ scratch_of port) (block : List ℕ) (size : length block ≡ 512) (old new : Device) (call : Stores at block old new) where
   pub block_followed : IsSimulated (IsStoreWithBlock port 0) (IsUnused port 0) old new
   block_followed =
-      followed_store (IsStoreWithBlock port 0) (IsUnused port 0) at block old new (inr (refl, is, size)) (λ uses free. may_store_block uses port at block below is size free) call
+      laws.fragments.stores (TablesAndBlock port) at block old new (inr (refl, is, size)) (λ uses free. may_store_block uses port at block below is size free) call
 
   pub block_on : IsOn old → IsOn new
-  block_on on = access_on (Storing at block) old new on (λ v e. absurd cc) call
+  block_on on = laws.on (Storing at block) old new on (λ v e. absurd cc) call
 
   pub block_there : bytes_at new.memory (scratch_of port) 512 ≡ block
   block_there =
       ap (λ (place : ℕ). bytes_at new.memory place 512) (sym is)
-      ∙ (ap (bytes_at new.memory at) (sym size) ∙ (ap (λ (d : Device). bytes_at d.memory at (length block)) call.effect ∙ patched_bytes call.mid.memory at block))
+      ∙ (ap (bytes_at new.memory at) (sym size) ∙ (ap (λ (d : Device). bytes_at d.memory at (length block)) call.effect ∙ laws.memory.put call.mid.memory at block))
 
   pub block_told : (uses : SlotStates) → IsRelated uses old → IsOn old → (m : Meaning) (places : List ℕ) → SlotDecodesTo old.memory (list_of port) port 0 m places → SlotDecodesTo new.memory (list_of port) port 0 m places
   block_told uses a on m places told =
-      told_beside uses at block old new (stores_leave uses a.machine old new a.reached a.knows.agrees on.no_reset at block call) port 0 m places below (omega arith) (block_misses port at (length block) is) told
+      laws.beside uses at block old new (laws.stores uses a.machine old new a.reached a.knows.agrees on.no_reset at block call) port 0 m places below (omega arith) (block_misses port at (length block) is) told
 
 -- after header and table, the slot is unused still, and the memory as large
-pub table_agrees : (port : ℕ) (uses : SlotStates) (old mid : Device) → IsUnused port 0 uses → IsSimulated (IsTableStore port 0) (IsUnused port 0) old mid → IsRelated uses old → IsRelated uses mid
-table_agrees port uses old mid = agreed_on (IsTableStore port 0) (IsUnused port 0) uses old mid
+pub table_agrees : Laws → (port : ℕ) (uses : SlotStates) (old mid : Device) → IsUnused port 0 uses → IsSimulated (IsTableStore port 0) (IsUnused port 0) old mid → IsRelated uses old → IsRelated uses mid
+table_agrees laws port uses old mid = laws.fragments.agreed (Tables port 0) (λ uses. uses) uses old mid
 
 pub table_size : ((old new : Device) → IsDrivenBy AnyAccess old new → SameAdapter old new) → (port : ℕ) (old mid : Device) → IsSimulated (IsTableStore port 0) (IsUnused port 0) old mid → mid.size ≡ old.size
-table_size same port old mid table = (same old mid (driven_as (IsTableStore port 0) AnyAccess old mid (λ access here. tt) table.driven)).size
+table_size same port old mid table = (same old mid (record { accesses = table.driven.accesses; all = table.driven.all; only = All-weaker (IsTableStore port 0) AnyAccess (λ access here. tt) table.driven.accesses table.driven.only })).size
 
 -- header and table, and then a block
-pub with_block : (port : ℕ) (old mid new : Device) → IsSimulated (IsTableStore port 0) (IsUnused port 0) old mid → IsSimulated (IsStoreWithBlock port 0) (IsUnused port 0) mid new →
+pub with_block : Laws → (port : ℕ) (old mid new : Device) → IsSimulated (IsTableStore port 0) (IsUnused port 0) old mid → IsSimulated (IsStoreWithBlock port 0) (IsUnused port 0) mid new →
     IsSimulated (IsStoreWithBlock port 0) (IsUnused port 0) old new
-with_block port old mid new table block =
-    followed_then (IsStoreWithBlock port 0) (IsUnused port 0) old mid new
-    (followed_as (IsTableStore port 0) (IsStoreWithBlock port 0) (IsUnused port 0) (IsUnused port 0) old mid (λ access here. inl here) (λ uses free. free) table) block
+with_block laws port old mid new table block =
+    let wider = laws.fragments.wider (Tables port 0) (TablesAndBlock port) (λ uses. uses) (λ access here. inl here) (λ uses free. free) old mid table in
+    (laws.fragments.both (TablesAndBlock port) (TablesAndBlock port) (λ uses. uses) (λ uses. uses) (λ access here. here) (λ uses free. free) old mid new wider.followed block).followed
 
 -- the table of a command to which one block goes, from the port's scratch frame
 pub table_for_block : (m : Meaning) (command : Command) (prds : List Prd) (port frame : ℕ) → frame ≡ PORT_FRAMES * port + SCRATCH_FRAME → IsMeaning m → command ≡ command_of m.operation 0 m.first m.count →

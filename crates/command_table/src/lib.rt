@@ -24,6 +24,7 @@ ghost use Rattle.command_table.specs.Bytes.{StoresBytes};
 ghost use Rattle.adapter.specs.Counted.{MakesAtMost};
 ghost use Rattle.command_table.specs.Costs.{BLOCK_ACCESSES, TABLE_ACCESSES};
 
+mod lawful;
 pub mod laws;
 
 use adapter::{Adapter, Command, Prd};
@@ -34,6 +35,7 @@ use ata_types::{
     TABLE_ALIGNMENT, TABLE_BYTES, TABLE_HEAD, TABLES_OFFSET, WRITE_DMA_EXT, WRITE_FPDMA_QUEUED,
 };
 use fis::encode_h2d;
+use lawful::law_base;
 use refinement::fragments::law_other_ports_are_left;
 
 const FIS_DWORDS: u32 = 5;
@@ -198,6 +200,7 @@ pub fn write_table<A: Adapter>(
 {
     let list = PORT_BYTES * u32::from(port.0);
     let table = list + TABLES_OFFSET + TABLE_BYTES * u32::from(slot.0);
+    law_base();
     store_table(adapter, table, command, prds);
     let head = header(is_write(command), prds.len() as u16, table);
     adapter.store(list + HEADER_BYTES * u32::from(slot.0), &head);
@@ -224,6 +227,7 @@ pub fn write_table_with_block<A: Adapter>(
     ensures cost { MakesAtMost BLOCK_ACCESSES (A.access_count adapter.old) (A.access_count adapter.new) }
 {
     law_other_ports_are_left();
+    law_base();
     let scratch = Frame(PORT_FRAMES * u16::from(port.0) + SCRATCH_FRAME);
     let prds = prds(&[scratch], BLOCK_BYTES);
     write_table(adapter, port, Slot(0), command, prds.as_slice());

@@ -8,11 +8,11 @@ use Rattle.hba_regs.specs.declared.reg.Reg.TheVariants.{Ghc, Px}
 use Rattle.hba_regs.specs.declared.reg.PortReg.TheVariants.{Cmd, Sctl, Sact, Ci}
 use Rattle.adapter.specs.Access.{Access, DoesAll}
 use Rattle.adapter.specs.Access.Access.{Reading, Writing, Loading, Storing}
+use Rattle.adapter.specs.Asked.{Asked}
 use Rattle.adapter.specs.Device.{Device}
 use Rattle.adapter.specs.Rules.{IsOn}
 use Rattle.adapter.specs.Steps.{Steps}
 use Rattle.adapter.specs.declared.access.DeviceStep.{DeviceStep}
-use Rattle.adapter.proofs.Going.{asked_steps}
 use Rattle.refinement.specs.Facts.{RunsWell, Undisturbed}
 use Rattle.refinement.specs.Links.{SparesRegister}
 use Rattle.block_machine.specs.Events.{Ask, Submit, StoreAt, LoadAt, Service, Tick, Reset, RevokeOf, Device as Told, CallResult, Submitted, Stored, Loaded, Served, WasRevoked, Stepped, HasTimedOut, AbstractState}
@@ -44,6 +44,17 @@ one_leaves port access is = All-cons (LeavesRunning port) access [] is (All-nil 
 abbrev pub IsNoReset : Ask DeviceStep → Type 0
 IsNoReset ask = ask ≢ Reset
 
+-- what laws say of a port that runs well
+pub record KeepsWell : Type 0 where
+  -- what the device was told to do is some of its steps
+  pub asked : (step : DeviceStep) (old new : Device) → Asked step old new → Steps old new
+  -- over the device's steps
+  pub steps : (port : ℕ) (old new : Device) → old.hr ≡ false → Steps old new → Undisturbed port old new → RunsWell (old.port port) → RunsWell (new.port port)
+  -- and over accesses
+  pub runs : (port : Port) (accesses : List Access) (old new : Device) → IsOn old → DoesAll accesses old new → All (SparesRegister Ghc) accesses → All (SparesRegister (Px port Sctl)) accesses
+      → All (SparesRegister (Px port Cmd)) accesses → RunsOn port.0 old new
+  pub well : (port : ℕ) (old new : Device) → RunsOn port old new → Undisturbed port old new → RunsWell (old.port port) → RunsWell (new.port port)
+
 module _ (port : Port) (m : AbstractState) (accesses : List Access) (old new : Device) where
   abbrev Calm : Type 0
   Calm = IsCalm port accesses old new
@@ -55,27 +66,18 @@ module _ (port : Port) (m : AbstractState) (accesses : List Access) (old new : D
   none made same = inl (subst (λ (list : List Access). All (LeavesRunning port) list × DoesAll list old new) (sym made) (All-nil (LeavesRunning port), same))
 
   -- how the call came there, if it leaves the engine alone
-  pub came_calmly : (ask : Ask DeviceStep) (said : CallResult) → CameBy m ask said accesses old new → IsNoReset ask → All (LeavesEngine port) accesses → Calm
-  came_calmly (Told step) (Stepped true) c other leaves = inr (asked_steps step old new c.1)
-  came_calmly (Submit r) (Submitted (Ok id)) c other leaves = inl ((λ i e small. issuing_leaves port c.1.0.port _ (c.1.2 i e small)), c.0)
-  came_calmly (RevokeOf client number) (WasRevoked (Some replies)) c other leaves = inl ((λ i e small. issuing_leaves port c.1.0.0.port _ (c.1.1 i e small)), c.0)
-  came_calmly (StoreAt client frame offset bytes) (Stored None) c other leaves =
+  pub came_calmly : KeepsWell → (ask : Ask DeviceStep) (said : CallResult) → CameBy m ask said accesses old new → IsNoReset ask → All (LeavesEngine port) accesses → Calm
+  came_calmly laws (Told step) (Stepped true) c other leaves = inr (laws.asked step old new c.1)
+  came_calmly laws (Submit r) (Submitted (Ok id)) c other leaves = inl ((λ i e small. issuing_leaves port c.1.0.port _ (c.1.2 i e small)), c.0)
+  came_calmly laws (RevokeOf client number) (WasRevoked (Some replies)) c other leaves = inl ((λ i e small. issuing_leaves port c.1.0.0.port _ (c.1.1 i e small)), c.0)
+  came_calmly laws (StoreAt client frame offset bytes) (Stored None) c other leaves =
       inl (subst (All (LeavesRunning port)) (sym c.1) (one_leaves port (Storing (FRAME_BYTES * frame.0 + offset) bytes) (tt, (tt, tt))), c.0)
-  came_calmly (LoadAt client frame offset count) (Loaded (Ok bytes)) c other leaves =
+  came_calmly laws (LoadAt client frame offset count) (Loaded (Ok bytes)) c other leaves =
       inl (subst (All (LeavesRunning port)) (sym c.1) (one_leaves port (Loading (FRAME_BYTES * frame.0 + offset) bytes) (tt, (tt, tt))), c.0)
-  came_calmly Service (Served replies) c other leaves = inl (serving (TendsPort m.ports) c.1 leaves, c.0)
-  came_calmly Tick (Served replies) c other leaves = inl (serving (HasTimedOut m) c.1 leaves, c.0)
-  came_calmly Reset said c other leaves = absurd (other refl)
-  came_calmly ask said c other leaves = none c.0 c.1
-
--- what laws say of a port that runs well
-pub record KeepsWell : Type 0 where
-  -- over the device's steps
-  pub steps : (port : ℕ) (old new : Device) → old.hr ≡ false → Steps old new → Undisturbed port old new → RunsWell (old.port port) → RunsWell (new.port port)
-  -- and over accesses
-  pub runs : (port : Port) (accesses : List Access) (old new : Device) → IsOn old → DoesAll accesses old new → All (SparesRegister Ghc) accesses → All (SparesRegister (Px port Sctl)) accesses
-      → All (SparesRegister (Px port Cmd)) accesses → RunsOn port.0 old new
-  pub well : (port : ℕ) (old new : Device) → RunsOn port old new → Undisturbed port old new → RunsWell (old.port port) → RunsWell (new.port port)
+  came_calmly laws Service (Served replies) c other leaves = inl (serving (TendsPort m.ports) c.1 leaves, c.0)
+  came_calmly laws Tick (Served replies) c other leaves = inl (serving (HasTimedOut m) c.1 leaves, c.0)
+  came_calmly laws Reset said c other leaves = absurd (other refl)
+  came_calmly laws ask said c other leaves = none c.0 c.1
 
 pub runs_well : KeepsWell → (port : Port) (accesses : List Access) (old new : Device) → IsOn old → IsCalm port accesses old new → Undisturbed port.0 old new → RunsWell (old.port port.0) → RunsWell (new.port port.0)
 runs_well laws port accesses old new on (inr moves) calm well = laws.steps port.0 old new on.no_reset moves calm well

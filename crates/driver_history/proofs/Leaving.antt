@@ -24,4 +24,4 @@ left_well told steps wanted first past h port history ready other young healthy 
     let at = ready_at wanted old port (fit_at wanted first past history.0) holds.0 holds.1 ready in
     let leaves = engine_left told wanted old h t port healthy other
     (tick_spares h.event.ask h.event.said old.abstract h.event.evidence h.event.steps (abstract_after old.abstract h.event) port history.1.answered young) ready in
-    runs_well steps port t.accesses old.device h.device at.on (came_calmly port old.abstract t.accesses old.device h.device h.event.ask h.event.said t.came other leaves) healthy.undisturbed healthy.well
+    runs_well steps port t.accesses old.device h.device at.on (came_calmly port old.abstract t.accesses old.device h.device steps h.event.ask h.event.said t.came other leaves) healthy.undisturbed healthy.well

@@ -11,8 +11,8 @@ use Rattle.hba_regs.specs.declared.reg.PortReg.TheVariants as register
 use Rattle.adapter.specs.Access.{Access, Does, DoesAll, Writes}
 use Rattle.adapter.specs.Access.Access.{Loading, Reading, Storing, Writing}
 use Rattle.adapter.specs.Device.{Device, DevicePort}
+use Rattle.adapter.specs.Seen.{PutAt}
 use Rattle.adapter.specs.Rules.{IsOn}
-use Rattle.adapter.proofs.Changed.{changed_same}
 use Rattle.refinement.specs.Relation.{port_at}
 use Rattle.refinement.specs.Errors.{IsFatalOf}
 use Rattle.refinement.specs.Facts.{IsFaultOf}
@@ -67,24 +67,24 @@ module _ (laws : Laws) (port : Port) where
 
   -- a write of a kind's register that leaves its bits
   module _ (v : ℕ) (old new : Device) where
-    module _ (x : Writes (Px port register.Is) v old new) (leaves : ClearsNone port (Writing (Px port register.Is) v)) where
+    module _ (x : PutAt port.0 register.Is v old new) (leaves : ClearsNone port (Writing (Px port register.Is) v)) where
       cause_left : (place : ℕ) → 27 ≤ place → place ≤ 30 → (x.mid.port port.0).is place ≡ true → (new.port port.0).is place ≡ true
       cause_left place low high set =
-          ap (λ (d : Device). (d.port port.0).is place) x.effect ∙ ap (λ (p : DevicePort). p.is place) (changed_same x.mid.port port.0 _)
+          ap (λ (p : DevicePort). p.is place) x.here
           ∙ cleared_of ((x.mid.port port.0).is place) (bit v place) (leaves.is refl place low high) set
 
-    module _ (x : Writes (Px port register.Serr) v old new) (leaves : ClearsNone port (Writing (Px port register.Serr) v)) where
+    module _ (x : PutAt port.0 register.Serr v old new) (leaves : ClearsNone port (Writing (Px port register.Serr) v)) where
       disk_left : (x.mid.port port.0).serr_n ≡ true → (new.port port.0).serr_n ≡ true
       disk_left set =
-          ap (λ (d : Device). (d.port port.0).serr_n) x.effect ∙ ap (λ (p : DevicePort). p.serr_n) (changed_same x.mid.port port.0 _)
+          ap (λ (p : DevicePort). p.serr_n) x.here
           ∙ cleared_of (x.mid.port port.0).serr_n (bit v 16) (leaves.serr refl).0 set
 
       link_left : (x.mid.port port.0).serr_x ≡ true → (new.port port.0).serr_x ≡ true
       link_left set =
-          ap (λ (d : Device). (d.port port.0).serr_x) x.effect ∙ ap (λ (p : DevicePort). p.serr_x) (changed_same x.mid.port port.0 _)
+          ap (λ (p : DevicePort). p.serr_x) x.here
           ∙ cleared_of (x.mid.port port.0).serr_x (bit v 26) (leaves.serr refl).1 set
 
-    left_set : (kind : TroubleKind) → ClearsNone port (Writing (Px port (register_of kind)) v) → (x : Writes (Px port (register_of kind)) v old new) → Shows kind (x.mid.port port.0) → Shows kind (new.port port.0)
+    left_set : (kind : TroubleKind) → ClearsNone port (Writing (Px port (register_of kind)) v) → (x : PutAt port.0 (register_of kind) v old new) → Shows kind (x.mid.port port.0) → Shows kind (new.port port.0)
     left_set faults leaves x set = cause_left x leaves 30 (omega arith) (omega arith) set
     left_set fatals leaves x shown =
         let high = shown.to in
@@ -93,11 +93,12 @@ module _ (laws : Laws) (port : Port) where
     left_set links leaves x set = link_left x leaves set
 
     write_shows : (kind : TroubleKind) → old.hr ≡ false → ClearsNone port (Writing (Px port (register_of kind)) v) → Writes (Px port (register_of kind)) v old new → AreShown kind port.0 old new
-    write_shows kind on leaves x =
+    write_shows kind on leaves writes =
+        let x = laws.put port (register_of kind) v old new writes on in
         let y = steps_show laws kind port.0 old x.mid on x.steps in
         record {
           still = λ shown. left_set kind leaves x (y.still shown);
-          came = λ g. left_set kind leaves x (y.came (record { gained = g.gained; tape = sym (ap (λ (d : Device). d.tape) x.effect) ∙ g.tape; entry = g.entry; here = g.here; is = g.is }));
+          came = λ g. left_set kind leaves x (y.came (record { gained = g.gained; tape = sym x.tape ∙ g.tape; entry = g.entry; here = g.here; is = g.is }));
         }
 
   one_shows : (kind : TroubleKind) (access : Access) (old new : Device) → old.hr ≡ false → ClearsNone port access → Does access old new → AreShown kind port.0 old new

@@ -1,6 +1,7 @@
 -- Where the moves of a history go.
-use Rattle.std.proofs.Common.{◌≡◌, List, [], ◌∷◌, ◌++◌, Option, Some, None, slice_index, refl, sym, ap, ◌∙◌, subst, ⊎_elim, append_assoc}
-use Rattle.std.specs.List.{Contains}
+use Rattle.std.proofs.Common.{◌≡◌, List, [], ◌∷◌, ◌++◌, Option, Some, None, slice_index, refl, sym, ap, ◌∙◌, subst, inl, inr, ⊎_elim, append_assoc}
+use Rattle.std.specs.List.{All, Contains}
+use Rattle.std.proofs.lemmas.List.Elements.{All-cons, All-contains, All-nil, All-weaker}
 use Rattle.ata_types.specs.declared.request.Op.{Op}
 use Rattle.ata_types.specs.declared.request.Op.TheVariants.{Read, Write, Trim, Flush}
 use Rattle.adapter.specs.Device.{Device}
@@ -13,16 +14,13 @@ use Rattle.refinement.specs.Slots.{op_of}
 use Rattle.refinement.specs.Places.{scratch_of}
 use Rattle.refinement.specs.Tape.{MovesSector, ClearsSectors, TellsAmong, TellsEntry, TellsMove}
 use Rattle.block_machine.specs.Events.{IsRun, steps_of}
-use Rattle.block_machine.specs.Histories.{JointState, Happening, IsHistory, events_of, now}
+use Rattle.block_machine.specs.Histories.{JointState, Happening, events_of, now}
 use Rattle.block_machine.specs.Left.{after, IsLegal}
 use Rattle.block_machine.specs.State.{Machine}
 use Rattle.block_machine.specs.Steps.{Step, Touch}
-use Rattle.block_machine.proofs.Accepts.{living_accepted, law_touch_is_confined}
-use Rattle.block_machine.proofs.EventLemmas.{after-append, run_legal, run_starts, step_of_run}
-use Rattle.block_machine.proofs.Trace.{runs_lives}
-use Rattle.block_machine.proofs.Members.{contains_cases, contains_none}
 use Rattle.identify.specs.declared.wanted.Wanted.{Wanted}
-use Rattle.driver_history.specs.Histories.{Begins, CallCorresponds}
+use Rattle.driver_history.specs.Histories.{IsDriverHistory}
+use Rattle.driver_history.specs.Laws.{RunLaws}
 use Rattle.driver_history.specs.Moves.{IsConfinedClear, IsConfinedMove, KeepsMoves, KeepsTo}
 use Rattle.driver_history.proofs.Telling.{history_runs, machine_is}
 
@@ -58,30 +56,36 @@ goes_first (Some Write) m move own first rest t = among_first m Write move own f
 goes_first (Some Trim) m move own first rest t = t.0
 goes_first (Some Flush) m move own first rest t = absurd t
 
-among_later : (m : Machine) (op : Op) (move : tape_move.Move) (rest early : List Step) → IsAmong (after m early) rest op move → IsAmong m (rest ++ early) op move
-among_later m op move rest early a = record {
+among_later : RunLaws → (m : Machine) (op : Op) (move : tape_move.Move) (rest early : List Step) → IsAmong (after m early) rest op move → IsAmong m (rest ++ early) op move
+among_later laws m op move rest early a = record {
   later = a.later;
   step = a.step;
   before = a.before ++ early;
   here = ap (λ (steps : List Step). steps ++ early) a.here ∙ append_assoc a.later (a.step ∷ a.before) early;
-  touch = subst (λ (n : Machine). MovesSector n op move (a.step ∷ [])) (sym (after-append m a.before early)) a.touch;
+  touch = subst (λ (n : Machine). MovesSector n op move (a.step ∷ [])) (sym (laws.joined m a.before early)) a.touch;
 }
 
-goes_later : (o : Option Op) (m : Machine) (move : tape_move.Move) (rest early : List Step) → Goes o (after m early) rest move → Goes o m (rest ++ early) move
-goes_later (Some Read) m move rest early a = among_later m Read move rest early a
-goes_later (Some Write) m move rest early a = among_later m Write move rest early a
-goes_later None m move rest early a = a
-goes_later (Some Trim) m move rest early a = a
-goes_later (Some Flush) m move rest early a = a
+goes_later : RunLaws → (o : Option Op) (m : Machine) (move : tape_move.Move) (rest early : List Step) → Goes o (after m early) rest move → Goes o m (rest ++ early) move
+goes_later laws (Some Read) m move rest early a = among_later laws m Read move rest early a
+goes_later laws (Some Write) m move rest early a = among_later laws m Write move rest early a
+goes_later laws None m move rest early a = a
+goes_later laws (Some Trim) m move rest early a = a
+goes_later laws (Some Flush) m move rest early a = a
 
-goes : (m : Machine) (entries : List Entry) (steps : List Step) → TellsAmong m entries steps → (move : tape_move.Move) → Contains entries (entry.Move move) → Goes (op_of move.operation) m steps move
-goes m [] steps tells move here = absurd (contains_none (entry.Move move) here)
-goes m (e ∷ entries) steps (own, first, rest, alone, tells, more, is) move here =
-    subst (λ (all : List Step). Goes (op_of move.operation) m all move) (sym is) (⊎_elim
-    (λ (same : entry.Move move ≡ e).
-    goes_first (op_of move.operation) m move own first rest (subst (λ (x : Entry). TellsEntry (after m own) x first) (sym same) tells))
-    (λ (there : Contains entries (entry.Move move)). goes_later (op_of move.operation) m move rest (first ++ own) (goes (after m (first ++ own)) entries rest more move there))
-    (contains_cases e entries (entry.Move move) here))
+abbrev GoesAs : Machine → List Step → Entry → Type 0
+GoesAs m steps e = (move : tape_move.Move) → e ≡ entry.Move move → Goes (op_of move.operation) m steps move
+
+all_go : RunLaws → (m : Machine) (entries : List Entry) (steps : List Step) → TellsAmong m entries steps → All (GoesAs m steps) entries
+all_go laws m [] steps tells = All-nil (GoesAs m steps)
+all_go laws m (e ∷ entries) steps (own, first, rest, alone, tells, more, is) = All-cons (GoesAs m steps) e entries
+    (λ move same. subst (λ (all : List Step). Goes (op_of move.operation) m all move) (sym is)
+    (goes_first (op_of move.operation) m move own first rest (subst (λ (x : Entry). TellsEntry (after m own) x first) same tells)))
+    (All-weaker (GoesAs (after m (first ++ own)) rest) (GoesAs m steps)
+    (λ x later move same. subst (λ (all : List Step). Goes (op_of move.operation) m all move) (sym is) (goes_later laws (op_of move.operation) m move rest (first ++ own) (later move same)))
+    entries (all_go laws (after m (first ++ own)) entries rest more))
+
+goes : RunLaws → (m : Machine) (entries : List Entry) (steps : List Step) → TellsAmong m entries steps → (move : tape_move.Move) → Contains entries (entry.Move move) → Goes (op_of move.operation) m steps move
+goes laws m entries steps tells move here = All-contains (GoesAs m steps) entries (entry.Move move) (all_go laws m entries steps tells) here move refl
 
 -- the clear is among the steps, from this machine on
 record IsCleared (m : Machine) (steps : List Step) (clear : tape_clear.Clear) : Type 0 where
@@ -94,24 +98,30 @@ record IsCleared (m : Machine) (steps : List Step) (clear : tape_clear.Clear) : 
 cleared_first : (m : Machine) (clear : tape_clear.Clear) (own first rest : List Step) → ClearsSectors (after m own) clear first → IsCleared m (rest ++ (first ++ own)) clear
 cleared_first m clear own first rest c = record { later = rest; touches = first; before = own; here = refl; clears = c }
 
-cleared_later : (m : Machine) (clear : tape_clear.Clear) (rest early : List Step) → IsCleared (after m early) rest clear → IsCleared m (rest ++ early) clear
-cleared_later m clear rest early c = record {
+cleared_later : RunLaws → (m : Machine) (clear : tape_clear.Clear) (rest early : List Step) → IsCleared (after m early) rest clear → IsCleared m (rest ++ early) clear
+cleared_later laws m clear rest early c = record {
   later = c.later;
   touches = c.touches;
   before = c.before ++ early;
   here = ap (λ (steps : List Step). steps ++ early) c.here ∙ append_assoc c.later (c.touches ++ c.before) early
       ∙ ap (λ (steps : List Step). c.later ++ steps) (append_assoc c.touches c.before early);
-  clears = subst (λ (n : Machine). ClearsSectors n clear c.touches) (sym (after-append m c.before early)) c.clears;
+  clears = subst (λ (n : Machine). ClearsSectors n clear c.touches) (sym (laws.joined m c.before early)) c.clears;
 }
 
-cleared : (m : Machine) (entries : List Entry) (steps : List Step) → TellsAmong m entries steps → (clear : tape_clear.Clear) → Contains entries (entry.Clear clear) → IsCleared m steps clear
-cleared m [] steps tells clear here = absurd (contains_none (entry.Clear clear) here)
-cleared m (e ∷ entries) steps (own, first, rest, alone, tells, more, is) clear here =
-    subst (λ (all : List Step). IsCleared m all clear) (sym is) (⊎_elim
-    (λ (same : entry.Clear clear ≡ e).
-    cleared_first m clear own first rest (subst (λ (x : Entry). TellsEntry (after m own) x first) (sym same) tells))
-    (λ (there : Contains entries (entry.Clear clear)). cleared_later m clear rest (first ++ own) (cleared (after m (first ++ own)) entries rest more clear there))
-    (contains_cases e entries (entry.Clear clear) here))
+abbrev ClearsAs : Machine → List Step → Entry → Type 0
+ClearsAs m steps e = (clear : tape_clear.Clear) → e ≡ entry.Clear clear → IsCleared m steps clear
+
+all_cleared : RunLaws → (m : Machine) (entries : List Entry) (steps : List Step) → TellsAmong m entries steps → All (ClearsAs m steps) entries
+all_cleared laws m [] steps tells = All-nil (ClearsAs m steps)
+all_cleared laws m (e ∷ entries) steps (own, first, rest, alone, tells, more, is) = All-cons (ClearsAs m steps) e entries
+    (λ clear same. subst (λ (all : List Step). IsCleared m all clear) (sym is)
+    (cleared_first m clear own first rest (subst (λ (x : Entry). TellsEntry (after m own) x first) same tells)))
+    (All-weaker (ClearsAs (after m (first ++ own)) rest) (ClearsAs m steps)
+    (λ x later clear same. subst (λ (all : List Step). IsCleared m all clear) (sym is) (cleared_later laws m clear rest (first ++ own) (later clear same)))
+    entries (all_cleared laws (after m (first ++ own)) entries rest more))
+
+cleared : RunLaws → (m : Machine) (entries : List Entry) (steps : List Step) → TellsAmong m entries steps → (clear : tape_clear.Clear) → Contains entries (entry.Clear clear) → IsCleared m steps clear
+cleared laws m entries steps tells clear here = All-contains (ClearsAs m steps) entries (entry.Clear clear) (all_cleared laws m entries steps tells) here clear refl
 
 legal_before : (start : Machine) (late early : List Step) → IsLegal start (late ++ early) → IsLegal start early
 legal_before start [] early legal = legal
@@ -119,7 +129,7 @@ legal_before start (step ∷ late) early legal = legal_before start late early l
 
 -- ---- in a history
 
-module _ (wanted : List Wanted) (first : JointState Device) (past : List (Happening Device DeviceStep)) (h : Happening Device DeviceStep) (history : IsHistory (Begins wanted) (CallCorresponds wanted) first (h ∷ past)) where
+module _ (laws : RunLaws) (wanted : List Wanted) (first : JointState Device) (past : List (Happening Device DeviceStep)) (h : Happening Device DeviceStep) (history : IsDriverHistory wanted first (h ∷ past)) where
   abbrev start : Machine
   start = first.abstract.machine
 
@@ -139,13 +149,11 @@ module _ (wanted : List Wanted) (first : JointState Device) (past : List (Happen
     before = a.before;
     here = a.here;
     touch = then;
-    confined =
-        let s = step_of_run first.abstract (events_of (h ∷ past)) a.later (Touch then.pending then.number (slice_index move.bytes.value)) (a.before ++ early) run split in
-        law_touch_is_confined start (a.before ++ early) then.pending then.number (slice_index move.bytes.value) (run_starts first.abstract (events_of (h ∷ past)) run) s.0 s.1;
+    confined = laws.touches first.abstract (events_of (h ∷ past)) a.later (a.before ++ early) then.pending then.number (slice_index move.bytes.value) run split;
   }
     where
       then : MovesSector (after start (a.before ++ early)) op move (a.step ∷ [])
-      then = subst (λ (n : Machine). MovesSector n op move (a.step ∷ [])) (ap (λ (n : Machine). after n a.before) (machine_is wanted first past) ∙ sym (after-append start a.before early)) a.touch
+      then = subst (λ (n : Machine). MovesSector n op move (a.step ∷ [])) (ap (λ (n : Machine). after n a.before) (machine_is laws wanted first past history.0) ∙ sym (laws.joined start a.before early)) a.touch
 
       split : h.event.steps ++ early ≡ a.later ++ Touch then.pending then.number (slice_index move.bytes.value) ∷ (a.before ++ early)
       split = ap (λ (steps : List Step). steps ++ early) a.here ∙ append_assoc a.later (a.step ∷ a.before) early
@@ -165,13 +173,14 @@ module _ (wanted : List Wanted) (first : JointState Device) (past : List (Happen
     before = c.before;
     here = c.here;
     clears = then;
-    accepted = living_accepted start (c.before ++ early) (run_starts first.abstract (events_of (h ∷ past)) run)
-        (legal_before start (c.later ++ c.touches) (c.before ++ early) (subst (IsLegal start) split (run_legal first.abstract (events_of (h ∷ past)) run)))
-        then.pending (runs_lives (after start (c.before ++ early)) then.pending then.moves);
+    accepted =
+        let whole = laws.legal first.abstract (events_of (h ∷ past)) run in
+        laws.lived start (c.before ++ early) then.pending whole.0 (legal_before start (c.later ++ c.touches) (c.before ++ early) (subst (IsLegal start) split whole.1))
+        (⊎_elim (λ issued. inl issued.0) (λ kept. inr kept) then.moves);
   }
     where
       then : ClearsSectors (after start (c.before ++ early)) clear c.touches
-      then = subst (λ (n : Machine). ClearsSectors n clear c.touches) (ap (λ (n : Machine). after n c.before) (machine_is wanted first past) ∙ sym (after-append start c.before early)) c.clears
+      then = subst (λ (n : Machine). ClearsSectors n clear c.touches) (ap (λ (n : Machine). after n c.before) (machine_is laws wanted first past history.0) ∙ sym (laws.joined start c.before early)) c.clears
 
       split : h.event.steps ++ early ≡ (c.later ++ c.touches) ++ (c.before ++ early)
       split = ap (λ (steps : List Step). steps ++ early) (c.here ∙ sym (append_assoc c.later c.touches c.before)) ∙ append_assoc (c.later ++ c.touches) c.before early
@@ -180,6 +189,6 @@ module _ (wanted : List Wanted) (first : JointState Device) (past : List (Happen
   keeps_moves = record {
     gained = history.2.backed.gained;
     tape = history.2.backed.tape;
-    moves = λ move here. keeps (op_of move.operation) move (goes m history.2.backed.gained h.event.steps history.2.backed.tells move here);
-    clears = λ clear here. confined_clear clear (cleared m history.2.backed.gained h.event.steps history.2.backed.tells clear here);
+    moves = λ move here. keeps (op_of move.operation) move (goes laws m history.2.backed.gained h.event.steps history.2.backed.tells move here);
+    clears = λ clear here. confined_clear clear (cleared laws m history.2.backed.gained h.event.steps history.2.backed.tells clear here);
   }

@@ -1,6 +1,7 @@
 -- What the answers of a history rest on.
-use Rattle.std.proofs.Common.{◌≡◌, ◌⊎◌, Bool, true, false, List, [], ◌∷◌, inl, inr, ⊎_elim, sym, ◌∙◌, subst}
-use Rattle.std.specs.List.{Contains}
+use Rattle.std.proofs.Common.{◌≡◌, ◌⊎◌, Bool, true, false, List, [], ◌∷◌, inl, inr, ⊎_elim, refl, sym, ◌∙◌, subst}
+use Rattle.std.proofs.lemmas.List.Elements.{All-cons, All-contains, All-nil, All-weaker}
+use Rattle.std.specs.List.{All, Contains}
 use Rattle.std.proofs.lemmas.Bool.{cases_Bool}
 use Rattle.ata_types.specs.declared.Port.{Port}
 use Rattle.ata_types.specs.declared.PortState.{PortState}
@@ -17,7 +18,6 @@ use Rattle.block_machine.specs.Ports.{Ports, Evidence, AreFit}
 use Rattle.block_machine.specs.State.{Pending, Machine}
 use Rattle.block_machine.specs.Steps.{Step, Again, Answer, HasGrant, May}
 use Rattle.block_machine.specs.Left.{after}
-use Rattle.block_machine.proofs.Members.{contains_none, contains_cases}
 use Rattle.host_boot.specs.Taken.{wanted_of}
 use Rattle.identify.specs.declared.wanted.Wanted.{Wanted}
 use Rattle.driver_history.specs.Claims.{AnswerRests}
@@ -41,22 +41,26 @@ lawful_rest old evidence ports (Answer e o) before l = l.0
 lawful_rest old evidence ports (Again e) before l = l.0
 lawful_rest old evidence ports _ before l = l
 
+-- each answer among lawful steps is lawful
+all_lawful : (old : AbstractState) (evidence : Evidence) (ports : Ports) (steps : List Step) → AllLawful old evidence ports steps
+    → All (λ step. (e : Pending) (o : Outcome) → step ≡ Answer e o → IsLawful old evidence ports e o) steps
+all_lawful old evidence ports [] l = All-nil (λ step. (e : Pending) (o : Outcome) → step ≡ Answer e o → IsLawful old evidence ports e o)
+all_lawful old evidence ports (step ∷ before) l =
+    All-cons (λ step. (e : Pending) (o : Outcome) → step ≡ Answer e o → IsLawful old evidence ports e o) step before
+    (λ e o same. let whole : AllLawful old evidence ports (Answer e o ∷ before) = subst (λ (x : Step). AllLawful old evidence ports (x ∷ before)) same l in whole.1)
+    (all_lawful old evidence ports before (lawful_rest old evidence ports step before l))
+
 lawful_of : (old : AbstractState) (evidence : Evidence) (ports : Ports) (steps : List Step) → AllLawful old evidence ports steps → (e : Pending) (o : Outcome)
     → Contains steps (Answer e o) → IsLawful old evidence ports e o
-lawful_of old evidence ports [] l e o h = absurd (contains_none (Answer e o) h)
-lawful_of old evidence ports (step ∷ before) l e o h = ⊎_elim
-    (λ (same : Answer e o ≡ step).
-    let whole : AllLawful old evidence ports (Answer e o ∷ before) = subst (λ (x : Step). AllLawful old evidence ports (x ∷ before)) (sym same) l in
-    whole.1)
-    (λ i. lawful_of old evidence ports before (lawful_rest old evidence ports step before l) e o i)
-    (contains_cases step before (Answer e o) h)
+lawful_of old evidence ports steps l e o h =
+    All-contains (λ step. (e : Pending) (o : Outcome) → step ≡ Answer e o → IsLawful old evidence ports e o) steps (Answer e o) (all_lawful old evidence ports steps l) h e o refl
+
+all_belong : (ask : Ask DeviceStep) (ports : Ports) (steps : List Step) → Belong ask ports steps → All (λ step. IsByDevice step ⊎ IsByServer ask ports step) steps
+all_belong ask ports [] l = All-nil (λ step. IsByDevice step ⊎ IsByServer ask ports step)
+all_belong ask ports (x ∷ before) l = All-cons (λ step. IsByDevice step ⊎ IsByServer ask ports step) x before l.1 (all_belong ask ports before l.0)
 
 pub belongs_of : (ask : Ask DeviceStep) (ports : Ports) (steps : List Step) → Belong ask ports steps → (step : Step) → Contains steps step → IsByDevice step ⊎ IsByServer ask ports step
-belongs_of ask ports [] l step h = absurd (contains_none step h)
-belongs_of ask ports (x ∷ before) l step h = ⊎_elim
-    (λ (same : step ≡ x). subst (λ (y : Step). IsByDevice y ⊎ IsByServer ask ports y) (sym same) l.1)
-    (λ i. belongs_of ask ports before l.0 step i)
-    (contains_cases x before step h)
+belongs_of ask ports steps l step h = All-contains (λ step. IsByDevice step ⊎ IsByServer ask ports step) steps step (all_belong ask ports steps l) h
 
 -- a reset tells no fault
 no_fault : (ask : Ask DeviceStep) (said : CallResult) (ports : Ports) (e : Pending) (status error : _) → IsEndedReset ask said → IsByServer ask ports (Answer e (outcome.DeviceError status error)) → ⊥
@@ -76,14 +80,19 @@ RowsShrink = (start : Machine) (history : List Step) → ((row : GrantRow) → C
     × ((frame : Frame) → (after start history).owner frame ≡ start.owner frame)
 
 -- a request that a call tells Revoked has no grant when it is told so, and none at the call's end
+all_gone : RowsShrink → (m : Machine) (steps : List Step) → AllMay m steps → All (λ step. (e : Pending) → step ≡ Answer e outcome.Revoked → HasGrant (after m steps) e → ⊥) steps
+all_gone shrink m [] may = All-nil (λ step. (e : Pending) → step ≡ Answer e outcome.Revoked → HasGrant m e → ⊥)
+all_gone shrink m (step ∷ before) may =
+    All-cons (λ x. (e : Pending) → x ≡ Answer e outcome.Revoked → HasGrant (after m (step ∷ before)) e → ⊥) step before
+    (λ e same has. let told : May (after m before) (Answer e outcome.Revoked) = subst (May (after m before)) same may.1 in told.1 (had e has))
+    (All-weaker (λ x. (e : Pending) → x ≡ Answer e outcome.Revoked → HasGrant (after m before) e → ⊥) (λ x. (e : Pending) → x ≡ Answer e outcome.Revoked → HasGrant (after m (step ∷ before)) e → ⊥)
+    (λ x gone e same has. gone e same (had e has)) before (all_gone shrink m before may.0))
+  where
+    had : (e : Pending) → HasGrant (after m (step ∷ before)) e → HasGrant (after m before) e
+    had e has = (has.0, (shrink (after m before) (step ∷ [])).0 has.0 has.1, has.2)
+
 grant_gone : RowsShrink → (m : Machine) (steps : List Step) (e : Pending) → AllMay m steps → Contains steps (Answer e outcome.Revoked) → HasGrant (after m steps) e → ⊥
-grant_gone shrink m [] e may h has = contains_none (Answer e outcome.Revoked) h
-grant_gone shrink m (step ∷ before) e may h has =
-    let had : HasGrant (after m before) e = (has.0, (shrink (after m before) (step ∷ [])).0 has.0 has.1, has.2) in
-    ⊎_elim
-    (λ (same : Answer e outcome.Revoked ≡ step). let told : May (after m before) (Answer e outcome.Revoked) = subst (May (after m before)) (sym same) may.1 in told.1 had)
-    (λ i. grant_gone shrink m before e may.0 i had)
-    (contains_cases step before (Answer e outcome.Revoked) h)
+grant_gone shrink m steps e may h = All-contains (λ step. (e : Pending) → step ≡ Answer e outcome.Revoked → HasGrant (after m steps) e → ⊥) steps (Answer e outcome.Revoked) (all_gone shrink m steps may) h e refl
 
 module _ (wanted : List Wanted) (old : JointState Device) (h : Happening Device DeviceStep) (x : Happens old.abstract h.event) (t : CallCorresponds wanted old h) where
   lawful : (e : Pending) (o : Outcome) → Contains h.event.steps (Answer e o) → IsLawful old.abstract h.event.evidence h.event.ports e o

@@ -24,11 +24,12 @@ use Rattle.block_machine.specs.Histories.{JointState, Happening, IsReachable, no
 use Rattle.block_machine.specs.Ports.{SameDisk}
 use Rattle.block_machine.specs.State.{Accepted, Machine, Pending}
 use Rattle.block_machine.specs.Steps.{Answer}
-use Rattle.block_machine.proofs.HistoryLemmas.{history_reaches}
 use Rattle.identify.specs.declared.wanted.Wanted.{Wanted}
 use Rattle.driver_history.specs.Heeding.{HeedsAt}
 use Rattle.driver_history.specs.Evidence.{Gains, ShowsChange}
-use Rattle.driver_history.specs.Histories.{Begins, IsDriverHistory, CallCorresponds}
+use Rattle.driver_history.specs.Histories.{IsDriverHistory, CallCorresponds}
+use Rattle.driver_history.specs.Laws.{RunLaws}
+use Rattle.driver_history.proofs.Telling.{history_reached}
 use Rattle.driver_history.proofs.Instants.{fit_at, holds_at, ready_at}
 use Rattle.driver_history.proofs.Resting.{lost_then}
 
@@ -36,15 +37,11 @@ use Rattle.driver_history.proofs.Resting.{lost_then}
 abbrev pub UnlentIsStill : Type 0
 UnlentIsStill = (uses : SlotStates) (m : Machine) (d : Device) (frame : Frame) → IsReachable m → StateRelation uses m d → m.lent frame ≡ None → DRIVER_FRAMES ≤ frame.0 → IsStable (IsStill frame) d
 
--- the machine of a history is reached
-pub history_reached : (wanted : List Wanted) (first : JointState Device) (past : List (Happening Device DeviceStep)) → IsDriverHistory wanted first past → IsReachable (now first past).abstract.machine
-history_reached wanted first past history = history_reaches (Begins wanted) (CallCorresponds wanted) first past history
-
-pub unlent_still : UnlentIsStill → (wanted : List Wanted) (first : JointState Device) (past : List (Happening Device DeviceStep)) (frame : Frame) → IsDriverHistory wanted first past
+pub unlent_still : UnlentIsStill → RunLaws → (wanted : List Wanted) (first : JointState Device) (past : List (Happening Device DeviceStep)) (frame : Frame) → IsDriverHistory wanted first past
     → DRIVER_FRAMES ≤ frame.0 → (now first past).abstract.machine.lent frame ≡ None → IsStable (IsStill frame) (now first past).device
-unlent_still law wanted first past frame history low free =
+unlent_still law runs wanted first past frame history low free =
     let h = holds_at wanted first past history in
-    law h.0.uses (now first past).abstract.machine (now first past).device frame (history_reached wanted first past history) h.1.knows.agrees free low
+    law h.0.uses (now first past).abstract.machine (now first past).device frame (history_reached runs wanted first past history) h.1.knows.agrees free low
 
 -- ---- what is seen
 

@@ -7,12 +7,11 @@ use Rattle.ata_types.specs.declared.Port.{Port}
 use Rattle.hba_regs.specs.Bits.{bit}
 use Rattle.hba_regs.specs.declared.reg.Reg.TheVariants.{Ghc, Px}
 use Rattle.hba_regs.specs.declared.reg.PortReg.TheVariants.{Cmd, Sctl}
-use Rattle.adapter.specs.Access.{Access, Does, DoesAll, Writes, port_written, with_st}
+use Rattle.adapter.specs.Access.{Access, Does, DoesAll, Writes, with_st}
 use Rattle.adapter.specs.Access.Access.{Loading, Reading, Storing, Writing}
 use Rattle.adapter.specs.Device.{Device, DevicePort}
 use Rattle.adapter.specs.Rules.{IsOn}
 use Rattle.adapter.specs.declared.tape.Entry.{Entry}
-use Rattle.adapter.proofs.Changed.{changed_same}
 use Rattle.refinement.specs.Relation.{port_at}
 use Rattle.refinement.specs.Links.{SparesRegister}
 use Rattle.port_control.specs.Engines.{Stops}
@@ -119,10 +118,9 @@ module _ (laws : Laws) (port : Port) where
   -- where ST is one, and is written so, when it was set stays
   stays_set : (v : ℕ) (old new : Device) → old.hr ≡ false → (old.port port.0).st ≡ true → bit v 0 ≡ true → Writes (Px port Cmd) v old new → (new.port port.0).notes.st_set_at ≡ (old.port port.0).notes.st_set_at
   stays_set v old new on runs set x =
-      let k = laws.steps old x.mid x.steps in
-      let here : (new.port port.0).notes.st_set_at ≡ (port_written Cmd v (length x.mid.tape) (x.mid.port port.0)).notes.st_set_at =
-      ap (λ (d : Device). (d.port port.0).notes.st_set_at) x.effect ∙ ap (λ (p : DevicePort). p.notes.st_set_at) (changed_same x.mid.port port.0 _) in
-      here ∙ ap (λ (p : DevicePort). p.notes.st_set_at) (left (bit v 0) (length x.mid.tape) (x.mid.port port.0) set (((k.on on).controls port.0).st ∙ runs)) ∙ ap (λ n. n.st_set_at) (k.notes port.0)
+      let put = laws.put port Cmd v old new x on in
+      let k = laws.steps old put.mid put.steps in
+      ap (λ (p : DevicePort). p.notes.st_set_at) put.here ∙ ap (λ (p : DevicePort). p.notes.st_set_at) (left (bit v 0) (length put.mid.tape) (put.mid.port port.0) set (((k.on on).controls port.0).st ∙ runs)) ∙ ap (λ n. n.st_set_at) (k.notes port.0)
     where
       left : (b : Bool) (tape : ℕ) (p : DevicePort) → b ≡ true → p.st ≡ true → with_st b tape p ≡ p
       left b tape p one other = cond-true b _ _ one ∙ cond-true p.st p _ other

@@ -1,5 +1,5 @@
 -- What laws of the crates below say of accesses: the laws on parts of calls rest on them.
-use Rattle.std.specs.Prelude.{ℕ, true, false, ◌≡◌, ◌≢◌, ◌≤◌, ◌%◌, ◌++◌, List, All, length}
+use Rattle.std.specs.Prelude.{ℕ, true, false, ◌≡◌, ◌≢◌, ◌≤◌, ◌%◌, ◌++◌, List, All, length, ◌∷◌}
 use Rattle.ata_types.specs.declared.Port.{Port}
 use Rattle.hba_regs.specs.Bits.{bit}
 use Rattle.hba_regs.specs.declared.reg.PortReg.{PortReg}
@@ -19,6 +19,13 @@ use Rattle.refinement.specs.Vacant.{IsFreshIfShown, IsVacant}
 use Rattle.error_recovery.specs.Evidence.{ShowsFatal}
 use Rattle.port_boot.specs.States.{RunsOn}
 use Rattle.port_control.specs.Engines.{Falls, Sticks}
+use Rattle.adapter.specs.Seen.{PutAt}
+use Rattle.adapter.specs.declared.access.DeviceStep.{DeviceStep}
+use Rattle.block_machine.specs.Confined.{IsConfined, WasAccepted}
+use Rattle.block_machine.specs.Events.{AbstractState, CallRecord, EveryReadHolds, IsRun, abstract_after_all, steps_of}
+use Rattle.block_machine.specs.Left.{AllTellSectors, IsInitial, IsLegal, after}
+use Rattle.block_machine.specs.State.{Block, Machine, Pending}
+use Rattle.block_machine.specs.Steps.{IsLiving, Step, Touch}
 
 pub record Laws : Type 0 where
   pub left : (port : Port) (q : ℕ) (old new : Device) → q ≢ port.0 → IsOn old → IsDrivenBy (IsOf port) old new
@@ -41,6 +48,8 @@ pub record Laws : Type 0 where
   pub does_append : (early late : List Access) (old mid new : Device) → DoesAll early old mid → DoesAll late mid new
       → DoesAll (early ++ late) old new
   pub steps : (old new : Device) → Steps old new → Keeps old new
+  pub put : (port : Port) (r : PortReg) (v : ℕ) (old new : Device) → Writes (Px port r) v old new → old.hr ≡ false
+      → PutAt port.0 r v old new
   pub on_all : (accesses : List Access) (old new : Device) → IsOn old → All (SparesRegister Ghc) accesses
       → DoesAll accesses old new → IsOn new
   pub spares_host : (port : Port) (access : Access) → IsOf port access → SparesRegister Ghc access
@@ -87,3 +96,19 @@ pub record Laws : Type 0 where
       → All (SparesRegister (Px port Cmd)) accesses → RunsOn port.0 old new
   pub well : (port : ℕ) (old new : Device) → RunsOn port old new → Undisturbed port old new → RunsWell (old.port port)
       → RunsWell (new.port port)
+
+-- What laws say of runs of calls, and of the steps that they make one after another.
+pub record RunLaws : Type 0 where
+  pub legal : (first : AbstractState) (run : List (CallRecord DeviceStep)) → IsRun first run
+      → IsInitial first.machine × IsLegal first.machine (steps_of run)
+      × ((abstract_after_all first run).machine ≡ after first.machine (steps_of run))
+  pub touches : (first : AbstractState) (run : List (CallRecord DeviceStep)) (late early : List Step) (e : Pending)
+      (i : ℕ) (block : Block) → IsRun first run → steps_of run ≡ late ++ Touch e i block ∷ early
+      → IsConfined first.machine early e.request i
+  pub reads : (first : AbstractState) (run : List (CallRecord DeviceStep)) → IsRun first run
+      → AllTellSectors first.machine (steps_of run) → EveryReadHolds first run
+  pub joined : (m : Machine) (late early : List Step) → after m (late ++ early) ≡ after (after m early) late
+  pub told : (m : Machine) (late early : List Step) → AllTellSectors m early → AllTellSectors (after m early) late
+      → AllTellSectors m (late ++ early)
+  pub lived : (start : Machine) (history : List Step) (e : Pending) → IsInitial start → IsLegal start history
+      → IsLiving (after start history) e → WasAccepted start history e.request

@@ -1,7 +1,9 @@
 // What laws of the crates below say of accesses, for this crate's proofs. Nothing comes of calling it.
-ghost use Rattle.driver_history.specs.Laws.{Laws};
+ghost use Rattle.driver_history.specs.Laws.{Laws, RunLaws};
 
-use adapter::laws::{law_accesses_compose, law_steps_keep};
+use adapter::DeviceStep;
+use adapter::laws::{law_accesses_compose, law_port_registers_are_accessed, law_steps_keep};
+use block_machine::laws::{law_every_read_holds, law_living_was_accepted, law_runs_are_legal};
 use error_recovery::laws::law_fatal_errors_show_unless_clear;
 use port_boot::laws::law_a_port_runs_on;
 use port_control::laws::law_what_is_told_of_engines_stays;
@@ -11,6 +13,7 @@ use refinement::facts::{
     law_errors_are_kept, law_errors_are_shown, law_link_stays, law_plugging_is_found,
 };
 use refinement::fragments::{law_other_ports_are_left, law_tapes};
+use refinement::laws::law_histories_go_on;
 
 /// The laws that the proofs on parts of calls rest on.
 pub fn law_base()
@@ -18,6 +21,7 @@ pub fn law_base()
 {
     law_accesses_compose();
     law_steps_keep();
+    law_port_registers_are_accessed();
     law_adapter_stays();
     law_cleared_stays();
     law_controls_are_set();
@@ -32,4 +36,14 @@ pub fn law_base()
     law_none_comes_in();
     law_a_port_runs_on();
     law_what_is_told_of_engines_stays();
+}
+
+/// The laws that the proofs on histories as runs rest on.
+pub fn law_runs()
+    ensures { RunLaws }
+{
+    law_runs_are_legal::<DeviceStep>();
+    law_every_read_holds::<DeviceStep>();
+    law_histories_go_on();
+    law_living_was_accepted();
 }

@@ -31,8 +31,9 @@ ghost use Rattle.driver_history.specs.Holds.{HoldsAt};
 ghost use Rattle.driver_history.specs.Moves.{KeepsMoves};
 ghost use Rattle.driver_history.specs.Parts.{HasTurnIn, NamesAlike, all_of};
 
-use super::lawful::law_base;
+use super::lawful::{law_base, law_runs};
 use adapter::DeviceStep;
+use adapter::laws::law_what_is_asked_is_steps;
 use block_machine::laws::law_rows_shrink_and_owners_stay;
 use durability::laws::law_every_plug_finds;
 use port_boot::laws::law_a_port_runs_on;
@@ -51,7 +52,9 @@ pub fn law_histories_are_runs()
 pub fn law_histories_reach_their_machines()
     ensures { (wanted : List Wanted) (first : JointState Device) (past : List (Happening Device DeviceStep))
         → IsDriverHistory wanted first past → IsReachable (now first past).abstract.machine }
-{}
+{
+    law_runs();
+}
 
 /// Where the adapter's disks tell their sectors, each read of a history that was answered Ok has, at the end of the
 /// call that answered it, what was left.
@@ -59,7 +62,9 @@ pub fn law_reads_hold()
     ensures { (wanted : List Wanted) (first : JointState Device) (past : List (Happening Device DeviceStep))
         → IsDriverHistory wanted first past → first.device.telling ≡ true
         → EveryReadHolds first.abstract (events_of past) }
-{}
+{
+    law_runs();
+}
 
 /// Where the adapter's disks tell their sectors, each disk that comes back in a history has the writes that were
 /// flushed, or later ones.
@@ -68,6 +73,7 @@ pub fn law_plugs_find()
         → IsDriverHistory wanted first past → first.device.telling ≡ true
         → EveryPlugFinds first.abstract.machine (steps_of (events_of past)) }
 {
+    law_runs();
     law_every_plug_finds::<DeviceStep>();
 }
 
@@ -80,7 +86,9 @@ pub fn law_moves_keep_to_their_places()
         (h : Happening Device DeviceStep)
         → IsDriverHistory wanted first (h ∷ past)
         → KeepsMoves first.abstract.machine (steps_of (events_of past)) h.event.steps (now first past).device h.device }
-{}
+{
+    law_runs();
+}
 
 /// At each instant of a history there holds what holds between two calls; and the ports are fit: at most four are
 /// served.
@@ -129,6 +137,7 @@ pub fn law_calls_leave_ports_well()
         → StaysHealthy port.0 (now first past).device h.device → RunsWell (h.device.port port.0) }
 {
     law_disks_are_told();
+    law_what_is_asked_is_steps();
     law_healthy_stays();
     law_a_port_runs_on();
 }
@@ -153,6 +162,7 @@ pub fn law_unlent_frames_are_still()
         → DRIVER_FRAMES ≤ frame.0 → (now first past).abstract.machine.lent frame ≡ None
         → IsStable (IsStill frame) (now first past).device }
 {
+    law_runs();
     law_frames_are_still();
 }
 
@@ -205,6 +215,7 @@ pub fn law_healthy_calls_go_well()
         → GoesWellFor (now first past) h port }
 {
     law_disks_are_told();
+    law_what_is_asked_is_steps();
     law_healthy_stays();
     law_a_port_runs_on();
 }

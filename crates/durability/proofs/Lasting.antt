@@ -13,7 +13,7 @@ use Rattle.block_machine.specs.Left.{after, IsLegal, IsInitial, IsAccept, IsTouc
 use Rattle.durability.specs.Durable.{IsOk, takes_out, brings_other, WriteAccepted, WriteAnswered, FlushAccepted, FlushAnswered, IsSince, FindsFlushed, EveryPlugFinds}
 use Rattle.block_machine.proofs.Members.{map_in, at_cases, without_in, append_in}
 use Rattle.block_machine.proofs.Sound.{Sound}
-use Rattle.block_machine.proofs.Keeps.{older_keeps, older_touched, same_port}
+use Rattle.block_machine.proofs.Keeps.{older_keeps, older_touched}
 use Rattle.block_machine.proofs.Trace.{Seen, seen_touch, lives_one, runs_lives, conflict_at}
 use Rattle.block_machine.proofs.Runs.{traced}
 use Rattle.block_machine.specs.Events.{AbstractState, CallRecord, IsRun, steps_of}
@@ -89,7 +89,7 @@ effect_touch m e i block port k r lt = by_op (is_writer e.request.asked.op) refl
           entry = e;
           runs = r;
           writes = w;
-          here = sym (same_port port e.request.port (eqb-true port.0 e.request.port.0 p.0));
+          here = sym (ap (λ (n : ℕ). record { 0 = n }) (eqb-true port.0 e.request.port.0 p.0));
           touched = (refl, sector);
           from = omega (arith, sector);
           to = omega (arith, sector, lt);
@@ -116,8 +116,8 @@ effect_replace m p id size disk port k gone = ⊎_elim
       id = id;
       size = size;
       disk = disk;
-      absent = ap m.present (same_port port p e) ∙ gone;
-      step_is = (sym (same_port port p e), refl, refl, refl);
+      absent = ap m.present (ap (λ (n : ℕ). record { 0 = n }) e) ∙ gone;
+      step_is = (sym (ap (λ (n : ℕ). record { 0 = n }) e), refl, refl, refl);
       is = cond-true (port.0 == p.0) disk (m.disks port) (eq-eqb port.0 p.0 e);
     })))
     (λ (ne : port.0 ≡ p.0 → ⊥). inl (record { same = ap (λ (d : DiskBytes). d k) (cond-false (port.0 == p.0) disk (m.disks port) (ne_eqb port.0 p.0 ne)); quiet = λ w _ _ t. t }))
@@ -191,7 +191,7 @@ sizes_stay : (m : Machine) (step : Step) (port : Port) → May m step → brings
 sizes_stay m (Replace p id size disk) port may other = ⊎_elim
     (λ (ne : (p.0 == port.0) ≡ false). cond-false (port.0 == p.0) size (m.sizes port) (ne_eqb port.0 p.0 (λ e. eqb-false p.0 port.0 ne (sym e))))
     (λ (same : not (id == m.disk_ids port) ≡ false). cond_both (port.0 == p.0) size (m.sizes port) (λ n. n ≡ m.sizes port)
-    (λ here. let at : p ≡ port = sym (same_port port p (eqb-true port.0 p.0 here)) in
+    (λ here. let at : p ≡ port = sym (ap (λ (n : ℕ). record { 0 = n }) (eqb-true port.0 p.0 here)) in
     subst (λ (q : Port). size ≡ m.sizes q) at (may.1 (subst (λ (q : Port). id ≡ m.disk_ids q) (sym at) (eqb-true id (m.disk_ids port) (not-false _ same)))))
     (λ _. refl))
     (and_cases (p.0 == port.0) (not (id == m.disk_ids port)) other)
@@ -199,7 +199,7 @@ sizes_stay m _ port may other = refl
 
 -- another disk comes only where none is in
 other_absent : (m : Machine) (step : Step) (port : Port) → May m step → brings_other m port step ≡ true → m.present port ≡ false
-other_absent m (Replace p i n d) port may t = ap m.present (sym (same_port p port (eqb-true p.0 port.0 (and_parts _ _ t).0))) ∙ may.0
+other_absent m (Replace p i n d) port may t = ap m.present (sym (ap (λ (n : ℕ). record { 0 = n }) (eqb-true p.0 port.0 (and_parts _ _ t).0))) ∙ may.0
 other_absent m (Answer e outcome) port may t = absurd (false≢true t)
 other_absent m (Accept request) port may t = absurd (false≢true t)
 other_absent m (Issue mode e) port may t = absurd (false≢true t)

@@ -11,7 +11,6 @@ use Rattle.block_machine.specs.State.{Block, DiskBytes, Memory, Machine, frame_a
 use Rattle.block_machine.specs.Steps.{Step, Touch, Replace, Store, after_step, put_bytes, put_sector, disks_after}
 use Rattle.block_machine.specs.Left.{after, IsLegal, IsInitial}
 use Rattle.block_machine.specs.Confined.{MayChangeByte, MayChangeSector}
-use Rattle.block_machine.proofs.Keeps.{same_port, same_frame}
 use Rattle.block_machine.proofs.Trace.{runs_lives}
 use Rattle.block_machine.proofs.Reading.{open_unlent}
 use Rattle.block_machine.proofs.Runs.{traced}
@@ -31,7 +30,7 @@ put_there f g offset n b bytes memory ne = go ((g.0 == f.0) && (leb offset b && 
     go true t =
         let p = and_parts (g.0 == f.0) (leb offset b && ltb b (offset + n)) t in
         let q = and_parts (leb offset b) (ltb b (offset + n)) p.1 in
-        (sym (same_frame g f (eqb-true g.0 f.0 p.0)), leb-true offset b q.0, ltb-true b (offset + n) q.1)
+        (sym (ap (λ (n : ℕ). record { 0 = n }) (eqb-true g.0 f.0 p.0)), leb-true offset b q.0, ltb-true b (offset + n) q.1)
     go false t = absurd (ne (cond-false ((g.0 == f.0) && (leb offset b && ltb b (offset + n))) (bytes (b - offset)) (memory g b) t))
 
 pub law_bytes_change_by : (start : Machine) (h : List Step) (step : Step) (f : Frame) (b : ℕ) → IsInitial start → IsLegal start (step ∷ h)
@@ -73,12 +72,12 @@ law_sectors_change_by m (Touch e i block) port k b ne = by (is_writer e.request.
         go : (u : Bool) → ((port.0 == e.request.port.0) && (k == sector_of e.request i)) ≡ u → MayChangeSector (Touch e i block) port k
         go true u =
             let p = and_parts (port.0 == e.request.port.0) (k == sector_of e.request i) u in
-            (t, sym (same_port port e.request.port (eqb-true port.0 e.request.port.0 p.0)), sym (eqb-true k (sector_of e.request i) p.1))
+            (t, sym (ap (λ (n : ℕ). record { 0 = n }) (eqb-true port.0 e.request.port.0 p.0)), sym (eqb-true k (sector_of e.request i) p.1))
         go false u = absurd (ne (ap (λ (d : Port → DiskBytes). d port k b) put
             ∙ ap (λ (x : Block). x b) (cond-false ((port.0 == e.request.port.0) && (k == sector_of e.request i)) (written_by e.request.asked.op e.request.held i) (m.disks port k) u)))
 law_sectors_change_by m (Replace p id size disk) port k b ne = go (port.0 == p.0) refl
   where
     go : (u : Bool) → (port.0 == p.0) ≡ u → p ≡ port
-    go true u = sym (same_port port p (eqb-true port.0 p.0 u))
+    go true u = sym (ap (λ (n : ℕ). record { 0 = n }) (eqb-true port.0 p.0 u))
     go false u = absurd (ne (ap (λ (d : DiskBytes). d k b) (cond-false (port.0 == p.0) disk (m.disks port) u)))
 law_sectors_change_by m _ port k b ne = ne refl

@@ -6,13 +6,12 @@ use Rattle.std.proofs.lemmas.List.Elements.{Contains-append_cases}
 use Rattle.std.specs.List.{Contains, count_by}
 use Rattle.ata_types.specs.declared.Port.{Port}
 use Rattle.ata_types.specs.declared.request.RequestId.{RequestId}
-use Rattle.ata_types.specs.declared.request.Op.TheVariants.{Read}
 use Rattle.ata_types.specs.declared.request.Outcome.{Outcome}
 use Rattle.ata_types.specs.declared.request.Outcome.TheVariants.{Aborted, Ok}
 use Rattle.block_machine.specs.Ports.{Ports, Evidence}
-use Rattle.block_machine.specs.State.{Accepted, Pending, Machine, Memory}
+use Rattle.block_machine.specs.State.{Accepted, Pending, Machine}
 use Rattle.block_machine.specs.Steps.{Step, Accept, Issue, Touch, End, Age, Again, Answer, Release, Revoke, Unplug, Replace, Store, Load, May, after_step, at, newly_issued, touch, mark_ended, requeued, older}
-use Rattle.block_machine.specs.Left.{after, IsLegal, IsInitial, HoldsLeft}
+use Rattle.block_machine.specs.Left.{after, IsLegal, IsInitial}
 use Rattle.block_machine.specs.Confined.{WithinLimits}
 use Rattle.block_machine.specs.Events.{AbstractState, CallRecord, AllLawful, EveryReadHolds, IsLawful, IsRun, issues_it, abstract_after_all, steps_of}
 use Rattle.block_machine.proofs.Members.{contains_none, contains_here, contains_there, contains_cases, map_in, into_map, at_cases, without_in, append_in}

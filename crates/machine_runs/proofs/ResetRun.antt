@@ -12,7 +12,6 @@ use Rattle.block_machine.specs.Steps.{Step, Issue, Age, Again, Answer, Release, 
 use Rattle.block_machine.specs.Events.{AbstractState, Service, Tick, Reset, Served, WasReset, CallRecord, TellsDead, AgesOnce, HasTimedOut, IsIssuedIn, RestartsTimedOut, Happens, is_age, reply_of, abstract_after_all}
 use Rattle.machine_runs.specs.Worked.{EndsWithAReset}
 use Rattle.block_machine.proofs.Members.{contains_none, contains_here, contains_cases}
-use Rattle.block_machine.proofs.Keeps.{same_port}
 use Rattle.block_machine.proofs.Setting.{port, frame, empty_starts, granted}
 use Rattle.machine_runs.proofs.Scene.{none, mode, ports, ports_in, at_port, first, call, at_here, is_ready, is_dead, ready_here, none_dead, emptied_one, one_issued, none_there, one_told, none_told, none_ended, none_unplugged, finds_none, ready_port, restarts_here, only_one, ports_fit, row_zero}
 use Rattle.machine_runs.proofs.WaitingRun.{write, run1, happens1}
@@ -70,7 +69,7 @@ run6 = service ∷ run5
 
 -- the one port that is served
 pub stopped_here : (p : Port) → (p.0 == 0) ≡ true → Contains (port ∷ []) p
-stopped_here p here = contains_here port [] p (same_port p port (eqb-true p.0 0 here))
+stopped_here p here = contains_here port [] p (ap (λ (n : ℕ). record { 0 = n }) (eqb-true p.0 0 here))
 
 abbrev reset : CallRecord (Unit {0})
 reset = record { ask = Reset; said = WasReset (Some []); evidence = halted; steps = Release ∷ []; ports = ports }
@@ -232,7 +231,7 @@ dead_not_ready {A} p e = go (p.0 == 0) e
     go false e = absurd (false≢true (ap is_ready e))
 
 pub dead_here : (p : Port) → at_port Dead p ≡ Dead → Contains (port ∷ []) p
-dead_here p e = contains_here port [] p (same_port p port (eqb-true p.0 0 (go (p.0 == 0) e)))
+dead_here p e = contains_here port [] p (ap (λ (n : ℕ). record { 0 = n }) (eqb-true p.0 0 (go (p.0 == 0) e)))
   where
     go : (b : Bool) → cond b Dead Absent ≡ Dead → b ≡ true
     go true e = refl

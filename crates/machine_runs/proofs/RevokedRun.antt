@@ -3,7 +3,6 @@ use Rattle.std.proofs.Common.{◌≡◌, false, List, [], ◌∷◌, Some, inl, 
 use Rattle.std.proofs.lemmas.Bool.{false≢true}
 use Rattle.ata_types.specs.declared.PortState.TheVariants.{Ready}
 use Rattle.ata_types.specs.declared.grant.GrantRow.{GrantRow}
-use Rattle.ata_types.specs.declared.request.Outcome.{Outcome}
 use Rattle.ata_types.specs.declared.request.Outcome.TheVariants as outcome
 use Rattle.ata_types.specs.declared.request.Reply.{Reply}
 use Rattle.block_machine.specs.Rules.{HasRow, IsUnder}

@@ -30,7 +30,6 @@ use Rattle.block_machine.specs.Ports.{Ports, Evidence, AreFit, SamePort, IsInter
 use Rattle.block_machine.specs.Events.{AbstractState, Ask, CallResult, CallRecord, ShowsDisk, HasTimedOut, AnswersEnded, UnplugsAll, FindsAnother, AnswersService, Tells, situation_of, answers_of, reply_of}
 use Rattle.block_machine.proofs.Members.{contains_none, contains_here, contains_cases, append_in, none_of}
 use Rattle.block_machine.proofs.Counting.{issued_not_due}
-use Rattle.block_machine.proofs.Keeps.{same_port}
 use Rattle.block_machine.proofs.Setting.{client, on, port, frame, row, two_rows, request, empty, its_row, is_trim, IsFit, acceptable}
 
 -- no evidence
@@ -237,7 +236,7 @@ ready_here p e = go (p.0 == 0) e
 
 -- the ready port is port 0
 pub ready_port : (p : Port) → at_port Ready p ≡ Ready → p ≡ port
-ready_port p e = same_port p port (eqb-true p.0 0 (ready_here p e))
+ready_port p e = ap (λ (n : ℕ). record { 0 = n }) (eqb-true p.0 0 (ready_here p e))
 
 -- where port 0 is absent, so are all
 pub absent_not_ready : {A : Type 0} (p : Port) → at_port Absent p ≡ Ready → A
@@ -285,7 +284,7 @@ pub changed_here : (old new : PortState) (evidence : Evidence) → IsInterrupted
 changed_here old new evidence here p = go (p.0 == 0) refl
   where
     go : (b : Bool) → (p.0 == 0) ≡ b → SamePort (ports_in old) (ports_in new) p ⊎ IsInterrupted evidence p
-    go true e = inr (subst (λ (x : Port). IsInterrupted evidence x) (sym (same_port p port (eqb-true p.0 0 e))) here)
+    go true e = inr (subst (λ (x : Port). IsInterrupted evidence x) (sym (ap (λ (n : ℕ). record { 0 = n }) (eqb-true p.0 0 e))) here)
     go false e = inl (refl, cond-false (p.0 == 0) new Absent e ∙ sym (cond-false (p.0 == 0) old Absent e), refl, refl, refl, refl)
 
 -- a port that no call got stuck stays ready
@@ -305,7 +304,7 @@ restarts_into m state evidence hung becomes p = go (p.0 == 0) refl
     old = record { machine = m; ports = ports }
 
     go : (b : Bool) → (p.0 == 0) ≡ b → ((HasTimedOut old p → ⊥) × SamePort ports (ports_in state) p) ⊎ (HasTimedOut old p × MayBecome ports evidence (ports_in state) p)
-    go true e = inr (subst (λ (x : Port). HasTimedOut old x) (sym (same_port p port (eqb-true p.0 0 e))) hung, becomes p)
+    go true e = inr (subst (λ (x : Port). HasTimedOut old x) (sym (ap (λ (n : ℕ). record { 0 = n }) (eqb-true p.0 0 e))) hung, becomes p)
     go false e = inl (
       λ h. false≢true (sym e ∙ eq-eqb p.0 0 (ap (λ (x : Port). x.0) (ready_port p h.ready))),
       (refl, cond-false (p.0 == 0) state Absent e ∙ sym (cond-false (p.0 == 0) Ready Absent e), refl, refl, refl, refl),

@@ -5,14 +5,13 @@ use Rattle.block_machine.specs.Due.{is_writer}
 use Rattle.block_machine.specs.State.{Block, Accepted, Pending, Machine, sector_of, written_by}
 use Rattle.block_machine.specs.Steps.{Step, Touch, May, IsLiving}
 use Rattle.block_machine.specs.Left.{after, IsLegal, IsInitial, IsTouch, touches, HasTouched, plug_count, disk_number_read, IsLastWritten, IsLeft}
-use Rattle.block_machine.proofs.Keeps.{same_id}
 use Rattle.block_machine.proofs.Trace.{Seen, runs_lives, conflict_at, read_number, last_from}
 use Rattle.block_machine.proofs.Runs.{traced}
 
 -- a request that isn't there touches nothing
 no_touch : (m : Machine) (step : Step) → May m step → (r : Accepted) (k : ℕ) → ((e : Pending) → IsLiving m e → e.request.id ≢ r.id) → touches r.id k step ≡ false
 no_touch m (Touch e i block) may r k gone = false_from_ne_true _ (λ t.
-    gone e (runs_lives m e may.0) (same_id e.request.id r.id (eqb-true e.request.id.0 r.id.0 (and_parts _ _ t).0)))
+    gone e (runs_lives m e may.0) (ap (λ (n : ℕ). record { 0 = n }) (eqb-true e.request.id.0 r.id.0 (and_parts _ _ t).0)))
 no_touch m _ may r k gone = refl
 
 -- no earlier write or trim touches a sector that the read touched

@@ -17,7 +17,6 @@ use Rattle.block_machine.specs.Steps.{Step, Accept, Issue, Touch, End, Again, An
 use Rattle.block_machine.specs.Events.{AbstractState, Submit, Service, Device, Submitted, Served, Stepped, CallRecord, Happens, UnplugsAll, Tells, IsToldBefore, IsIssuedIn, abstract_after, abstract_after_all, situation_of, steps_of, reply_of, ShowsDisk}
 use Rattle.machine_runs.specs.Worked.{MeetsTrouble}
 use Rattle.block_machine.proofs.Members.{contains_none, contains_here, contains_there, contains_cases, none_of}
-use Rattle.block_machine.proofs.Keeps.{same_port}
 use Rattle.block_machine.proofs.Setting.{on, frame, row, two_rows, empty, empty_starts, acceptable, granted}
 use Rattle.machine_runs.proofs.Scene.{none, mode, id, one_sector, done, is_dead, IsQuiet, row_zero, write_at, fit_read, new, none_waits, none_there, one_told, none_told, one_touched, none_unplugged, is_unfit, is_told_dead, emptied_at, none_ended, last_ended}
 
@@ -156,7 +155,7 @@ in_zero : (m : Machine) → m.present (on 0) ≡ true → (p : Port) → ShowsDi
 in_zero m present p shows = go (p.0 == 0) refl (p.0 == 1) shows
   where
     go : (a : Bool) → (p.0 == 0) ≡ a → (b : Bool) → ShowsDisk (cond a Ready (cond b Absent Absent)) → m.present p ≡ true
-    go true z b s = ap m.present (same_port p (on 0) (eqb-true p.0 0 z)) ∙ present
+    go true z b s = ap m.present (ap (λ (n : ℕ). record { 0 = n }) (eqb-true p.0 0 z)) ∙ present
     go false z true s = absurd s
     go false z false s = absurd s
 
@@ -166,7 +165,7 @@ changed_there evidence here p = go (p.0 == 0) refl (p.0 == 1) refl
   where
     go : (a : Bool) → (p.0 == 0) ≡ a → (b : Bool) → (p.0 == 1) ≡ b → SamePort (ports_in Ready Ready) (ports_in Ready Absent) p ⊎ IsInterrupted evidence p
     go true z b o = inl (refl, cond-true (p.0 == 0) Ready (cond (p.0 == 1) Absent Absent) z ∙ sym (cond-true (p.0 == 0) Ready (cond (p.0 == 1) Ready Absent) z), refl, refl, refl, refl)
-    go false z true o = inr (inl (subst (λ (x : Port). Contains evidence.stopped x) (sym (same_port p (on 1) (eqb-true p.0 1 o))) here))
+    go false z true o = inr (inl (subst (λ (x : Port). Contains evidence.stopped x) (sym (ap (λ (n : ℕ). record { 0 = n }) (eqb-true p.0 1 o))) here))
     go false z false o = inl (
       refl,
       cond-false (p.0 == 0) Ready (cond (p.0 == 1) Absent Absent) z ∙ cond-false (p.0 == 1) Absent Absent o

@@ -1,17 +1,17 @@
 -- What laws say of fragments of accesses of a crate's kinds, and of the tape: for the proofs of the crates above.
-use Rattle.std.specs.Prelude.{ℕ, None, false, ◌≡◌, ◌++◌, [], ◌∷◌, List}
+use Rattle.std.specs.Prelude.{ℕ, None, false, ◌≡◌, ◌++◌, [], ◌∷◌, List, length}
 use Rattle.ata_types.specs.declared.Port.{Port}
 use Rattle.hba_regs.specs.declared.reg.PortReg.TheVariants.{Ci, Sact, Sctl}
 use Rattle.hba_regs.specs.declared.reg.Reg.{Reg}
 use Rattle.hba_regs.specs.declared.reg.Reg.TheVariants.{Px}
-use Rattle.adapter.specs.Access.{Access, Does, Reads, Writes}
-use Rattle.adapter.specs.Access.Access.{Reading, Writing}
+use Rattle.adapter.specs.Access.{Access, Does, Reads, Stores, Writes}
+use Rattle.adapter.specs.Access.Access.{Reading, Storing, Writing}
 use Rattle.adapter.specs.Device.{Device}
 use Rattle.adapter.specs.Rules.{MayWrite, IsStable}
 use Rattle.adapter.specs.declared.command.Operation.{Operation}
 use Rattle.adapter.specs.declared.tape.Entry.{Entry}
-use Rattle.refinement.specs.Driven.{Grows, IsRelated, IsSimulatedTo, IsSimulatedAlong, IsSimulatedAlongTo, NoneWrites, SendsNone}
-use Rattle.refinement.specs.Driver.{LeavesUses}
+use Rattle.refinement.specs.Driven.{Grows, IsRelated, IsSimulated, IsSimulatedTo, IsSimulatedAlong, IsSimulatedAlongTo, NoneWrites, SendsNone}
+use Rattle.refinement.specs.Driver.{LeavesUses, MayStore}
 use Rattle.refinement.specs.Errors.{ChangesByDisks, NoneComes, NoneFails, NoneFatal}
 use Rattle.refinement.specs.Facts.{Undisturbed}
 use Rattle.refinement.specs.Links.{PlugsNone}
@@ -27,6 +27,9 @@ pub record FragmentLaws (Kind : Type 0) (may : Kind → Access → Type 0)
   pub writes : (kind : Kind) (r : Reg) (v : ℕ) (old new : Device) → may kind (Writing r v) → IsStable (MayWrite r v) old
       → ((uses : SlotStates) → fits kind uses → LeavesUses uses r v old) → Writes r v old new
       → IsSimulatedAlong (λ made. made ≡ Writing r v ∷ []) (may kind) (fits kind) old new
+  pub stores : (kind : Kind) (at : ℕ) (bytes : List ℕ) (old new : Device) → may kind (Storing at bytes)
+      → ((uses : SlotStates) → fits kind uses → MayStore uses at (length bytes)) → Stores at bytes old new
+      → IsSimulated (may kind) (fits kind) old new
   pub both : (kind then : Kind) (first second : SlotStates → SlotStates)
       → ((access : Access) → may then access → may kind access)
       → ((uses : SlotStates) → fits kind uses → fits then (first uses)) → (old mid new : Device)

@@ -15,6 +15,7 @@ pub mod Started
 pub mod Served
 pub mod Trimmed
 pub mod Awaits
+pub mod Below
 pub mod Booted
 pub mod Acts
 pub mod Driven

@@ -17,6 +17,8 @@ ghost use Rattle.refinement.specs.Links.{SparesRegister};
 ghost use Rattle.refinement.specs.Recovering.{WorksPlainly};
 ghost use Rattle.refinement.specs.Slots.{Own, op_of};
 
+use super::lawful::law_below;
+
 /// What is one act: an access that the machine follows by the device's steps, or whose last step is the driver's own;
 /// and, without an access, a step of the driver's own, or none where it knows of the same device something else.
 pub fn law_acts_are_done()
@@ -60,4 +62,6 @@ pub fn law_acts_give()
         → DriverRelation m k
         → All (SparesRegister (Px port Sact)) (accesses_of acts) → AreDone acts k m later
         → WorksPlainly (k.device.port port.0) → WorksPlainly (later.device.port port.0) }
-{}
+{
+    law_below();
+}

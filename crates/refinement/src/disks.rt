@@ -13,6 +13,8 @@ ghost use Rattle.refinement.specs.Errors.{NoneComes, NoneFails};
 ghost use Rattle.refinement.specs.Links.{PlugsNone, HasDeviceOrNone};
 ghost use Rattle.refinement.specs.Vacant.{IsVacant, IsFreshIfShown};
 
+use super::lawful::law_below;
+
 /// Where the tape tells of no disk of the port that comes: a port with no disk in has none in then, and one that shows
 /// none, none then; and where a device shows, its first FIS has come, if it had where one showed before. Whatever else
 /// the device does, also over a reset that ends, and over each access. A reset that has ended shows no device, and so
@@ -38,12 +40,16 @@ pub fn law_none_comes_in()
         → IsFreshIfShown (new.port port.0) }
     ensures shown { (port : Port) (v : ℕ) (old new : Device) → Reads (Px port Ssts) v old new → v % 16 ≡ 3
         → HasDeviceOrNone (new.port port.0) }
-{}
+{
+    law_below();
+}
 
 /// Once HR is read 0 after a reset, the adapter is idle.
 pub fn law_reset_is_idle()
     ensures { (v : ℕ) (old new : Device) → old.hr ≡ true → Reads Ghc v old new → bit v 0 ≡ false → IsIdle new }
-{}
+{
+    law_below();
+}
 
 /// What a reading of PxIS or PxSSTS tells of a port with no link due. Each bit of 27 to 30 that is set shows, PRCS
 /// shows N and PCS X. Where PxIS shows PRCS or PCS, or PxSSTS no device, N or X was set or no device showed before, or
@@ -61,4 +67,6 @@ pub fn law_look_tells()
         ⊎ (PlugsNone port.0 old new → ⊥) }
     ensures fault { (port : Port) (v : ℕ) (old new : Device) → old.hr ≡ false → Reads (Px port Is) v old new
         → bit v 30 ≡ true → ((old.port port.0).is 30 ≡ true) ⊎ (NoneFails port.0 old new → ⊥) }
-{}
+{
+    law_below();
+}

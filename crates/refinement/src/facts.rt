@@ -39,6 +39,7 @@ ghost use Rattle.refinement.specs.Slots.{SlotStates, Free, Own, Serves, IsOver, 
 ghost use Rattle.refinement.specs.Spares.{IsOfAnother};
 ghost use Rattle.refinement.specs.Started.{IsUp, IsComingUp, IsStarted, SetsNoStart, ClearsNoStart};
 
+use super::lawful::law_below;
 use adapter::laws::law_steps_keep;
 
 /// A port that has halted stays so, whatever the device does, also over a reset of the adapter that ends, over
@@ -52,7 +53,9 @@ pub fn law_halted_stays()
         → (r ≡ Px port Cmd → bit v 0 ≡ false) → Writes r v old new → IsHalted (old.port port.0)
         → IsHalted (new.port port.0) }
     ensures idle { (p : DevicePort) → IsIdlePort p → IsHalted p }
-{}
+{
+    law_below();
+}
 
 /// ST is 0 and CR is read 0: the port has halted.
 pub fn law_stop_is_found()
@@ -60,7 +63,9 @@ pub fn law_stop_is_found()
         → StateRelation uses m old
         → (old.port port.0).st ≡ false → Reads (Px port Cmd) v old new → bit v 15 ≡ false
         → IsHalted (new.port port.0) }
-{}
+{
+    law_below();
+}
 
 /// HR of GHC begins a reset of the adapter, and is read 1 while it is pending. Once it is read 0, each port is as the
 /// reset left it, but for what the device did since, which alone made steps before it, too: its engines stand, no bit
@@ -86,7 +91,9 @@ pub fn law_reset_is_found()
         → IsAfterReset (old.port port.0) → IsAfterReset (new.port port.0) }
     ensures idle { (p : DevicePort) → IsIdlePort p → IsAfterReset p }
     ensures is_idle { (p : DevicePort) → IsAfterReset p → IsIdlePort p }
-{}
+{
+    law_below();
+}
 
 /// A request of the book that has ended is issued still. One that may move and has ended leaves its slot clear, also
 /// where ST is 0. And on a running port a slot that serves a request and whose bits are both clear has ended it.
@@ -125,7 +132,9 @@ pub fn law_over_stays()
         → step ≢ Release → EndedIn m port id → EndedIn (after_step m step) port id }
     ensures ended_released { (m : Machine) (port : Port) (id : RequestId) → NoneKept m port → EndedIn m port id
         → EndedIn (after_step m Release) port id }
-{}
+{
+    law_below();
+}
 
 /// While the driver waits for the page of a command of its own, over as many readings as it takes. The write of PxCI
 /// begins it; and it goes on, whatever the device does, and over each access that doesn't clear ST and leaves no reset
@@ -152,7 +161,9 @@ pub fn law_page_is_awaited()
         → IsReachable m → StateRelation uses m old → AwaitsPage uses port o since old → IsOver (old.port port) 0
         → Loads (scratch_of port) bytes old new → length bytes ≡ 512
         → (b : Brought new.memory new.tape port o since) × (bytes ≡ b.move.bytes.value) }
-{}
+{
+    law_below();
+}
 
 /// Where the commands of a request are over, the device uses none of the frames that are lent to it any more, whatever
 /// it does; so they may leave the loan. (One slot alone serves a request.) Nor does it use a client's frame that is
@@ -183,7 +194,9 @@ pub fn law_healthy_stays()
         → (r ≡ Px port Cmd → bit v 0 ≡ true) → r ≢ Px port Sctl → Writes r v old new → Undisturbed port.0 old new
         → RunsWell (old.port port.0) → RunsWell (new.port port.0) }
     ensures exists { RunsWell (first_read.port 0) }
-{}
+{
+    law_below();
+}
 
 /// While no reset is pending, whatever goes wrong on a port sets a bit of PxIS or of PxSERR, which stays until the
 /// driver clears it: where none is set, none was, and nothing went wrong. PxIS alone tells of each, and a healthy port
@@ -211,7 +224,9 @@ pub fn law_trouble_is_shown()
         → Reads (Px port Serr) errors mid new → ((place : ℕ) → 27 ≤ place → place ≤ 30 → bit v place ≡ false)
         → bit errors 16 ≡ false → bit errors 26 ≡ false → RunsWell (old.port port.0)
         → Undisturbed port.0 old mid × RunsWell (mid.port port.0) }
-{}
+{
+    law_below();
+}
 
 /// And each error sets bits of its own, which stay until PxIS is written, while no reset is pending: where TFES, bit
 /// 30, is clear, it was, and no fault of the port came; and where 27 to 29 are clear, they were, and no fatal error
@@ -260,7 +275,9 @@ pub fn law_link_comes_up()
     ensures undisturbed_access { (port : Port) (access : Access) (old new : Device) → old.hr ≡ false
         → SparesRegister (Px port Sctl) access → Undisturbed port.0 old new → Does access old new
         → IsUp (old.port port.0) → IsUp (new.port port.0) }
-{}
+{
+    law_below();
+}
 
 /// ST is set while the engine stands and the link is up, no reset is pending, and the tape tells of no disk that goes
 /// or comes: the port is started. So it stays, unless the tape tells of a disturbance of the port, whatever else the
@@ -285,13 +302,17 @@ pub fn law_running_well_is_found()
     ensures found { (port : Port) (v causes : ℕ) (old mid new : Device) → old.hr ≡ false → (old.port port.0).st ≡ false
         → (old.port port.0).cr ≡ false → bit v 0 ≡ true → IsUp (old.port port.0) → Writes (Px port Cmd) v old mid
         → Reads (Px port Is) causes mid new → TellsNoTrouble causes → RunsWell (new.port port.0) }
-{}
+{
+    law_below();
+}
 
 /// There is a boot for these laws: COMRESET, the link's coming up, what clears the port's errors, the start, and
 /// readings that tell so; and each write of it is permitted when it is made.
 pub fn law_a_boot_runs_well()
     ensures { BootIsFound }
-{}
+{
+    law_below();
+}
 
 /// While no reset is pending and no link of the port is due, as on a port that runs: each bit that tells of trouble and
 /// is clear stays so, unless the tape tells of a disturbance of the port, whatever else the device does, and over each
@@ -308,7 +329,9 @@ pub fn law_cleared_stays()
     ensures causes { (port : ℕ) (old new : Device) → Steps old new → ChangesByErrors port old new }
     ensures causes_access { (port : Port) (access : Access) (old new : Device) → Does access old new
         → ChangesByErrors port.0 old new }
-{}
+{
+    law_below();
+}
 
 /// Where nothing goes wrong in each of two parts of a call, nothing does in the whole; and where nothing does in the
 /// whole, nothing does in the parts.
@@ -337,7 +360,9 @@ pub fn law_adapter_stays()
 pub fn law_switching_on()
     ensures { (v : ℕ) (old new : Device) → old.hr ≡ false → bit v 31 ≡ true → bit v 0 ≡ false → Writes Ghc v old new
         → IsOn new }
-{}
+{
+    law_below();
+}
 
 /// A load is steps of the device, and a store is such steps with memory changed after them: so what holds of ports and
 /// of the tape over the device's steps holds over loads and stores.
@@ -354,7 +379,9 @@ pub fn law_loads_and_stores_leave_ports()
 pub fn law_controls_stay()
     ensures { (port : Port) (access : Access) (old new : Device) → old.hr ≡ false → Does access old new
         → LeavesControls access port (old.port port.0) (new.port port.0) }
-{}
+{
+    law_below();
+}
 
 /// And a write of the register sets it: ST and FRE of PxCMD, and with ST going to 1 also CR, and when it was set; DET
 /// of PxSCTL, and when it was written; PxIE; and the addresses.
@@ -376,7 +403,9 @@ pub fn law_controls_are_set()
         → ((new.port port.0).bases.fb ≡ v) × ((new.port port.0).bases.fb_set ≡ true) }
     ensures received_upper { (port : Port) (v : ℕ) (old new : Device) → Writes (Px port Fbu) v old new
         → (new.port port.0).bases.fbu_set ≡ true }
-{}
+{
+    law_below();
+}
 
 /// Where the tape tells of no disk of the port that goes or comes in two parts of a call, it tells of none in the
 /// whole, and the other way round; where nothing goes wrong, it tells of none either.
@@ -402,7 +431,9 @@ pub fn law_plugging_is_found()
     ensures read { (port : Port) (v : ℕ) (old new : Device) → old.hr ≡ false → Reads (Px port Serr) v old new
         → bit v 16 ≡ false
         → ((new.port port.0).serr_n ≡ false) × ((old.port port.0).serr_n ≡ false) × PlugsNone port.0 old new }
-{}
+{
+    law_below();
+}
 
 /// Where the tape tells of no disk of the port that goes or comes, the same disk is in, or out, whatever else the
 /// device does, also over a reset of the adapter that ends, and over each access.
@@ -411,7 +442,9 @@ pub fn law_disk_stays()
         → LeavesDisk (old.port port) (new.port port) }
     ensures access { (port : ℕ) (access : Access) (old new : Device) → Does access old new → PlugsNone port old new
         → LeavesDisk (old.port port) (new.port port) }
-{}
+{
+    law_below();
+}
 
 /// Where the tape tells of no disk of the port that goes or comes, and no reset is pending, the port's link stays as it
 /// was, or one that was due has come up: whatever else the device does, and over each access but a write of PxSCTL.
@@ -421,7 +454,9 @@ pub fn law_link_stays()
     ensures access { (port : Port) (access : Access) (old new : Device) → old.hr ≡ false
         → SparesRegister (Px port Sctl) access → Does access old new → PlugsNone port.0 old new
         → LeavesLink (old.port port.0) (new.port port.0) }
-{}
+{
+    law_below();
+}
 
 /// While no reset is pending, a port whose PxSSTS.DET is 3 or that has no disk in goes on so: a disk that comes shows
 /// at once, and so does a link that comes up. Whatever the device does, and over each access but a write of PxSCTL.
@@ -431,7 +466,9 @@ pub fn law_device_or_none_stays()
     ensures access { (port : Port) (access : Access) (old new : Device) → old.hr ≡ false
         → SparesRegister (Px port Sctl) access → Does access old new → HasDeviceOrNone (old.port port.0)
         → HasDeviceOrNone (new.port port.0) }
-{}
+{
+    law_below();
+}
 
 /// The faults of a port since its ST was set stand on the tape, and the task file shows the last one: so it stays,
 /// whatever the device does, over readings, and over each write that may be made, where ST is set on a quiet port
@@ -478,7 +515,9 @@ pub fn law_link_is_awaited()
         → (port : ℕ) → IsAwaited (new.port port) }
     ensures undue { (p : DevicePort) → p.link_due ≡ false → p.sctl_det ≢ 1 → IsAwaited p }
     ensures runs { IsAwaited (first_read.port 0) }
-{}
+{
+    law_below();
+}
 
 /// A port is quiet, so that ST may be set and faults go on to be recorded: PxIS is written with TFES while the engine
 /// stands, TFD is read without DRQ, and then it stays so, whatever the device does, over readings, and over writes that
@@ -500,7 +539,9 @@ pub fn law_quiet_is_found()
     ensures stays_written { (port : Port) (r : Reg) (v : ℕ) (old new : Device) → (r ≡ Px port Cmd → bit v 0 ≡ false)
         → (r ≡ Px port Sctl → v % 16 ≢ 1) → Writes r v old new → IsQuiet (old.port port.0) → IsQuiet (new.port port.0) }
     ensures exists { IsQuiet (first_read.port 1) }
-{}
+{
+    law_below();
+}
 
 /// A fault has halted a running port: TFES of PxIS tells it, and so it stays while ST is 1, whatever the device does,
 /// over readings, and over writes, PxIS among them. TFD then shows status and error of the port's last fault since ST
@@ -527,7 +568,9 @@ pub fn law_fault_is_found()
     ensures slot { (uses : SlotStates) (m : Machine) (d : Device) (port : ℕ) (entries : List Entry)
         → StateRelation uses m d
         → (s : ShowsFault entries (d.port port) port) → uses port s.fault.slot.0 ≢ Free }
-{}
+{
+    law_below();
+}
 
 /// While no reset is pending, each bit of PxIS that is set stays so until PxIS is written, and N and X of PxSERR until
 /// that is: whatever the device does, and over each access.
@@ -541,7 +584,9 @@ pub fn law_errors_are_kept()
         → SparesRegister (Px port Serr) access → Does access old new
         → ((old.port port.0).serr_n ≡ true → (new.port port.0).serr_n ≡ true)
         × ((old.port port.0).serr_x ≡ true → (new.port port.0).serr_x ≡ true) }
-{}
+{
+    law_below();
+}
 
 /// While no reset is pending and no link of the port is due, N of PxSERR rises only for a disk that goes or comes, and
 /// X only for one that comes; and where PxSSTS.DET is 3 and no disk has come, it was 3 before, and none has gone:
@@ -560,7 +605,9 @@ pub fn law_errors_rise_by_disks()
     ensures due_access { (port : Port) (access : Access) (old new : Device) → old.hr ≡ false
         → (old.port port.0).link_due ≡ false → SparesRegister (Px port Sctl) access → Does access old new
         → (new.port port.0).link_due ≡ false }
-{}
+{
+    law_below();
+}
 
 /// Where the tape tells of no disk of the port that comes in two parts of a call, it tells of none in the whole, and
 /// the other way round; where none goes or comes, none comes.
@@ -607,7 +654,9 @@ pub fn law_halted_is_silent()
         → (new.port port).disk ≡ (old.port port).disk }
     ensures disk_access { (port : ℕ) (access : Access) (old new : Device) → (old.port port).cr ≡ false
         → Does access old new → NoneComes port old new → (new.port port).disk ≡ (old.port port).disk }
-{}
+{
+    law_below();
+}
 
 /// A write of PxSCTL with DET 1 sends COMRESET: no device shows in PxSSTS, and the status is 7Fh. While no reset is
 /// pending, one with DET 0 after it makes the link due, and no other write of PxSCTL does.
@@ -619,7 +668,9 @@ pub fn law_link_is_reset()
     ensures undue { (port : Port) (v : ℕ) (old new : Device) → old.hr ≡ false → (old.port port.0).link_due ≡ false
         → ((old.port port.0).sctl_det ≡ 1 → v % 16 ≢ 0) → Writes (Px port Sctl) v old new
         → (new.port port.0).link_due ≡ false }
-{}
+{
+    law_below();
+}
 
 /// A write of PxSERR clears N and X where it has their bits, 16 and 26, and one of PxIS clears each bit that it has.
 pub fn law_errors_are_cleared()
@@ -648,7 +699,9 @@ pub fn law_notes_are_set()
         → Reads (Px port r) v old new → (new.port port.0).notes ≡ note r v (old.port port.0) }
     ensures shows { (port : Port) (r : PortReg) (v : ℕ) (old new : Device) → old.hr ≡ false
         → Reads (Px port r) v old new → PortShows r v (new.port port.0) }
-{}
+{
+    law_below();
+}
 
 /// What the readings of a port noted stays, whatever the device does, and over each access: each value but for a
 /// reading of its register, and so its count; those of the link, of busy and of the command also but for a write of
@@ -657,4 +710,6 @@ pub fn law_notes_stay()
     ensures steps { (port : ℕ) (old new : Device) → Steps old new → (new.port port).notes ≡ (old.port port).notes }
     ensures access { (port : Port) (access : Access) (old new : Device) → Does access old new
         → LeavesNotes access port (old.port port.0).notes (new.port port.0).notes }
-{}
+{
+    law_below();
+}

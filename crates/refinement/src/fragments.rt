@@ -24,6 +24,7 @@ use super::facts::{
     law_calm_composes, law_coming_composes, law_errors_rise_by_disks, law_fatal_errors_compose,
     law_faults_compose, law_plugging_composes,
 };
+use super::lawful::law_below;
 
 /// Accesses that touch no register of another port, nor another port's bit of IS (`IsOf`), leave every other port to
 /// the device, with what readings noted of it, and with the record of its faults; and where they are followed, its disk
@@ -48,7 +49,9 @@ pub fn law_other_ports_are_left()
     ensures adapter { (old new : Device) → IsDrivenBy AnyAccess old new → SameAdapter old new }
     ensures tape { (old new : Device) → IsDrivenBy AnyAccess old new → (gained : List Entry)
         × (new.tape ≡ old.tape ++ gained) }
-{}
+{
+    law_below();
+}
 
 /// Over accesses that are followed some machine goes on agreeing with the same uses. So it does once a command of the
 /// driver's own that is over has left its slot. And with an idle device, whose disks tell their sectors if the adapter
@@ -90,7 +93,9 @@ pub fn law_written_notes_stay()
         → (new.port port.0).notes ≡ (old.port port.0).notes }
     ensures start { (port : Port) (v : ℕ) (old new : Device) → Writes (Px port Cmd) v old new
         → (new.port port.0).notes ≡ record (old.port port.0).notes { st_set_at = (new.port port.0).notes.st_set_at } }
-{}
+{
+    law_below();
+}
 
 /// While a port's engine stands, each bit of PxIS that is clear stays so: whatever the device does, and over each
 /// access.
@@ -114,4 +119,6 @@ pub fn law_unused_slots_are_silent()
         → SendsNone port.0 o old new × HasNoCommand (new.port port.0) }
     ensures more { (port : ℕ) (o : Operation) (old mid new : Device) → SendsNone port o old mid
         → SendsNone port o mid new → SendsNone port o old new }
-{}
+{
+    law_below();
+}

@@ -1,6 +1,6 @@
 // Laws of slots that are given up together, and of the slot of a fault: the clause is the theorem. Nothing that runs
 // calls these functions.
-ghost use Rattle.std.specs.Prelude.{ℕ, true, false, ◌⊎◌, ◌≡◌, ◌≢◌, ◌<◌, List, Contains};
+ghost use Rattle.std.specs.Prelude.{ℕ, true, false, ◌⊎◌, ◌≡◌, ◌≢◌, ◌<◌, ◌++◌, List, Contains};
 ghost use Rattle.ata_types.specs.declared.request.RequestId.{RequestId};
 ghost use Rattle.adapter.specs.Device.{Device};
 ghost use Rattle.adapter.specs.Rules.{InUse};
@@ -37,6 +37,12 @@ pub fn law_slots_are_given_up()
         → HasNoSlot (parking_all k port).uses id }
     ensures leaves { (k : DriverState) (port : ℕ) (id : RequestId) → HasNoSlot k.uses id
         → HasNoSlot (parking_all k port).uses id }
+{}
+
+/// What is parked of the port then are the requests that its 32 slots served, and those that were parked before.
+pub fn law_given_up_requests_are_parked()
+    ensures { (k : DriverState) (port : ℕ)
+        → (parking_all k port).parked port ≡ served_ids k.uses port 32 ++ k.parked port }
 {}
 
 /// Where the machine agrees with the device, a slot in use is outstanding: so is the slot of a fault that the task file

@@ -1,19 +1,19 @@
 // Laws of fragments of accesses, whatever their kinds are, for the crates above: the clause is the theorem. A crate
 // names its kinds by an `impl`. Nothing calls these functions when it runs.
-ghost use Rattle.std.specs.Prelude.{ℕ, None, false, ◌≡◌, ◌⊎◌, ◌++◌, [], ◌∷◌, List};
+ghost use Rattle.std.specs.Prelude.{ℕ, None, false, ◌≡◌, ◌⊎◌, ◌++◌, [], ◌∷◌, List, length};
 ghost use Rattle.ata_types.specs.declared.Port.{Port};
 ghost use Rattle.hba_regs.specs.declared.reg.PortReg.{PortReg};
 ghost use Rattle.hba_regs.specs.declared.reg.PortReg.TheVariants.{Sact, Ci};
 ghost use Rattle.hba_regs.specs.declared.reg.Reg.{Reg};
 ghost use Rattle.hba_regs.specs.declared.reg.Reg.TheVariants.{Px};
-ghost use Rattle.adapter.specs.Access.{Access, Reads, Writes, Loads};
-ghost use Rattle.adapter.specs.Access.Access.{Reading, Writing, Loading};
+ghost use Rattle.adapter.specs.Access.{Access, Reads, Writes, Loads, Stores};
+ghost use Rattle.adapter.specs.Access.Access.{Reading, Writing, Loading, Storing};
 ghost use Rattle.adapter.specs.Device.{Device};
 ghost use Rattle.adapter.specs.Rules.{MayWrite, IsStable};
 ghost use Rattle.adapter.specs.declared.command.Operation.{Operation};
 ghost use Rattle.refinement.specs.Acts.{ByDeviceAlone, Performs};
 ghost use Rattle.refinement.specs.Driven.{IsRelated, IsControl, IsSimulated, IsSimulatedTo, IsOf, IsSimulatedAlong, IsSimulatedAlongTo, NoneWrites, SendsNone};
-ghost use Rattle.refinement.specs.Driver.{AllFree, LeavesUses, IsOwnPrepared};
+ghost use Rattle.refinement.specs.Driver.{AllFree, LeavesUses, IsOwnPrepared, MayStore};
 ghost use Rattle.refinement.specs.Facts.{IsHalted};
 ghost use Rattle.refinement.specs.GivingUp.{given_up};
 ghost use Rattle.refinement.specs.Laws.{FragmentLaws};
@@ -21,6 +21,7 @@ ghost use Rattle.refinement.specs.Links.{SparesRegister};
 ghost use Rattle.refinement.specs.Recovering.{WorksPlainly};
 ghost use Rattle.refinement.specs.Slots.{SlotStates, Free, Own, IsOver, op_of, put};
 
+use super::lawful::law_below;
 use adapter::laws::law_accesses_compose;
 
 /// Sets of a port's registers.
@@ -73,6 +74,13 @@ pub fn law_accesses_are_followed<K: Kinds>()
         → IsSimulatedTo (K.may kind) (K.fits kind) (λ uses. put uses port.0 0 (Own o)) old new }
 {}
 
+/// So is a store of bytes that the driver may store.
+pub fn law_stores_are_followed<K: Kinds>()
+    ensures { (kind : K.Kind) (at : ℕ) (bytes : List ℕ) (old new : Device) → K.may kind (Storing at bytes)
+        → ((uses : SlotStates) → K.fits kind uses → MayStore uses at (length bytes)) → Stores at bytes old new
+        → IsSimulated (K.may kind) (K.fits kind) old new }
+{}
+
 /// Fragments that are followed compose: by one after another, where the second is of the first's kind or a narrower
 /// one, and the uses that the first leads to fit it. One is so with each wider kind whose uses fit it. And a command of
 /// the driver's own that was issued meanwhile and is over leaves its slot.
@@ -113,13 +121,16 @@ pub fn law_followed_fragments_give<K: Kinds>()
         → K.fits kind uses → NoneWrites (K.may kind) (Px port Sact) → IsSimulatedTo (K.may kind) (K.fits kind) next old
         new → IsRelated uses old
         → WorksPlainly (old.port port.0) → WorksPlainly (new.port port.0) }
-{}
+{
+    law_below();
+}
 
 /// What these laws say of a crate's kinds, for its proofs.
 pub fn law_fragments<K: Kinds>()
     ensures { FragmentLaws K.Kind K.may K.fits }
 {
     law_accesses_are_followed::<K>();
+    law_stores_are_followed::<K>();
     law_fragments_are_followed::<K>();
     law_followed_fragments_give::<K>();
 }

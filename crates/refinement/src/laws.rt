@@ -43,12 +43,21 @@ ghost use Rattle.refinement.specs.Slots.{SlotState, Free, Armed, Own, Serves, Sl
 ghost use Rattle.refinement.specs.Spares.{IsFurther, AllFurther, SparesBook, IsOfAnother};
 ghost use Rattle.refinement.specs.Tape.{OneAtMost, TellsAmong};
 
+use super::lawful::law_below;
+use block_machine::laws::law_steps_go_on;
+
 /// Whatever the device does by itself, the machine follows: what the tape gains are steps of the machine that may come,
 /// and the two agree again. So it is while a reset of the adapter is pending, too, and after one that is stuck.
 pub fn law_device_is_followed()
     ensures { (uses : SlotStates) (m : Machine) (old new : Device) → IsReachable m → StateRelation uses m old
         → Steps old new
         → SimulatesSteps uses m old new }
+{}
+
+/// What the device does by itself is a part of a call, in which it alone makes steps.
+pub fn law_device_steps_are_parts()
+    ensures { (k : DriverState) (new : Device) → Steps k.device new
+        → IsSimulatedBySteps DriverRelation k (record k { device = new }) (ByDevice k.device new) }
 {}
 
 /// Over any reading of a register the two go on agreeing: the machine makes the device's steps and no others.
@@ -89,7 +98,9 @@ pub fn law_client_store_is_followed()
         → IsReachable m → DriverRelation m k → May m (Store client frame offset bytes)
         → Stores (FRAME_BYTES * frame.0 + offset) bytes k.device new
         → EndsWith k m (Store client frame offset bytes) (record k { device = new }) }
-{}
+{
+    law_below();
+}
 
 /// A client's load from its frame is the machine's: it is told the bytes that the machine's frame holds.
 pub fn law_client_load_is_followed()
@@ -98,7 +109,9 @@ pub fn law_client_load_is_followed()
         → IsReachable m → DriverRelation m k → IsOpen m.owner m.lent client frame offset (length bytes)
         → Loads (FRAME_BYTES * frame.0 + offset) bytes k.device new
         → EndsWith k m (Load client frame offset bytes) (record k { device = new }) }
-{}
+{
+    law_below();
+}
 
 /// A step of the driver's own needs nothing of the device.
 pub fn law_own_steps_are_backed()
@@ -304,7 +317,9 @@ pub fn law_pages_come_when_asked()
         (gained : List Entry) → IsReachable m → StateRelation uses m old → Does access old new
         → new.tape ≡ old.tape ++ gained
         → op_of o ≡ None → OneAtMost (IsMove port o) gained }
-{}
+{
+    law_below();
+}
 
 /// So the bytes of a slot that say a command go on saying it, and a trim's block stays where slot 0 has no command of
 /// the driver's own. A store beside them leaves them, too; and one for a free slot is beside what belongs to a slot in
@@ -380,7 +395,9 @@ pub fn law_histories_go_on()
     ensures device { (late early : List Step) → AllDevices late → AllDevices early → AllDevices (late ++ early) }
     ensures told { (m : Machine) (late early : List Step) → AllTellSectors m early → AllTellSectors (after m early) late
         → AllTellSectors m (late ++ early) }
-{}
+{
+    law_steps_go_on();
+}
 
 /// A bit of PxSACT that is clear stays so whatever the device does, over readings, and over writes but for one of
 /// PxSACT that sets it.
@@ -392,7 +409,9 @@ pub fn law_clear_bits_stay()
     ensures writes { (port : Port) (slot : ℕ) (r : Reg) (v : ℕ) (old new : Device)
         → (r ≡ Px port Sact → bit v slot ≡ false) → Writes r v old new → (old.port port.0).sact slot ≡ false
         → (new.port port.0).sact slot ≡ false }
-{}
+{
+    law_below();
+}
 
 /// The page that a command of the driver's own brought may be loaded, whatever the device does first, once the command
 /// is over.
@@ -400,7 +419,9 @@ pub fn law_pages_are_free()
     ensures { (uses : SlotStates) (m : Machine) (d : Device) → IsReachable m → StateRelation uses m d → (port : ℕ)
         → port < 4
         → scratch_of port + 512 ≤ d.size → IsOver (d.port port) 0 → IsStable (IsUnowned (scratch_of port) 512) d }
-{}
+{
+    law_below();
+}
 
 /// So may bytes of a client's frame that isn't lent, for its owner.
 pub fn law_client_bytes_are_free()
@@ -408,7 +429,17 @@ pub fn law_client_bytes_are_free()
         → (client : ClientId)
         (frame : Frame) (offset n : ℕ) → FRAME_BYTES * frame.0 + FRAME_BYTES ≤ d.size
         → IsOpen m.owner m.lent client frame offset n → IsStable (IsUnowned (FRAME_BYTES * frame.0 + offset) n) d }
-{}
+{
+    law_below();
+}
+
+/// Bytes that the driver may store are free for it, whatever the device does first.
+pub fn law_bytes_to_store_are_free()
+    ensures { (uses : SlotStates) (m : Machine) (d : Device) → IsReachable m → StateRelation uses m d → (at n : ℕ)
+        → at + n ≤ d.size → MayStore uses at n → IsStable (IsUnowned at n) d }
+{
+    law_below();
+}
 
 /// A write that may be made now, of any register but PxCI, may be made whatever the device does first; and, while no
 /// reset is pending, one that leaves each slot to its use goes on to.
@@ -466,7 +497,9 @@ pub fn law_own_issuing_is_permitted()
     ensures { (uses : SlotStates) (m : Machine) (d : Device) → IsReachable m → StateRelation uses m d
         → (port : Port) (o : Operation)
         (v : ℕ) → IsOn d → HasPort d port.0 → IsOwnPrepared uses d port.0 o v → IsStable (MayWrite (Px port Ci) v) d }
-{}
+{
+    law_below();
+}
 
 /// A device that is taken over idle agrees with a machine that has nothing in it, where both have the same disks and
 /// client frames, and the machine has put aside what these disks may come back with.
@@ -482,45 +515,61 @@ pub fn law_an_idle_device_agrees()
 /// PxCI is permitted, and issues the read.
 pub fn law_a_prepared_read_agrees()
     ensures { PreparedIsKnown }
-{}
+{
+    law_below();
+}
 
 /// There is an adapter with its first read issued, and a machine that is reached and agrees with what its driver knows:
 /// so none of these laws is empty.
 pub fn law_a_first_read_agrees()
     ensures { FirstIsKnown }
-{}
+{
+    law_below();
+}
 
 /// There is one whose driver has stopped the port of that read, and has taken it from its slot once the engine stood:
 /// the read may wait again.
 pub fn law_a_parked_read_agrees()
     ensures { ParkedIsKnown }
-{}
+{
+    law_below();
+}
 
 /// There is one that keeps the read: it was answered PortDead, with its frames lent, while the slot serves it still;
 /// and once the driver has taken it from there, the frames may be given back.
 pub fn law_a_kept_read_agrees()
     ensures { KeptIsKnown }
-{}
+{
+    law_below();
+}
 
 /// There is one whose device has done the read: its command has ended, and the request is unanswered still.
 pub fn law_an_ended_read_agrees()
     ensures { EndedIsKnown }
-{}
+{
+    law_below();
+}
 
 /// There is an adapter with two queued reads, into frames that are apart: both are issued, each by a write that is
 /// permitted, and the device has taken the one while the other waits. A machine agrees with its driver.
 pub fn law_two_queued_reads_agree()
     ensures { TwoAreKnown }
-{}
+{
+    law_below();
+}
 
 /// There is an adapter with a trim, which is issued by a write that is permitted, taken, and done to its end; and a
 /// machine agrees with it all the way.
 pub fn law_a_trim_agrees()
     ensures { TrimIsKnown }
-{}
+{
+    law_below();
+}
 
 /// There is an adapter with a command of the driver's own, IDENTIFY DEVICE: prepared, issued by a write that is
 /// permitted, and over once its page has come; and a machine agrees with it all the way.
 pub fn law_an_own_command_agrees()
     ensures { OwnIsKnown }
-{}
+{
+    law_below();
+}

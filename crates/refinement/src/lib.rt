@@ -14,6 +14,7 @@ pub mod facts;
 pub mod fragments;
 pub mod giving_up;
 pub mod kinds;
+mod lawful;
 pub mod laws;
 pub mod limits;
 pub mod readying;

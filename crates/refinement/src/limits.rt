@@ -15,10 +15,14 @@ ghost use Rattle.refinement.specs.Logged.{LogIsEnded};
 ghost use Rattle.refinement.specs.Recovered.{FaultIsSeen, RecoveryIsFound};
 ghost use Rattle.refinement.specs.Served.{two_issued};
 
+use super::lawful::law_below;
+
 /// There is a port that fails and is stopped, cleared and started again without COMRESET: it runs well.
 pub fn law_a_fault_is_recovered()
     ensures { RecoveryIsFound }
-{}
+{
+    law_below();
+}
 
 /// There are ports that fail, as their driver looks at them: they are there for a recovery to be asked for. On the one
 /// a plain read has failed, and on the other a queued one, in slot 1, while another waits.
@@ -31,7 +35,9 @@ pub fn law_a_fault_is_seen()
 /// comes to its end, and the port runs well.
 pub fn law_a_log_ends_a_halt()
     ensures { LogIsEnded }
-{}
+{
+    law_below();
+}
 
 /// None of the parts of plain work can be left out. Without the bits of PxSACT a queued command that waits is taken;
 /// without the taken commands one that was taken before ST was cleared may fail; and without a machine that agrees, the
@@ -50,4 +56,6 @@ pub fn law_plain_work_needs_all()
         → restarted (new.port port).halt ≡ NotHalted) → ⊥ }
     ensures agreed { ((port : ℕ) (old new : Device) → Steps old new → WorksPlainly (old.port port)
         → WorksPlainly (new.port port)) → ⊥ }
-{}
+{
+    law_below();
+}

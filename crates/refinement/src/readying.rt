@@ -23,6 +23,8 @@ ghost use Rattle.refinement.specs.Slots.{Free, Armed, SlotStates, put, Means, Ha
 ghost use Rattle.refinement.specs.Started.{ClearsNoStart};
 ghost use Rattle.refinement.specs.Readying.{IsStored, IsReadied, LeavesStored};
 
+use super::lawful::law_below;
+
 /// While no reset is pending, what is stored for a slot of a running port stays so, whatever the device does, and over
 /// each access that doesn't clear ST, doesn't write PxCLB and stores nothing in the slot's header or table; so a slot
 /// stays readied. A free slot is readied by its bit of PxSACT, or without it for a plain command. No machine is asked
@@ -46,7 +48,9 @@ pub fn law_readied_stays()
     ensures plain { (uses : SlotStates) (d : Device) (port slot : ℕ) (c : Meaning) (places : List ℕ)
         → is_queued c.operation ≡ false → uses port slot ≡ Free → IsStored d port slot c places
         → IsReadied uses d port slot c places }
-{}
+{
+    law_below();
+}
 
 /// The bit of PxCI of a slot that is readied may be written, whatever the device does first. With a request that is due
 /// and that the command means, the slot is prepared; and a slot that is prepared is readied.
@@ -67,7 +71,9 @@ pub fn law_readied_is_issued()
     ensures readied { (uses : SlotStates) (m : Machine) (d : Device) (port slot : ℕ) (mode : QueueMode) (e : Pending)
         (v : ℕ)
         → (x : IsPrepared uses m d port slot mode e v) → IsReadied uses d port slot x.command x.places }
-{}
+{
+    law_below();
+}
 
 /// What is stored for a slot stays so over acts whose accesses leave it.
 pub fn law_stored_stays_over_acts()
@@ -75,4 +81,6 @@ pub fn law_stored_stays_over_acts()
         (m : Machine)
         → IsReachable m → DriverRelation m k → AreDone acts k m later → All (LeavesStored port slot) (accesses_of acts)
         → IsOn k.device → IsStored k.device port.0 slot c places → IsStored later.device port.0 slot c places }
-{}
+{
+    law_below();
+}

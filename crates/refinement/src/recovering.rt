@@ -23,6 +23,8 @@ ghost use Rattle.refinement.specs.Started.{IsUp, IsStarted, ClearsNoStart};
 ghost use Rattle.refinement.specs.Halting.{HaltsAsTaken, IsHaltedAsTaken};
 ghost use Rattle.refinement.specs.Recovering.{IsLinked, WorksPlainly, RunsLinked, EndsHalt, FailsOpenly};
 
+use super::lawful::law_below;
+
 /// While no reset is pending, a link that is up stays so where the tape tells of no disk that goes or comes, whatever
 /// else the device does, faults and fatal errors among it, and over each access but a write of PxSCTL. So it is of a
 /// port that was started, and of one whose link came up.
@@ -34,7 +36,9 @@ pub fn law_link_is_kept()
         → IsLinked (old.port port.0) → IsLinked (new.port port.0) }
     ensures started { (p : DevicePort) → IsStarted p → p.sctl_det ≢ 1 → IsLinked p }
     ensures up { (p : DevicePort) → IsUp p → IsLinked p }
-{}
+{
+    law_below();
+}
 
 /// Where the machine agrees with the device, a port that works on plain commands alone goes on so, whatever the device
 /// does, also over a reset that ends, and over each access but a write of PxSACT: faults halt it in a way that ends
@@ -56,7 +60,9 @@ pub fn law_faults_are_plain()
         → (old.port port.0).cr ≡ false → bit v 0 ≡ true → IsLinked (old.port port.0) → WorksPlainly (old.port port.0)
         → Writes (Px port Cmd) v old mid → Reads (Px port Is) causes mid new → TellsNoTrouble causes
         → RunsWell (new.port port.0) }
-{}
+{
+    law_below();
+}
 
 /// While ST is one, a queued command that has halted a port is taken still, and READ LOG EXT isn't awaited: so it stays
 /// where the machine agrees with the device, whatever the device does, over each access but a write of PxCMD, and over
@@ -75,7 +81,9 @@ pub fn law_halts_are_of_taken_commands()
         → IsHaltedAsTaken (k.device.port port.0) → IsHaltedAsTaken (later.device.port port.0) }
     ensures calm { (p : DevicePort) → p.halt ≡ NotHalted → HaltsAsTaken p }
     ensures plain { (p : DevicePort) → WorksPlainly p → HaltsAsTaken p }
-{}
+{
+    law_below();
+}
 
 /// ST is set while the engine stands and the link is up: the port runs, though a queued fault may halt it still. It
 /// runs on where the tape tells of no fatal error of the port and of no disk that goes or comes, whatever else the
@@ -90,7 +98,9 @@ pub fn law_running_goes_on()
         → SparesRegister (Px port Sctl) access → PlugsNone port.0 old new → NoneFatal port.0 old new
         → Does access old new → RunsLinked (old.port port.0) → RunsLinked (new.port port.0) }
     ensures started { (p : DevicePort) → RunsLinked p → p.halt ≡ NotHalted → IsStarted p }
-{}
+{
+    law_below();
+}
 
 /// The write of PxCI issues a command of the driver's own on a port with no other: its end ends a halt. So it stays,
 /// whatever the device does, and over each access that doesn't clear ST, doesn't write PxSACT and leaves no reset
@@ -117,7 +127,9 @@ pub fn law_halt_is_ended()
         → StateRelation uses m old → EndsHalt uses port.0 old → RunsLinked (old.port port.0)
         → Reads (Px port Ci) v old mid
         → bit v 0 ≡ false → Reads (Px port Is) causes mid new → TellsNoTrouble causes → RunsWell (new.port port.0) }
-{}
+{
+    law_below();
+}
 
 /// ST is set on a quiet port with no slot in use and no bit of PxSACT: from then on, while slot 0 alone is used, by a
 /// plain command, a fault shows only while that isn't over. So it stays, whatever the device does, where slot 0 is put
@@ -143,4 +155,6 @@ pub fn law_faults_show_before_the_end()
         → (new.port port.0).is 30 ≡ false }
     ensures well { (p : DevicePort) → RunsLinked p → p.halt ≡ NotHalted → p.is 30 ≡ false → p.serr_n ≡ false
         → p.serr_x ≡ false → ((place : ℕ) → 27 ≤ place → place ≤ 29 → p.is place ≡ false) → RunsWell p }
-{}
+{
+    law_below();
+}

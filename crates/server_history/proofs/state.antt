@@ -10,6 +10,7 @@ pub mod DueRequests
 pub mod PortGrounds
 pub mod DeviceSteps
 pub mod DrivenAccesses
+pub mod FollowedAccesses
 pub mod PlacedSlots
 pub mod StoredCommands
 pub mod PortSlots

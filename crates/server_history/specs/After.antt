@@ -2,6 +2,7 @@
 use Rattle.std.specs.Prelude.{ℕ, false, ◌≡◌, ◌≢◌, ◌<◌, ◌≤◌, List, [], All, map}
 use Rattle.ata_types.specs.declared.Port.{Port}
 use Rattle.ata_types.specs.declared.PortState.{PortState}
+use Rattle.ata_types.specs.declared.PortState.TheVariants.{Dead}
 use Rattle.ata_types.specs.declared.request.RequestId.{RequestId}
 use Rattle.hba_regs.specs.declared.reg.PortReg.TheVariants.{Cmd, Is, Serr}
 use Rattle.hba_regs.specs.declared.reg.Reg.TheVariants.{Px}
@@ -10,14 +11,15 @@ use Rattle.adapter.specs.Device.{Device}
 use Rattle.adapter.specs.Device.{DevicePort}
 use Rattle.adapter.specs.Device.Halt.{NotHalted}
 use Rattle.adapter.specs.Rules.{IsOn}
+use Rattle.adapter.specs.declared.command.Operation.TheVariants.{Identify}
 use Rattle.refinement.specs.Acts.{Act, AreDone, accesses_of}
 use Rattle.refinement.specs.Relation.{StateRelation, HaveSlots}
-use Rattle.refinement.specs.Driven.{IsDrivenBy, IsOf}
+use Rattle.refinement.specs.Driven.{IsDrivenBy, IsOf, SendsNone}
 use Rattle.refinement.specs.Driver.{Goes, DriverState, DriverRelation}
 use Rattle.refinement.specs.Errors.{NoneFatal}
 use Rattle.refinement.specs.Facts.{IsRecorded, Undisturbed}
 use Rattle.refinement.specs.Halting.{HaltsAsTaken, IsHaltedAsTaken}
-use Rattle.refinement.specs.Links.{HasDeviceOrNone, LeavesDisk, PlugsNone, SparesRegister}
+use Rattle.refinement.specs.Links.{HasDeviceOrNone, LeavesDisk, PlugsNone, SameAdapter, SparesRegister}
 use Rattle.refinement.specs.Recovering.{WorksPlainly}
 use Rattle.refinement.specs.Slots.{Serves, SlotState, SlotStates, put, serving_count}
 use Rattle.block_machine.specs.Due.{issued_count}
@@ -26,8 +28,9 @@ use Rattle.block_machine.specs.Left.{after}
 use Rattle.block_machine.specs.State.{Machine, unanswered}
 use Rattle.block_machine.specs.Steps.{NoneKept, Step}
 use Rattle.host_boot.specs.Again.{BootsAgain, BootsIfThere, IsOfStart}
-use Rattle.host_boot.specs.Taken.{FoundBadDisk, IsServed, StandsBehind}
+use Rattle.host_boot.specs.Taken.{FoundBadDisk, IsServed, LeavesFound, StandsBehind, StillStandsBehind}
 use Rattle.host_boot.specs.declared.Booted.{Booted}
+use Rattle.host_boot.specs.declared.ProbeResult.{ProbeResult}
 use Rattle.host_boot.specs.declared.ProbeResult.TheVariants.{Unready}
 use Rattle.identify.specs.declared.wanted.Wanted.{Wanted}
 use Rattle.port_boot.specs.States.{ShowsOwnDisk}
@@ -59,6 +62,12 @@ pub record RecoveryLaws : Type 0 where
   pub again_shown : (wanted : Wanted) (port : Port) (booted : Booted) (state : PortState) (old new : Device) → IsOn old
       → BootsAgain wanted port booted old new → FoundBadDisk state → booted.found ≡ Unready state
       → HasDeviceOrNone (new.port port.0)
+  -- what stands behind a port still does
+  pub stands_begin : (wanted : Wanted) (found : ProbeResult) (port : ℕ) (d : Device) → StandsBehind wanted found port d
+      → StillStandsBehind wanted found port d
+  pub stands_on : (wanted : Wanted) (found : ProbeResult) (port : ℕ) (old new : Device) → SameAdapter old new
+      → LeavesFound found (old.port port) (new.port port) → (found ≢ Unready Dead → SendsNone port Identify old new)
+      → StillStandsBehind wanted found port old → StillStandsBehind wanted found port new
   -- and one that was booted where a device showed
   pub start_of : (port : Port) (access : Access) → IsOfStart port access → IsOf port access
   pub there_driven : (wanted : Wanted) (port : Port) (booted : Booted) (old new : Device)

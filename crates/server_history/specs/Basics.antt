@@ -1,6 +1,7 @@
 -- What laws of the crates below say of steps one after another, and of slots and the requests in them.
-use Rattle.std.specs.Prelude.{ℕ, Bool, true, false, ◌≡◌, ◌≢◌, ◌<◌, List, ◌++◌, All, Contains, length}
+use Rattle.std.specs.Prelude.{ℕ, Bool, true, false, ◌≡◌, ◌≢◌, ◌<◌, List, ◌++◌, None, Some, All, Contains, length}
 use Rattle.ata_types.specs.declared.Port.{Port}
+use Rattle.ata_types.specs.declared.PortState.TheVariants.{Ready}
 use Rattle.ata_types.specs.declared.grant.GrantRow.{GrantRow}
 use Rattle.ata_types.specs.declared.request.ClientId.{ClientId}
 use Rattle.ata_types.specs.declared.request.Frame.{Frame}
@@ -18,16 +19,20 @@ use Rattle.refinement.specs.Acts.{Act, AreDone, accesses_of, act_steps}
 use Rattle.refinement.specs.Relation.{StateRelation, ServeApart}
 use Rattle.refinement.specs.Readying.{IsStored, LeavesStored}
 use Rattle.adapter.specs.Access.{Access, Does, DoesAll}
-use Rattle.adapter.specs.Access.Access.{Storing}
+use Rattle.adapter.specs.Access.Access.{Storing, Writing}
 use Rattle.adapter.specs.Decoding.{DecodesTo}
-use Rattle.refinement.specs.Driver.{MissesTable, ForgetsRequest, Goes, HasNoSlot, DriverState, DriverRelation, parking}
+use Rattle.refinement.specs.Driven.{SendsNone}
+use Rattle.refinement.specs.Driver.{AllFree, ByDevice, MissesTable, ForgetsRequest, Goes, HasNoSlot, DriverState, DriverRelation, parking}
 use Rattle.refinement.specs.Links.{SparesRegister}
 use Rattle.refinement.specs.Started.{ClearsNoStart}
-use Rattle.hba_regs.specs.declared.reg.PortReg.TheVariants.{Clb}
+use Rattle.hba_regs.specs.Bits.{bit}
+use Rattle.hba_regs.specs.declared.reg.PortReg.TheVariants.{Ci, Clb}
 use Rattle.hba_regs.specs.declared.reg.Reg.TheVariants.{Px}
 use Rattle.refinement.specs.GivingUp.{parking_all, served_ids}
-use Rattle.refinement.specs.Slots.{Armed, Free, IsOver, Own, Serves, SlotState, SlotStates, put}
+use Rattle.refinement.specs.Slots.{Armed, Free, IsMove, IsOver, Own, Serves, SlotState, SlotStates, op_of, put}
 use Rattle.block_machine.specs.Due.{is_plain}
+use Rattle.block_machine.specs.Ports.{AreFit, Ports}
+use Rattle.block_machine.specs.Rules.{Names}
 use Rattle.block_machine.specs.State.{Accepted, Machine, Pending}
 use Rattle.block_machine.specs.Steps.{Step, Accept, Age, Again, Issue, Answer, IsLiving, IsNew, May, MayStillMove, after_step, stays, Revoke}
 use Rattle.block_machine.specs.declared.due.QueueMode.{QueueMode}
@@ -35,9 +40,9 @@ use Rattle.refinement.specs.Facts.{EndedIn, IsClear, ShowsFault}
 use Rattle.dma_frames.specs.Table.{Table}
 use Rattle.request_queue.specs.Entries.{Held, IsAccepted, BookIsInOrder, aged, asks_of}
 use Rattle.request_queue.specs.Machine.{IsBook}
-use Rattle.block_machine.specs.Confined.{IsGranted, WasAccepted, WithinLimits}
+use Rattle.block_machine.specs.Confined.{HasFrame, IsGranted, WasAccepted, WithinLimits}
 use Rattle.block_machine.specs.Left.{IsLegal, IsInitial, after}
-use Rattle.block_machine.specs.Histories.{JointState, IsReachable, Happening, now}
+use Rattle.block_machine.specs.Histories.{JointState, IsReachable, IsSimulatedBySteps, Happening, now}
 use Rattle.block_machine.specs.Events.{AllDevices, AllMay}
 use Rattle.refinement.specs.Spares.{AllFurther, IsFurther, SparesBook}
 use Rattle.driver_history.specs.Histories.{IsDriverHistory}
@@ -46,6 +51,8 @@ use Rattle.identify.specs.declared.wanted.Wanted.{Wanted}
 pub record BasicLaws : Type 0 where
   -- what the device does by itself
   pub keeps : (old new : Device) → Steps old new → Keeps old new
+  pub device_adds : (k : DriverState) (new : Device) → Steps k.device new
+      → IsSimulatedBySteps DriverRelation k (record k { device = new }) (ByDevice k.device new)
   pub was_on : (old new : Device) → Steps old new → IsOn new → IsOn old
   -- steps one after another
   pub joined : (m : Machine) (late early : List Step) → after m (late ++ early) ≡ after (after m early) late
@@ -54,6 +61,11 @@ pub record BasicLaws : Type 0 where
   pub reached : (m : Machine) (steps : List Step) → IsReachable m → AllMay m steps → IsReachable (after m steps)
   pub history_reached : (wanted : List Wanted) (first : JointState Device) (past : List (Happening Device DeviceStep))
       → IsDriverHistory wanted first past → IsReachable (now first past).abstract.machine
+  -- the ports
+  pub fit : (wanted : List Wanted) (first : JointState Device) (past : List (Happening Device DeviceStep))
+      → IsDriverHistory wanted first past → AreFit (now first past).abstract.ports
+  pub ready_served : (ports : Ports) (port : Port) → AreFit ports → ports.state port ≡ Ready
+      → (ports.served port ≡ true) × (port.0 < 4)
   -- the book
   pub one : (m : Machine) → IsReachable m → (a b : Pending) → Contains m.book a → Contains m.book b
       → a.request.id.0 ≡ b.request.id.0 → a ≡ b
@@ -102,7 +114,22 @@ pub record SlotLaws : Type 0 where
   -- what acts give
   pub acts_go : (acts : List Act) (k later : DriverState) (m : Machine) → DriverRelation m k → AreDone acts k m later
       → Goes k m (act_steps acts) later
+  pub acts_silent : (acts : List Act) (k later : DriverState) (m : Machine) (port : ℕ) (o : Operation) → op_of o ≡ None
+      → IsReachable m → DriverRelation m k → (k.uses port 0 ≡ Own o → ⊥)
+      → All (λ act. act.later.uses port 0 ≡ Own o → ⊥) acts
+      → AreDone acts k m later → SendsNone port o k.device later.device
+  -- no page comes for a command of the driver's own that slot 0 hasn't
+  pub page_asked : (uses : SlotStates) (m : Machine) (access : Access) (old new : Device) (port : ℕ) (o : Operation)
+      (gained : List TapeEntry) → IsReachable m → StateRelation uses m old → Does access old new
+      → new.tape ≡ old.tape ++ gained
+      → op_of o ≡ None → (uses port 0 ≡ Own o → IsOver (old.port port) 0) → All (λ e. IsMove port o e → ⊥) gained
   -- slots that are given up, or put to another use, and requests that have none
+  pub given_free : (k : DriverState) (port : ℕ) → AllFree (parking_all k port).uses port
+  pub given_others : (k : DriverState) (port other : ℕ) → other ≢ port
+      → ((parking_all k port).uses other ≡ k.uses other) × ((parking_all k port).parked other ≡ k.parked other)
+  pub given_parked : (k : DriverState) (port : ℕ)
+      → (parking_all k port).parked port ≡ served_ids k.uses port 32 ++ k.parked port
+  pub put_here : (uses : SlotStates) (port slot : ℕ) (u : SlotState) → put uses port slot u port slot ≡ u
   pub served : (uses : SlotStates) (port n : ℕ) (id : RequestId) → Contains (served_ids uses port n) id → (slot : ℕ)
       × (slot < n) × (uses port slot ≡ Serves id)
   pub frees : (k : DriverState) (port slot : ℕ) (id : RequestId) → ServeApart k.uses → k.uses port slot ≡ Serves id
@@ -122,6 +149,12 @@ pub record SlotLaws : Type 0 where
       → ((o : Operation) → uses e.request.port.0 0 ≡ Own o → ⊥)
       → ((slot : ℕ) → uses e.request.port.0 slot ≡ Armed → ⊥) → is_plain mode e.request.asked.op ≡ false → (slot : ℕ)
       × (slot < mode.usable) × (uses e.request.port.0 slot ≡ Free)
+  -- a command that is over stays so
+  pub over : (port slot : ℕ) (old new : Device) → Steps old new → IsOver (old.port port) slot
+      → IsOver (new.port port) slot
+  pub over_access : (port : Port) (slot : ℕ) (access : Access) (old new : Device)
+      → ((v : ℕ) → access ≡ Writing (Px port Ci) v → bit v slot ≡ false) → Does access old new
+      → IsOver (old.port port.0) slot → IsOver (new.port port.0) slot
   -- the bytes of a slot say one command
   pub one_said : (memory : ℕ → ℕ) (list slot : ℕ) (m n : Meaning) (xs ys : List ℕ) → DecodesTo memory list slot m xs
       → DecodesTo memory list slot n ys → (m ≡ n) × (xs ≡ ys)
@@ -165,5 +198,9 @@ pub record LivingLaws : Type 0 where
       × ((frame : Frame) → (after start history).owner frame ≡ start.owner frame)
   pub one : (start : Machine) (history : List Step) (one other : Accepted) → WasAccepted start history one
       → WasAccepted start history other → one.id ≡ other.id → one ≡ other
+  pub one_row : (m : Machine) (client : ClientId) (number : ℕ) (a b : GrantRow) → IsReachable m → Contains m.rows a
+      → Names client number a → Contains m.rows b → Names client number b → a ≡ b
+  pub own_frame : (m : Machine) (frame : Frame) (e : Pending) → IsReachable m → IsLiving m e
+      → m.lent frame ≡ Some e.request.id → HasFrame e.request frame
   pub answered : (m : Machine) (a b : Pending) → IsReachable m → Contains m.book a → Contains m.kept b
       → a.request.id.0 ≢ b.request.id.0

@@ -1,11 +1,12 @@
 -- What laws of the crates below say of requests, of transfers, and of accesses that serve ports: the laws of this crate
 -- rest on them.
-use Rattle.std.specs.Prelude.{ℕ, true, false, ◌≡◌, ◌≢◌, ◌+◌, ◌*◌, ◌%◌, ◌≤◌, ◌<◌, ◌↔◌, List, [], ◌∷◌, ◌++◌, map, Option, None, All, Contains, length, Bool, filter}
+use Rattle.std.specs.Prelude.{ℕ, true, false, ◌≡◌, ◌≢◌, ◌+◌, ◌*◌, ◌%◌, ◌≤◌, ◌<◌, ◌↔◌, List, [], ◌∷◌, ◌++◌, map, Option, None, Some, All, Contains, length, Bool, filter}
 use Rattle.ata_types.specs.declared.Port.{Port}
 use Rattle.ata_types.specs.declared.memory.TheConstants.{DRIVER_BYTES, FRAME_BYTES}
 use Rattle.ata_types.specs.declared.request.Frame.{Frame}
 use Rattle.ata_types.specs.declared.request.Outcome.{Outcome}
 use Rattle.ata_types.specs.declared.request.Reply.{Reply}
+use Rattle.ata_types.specs.declared.request.Request.{Request}
 use Rattle.ata_types.specs.declared.request.RequestId.{RequestId}
 use Rattle.adapter.specs.Device.{Device}
 use Rattle.adapter.specs.declared.command.Operation.{Operation}
@@ -23,14 +24,16 @@ use Rattle.hba_regs.specs.declared.reg.PortReg.{PortReg}
 use Rattle.hba_regs.specs.declared.reg.PortReg.TheVariants.{Cmd, Sctl}
 use Rattle.hba_regs.specs.declared.reg.Reg.TheVariants.{Ghc, Px}
 use Rattle.refinement.specs.Driven.{AnyUse, IsDrivenBy, IsSimulated, IsOf, SendsNone, Grows}
-use Rattle.refinement.specs.Relation.{StateRelation}
-use Rattle.refinement.specs.Driver.{EndsWith, IsBacked, DriverState, DriverRelation}
+use Rattle.refinement.specs.Relation.{StateRelation, IsDiskOf, SameMemory, SameSectors, port_at}
+use Rattle.refinement.specs.Returning.{may_return}
+use Rattle.adapter.specs.Idle.{IsIdle}
+use Rattle.refinement.specs.Driver.{EndsWith, IsBacked, DriverState, DriverRelation, idle}
 use Rattle.refinement.specs.Slots.{Own, SlotStates, op_of}
 use Rattle.refinement.specs.Vacant.{IsFreshIfShown, IsVacant}
 use Rattle.block_machine.specs.Due.{AreAllDueInOrder, IsDue, IsInOrder, due_of, of_port, with_issued, without_request, with_waiting}
 use Rattle.refinement.specs.Errors.{NoneComes}
 use Rattle.block_machine.specs.State.{Machine, Pending}
-use Rattle.block_machine.specs.Refusals.{IsOpen}
+use Rattle.block_machine.specs.Refusals.{IsAcceptable, IsOpen, Situation}
 use Rattle.block_machine.specs.Steps.{Step, Accept, Again, Issue, Answer, Load, May, Revoke, Store, after_step, newly_accepted}
 use Rattle.block_machine.specs.State as machine
 use Rattle.block_machine.specs.Steps as steps
@@ -41,7 +44,7 @@ use Rattle.dma_frames.specs.Table.{Table, LendsOnly, lent_to}
 use Rattle.refinement.specs.Facts.{RunsWell, Undisturbed}
 use Rattle.std.specs.List.{list_any}
 use Rattle.block_machine.specs.Events.{changes_disk, IsByDevice}
-use Rattle.block_machine.specs.Left.{after}
+use Rattle.block_machine.specs.Left.{IsInitial, after}
 use Rattle.block_machine.specs.Histories.{IsReachable}
 use Rattle.error_recovery.specs.Evidence.{BringsLog, HasFailed}
 use Rattle.port_boot.specs.States.{RunsOn, IsOfBoot}
@@ -173,7 +176,16 @@ pub record LawsBelow : Type 0 where
   pub of_spares : (port q : Port) (r : PortReg) → q.0 ≢ port.0 → (access : Access) → IsOf port access
       → SparesRegister (Px q r) access
   pub of_host : (port : Port) (access : Access) → IsOf port access → SparesRegister Ghc access
+  pub idle_agrees : (m : Machine) (d : Device) → IsInitial m → IsIdle d
+      → ((port : ℕ) → IsDiskOf m (d.port port) port) → SameMemory m d.memory
+      → (d.telling ≡ true → (port : ℕ) → SameSectors m (d.port port).disk port)
+      → (d.telling ≡ true → (port k : ℕ)
+      → m.aside (port_at port) k ≡ may_return d.tape (d.port port).lasting port k) → DriverRelation m (idle d)
   -- clients' bytes
+  pub acceptable_owned : (s : Situation) (r : Request) → IsAcceptable s r
+      → All (λ frame. s.owner frame ≡ Some r.client) r.frames.items
+  pub open_owned : (owner : Frame → Option ClientId) (lent : Frame → Option RequestId) (client : ClientId)
+      (frame : Frame) (offset count : ℕ) → IsOpen owner lent client frame offset count → owner frame ≡ Some client
   pub client_stores : (k : DriverState) (m : Machine) (client : ClientId) (frame : Frame) (offset : ℕ) (bytes : List ℕ)
       (new : Device) → IsReachable m → DriverRelation m k → May m (Store client frame offset bytes)
       → Stores (FRAME_BYTES * frame.0 + offset) bytes k.device new

@@ -9,14 +9,15 @@ use Rattle.adapter.specs.declared.command.Operation.TheVariants.{ReadLog}
 use Rattle.adapter.specs.declared.tape.Fault.{Fault}
 use Rattle.adapter.specs.Rules.{IsOn}
 use Rattle.adapter.specs.Steps.{Steps}
-use Rattle.adapter.specs.Access.{Access, DoesAll, Reads}
+use Rattle.adapter.specs.Access.{Access, Does, DoesAll, Reads, note}
 use Rattle.refinement.specs.Links.{PlugsNone, SparesRegister, SameAdapter, HasDeviceOrNone}
 use Rattle.hba_regs.specs.Bits.{bit}
 use Rattle.hba_regs.specs.declared.reg.PortReg.{PortReg}
-use Rattle.hba_regs.specs.declared.reg.PortReg.TheVariants.{Ssts}
+use Rattle.hba_regs.specs.declared.reg.PortReg.TheVariants.{Ci, Is, Sact, Sctl, Ssts}
 use Rattle.hba_regs.specs.declared.reg.Reg.TheVariants.{Ghc, Px}
 use Rattle.refinement.specs.Driven.{IsDrivenBy, IsOf, LeavesPort, SendsNone, Grows}
 use Rattle.refinement.specs.Errors.{NoneComes, IsFatalOf}
+use Rattle.refinement.specs.Laws.{FragmentLaws}
 use Rattle.refinement.specs.Facts.{IsFaulted, IsRecorded, RunsWell, ShowsNoTrouble, TellsNoTrouble, Undisturbed, IsFaultOf}
 use Rattle.block_machine.specs.Events.{Ask, AbstractState, CallResult, Service}
 use Rattle.block_machine.specs.Histories.{JointState}
@@ -31,11 +32,17 @@ use Rattle.port_control.specs.Looks.{LooksAt, look_of, IsLooking}
 use Rattle.port_control.specs.Services.{HasLoss, IsOrdinary, IsService, ShowsDisks, ShowsFatals, ShowsFaults}
 use Rattle.port_control.specs.declared.events.PortEvent.{PortEvent}
 use Rattle.port_control.specs.declared.events.PortEvent.TheVariants.{FatalError, TaskFileError, LinkChanged, NoEvent}
+use Rattle.server_history.specs.Laws.{Fragment, fits_of, may_of}
 
 pub record LookLaws : Type 0 where
   -- a reading of a port's register
   pub seen : (port : Port) (r : PortReg) (v : ℕ) (old new : Device) → Reads (Px port r) v old new → old.hr ≡ false
       → SeenAt port.0 r v old new
+  pub noted : (port : Port) (r : PortReg) (v : ℕ) (old new : Device) → old.hr ≡ false → Reads (Px port r) v old new
+      → (new.port port.0).notes ≡ note r v (old.port port.0)
+  pub shown_stays : (port : Port) (access : Access) (old new : Device) → old.hr ≡ false
+      → SparesRegister (Px port Sctl) access → Does access old new → HasDeviceOrNone (old.port port.0)
+      → HasDeviceOrNone (new.port port.0)
   pub leaves_none : (p : DevicePort) → LeavesPort p p
   pub leaves_more : (old mid new : DevicePort) → LeavesPort old mid → LeavesPort mid new → LeavesPort old new
   -- a command that failed
@@ -79,13 +86,17 @@ pub record LookLaws : Type 0 where
   pub looks_loss : (port : Port) (old new : Device) → IsOn old → LooksAt port LinkChanged old new
       → (old.port port.0).link_due ≡ false → HasLoss port.0 old new
   -- accesses that serve ports
+  pub fragments : FragmentLaws Fragment may_of fits_of
   pub looking_service : (port : Port) (access : Access) → IsLooking port access → IsService access
   pub looking_of : (port : Port) (access : Access) → IsLooking port access → IsOf port access
   pub looks_driven : (port : Port) (result : PortEvent) (old new : Device) → LooksAt port result old new
       → IsDrivenBy (IsLooking port) old new
   pub looks_well : (port : Port) (result : PortEvent) (old new : Device) → IsOn old → LooksAt port result old new
       → RunsWell (old.port port.0) → Undisturbed port.0 old new → (result ≡ NoEvent) × RunsWell (new.port port.0)
-  -- what serving ports leaves
+  -- what serving ports writes, and leaves
+  pub services_spare_host : (access : Access) → IsService access → SparesRegister Ghc access
+  pub services_spare : (port : Port) (r : PortReg) → r ≢ Is → r ≢ Ci → r ≢ Sact → (access : Access) → IsService access
+      → SparesRegister (Px port r) access
   pub services_on : (old new : Device) → IsOn old → IsDrivenBy IsService old new → IsOn new
   pub services_same : (old new : Device) → IsDrivenBy IsService old new → SameAdapter old new
   pub services_controls : (port : ℕ) (old new : Device) → IsOn old → IsDrivenBy IsService old new

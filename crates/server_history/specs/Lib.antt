@@ -5,6 +5,7 @@ pub mod Histories
 pub mod Served
 pub mod ErrorHandling
 pub mod Resets
+pub mod Laws
 pub mod Probing
 pub mod Turns
 pub mod After

@@ -3,66 +3,132 @@ ghost use Rattle.server_history.specs.After.{RecoveryLaws, PortErrorLaws};
 ghost use Rattle.server_history.specs.Basics.{AgeLaws, BasicLaws, LivingLaws, SlotLaws};
 ghost use Rattle.server_history.specs.Below.{LawsBelow};
 ghost use Rattle.server_history.specs.Calls.{CallLaws, LookLaws};
+ghost use Rattle.server_history.specs.Laws.{Fragment, fits_of, may_of};
 
-use adapter::laws::{
-    law_accesses_compose, law_port_registers_are_accessed, law_saying_is_one, law_steps_keep,
-    law_steps_switch_nothing_on,
-};
-use block_machine::laws::{
-    law_accepted_is_granted, law_due_in_turn, law_due_is_exact, law_ended_is_issued,
-    law_limits_hold, law_living_was_accepted, law_one_id_is_in_the_book_once,
-    law_one_id_is_one_request, law_other_ports_stay, law_own_requests_count,
-    law_rows_shrink_and_owners_stay, law_steps_go_on, law_what_is_kept_was_answered,
-};
-use commands::laws::{law_calls_are_of_one_port, law_finding_is_followed, law_issuing_performs};
-use driver_history::laws::{law_a_turns_evidence_is_the_calls, law_histories_reach_their_machines};
-use driver_history::troubles::{
-    law_a_fatal_error_of_a_part_is_of_the_whole, law_a_fault_alone_in_a_call_is_alone_in_a_turn,
-    law_a_port_that_was_stopped_was_set_since, law_a_turn_that_probes_a_disk_is_the_calls,
-    law_a_turns_errors_are_the_calls, law_ordinary_accesses_lose_no_error,
-    law_what_is_untroubled_since_st_was_set_is_calm,
-};
-use error_recovery::laws::{law_recovery_is_of_its_port, law_what_stands_behind_a_fault_stays};
+use adapter::laws::law_accesses_compose;
+use adapter::laws::law_port_registers_are_accessed;
+use adapter::laws::law_saying_is_one;
+use adapter::laws::law_steps_keep;
+use adapter::laws::law_steps_switch_nothing_on;
+use block_machine::laws::law_a_name_is_of_one_row;
+use block_machine::laws::law_accepted_is_granted;
+use block_machine::laws::law_due_in_turn;
+use block_machine::laws::law_due_is_exact;
+use block_machine::laws::law_ended_is_issued;
+use block_machine::laws::law_frames_are_their_clients;
+use block_machine::laws::law_lent_frame_is_its_own;
+use block_machine::laws::law_limits_hold;
+use block_machine::laws::law_living_was_accepted;
+use block_machine::laws::law_one_id_is_in_the_book_once;
+use block_machine::laws::law_one_id_is_one_request;
+use block_machine::laws::law_other_ports_stay;
+use block_machine::laws::law_own_requests_count;
+use block_machine::laws::law_ready_ports_are_served;
+use block_machine::laws::law_rows_shrink_and_owners_stay;
+use block_machine::laws::law_steps_go_on;
+use block_machine::laws::law_what_is_kept_was_answered;
+use commands::laws::law_calls_are_of_one_port;
+use commands::laws::law_finding_is_followed;
+use commands::laws::law_issuing_performs;
+use driver_history::laws::law_a_turns_evidence_is_the_calls;
+use driver_history::laws::law_each_instant_holds;
+use driver_history::laws::law_histories_reach_their_machines;
+use driver_history::troubles::law_a_fatal_error_of_a_part_is_of_the_whole;
+use driver_history::troubles::law_a_fault_alone_in_a_call_is_alone_in_a_turn;
+use driver_history::troubles::law_a_port_that_was_stopped_was_set_since;
+use driver_history::troubles::law_a_turn_that_probes_a_disk_is_the_calls;
+use driver_history::troubles::law_a_turns_errors_are_the_calls;
+use driver_history::troubles::law_ordinary_accesses_lose_no_error;
+use driver_history::troubles::law_what_is_untroubled_since_st_was_set_is_calm;
+use error_recovery::laws::law_recovery_is_of_its_port;
+use error_recovery::laws::law_what_stands_behind_a_fault_stays;
 use host_boot::laws::law_what_was_booted_again_may_be_served;
-use port_boot::laws::{
-    law_a_boot_is_of_its_port, law_a_disk_is_in_where_one_shows, law_a_port_runs_on,
-};
+use host_boot::laws::law_what_was_found_still_stands;
+use port_boot::laws::law_a_boot_is_of_its_port;
+use port_boot::laws::law_a_disk_is_in_where_one_shows;
+use port_boot::laws::law_a_port_runs_on;
 use port_control::events::lawful::law_base;
-use port_control::events::laws::{
-    law_answers_tell, law_errors_are_heeded, law_errors_are_seen, law_failures_are_found,
-    law_looks_are_of_one_port, law_looks_are_services, law_services_leave,
-};
+use port_control::events::laws::law_answers_tell;
+use port_control::events::laws::law_errors_are_heeded;
+use port_control::events::laws::law_errors_are_seen;
+use port_control::events::laws::law_failures_are_found;
+use port_control::events::laws::law_looks_are_of_one_port;
+use port_control::events::laws::law_looks_are_services;
+use port_control::events::laws::law_services_leave;
+use port_control::events::laws::law_services_spare_registers;
 use port_control::laws::law_what_is_told_of_engines_stays;
 use refinement::acts::law_acts_give;
 use refinement::disks::law_none_comes_in;
-use refinement::facts::{
-    law_disk_stays, law_ended_is_clear, law_errors_are_shown, law_fatal_errors_compose,
-    law_plugging_composes, law_plugging_is_found, law_switching_on,
-};
+use refinement::facts::law_device_or_none_stays;
+use refinement::facts::law_disk_stays;
+use refinement::facts::law_ended_is_clear;
+use refinement::facts::law_errors_are_shown;
+use refinement::facts::law_fatal_errors_compose;
+use refinement::facts::law_notes_are_set;
+use refinement::facts::law_over_stays;
+use refinement::facts::law_plugging_composes;
+use refinement::facts::law_plugging_is_found;
+use refinement::facts::law_switching_on;
 use refinement::fragments::law_other_ports_are_left;
-use refinement::giving_up::{law_fault_is_outstanding, law_slots_are_given_up};
-use refinement::laws::{
-    law_accepting_agrees, law_answering_agrees, law_backing_composes, law_client_bytes_are_free,
-    law_client_load_is_followed, law_client_store_is_followed, law_disks_are_told,
-    law_due_finds_free_slot, law_going_again_agrees, law_going_composes, law_keeping_agrees,
-    law_own_steps_are_backed, law_parking_agrees, law_parking_frees, law_putting_is_of_one_slot,
-    law_revoking_agrees, law_slots_are_counted, law_steps_spare_the_book, law_ticking_agrees,
-    law_waiting_has_no_slot,
-};
-use refinement::readying::{law_readied_stays, law_stored_stays_over_acts};
+use refinement::giving_up::law_fault_is_outstanding;
+use refinement::giving_up::law_given_up_requests_are_parked;
+use refinement::giving_up::law_slots_are_given_up;
+use refinement::kinds::Kinds;
+use refinement::kinds::law_fragments;
+use refinement::laws::law_accepting_agrees;
+use refinement::laws::law_an_idle_device_agrees;
+use refinement::laws::law_answering_agrees;
+use refinement::laws::law_backing_composes;
+use refinement::laws::law_client_bytes_are_free;
+use refinement::laws::law_client_load_is_followed;
+use refinement::laws::law_client_store_is_followed;
+use refinement::laws::law_device_steps_are_parts;
+use refinement::laws::law_disks_are_told;
+use refinement::laws::law_due_finds_free_slot;
+use refinement::laws::law_going_again_agrees;
+use refinement::laws::law_going_composes;
+use refinement::laws::law_keeping_agrees;
+use refinement::laws::law_own_steps_are_backed;
+use refinement::laws::law_pages_come_when_asked;
+use refinement::laws::law_parking_agrees;
+use refinement::laws::law_parking_frees;
+use refinement::laws::law_putting_is_of_one_slot;
+use refinement::laws::law_revoking_agrees;
+use refinement::laws::law_slots_are_counted;
+use refinement::laws::law_steps_spare_the_book;
+use refinement::laws::law_ticking_agrees;
+use refinement::laws::law_waiting_has_no_slot;
+use refinement::readying::law_readied_stays;
+use refinement::readying::law_stored_stays_over_acts;
 use refinement::recovering::law_halts_are_of_taken_commands;
-use request_queue::laws::{
-    law_accepted_requests_stay, law_an_id_is_one_request,
-    law_answers_of_one_outcome_are_one_change, law_clients_have_as_many,
-    law_operations_change_one_request, law_operations_change_what_is_due,
-    law_steps_change_the_book, law_the_book_stays_in_order,
-};
+use request_queue::laws::law_accepted_requests_stay;
+use request_queue::laws::law_an_id_is_one_request;
+use request_queue::laws::law_answers_of_one_outcome_are_one_change;
+use request_queue::laws::law_clients_have_as_many;
+use request_queue::laws::law_operations_change_one_request;
+use request_queue::laws::law_operations_change_what_is_due;
+use request_queue::laws::law_steps_change_the_book;
+use request_queue::laws::law_the_book_stays_in_order;
+
+/// The kinds of accesses of a port's turn.
+enum Turns {}
+
+impl Kinds for Turns {
+    ghost Kind = { Fragment };
+
+    ghost may = { may_of };
+
+    ghost fits = { fits_of };
+}
 
 /// What steps and accesses do, one after another.
 fn law_basics()
     ensures { BasicLaws }
 {
     law_steps_keep();
+    law_device_steps_are_parts();
+    law_each_instant_holds();
+    law_ready_ports_are_served();
     law_steps_switch_nothing_on();
     law_steps_go_on();
     law_histories_reach_their_machines();
@@ -80,6 +146,8 @@ pub fn law_living()
     law_living_was_accepted();
     law_accepted_is_granted();
     law_rows_shrink_and_owners_stay();
+    law_a_name_is_of_one_row();
+    law_lent_frame_is_its_own();
     law_one_id_is_one_request();
     law_what_is_kept_was_answered();
 }
@@ -97,7 +165,10 @@ fn law_slots()
     law_going_again_agrees();
     law_keeping_agrees();
     law_acts_give();
+    law_pages_come_when_asked();
+    law_over_stays();
     law_slots_are_given_up();
+    law_given_up_requests_are_parked();
     law_putting_is_of_one_slot();
     law_waiting_has_no_slot();
     law_due_finds_free_slot();
@@ -123,6 +194,9 @@ fn law_looks()
     ensures { LookLaws }
 {
     law_port_registers_are_accessed();
+    law_notes_are_set();
+    law_device_or_none_stays();
+    law_fragments::<Turns>();
     law_other_ports_are_left();
     law_failures_are_found();
     law_errors_are_seen();
@@ -131,6 +205,7 @@ fn law_looks()
     law_looks_are_services();
     law_looks_are_of_one_port();
     law_services_leave();
+    law_services_spare_registers();
 }
 
 /// What a port's recovery leaves.
@@ -143,6 +218,7 @@ fn law_recoveries()
     law_other_ports_are_left();
     law_a_disk_is_in_where_one_shows();
     law_what_was_booted_again_may_be_served();
+    law_what_was_found_still_stands();
 }
 
 /// What is shown of a port's trouble.
@@ -210,6 +286,8 @@ pub fn law_below()
     law_what_stands_behind_a_fault_stays();
     law_none_comes_in();
     law_disks_are_told();
+    law_an_idle_device_agrees();
+    law_frames_are_their_clients();
     law_client_store_is_followed();
     law_client_load_is_followed();
     law_client_bytes_are_free();

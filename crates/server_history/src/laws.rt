@@ -74,6 +74,7 @@ pub fn law_a_new_server_has_begun()
     ensures { (s : ServerState) (host : Host) (idle : Device) → IsIdle idle → TellsDisks idle
         → TakesOver s.wanted host idle s.device → IsNewServer host s → SettledInvariant s × HasBegun s }
 {
+    law_below();
     law_what_was_taken_over_may_be_served();
 }
 

@@ -1,4 +1,4 @@
-use Rattle.std.proofs.Common.{ℕ, ◌≡◌, ◌+◌, ◌-◌, ◌*◌, ◌%◌, ◌<◌, ◌≤◌, List, ◌++◌, length, drop}
+use Rattle.std.proofs.Common.{◌+◌, ◌-◌, ◌*◌, ◌<◌, ◌≤◌, List, ◌++◌, length, drop}
 use Rattle.adapter.specs.declared.command.Prd.{Prd}
 use Rattle.command_table.specs.Runs.{AreJoined}
 use Rattle.command_table.proofs.prds.Given as goal

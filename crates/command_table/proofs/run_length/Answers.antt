@@ -1,4 +1,4 @@
-use Rattle.std.proofs.Common.{ℕ, ◌≡◌, arith}
+use Rattle.std.proofs.Common.{arith}
 use Rattle.command_table.proofs.Cover.{longest}
 use Rattle.command_table.proofs.run_length.Goals as goal
 

@@ -3,15 +3,15 @@ ghost use Rattle.std.specs.Prelude.{ℕ, true, false, ◌≡◌, ◌≢◌, ◌�
 ghost use Rattle.ata_types.specs.declared.Port.{Port};
 ghost use Rattle.hba_regs.specs.Bits.{bit};
 ghost use Rattle.hba_regs.specs.declared.reg.PortReg.{PortReg};
-ghost use Rattle.hba_regs.specs.declared.reg.PortReg.TheVariants.{Ssts};
-ghost use Rattle.hba_regs.specs.declared.reg.Reg.TheVariants.{Px};
+ghost use Rattle.hba_regs.specs.declared.reg.PortReg.TheVariants.{Ci, Is, Sact, Ssts};
+ghost use Rattle.hba_regs.specs.declared.reg.Reg.TheVariants.{Ghc, Px};
 ghost use Rattle.adapter.specs.Access.{Access, Reads};
 ghost use Rattle.adapter.specs.Device.{Device};
 ghost use Rattle.adapter.specs.Rules.{IsOn};
 ghost use Rattle.refinement.specs.Driven.{IsUse, IsRelated, IsDrivenBy, IsSimulated, IsOf};
 ghost use Rattle.refinement.specs.Errors.{KeepsErrors, NoneComes};
 ghost use Rattle.refinement.specs.Facts.{IsFaulted, IsRecorded, RunsWell, ShowsNoTrouble, TellsNoTrouble, Undisturbed};
-ghost use Rattle.refinement.specs.Links.{SameAdapter};
+ghost use Rattle.refinement.specs.Links.{SameAdapter, SparesRegister};
 ghost use Rattle.refinement.specs.Slots.{SlotStates};
 ghost use Rattle.port_control.specs.Looks.{look_of, IsLooking, LooksAt};
 ghost use Rattle.port_control.specs.Services.{HasLoss, IsService, IsOrdinary, KeepsChanges, ShowsDisks, ShowsFatals, ShowsFaults};
@@ -60,6 +60,13 @@ pub fn law_services_leave()
 {
     law_base();
 }
+
+/// Accesses that serve ports write of each port PxIS, PxCI and PxSACT alone, and not GHC.
+pub fn law_services_spare_registers()
+    ensures host { (access : Access) → IsService access → SparesRegister Ghc access }
+    ensures port { (port : Port) (r : PortReg) → r ≢ Is → r ≢ Ci → r ≢ Sact → (access : Access) → IsService access
+        → SparesRegister (Px port r) access }
+{}
 
 /// What each answer of a look says of what was read.
 pub fn law_answers_tell()

@@ -11,7 +11,7 @@ use Rattle.adapter.specs.Memory.{changed}
 use Rattle.adapter.specs.Rules.{IsOn}
 use Rattle.adapter.specs.Steps.{DeviceTransition, Can, device_after, Steps}
 use Rattle.adapter.specs.Steps.DeviceTransition.{Fetch, FetchFault, Move, Clear, Done, Fault, Fatal, Fall, FrFall, LinkUp, Unplug, Plug, ResetEnds, Scribble}
-use Rattle.adapter.proofs.KeptLemmas.{law_steps_keep}
+use Rattle.refinement.specs.Below.{StepLaws}
 use Rattle.refinement.specs.Errors.{IsLeftByReset, IsCleared}
 use Rattle.refinement.specs.Facts.{IsAwaited}
 use Rattle.refinement.proofs.device.AwaitedLink.{leads_keep, steps_awaited}
@@ -30,9 +30,9 @@ ghc_told v old new call = (
 pub reset_begins : (v : ℕ) (old new : Device) → bit v 0 ≡ true → Writes Ghc v old new → new.hr ≡ true
 reset_begins v old new set call = ap (λ (d : Device). d.hr) call.effect ∙ or_right call.mid.hr (bit v 0) set
 
-pub switched_on : (v : ℕ) (old new : Device) → old.hr ≡ false → bit v 31 ≡ true → bit v 0 ≡ false → Writes Ghc v old new → IsOn new
-switched_on v old new off set none call =
-    let on : KeepsOn old call.mid = (law_steps_keep call.steps).on off in
+pub switched_on : StepLaws → (v : ℕ) (old new : Device) → old.hr ≡ false → bit v 31 ≡ true → bit v 0 ≡ false → Writes Ghc v old new → IsOn new
+switched_on laws v old new off set none call =
+    let on : KeepsOn old call.mid = (laws.keeps _ _ call.steps).on off in
     subst IsOn (sym call.effect) (record { ae = set; no_reset = ap (λ (b : Bool). call.mid.hr || b) none ∙ or_false call.mid.hr ∙ on.no_reset })
 
 -- ---- what a reset leaves

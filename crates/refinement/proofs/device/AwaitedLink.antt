@@ -15,7 +15,7 @@ use Rattle.adapter.specs.Rules.{MayWrite, IsStable}
 use Rattle.adapter.specs.Steps.{DeviceTransition, Can, device_after, StepLeads, Steps}
 use Rattle.adapter.specs.Steps.DeviceTransition.{Fetch, FetchFault, Move, Clear, Done, Fault, Fatal, Fall, FrFall, LinkUp, Unplug, Plug, ResetEnds, Scribble}
 use Rattle.adapter.proofs.Changed.{changed_same}
-use Rattle.adapter.proofs.KeptLemmas.{law_steps_keep}
+use Rattle.refinement.specs.Below.{StepLaws}
 use Rattle.refinement.specs.Facts.{IsAwaited, IsUnflagged, IsQuiet, KeepsRecord}
 use Rattle.refinement.proofs.device.HealthyPort.{at_port}
 
@@ -132,9 +132,9 @@ writes_awaited port r v old new may keeps call h =
     subst (λ (d : Device). IsAwaited (d.port port)) (sym call.effect)
     (written_awaited port call.mid r v (may call.mid call.steps) (keeps call.mid call.steps) (steps_awaited port old call.mid call.steps h))
 
-pub comreset_begins : (port : Port) (v : ℕ) (old new : Device) → (old.port port.0).cr ≡ false → v % 16 ≡ 1 → Writes (Px port Sctl) v old new → IsAwaited (new.port port.0)
-comreset_begins port v old new cr one call =
-    let k : KeepsPort (old.port port.0) (call.mid.port port.0) = (law_steps_keep call.steps).port port.0 in
+pub comreset_begins : StepLaws → (port : Port) (v : ℕ) (old new : Device) → (old.port port.0).cr ≡ false → v % 16 ≡ 1 → Writes (Px port Sctl) v old new → IsAwaited (new.port port.0)
+comreset_begins laws port v old new cr one call =
+    let k : KeepsPort (old.port port.0) (call.mid.port port.0) = (laws.keeps _ _ call.steps).port port.0 in
     subst IsAwaited (sym (ap (λ (d : Device). d.port port.0) call.effect ∙ changed_same call.mid.port port.0 _))
     (comreset_awaited (call.mid.port port.0) v (length call.mid.tape) (k.cr cr) one)
 

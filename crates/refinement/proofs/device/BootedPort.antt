@@ -10,7 +10,7 @@ use Rattle.adapter.specs.Access.Access.{Reading}
 use Rattle.adapter.specs.Device.{DevicePort, Device}
 use Rattle.adapter.specs.Kept.{Keeps}
 use Rattle.adapter.proofs.Changed.{changed_same}
-use Rattle.adapter.proofs.KeptLemmas.{law_steps_keep}
+use Rattle.refinement.specs.Below.{StepLaws}
 use Rattle.refinement.specs.Facts.{RunsWell, Undisturbed, ShowsNoTrouble, TellsNoTrouble, ClearsNoTrouble}
 use Rattle.refinement.specs.Links.{PlugsNone}
 use Rattle.refinement.specs.Started.{IsUp, IsStarted}
@@ -27,20 +27,20 @@ started_now v tape p on off u =
     (subst (λ (x : DevicePort). IsStarted (with_fre (bit v 4) x)) (sym (cond-false p.st p _ off))
     (record { st = refl; cr = refl; det = u.det; present = u.present; fresh = u.fresh; linked = u.linked; running = u.restarts; whole = refl }))
 
-module _ (port : Port) (v : ℕ) (old new : Device) (off : old.hr ≡ false) (stopped : (old.port port.0).st ≡ false) (stands : (old.port port.0).cr ≡ false) (on : bit v 0 ≡ true) (call : Writes (Px port Cmd) v old new) (up : IsUp (old.port port.0)) where
+module _ (laws : StepLaws) (port : Port) (v : ℕ) (old new : Device) (off : old.hr ≡ false) (stopped : (old.port port.0).st ≡ false) (stands : (old.port port.0).cr ≡ false) (on : bit v 0 ≡ true) (call : Writes (Px port Cmd) v old new) (up : IsUp (old.port port.0)) where
   pub start_is_made : PlugsNone port.0 old new → IsStarted (new.port port.0)
   start_is_made none =
-      let k : Keeps old call.mid = law_steps_keep call.steps in
+      let k : Keeps old call.mid = laws.keeps _ _ call.steps in
       let before : PlugsNone port.0 old call.mid = plugs_before port.0 old call.mid new (ap (λ (d : Device). d.tape) call.effect ∙ written_tape (Px port Cmd) v call.mid) none in
       subst IsStarted (sym (ap (λ (d : Device). d.port port.0) call.effect ∙ changed_same call.mid.port port.0 _))
-      (started_now v (length call.mid.tape) (call.mid.port port.0) on ((k.port port.0).st stopped) (steps_up port.0 old call.mid off stands before call.steps up))
+      (started_now v (length call.mid.tape) (call.mid.port port.0) on ((k.port port.0).st stopped) (steps_up laws port.0 old call.mid off stands before call.steps up))
 
 -- PxIS tells of no trouble on a port that was started
-pub well_is_told : (port : Port) (v : ℕ) (old new : Device) → old.hr ≡ false → Reads (Px port Is) v old new → TellsNoTrouble v → IsStarted (old.port port.0) → RunsWell (new.port port.0)
-well_is_told port v old new off call calm h =
-    let shows : ShowsNoTrouble (new.port port.0) = told_calm port v old new off call calm in
-    let u : Undisturbed port.0 old new = (reads_show port.0 (Px port Is) v old new off call shows).1 in
-    well_of (new.port port.0) (access_started port (Reading (Px port Is) v) old new off (reading_clears port (Px port Is) v) tt u call h) shows
+pub well_is_told : StepLaws → (port : Port) (v : ℕ) (old new : Device) → old.hr ≡ false → Reads (Px port Is) v old new → TellsNoTrouble v → IsStarted (old.port port.0) → RunsWell (new.port port.0)
+well_is_told laws port v old new off call calm h =
+    let shows : ShowsNoTrouble (new.port port.0) = told_calm laws port v old new off call calm in
+    let u : Undisturbed port.0 old new = (reads_show laws port.0 (Px port Is) v old new off call shows).1 in
+    well_of (new.port port.0) (access_started laws port (Reading (Px port Is) v) old new off (reading_clears port (Px port Is) v) tt u call h) shows
 
 -- a write of PxCMD clears no bit
 command_clears : (port : Port) (v : ℕ) → ClearsNoTrouble port (Px port Cmd) v
@@ -50,11 +50,11 @@ command_clears port v = record {
 }
 
 -- ST is set, and PxIS tells of no trouble then
-pub well_is_found : (port : Port) (v causes : ℕ) (old mid new : Device) → old.hr ≡ false → (old.port port.0).st ≡ false → (old.port port.0).cr ≡ false → bit v 0 ≡ true → IsUp (old.port port.0) →
+pub well_is_found : StepLaws → (port : Port) (v causes : ℕ) (old mid new : Device) → old.hr ≡ false → (old.port port.0).st ≡ false → (old.port port.0).cr ≡ false → bit v 0 ≡ true → IsUp (old.port port.0) →
     Writes (Px port Cmd) v old mid → Reads (Px port Is) causes mid new → TellsNoTrouble causes → RunsWell (new.port port.0)
-well_is_found port v causes old mid new off stopped stands on up start call calm =
-    let off_mid : mid.hr ≡ false = ap (λ (d : Device). d.hr) start.effect ∙ ((law_steps_keep start.steps).on off).no_reset in
-    let late = reads_show port.0 (Px port Is) causes mid new off_mid call (told_calm port causes mid new off_mid call calm) in
-    let early = writes_show port (Px port Cmd) v old mid off (command_clears port v) start late.0 in
-    well_is_told port causes mid new off_mid call calm
-    (start_is_made port v old mid off stopped stands on start up (undisturbed_plugs port.0 old mid early.1))
+well_is_found laws port v causes old mid new off stopped stands on up start call calm =
+    let off_mid : mid.hr ≡ false = ap (λ (d : Device). d.hr) start.effect ∙ ((laws.keeps _ _ start.steps).on off).no_reset in
+    let late = reads_show laws port.0 (Px port Is) causes mid new off_mid call (told_calm laws port causes mid new off_mid call calm) in
+    let early = writes_show laws port (Px port Cmd) v old mid off (command_clears port v) start late.0 in
+    (well_is_told laws) port causes mid new off_mid call calm
+    (start_is_made laws port v old mid off stopped stands on start up (undisturbed_plugs port.0 old mid early.1))

@@ -10,7 +10,7 @@ use Rattle.adapter.specs.Access.{Access, Does, Writes, port_written, with_st, wi
 use Rattle.adapter.specs.Device.{Notes, DevicePort, Device}
 use Rattle.adapter.specs.Steps.{DeviceTransition, Can, device_after, Steps}
 use Rattle.adapter.specs.Steps.DeviceTransition.{Fetch, FetchFault, Move, Clear, Done, Fault, Fatal, Fall, FrFall, LinkUp, Unplug, Plug, ResetEnds, Scribble}
-use Rattle.adapter.proofs.KeptLemmas.{law_steps_keep}
+use Rattle.refinement.specs.Below.{StepLaws}
 use Rattle.refinement.proofs.device.AwaitedLink.{leads_keep}
 use Rattle.refinement.proofs.device.FactsOverAccesses.{access_steps, effect_keeps}
 use Rattle.refinement.proofs.device.ErrorBits.{command_beside}
@@ -67,11 +67,11 @@ register_notes Is v tape p control is off = absurd (is refl)
 register_notes Cmd v tape p control is off = command_notes v tape p (off refl)
 register_notes _ v tape p control is off = refl
 
-pub written_notes : (port : Port) (r : PortReg) (v : ℕ) (old new : Device) → r ≢ Sctl → r ≢ Is → (r ≡ Cmd → bit v 0 ≡ false) → Writes (Px port r) v old new →
+pub written_notes : StepLaws → (port : Port) (r : PortReg) (v : ℕ) (old new : Device) → r ≢ Sctl → r ≢ Is → (r ≡ Cmd → bit v 0 ≡ false) → Writes (Px port r) v old new →
     (new.port port.0).notes ≡ (old.port port.0).notes
-written_notes port r v old new control is off x =
+written_notes laws port r v old new control is off x =
     seen (λ (p : DevicePort). p.notes ≡ (old.port port.0).notes) port r v old new x
-    (register_notes r v (length x.mid.tape) (x.mid.port port.0) control is off ∙ (law_steps_keep x.steps).notes port.0)
+    (register_notes r v (length x.mid.tape) (x.mid.port port.0) control is off ∙ (laws.keeps _ _ x.steps).notes port.0)
 
 -- all but when ST was set
 abbrev IsSetAlone : Notes → Notes → Type 0
@@ -85,9 +85,9 @@ started_notes v tape p = by (bit v 0) p.st refl
     by true true is = subst (λ (x : DevicePort). IsSetAlone p.notes (with_fre (bit v 4) x).notes) (sym (cond-true p.st p _ is)) refl
     by true false is = subst (λ (x : DevicePort). IsSetAlone p.notes (with_fre (bit v 4) x).notes) (sym (cond-false p.st p _ is)) refl
 
-pub command_written_notes : (port : Port) (v : ℕ) (old new : Device) → Writes (Px port Cmd) v old new →
+pub command_written_notes : StepLaws → (port : Port) (v : ℕ) (old new : Device) → Writes (Px port Cmd) v old new →
     (new.port port.0).notes ≡ record (old.port port.0).notes { st_set_at = (new.port port.0).notes.st_set_at }
-command_written_notes port v old new x =
+command_written_notes laws port v old new x =
     seen (λ (p : DevicePort). IsSetAlone (old.port port.0).notes p.notes) port Cmd v old new x
-    (subst (λ (n : Notes). IsSetAlone n (port_written Cmd v (length x.mid.tape) (x.mid.port port.0)).notes) ((law_steps_keep x.steps).notes port.0)
+    (subst (λ (n : Notes). IsSetAlone n (port_written Cmd v (length x.mid.tape) (x.mid.port port.0)).notes) ((laws.keeps _ _ x.steps).notes port.0)
     (started_notes v (length x.mid.tape) (x.mid.port port.0)))

@@ -10,8 +10,8 @@ use Rattle.hba_regs.specs.declared.reg.PortReg.TheVariants as px
 use Rattle.adapter.specs.Access.{Reads, Writes, note, port_written, with_st}
 use Rattle.adapter.specs.Device.{DevicePort, Device}
 use Rattle.adapter.specs.Steps.{Steps, restarted}
-use Rattle.adapter.proofs.KeptLemmas.{law_steps_keep}
 use Rattle.block_machine.specs.State.{Machine}
+use Rattle.refinement.specs.Below.{StepLaws}
 use Rattle.refinement.specs.Slots.{SlotState, Free, Own, Serves, SlotStates, Stage, IsOver, RelatesSlot, Armed}
 use Rattle.refinement.specs.Relation.{StateRelation, port_at}
 use Rattle.refinement.proofs.device.FactsOverAccesses.{noted_on, written_on}
@@ -22,8 +22,8 @@ use Rattle.refinement.proofs.steps.RegisterWrites.{or_false}
 abbrev IsClearBit : ℕ → DevicePort → Type 0
 IsClearBit slot p = p.sact slot ≡ false
 
-pub steps_clear : (port slot : ℕ) (old new : Device) → Steps old new → (old.port port).sact slot ≡ false → (new.port port).sact slot ≡ false
-steps_clear port slot old new s u = ((law_steps_keep s).port port).sact slot u
+pub steps_clear : StepLaws → (port slot : ℕ) (old new : Device) → Steps old new → (old.port port).sact slot ≡ false → (new.port port).sact slot ≡ false
+steps_clear laws port slot old new s u = ((laws.keeps _ _ s).port port).sact slot u
 
 -- a slot in use whose command is over has no bit
 pub over_unarmed : (uses : SlotStates) (m : Machine) (d : Device) (port slot : ℕ) → StateRelation uses m d → (uses port slot ≡ Armed → ⊥) → IsOver (d.port port) slot → (d.port port).sact slot ≡ false
@@ -80,15 +80,15 @@ module _ (slot : ℕ) where
   writing_clear px.Serr v tape p clear u = u
   writing_clear px.Ci v tape p clear u = u
 
-pub reads_clear : (port slot : ℕ) (r : Reg) (v : ℕ) (old new : Device) → Reads r v old new → (old.port port).sact slot ≡ false → (new.port port).sact slot ≡ false
-reads_clear port slot r v old new x u =
+pub reads_clear : StepLaws → (port slot : ℕ) (r : Reg) (v : ℕ) (old new : Device) → Reads r v old new → (old.port port).sact slot ≡ false → (new.port port).sact slot ≡ false
+reads_clear laws port slot r v old new x u =
     subst (λ (d : Device). IsClearBit slot (d.port port)) (sym x.effect)
-    (noted_on (IsClearBit slot) (port_at port) (reading_clear slot) r v x.mid (steps_clear port slot old x.mid x.steps u))
+    (noted_on (IsClearBit slot) (port_at port) (reading_clear slot) r v x.mid (steps_clear laws port slot old x.mid x.steps u))
 
-pub writes_clear : (port : Port) (slot : ℕ) (r : Reg) (v : ℕ) (old new : Device) → (r ≡ Px port px.Sact → bit v slot ≡ false) → Writes r v old new →
+pub writes_clear : StepLaws → (port : Port) (slot : ℕ) (r : Reg) (v : ℕ) (old new : Device) → (r ≡ Px port px.Sact → bit v slot ≡ false) → Writes r v old new →
     (old.port port.0).sact slot ≡ false → (new.port port.0).sact slot ≡ false
-writes_clear port slot r v old new clear x u =
+writes_clear laws port slot r v old new clear x u =
     subst (λ (d : Device). IsClearBit slot (d.port port.0)) (sym x.effect)
     (written_on (IsClearBit slot) port (reading_clear slot) (λ p h. h) r v x.mid
     (λ q is. writing_clear slot q v (length x.mid.tape) (x.mid.port port.0) (λ c. clear (is ∙ ap (Px port) c)))
-    (steps_clear port.0 slot old x.mid x.steps u))
+    (steps_clear laws port.0 slot old x.mid x.steps u))

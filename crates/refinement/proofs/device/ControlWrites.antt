@@ -10,7 +10,7 @@ use Rattle.adapter.specs.Access.{Writes, port_written, with_st, with_fre}
 use Rattle.adapter.specs.Device.{DevicePort, Device}
 use Rattle.adapter.specs.Steps.{restarted}
 use Rattle.adapter.proofs.Changed.{changed_same}
-use Rattle.adapter.proofs.KeptLemmas.{law_steps_keep}
+use Rattle.refinement.specs.Below.{StepLaws}
 
 -- the port as the write leaves it
 port_is : (port : Port) (r : PortReg) (v : ℕ) (old new : Device) (x : Writes (Px port r) v old new) → new.port port.0 ≡ port_written r v (length x.mid.tape) (x.mid.port port.0)
@@ -35,8 +35,8 @@ st_set true tape p = by p.st refl
 pub command_set : (port : Port) (v : ℕ) (old new : Device) → Writes (Px port Cmd) v old new → ((new.port port.0).st ≡ bit v 0) × ((new.port port.0).fre ≡ bit v 4)
 command_set port v old new x = seen (λ (p : DevicePort). (p.st ≡ bit v 0) × (p.fre ≡ bit v 4)) port Cmd v old new x (st_set (bit v 0) (length x.mid.tape) (x.mid.port port.0), refl)
 
-pub start_set : (port : Port) (v : ℕ) (old new : Device) → (old.port port.0).st ≡ false → bit v 0 ≡ true → Writes (Px port Cmd) v old new → ((new.port port.0).cr ≡ true) × ((new.port port.0).notes.st_set_at ≡ length new.tape)
-start_set port v old new off on x = seen (λ (p : DevicePort). (p.cr ≡ true) × (p.notes.st_set_at ≡ length new.tape)) port Cmd v old new x
+pub start_set : StepLaws → (port : Port) (v : ℕ) (old new : Device) → (old.port port.0).st ≡ false → bit v 0 ≡ true → Writes (Px port Cmd) v old new → ((new.port port.0).cr ≡ true) × ((new.port port.0).notes.st_set_at ≡ length new.tape)
+start_set laws port v old new off on x = seen (λ (p : DevicePort). (p.cr ≡ true) × (p.notes.st_set_at ≡ length new.tape)) port Cmd v old new x
     (subst (λ (b : Bool). ((with_fre (bit v 4) (with_st b (length x.mid.tape) p)).cr ≡ true) × ((with_fre (bit v 4) (with_st b (length x.mid.tape) p)).notes.st_set_at ≡ length new.tape)) (sym on)
     (subst (λ (y : DevicePort). ((with_fre (bit v 4) y).cr ≡ true) × ((with_fre (bit v 4) y).notes.st_set_at ≡ length new.tape)) (sym (cond-false p.st p started still)) (refl, tape_is port Cmd v old new x)))
   where
@@ -44,7 +44,7 @@ start_set port v old new off on x = seen (λ (p : DevicePort). (p.cr ≡ true) �
     p = x.mid.port port.0
 
     still : (x.mid.port port.0).st ≡ false
-    still = ((law_steps_keep x.steps).port port.0).st off
+    still = ((laws.keeps _ _ x.steps).port port.0).st off
 
     started : DevicePort
     started = record (x.mid.port port.0) {

@@ -15,7 +15,7 @@ use Rattle.adapter.specs.Steps.{DeviceTransition, Can, device_after, StepLeads, 
 use Rattle.adapter.specs.Steps.DeviceTransition.{Fetch, FetchFault, Move, Clear, Done, Fault, Fatal, Fall, FrFall, LinkUp, Unplug, Plug, ResetEnds, Scribble}
 use Rattle.adapter.specs.declared.tape.Entry.{Entry}
 use Rattle.adapter.proofs.Changed.{changed_same}
-use Rattle.adapter.proofs.KeptLemmas.{step_keeps, law_steps_keep}
+use Rattle.refinement.specs.Below.{StepLaws}
 use Rattle.refinement.specs.Errors.{IsComing, NoneComes}
 use Rattle.refinement.specs.Links.{HasDeviceOrNone}
 use Rattle.refinement.proofs.device.FactsOverAccesses.{access_steps, effect_keeps}
@@ -29,26 +29,26 @@ use Rattle.refinement.specs.Vacant.{IsVacant, IsFreshIfShown}
 -- ---- facts of a port that its steps keep while no disk comes
 
 -- what each step keeps that is no disk's coming, lists of them keep
-leads_without : (port : ℕ) (P : DevicePort → Type 0) →
+leads_without : StepLaws → (port : ℕ) (P : DevicePort → Type 0) →
     ((d : Device) (gained : List Entry) → NoneOf (IsComing port) gained → (step : DeviceTransition) → Can step d → (device_after step d).tape ≡ d.tape ++ gained → P (d.port port) → P ((device_after step d).port port)) →
     (steps : List DeviceTransition) (old new : Device) → StepLeads steps old new → NoneComes port old new → P (old.port port) → P (new.port port)
-leads_without port P keep [] old new e none h = subst (λ (d : Device). P (d.port port)) (sym e) h
-leads_without port P keep (step ∷ steps) old new (can, lead) none h =
-    let k : Keeps old (device_after step old) = step_keeps step old can in
-    let l : Keeps (device_after step old) new = law_steps_keep (record { steps = steps; lead = lead }) in
+leads_without laws port P keep [] old new e none h = subst (λ (d : Device). P (d.port port)) (sym e) h
+leads_without laws port P keep (step ∷ steps) old new (can, lead) none h =
+    let k : Keeps old (device_after step old) = laws.step step _ can in
+    let l : Keeps (device_after step old) new = laws.keeps _ _ (record { steps = steps; lead = lead }) in
     let parts = comes_parts port old (device_after step old) new k.gained l.gained k.tape l.tape none in
-    leads_without port P keep steps (device_after step old) new lead parts.1 (keep old parts.0.gained parts.0.none step can parts.0.tape h)
+    leads_without laws port P keep steps (device_after step old) new lead parts.1 (keep old parts.0.gained parts.0.none step can parts.0.tape h)
 
 -- and so do accesses, where their writes keep it
-access_without : (port : Port) (P : DevicePort → Type 0) →
+access_without : StepLaws → (port : Port) (P : DevicePort → Type 0) →
     ((d : Device) (gained : List Entry) → NoneOf (IsComing port.0) gained → (step : DeviceTransition) → Can step d → (device_after step d).tape ≡ d.tape ++ gained → P (d.port port.0) → P ((device_after step d).port port.0)) →
     ((p : DevicePort) (r : PortReg) (v : ℕ) → P p → P (record p { notes = note r v p })) → ((p : DevicePort) → P p → P (unacknowledged p)) →
     ((r : PortReg) (v tape : ℕ) (p : DevicePort) → P p → P (port_written r v tape p)) →
     (access : Access) (old new : Device) → NoneComes port.0 old new → Does access old new → P (old.port port.0) → P (new.port port.0)
-access_without port P keep noting acknowledging writing access old new none x h =
+access_without laws port P keep noting acknowledging writing access old new none x h =
     let s = access_steps access old new x in
     effect_keeps P port noting acknowledging access old new x (λ r v mid is steps y. writing r v (length mid.tape) (mid.port port.0) y)
-    (leads_without port.0 P keep s.1.steps old s.0 s.1.lead (comes_before port.0 old s.0 new s.2 none) h)
+    (leads_without laws port.0 P keep s.1.steps old s.0 s.1.lead (comes_before port.0 old s.0 new s.2 none) h)
 
 not_three : {A : Type 0} → ◌≡◌ {A = ℕ} 0 3 → A
 not_three e = absurd (omega (arith, e))
@@ -84,11 +84,11 @@ written_out : (r : PortReg) (v tape : ℕ) (p : DevicePort) → Out p → Out (p
 written_out Cmd v tape p h = (command_beside v tape p).6 ∙ h
 written_out _ v tape p h = h
 
-pub out_steps : (port : ℕ) (old new : Device) → NoneComes port old new → Steps old new → (old.port port).present ≡ false → (new.port port).present ≡ false
-out_steps port old new none s h = leads_without port Out (step_out port) s.steps old new s.lead none h
+pub out_steps : StepLaws → (port : ℕ) (old new : Device) → NoneComes port old new → Steps old new → (old.port port).present ≡ false → (new.port port).present ≡ false
+out_steps laws port old new none s h = leads_without laws port Out (step_out port) s.steps old new s.lead none h
 
-pub out_access : (port : Port) (access : Access) (old new : Device) → NoneComes port.0 old new → Does access old new → (old.port port.0).present ≡ false → (new.port port.0).present ≡ false
-out_access port access old new none x h = access_without port Out (step_out port.0) (λ p r v y. y) (λ p y. y) written_out access old new none x h
+pub out_access : StepLaws → (port : Port) (access : Access) (old new : Device) → NoneComes port.0 old new → Does access old new → (old.port port.0).present ≡ false → (new.port port.0).present ≡ false
+out_access laws port access old new none x h = access_without laws port Out (step_out port.0) (λ p r v y. y) (λ p y. y) written_out access old new none x h
 
 -- ---- and none shows
 
@@ -120,12 +120,12 @@ written_vacant Cmd v tape p h = let c = command_beside v tape p in (c.6 ∙ h.0,
 written_vacant Sctl v tape p h = (h.0, λ up. h.1 (det_was (nat_eq (v % 16) 1) p.ssts_det up))
 written_vacant _ v tape p h = h
 
-pub vacant_steps : (port : ℕ) (old new : Device) → NoneComes port old new → Steps old new → IsVacant (old.port port) → IsVacant (new.port port)
-vacant_steps port old new none s h = is_vacant (new.port port) (leads_without port Vacant (step_vacant port) s.steps old new s.lead none (h.out, h.det))
+pub vacant_steps : StepLaws → (port : ℕ) (old new : Device) → NoneComes port old new → Steps old new → IsVacant (old.port port) → IsVacant (new.port port)
+vacant_steps laws port old new none s h = is_vacant (new.port port) (leads_without laws port Vacant (step_vacant port) s.steps old new s.lead none (h.out, h.det))
 
-pub vacant_access : (port : Port) (access : Access) (old new : Device) → NoneComes port.0 old new → Does access old new → IsVacant (old.port port.0) → IsVacant (new.port port.0)
-vacant_access port access old new none x h =
-    is_vacant (new.port port.0) (access_without port Vacant (step_vacant port.0) (λ p r v y. y) (λ p y. y) written_vacant access old new none x (h.out, h.det))
+pub vacant_access : StepLaws → (port : Port) (access : Access) (old new : Device) → NoneComes port.0 old new → Does access old new → IsVacant (old.port port.0) → IsVacant (new.port port.0)
+vacant_access laws port access old new none x h =
+    is_vacant (new.port port.0) (access_without laws port Vacant (step_vacant port.0) (λ p r v y. y) (λ p y. y) written_vacant access old new none x (h.out, h.det))
 
 -- ---- a disk that shows has sent its first FIS
 
@@ -160,30 +160,30 @@ written_fresh Cmd v tape p h = λ up. command_fresh v tape p ∙ h (sym (command
 written_fresh Sctl v tape p h = λ up. h (det_was (nat_eq (v % 16) 1) p.ssts_det up)
 written_fresh _ v tape p h = h
 
-pub fresh_steps : (port : ℕ) (old new : Device) → NoneComes port old new → Steps old new → IsFreshIfShown (old.port port) → IsFreshIfShown (new.port port)
-fresh_steps port old new none s h = leads_without port IsFreshIfShown (step_fresh port) s.steps old new s.lead none h
+pub fresh_steps : StepLaws → (port : ℕ) (old new : Device) → NoneComes port old new → Steps old new → IsFreshIfShown (old.port port) → IsFreshIfShown (new.port port)
+fresh_steps laws port old new none s h = leads_without laws port IsFreshIfShown (step_fresh port) s.steps old new s.lead none h
 
-pub fresh_access : (port : Port) (access : Access) (old new : Device) → NoneComes port.0 old new → Does access old new → IsFreshIfShown (old.port port.0) → IsFreshIfShown (new.port port.0)
-fresh_access port access old new none x h = access_without port IsFreshIfShown (step_fresh port.0) (λ p r v y. y) (λ p y. y) written_fresh access old new none x h
+pub fresh_access : StepLaws → (port : Port) (access : Access) (old new : Device) → NoneComes port.0 old new → Does access old new → IsFreshIfShown (old.port port.0) → IsFreshIfShown (new.port port.0)
+fresh_access laws port access old new none x h = access_without laws port IsFreshIfShown (step_fresh port.0) (λ p r v y. y) (λ p y. y) written_fresh access old new none x h
 
 -- ---- where it begins
 
-module _ (v : ℕ) (old new : Device) (on : old.hr ≡ true) (call : Reads Ghc v old new) (clear : bit v 0 ≡ false) (port : ℕ) (none : NoneComes port old new) where
+module _ (laws : StepLaws) (v : ℕ) (old new : Device) (on : old.hr ≡ true) (call : Reads Ghc v old new) (clear : bit v 0 ≡ false) (port : ℕ) (none : NoneComes port old new) where
   pub vacant_reset : (old.port port).present ≡ false → IsVacant (new.port port)
   vacant_reset out =
       let s = reset_read v old new on call clear in
-      let a : Keeps old (device_after ResetEnds s.0) = law_steps_keep s.2 in
-      let b : Keeps (device_after ResetEnds s.0) new = law_steps_keep s.1 in
+      let a : Keeps old (device_after ResetEnds s.0) = laws.keeps _ _ s.2 in
+      let b : Keeps (device_after ResetEnds s.0) new = laws.keeps _ _ s.1 in
       let parts = comes_parts port old (device_after ResetEnds s.0) new a.gained b.gained a.tape b.tape none in
-      vacant_steps port (device_after ResetEnds s.0) new parts.1 s.1 (is_vacant _ (out_steps port old (device_after ResetEnds s.0) parts.0 s.2 out, λ z. not_three z))
+      (vacant_steps laws) port (device_after ResetEnds s.0) new parts.1 s.1 (is_vacant _ (out_steps laws port old (device_after ResetEnds s.0) parts.0 s.2 out, λ z. not_three z))
 
   pub fresh_reset : IsFreshIfShown (new.port port)
   fresh_reset =
       let s = reset_read v old new on call clear in
-      let a : Keeps old (device_after ResetEnds s.0) = law_steps_keep s.2 in
-      let b : Keeps (device_after ResetEnds s.0) new = law_steps_keep s.1 in
+      let a : Keeps old (device_after ResetEnds s.0) = laws.keeps _ _ s.2 in
+      let b : Keeps (device_after ResetEnds s.0) new = laws.keeps _ _ s.1 in
       let parts = comes_parts port old (device_after ResetEnds s.0) new a.gained b.gained a.tape b.tape none in
-      fresh_steps port (device_after ResetEnds s.0) new parts.1 s.1 (λ z. not_three z)
+      (fresh_steps laws) port (device_after ResetEnds s.0) new parts.1 s.1 (λ z. not_three z)
 
 pub fresh_comreset : (port : Port) (v : ℕ) (old new : Device) → v % 16 ≡ 1 → Writes (Px port Sctl) v old new → IsFreshIfShown (new.port port.0)
 fresh_comreset port v old new one call =
@@ -196,8 +196,8 @@ device_shown port v old new call three =
 
 -- ---- a reset of the adapter
 
-pub reset_read_idle : (v : ℕ) (old new : Device) → old.hr ≡ true → Reads Ghc v old new → bit v 0 ≡ false → IsIdle new
-reset_read_idle v old new on call clear = record {
+pub reset_read_idle : StepLaws → (v : ℕ) (old new : Device) → old.hr ≡ true → Reads Ghc v old new → bit v 0 ≡ false → IsIdle new
+reset_read_idle laws v old new on call clear = record {
   no_reset = (ghc_told v old new call).0 ∙ clear;
-  port = λ port. reset_idle (new.port port) (law_reset_is_found v old new on call clear port);
+  port = λ port. reset_idle (new.port port) (law_reset_is_found laws v old new on call clear port);
 }

@@ -17,7 +17,7 @@ use Rattle.adapter.specs.Steps.DeviceTransition.{Fetch, FetchFault, Move, Clear,
 use Rattle.adapter.specs.declared.tape.Entry.{Entry}
 use Rattle.adapter.specs.declared.tape.Entry.TheVariants as entry
 use Rattle.adapter.proofs.Changed.{changed_same, changed_other}
-use Rattle.adapter.proofs.KeptLemmas.{step_keeps, law_steps_keep}
+use Rattle.refinement.specs.Below.{StepLaws}
 use Rattle.refinement.specs.Driven.{Grows}
 use Rattle.refinement.specs.Errors.{KeepsErrors, IsComing, NoneComes, ChangesByDisks}
 use Rattle.refinement.specs.Links.{SparesRegister, IsPlugging, PlugsNone}
@@ -147,29 +147,29 @@ module _ (port : ℕ) (d : Device) (off : d.hr ≡ false) (undue : (d.port port)
   step_turns ResetEnds can = absurd (both_ways _ off can)
   step_turns (Scribble p slot at bytes) can = calm _ (refl, refl, refl, refl) (no_plugs port d _ refl)
 
-leads_turn : (port : ℕ) (steps : List DeviceTransition) (old new : Device) → old.hr ≡ false → (old.port port).link_due ≡ false → StepLeads steps old new → Turns port old new
-leads_turn port [] old new off undue e = subst (Turns port old) (sym e) (calm port old off undue old (refl, refl, refl, refl) (plugs_nothing port old))
-leads_turn port (step ∷ steps) old new off undue (can, lead) =
-    let k : Keeps old (device_after step old) = step_keeps step old can in
-    let l : Keeps (device_after step old) new = law_steps_keep (record { steps = steps; lead = lead }) in
+leads_turn : StepLaws → (port : ℕ) (steps : List DeviceTransition) (old new : Device) → old.hr ≡ false → (old.port port).link_due ≡ false → StepLeads steps old new → Turns port old new
+leads_turn laws port [] old new off undue e = subst (Turns port old) (sym e) (calm port old off undue old (refl, refl, refl, refl) (plugs_nothing port old))
+leads_turn laws port (step ∷ steps) old new off undue (can, lead) =
+    let k : Keeps old (device_after step old) = laws.step step _ can in
+    let l : Keeps (device_after step old) new = laws.keeps _ _ (record { steps = steps; lead = lead }) in
     let a = step_turns port old off undue step can in
-    let b = leads_turn port steps (device_after step old) new (k.on off).no_reset a.0 lead in (
+    let b = leads_turn laws port steps (device_after step old) new (k.on off).no_reset a.0 lead in (
       b.0,
       change_more port old (device_after step old) new (k.gained, k.tape) (l.gained, l.tape) a.1 b.1,
     )
 
 -- ---- steps
 
-pub steps_errors : (port : ℕ) (old new : Device) → old.hr ≡ false → Steps old new → KeepsErrors (old.port port) (new.port port)
-steps_errors port old new off s =
-    let c : KeepsControls (old.port port) (new.port port) = ((law_steps_keep s).on off).controls port in
+pub steps_errors : StepLaws → (port : ℕ) (old new : Device) → old.hr ≡ false → Steps old new → KeepsErrors (old.port port) (new.port port)
+steps_errors laws port old new off s =
+    let c : KeepsControls (old.port port) (new.port port) = ((laws.keeps _ _ s).on off).controls port in
     record { is = c.is; serr_n = c.serr_n; serr_x = c.serr_x }
 
-pub steps_change : (port : ℕ) (old new : Device) → old.hr ≡ false → (old.port port).link_due ≡ false → Steps old new → ChangesByDisks port old new
-steps_change port old new off undue s = (leads_turn port s.steps old new off undue s.lead).1
+pub steps_change : StepLaws → (port : ℕ) (old new : Device) → old.hr ≡ false → (old.port port).link_due ≡ false → Steps old new → ChangesByDisks port old new
+steps_change laws port old new off undue s = (leads_turn laws port s.steps old new off undue s.lead).1
 
-pub steps_undue : (port : ℕ) (old new : Device) → old.hr ≡ false → (old.port port).link_due ≡ false → Steps old new → (new.port port).link_due ≡ false
-steps_undue port old new off undue s = (leads_turn port s.steps old new off undue s.lead).0
+pub steps_undue : StepLaws → (port : ℕ) (old new : Device) → old.hr ≡ false → (old.port port).link_due ≡ false → Steps old new → (new.port port).link_due ≡ false
+steps_undue laws port old new off undue s = (leads_turn laws port s.steps old new off undue s.lead).0
 
 -- ---- accesses
 
@@ -201,10 +201,10 @@ written_unraised first Sctl v tape p h = (h.0, h.1, λ up. h.2 (by (nat_eq (v % 
     by false up = up
 written_unraised first _ v tape p h = h
 
-pub access_change : (port : Port) (access : Access) (old new : Device) → old.hr ≡ false → (old.port port.0).link_due ≡ false → Does access old new → ChangesByDisks port.0 old new
-access_change port access old new off undue x =
+pub access_change : StepLaws → (port : Port) (access : Access) (old new : Device) → old.hr ≡ false → (old.port port.0).link_due ≡ false → Does access old new → ChangesByDisks port.0 old new
+access_change laws port access old new off undue x =
     let s = access_steps access old new x in
-    let c : ChangesByDisks port.0 old s.0 = steps_change port.0 old s.0 off undue s.1 in
+    let c : ChangesByDisks port.0 old s.0 = steps_change laws port.0 old s.0 off undue s.1 in
     let first : DevicePort = s.0.port port.0 in
     let u : Unraised first (new.port port.0) =
     effect_keeps (Unraised first) port (λ p r v h. h) (λ p h. h) access old new x (λ r v mid is steps h. written_unraised first r v (length mid.tape) (mid.port port.0) h) (λ n. n, λ x. x, λ up. up) in
@@ -225,12 +225,12 @@ written_undue Sctl v tape p other h = absurd (other refl)
 written_undue Cmd v tape p other h = (command_beside v tape p).4 ∙ h
 written_undue _ v tape p other h = h
 
-pub access_undue : (port : Port) (access : Access) (old new : Device) → old.hr ≡ false → (old.port port.0).link_due ≡ false → SparesRegister (Px port Sctl) access → Does access old new → (new.port port.0).link_due ≡ false
-access_undue port access old new off undue spares x =
+pub access_undue : StepLaws → (port : Port) (access : Access) (old new : Device) → old.hr ≡ false → (old.port port.0).link_due ≡ false → SparesRegister (Px port Sctl) access → Does access old new → (new.port port.0).link_due ≡ false
+access_undue laws port access old new off undue spares x =
     let s = access_steps access old new x in
     effect_keeps Undue port (λ p r v h. h) (λ p h. h) access old new x
     (λ r v mid is steps h. written_undue r v (length mid.tape) (mid.port port.0) (spared port r Sctl access v spares is) h)
-    (steps_undue port.0 old s.0 off undue s.1)
+    (steps_undue laws port.0 old s.0 off undue s.1)
 
 -- N and X stay set
 abbrev KeepsNews : DevicePort → DevicePort → Type 0
@@ -241,11 +241,11 @@ written_news first Serr v tape p other h = absurd (other refl)
 written_news first Cmd v tape p other h = let c = command_beside v tape p in (λ n. c.1 ∙ h.0 n, λ x. c.2 ∙ h.1 x)
 written_news first _ v tape p other h = h
 
-pub access_news : (port : Port) (access : Access) (old new : Device) → old.hr ≡ false → SparesRegister (Px port Serr) access → Does access old new →
+pub access_news : StepLaws → (port : Port) (access : Access) (old new : Device) → old.hr ≡ false → SparesRegister (Px port Serr) access → Does access old new →
     ((old.port port.0).serr_n ≡ true → (new.port port.0).serr_n ≡ true) × ((old.port port.0).serr_x ≡ true → (new.port port.0).serr_x ≡ true)
-access_news port access old new off spares x =
+access_news laws port access old new off spares x =
     let s = access_steps access old new x in
-    let e : KeepsErrors (old.port port.0) (s.0.port port.0) = steps_errors port.0 old s.0 off s.1 in
+    let e : KeepsErrors (old.port port.0) (s.0.port port.0) = steps_errors laws port.0 old s.0 off s.1 in
     effect_keeps (KeepsNews (old.port port.0)) port (λ p r v h. h) (λ p h. h) access old new x
     (λ r v mid is steps h. written_news (old.port port.0) r v (length mid.tape) (mid.port port.0) (spared port r Serr access v spares is) h)
     (e.serr_n, e.serr_x)
@@ -259,9 +259,9 @@ written_causes first Is v tape p other h = absurd (other refl)
 written_causes first Cmd v tape p other h = λ place set. ap (λ (f : ℕ → Bool). f place) (command_beside v tape p).0 ∙ h place set
 written_causes first _ v tape p other h = h
 
-pub access_causes : (port : Port) (access : Access) (old new : Device) → old.hr ≡ false → SparesRegister (Px port Is) access → Does access old new → (place : ℕ) → (old.port port.0).is place ≡ true → (new.port port.0).is place ≡ true
-access_causes port access old new off spares x =
+pub access_causes : StepLaws → (port : Port) (access : Access) (old new : Device) → old.hr ≡ false → SparesRegister (Px port Is) access → Does access old new → (place : ℕ) → (old.port port.0).is place ≡ true → (new.port port.0).is place ≡ true
+access_causes laws port access old new off spares x =
     let s = access_steps access old new x in
     effect_keeps (KeepsCauses (old.port port.0)) port (λ p r v h. h) (λ p h. h) access old new x
     (λ r v mid is steps h. written_causes (old.port port.0) r v (length mid.tape) (mid.port port.0) (spared port r Is access v spares is) h)
-    (steps_errors port.0 old s.0 off s.1).is
+    (steps_errors laws port.0 old s.0 off s.1).is

@@ -12,7 +12,7 @@ use Rattle.adapter.specs.Access.Access.{Reading, Writing, Loading, Storing}
 use Rattle.adapter.specs.Device.{DevicePort, Device}
 use Rattle.adapter.specs.Steps.{Steps}
 use Rattle.adapter.proofs.Changed.{changed_other}
-use Rattle.block_machine.proofs.Keeps.{same_port}
+use Rattle.refinement.specs.Relation.{port_at}
 use Rattle.refinement.specs.Driven.{IsOf}
 use Rattle.refinement.proofs.steps.AdapterCalls.{noted_tape}
 use Rattle.refinement.proofs.device.HealthyPort.{at_port, written_tape}
@@ -39,7 +39,7 @@ module _ (P : DevicePort → Type 0) (port : Port) (noting : (p : DevicePort) (r
     pub written_on : (r : Reg) (v : ℕ) (d : Device) → ((q : PortReg) → r ≡ Px port q → P (d.port port.0) → P (port_written q v (length d.tape) (d.port port.0))) → P (d.port port.0) → P ((written r v d).port port.0)
     written_on (Px p r) v d writing h = at_port P P d p.0 port.0 _ h
         (λ e x.
-        let same : p ≡ port = same_port p port e in
+        let same : p ≡ port = ap port_at e in
         subst (λ (q : Port). P (d.port q.0) → P (port_written r v (length d.tape) (d.port q.0))) (sym same) (writing r (ap (λ (q : Port). Px q r) same)) x)
         (λ ne x. x)
     written_on Is v d writing h = by (bit v port.0)

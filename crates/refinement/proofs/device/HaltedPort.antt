@@ -16,10 +16,10 @@ use Rattle.adapter.specs.Rules.{MayWrite, MayWritePort, IsStable}
 use Rattle.adapter.specs.Steps.{DeviceTransition, Can, device_after, StepLeads, Steps}
 use Rattle.adapter.specs.Steps.DeviceTransition.{Fetch, FetchFault, Move, Clear, Done, Fault, Fatal, Fall, FrFall, LinkUp, Unplug, Plug, ResetEnds, Scribble}
 use Rattle.adapter.proofs.Changed.{changed_same}
-use Rattle.adapter.proofs.KeptLemmas.{law_steps_keep}
 use Rattle.block_machine.specs.State.{Machine}
 use Rattle.block_machine.specs.Histories.{IsReachable}
 use Rattle.block_machine.specs.Left as left
+use Rattle.refinement.specs.Below.{StepLaws}
 use Rattle.refinement.specs.Relation.{StateRelation, port_at}
 use Rattle.refinement.specs.Facts.{IsHalted, IsAfterReset}
 use Rattle.refinement.specs.Follows.{SimulatesSteps}
@@ -36,11 +36,11 @@ halted_on k h = record { st = k.st h.st; cr = k.cr h.cr; ci = λ s. k.ci s (h.ci
 pub reset_on : {old new : DevicePort} → KeepsPort old new → IsAfterReset old → IsAfterReset new
 reset_on k h = record { halted = halted_on k h.halted; sact = λ s. k.sact s (h.sact s); fre = k.fre h.fre; fr = k.fr h.fr }
 
-pub law_halted_stays : (port : ℕ) (old new : Device) → Steps old new → IsHalted (old.port port) → IsHalted (new.port port)
-law_halted_stays port old new s h = halted_on ((law_steps_keep s).port port) h
+pub law_halted_stays : StepLaws → (port : ℕ) (old new : Device) → Steps old new → IsHalted (old.port port) → IsHalted (new.port port)
+law_halted_stays laws port old new s h = halted_on ((laws.keeps _ _ s).port port) h
 
-pub reset_stays : (port : ℕ) (old new : Device) → Steps old new → IsAfterReset (old.port port) → IsAfterReset (new.port port)
-reset_stays port old new s h = reset_on ((law_steps_keep s).port port) h
+pub reset_stays : StepLaws → (port : ℕ) (old new : Device) → Steps old new → IsAfterReset (old.port port) → IsAfterReset (new.port port)
+reset_stays laws port old new s h = reset_on ((laws.keeps _ _ s).port port) h
 
 pub idle_halted : (p : DevicePort) → IsIdlePort p → IsHalted p
 idle_halted p i = record { st = i.st; cr = i.cr; ci = i.ci; taken = i.taken }
@@ -119,31 +119,31 @@ port_reset px.Sctl v d p may off h = same_reset p _ refl refl refl h (port_halte
 port_reset px.Serr v d p may off h = same_reset p _ refl refl refl h (port_halted px.Serr v d p may (λ e. (off e).0) h.halted)
 port_reset _ v d p may off h = h
 
-pub halted_reads : (port : ℕ) (r : Reg) (v : ℕ) (old new : Device) → Reads r v old new → IsHalted (old.port port) → IsHalted (new.port port)
-halted_reads port r v old new x h =
-    subst (λ (d : Device). IsHalted (d.port port)) (sym x.effect) (noted_on IsHalted (port_at port) noted_halted r v x.mid (law_halted_stays port old x.mid x.steps h))
+pub halted_reads : StepLaws → (port : ℕ) (r : Reg) (v : ℕ) (old new : Device) → Reads r v old new → IsHalted (old.port port) → IsHalted (new.port port)
+halted_reads laws port r v old new x h =
+    subst (λ (d : Device). IsHalted (d.port port)) (sym x.effect) (noted_on IsHalted (port_at port) noted_halted r v x.mid (law_halted_stays laws port old x.mid x.steps h))
 
-pub reset_reads : (port : ℕ) (r : Reg) (v : ℕ) (old new : Device) → Reads r v old new → IsAfterReset (old.port port) → IsAfterReset (new.port port)
-reset_reads port r v old new x h =
-    subst (λ (d : Device). IsAfterReset (d.port port)) (sym x.effect) (noted_on IsAfterReset (port_at port) noted_reset r v x.mid (reset_stays port old x.mid x.steps h))
+pub reset_reads : StepLaws → (port : ℕ) (r : Reg) (v : ℕ) (old new : Device) → Reads r v old new → IsAfterReset (old.port port) → IsAfterReset (new.port port)
+reset_reads laws port r v old new x h =
+    subst (λ (d : Device). IsAfterReset (d.port port)) (sym x.effect) (noted_on IsAfterReset (port_at port) noted_reset r v x.mid (reset_stays laws port old x.mid x.steps h))
 
 -- what may be written in a port's register
 may_port : (port : Port) (r : Reg) (q : PortReg) (v : ℕ) (d : Device) → r ≡ Px port q → MayWrite r v d → MayWritePort q v d (d.port port.0)
 may_port port r q v d is may = let w : MayWrite (Px port q) v d = subst (λ (z : Reg). MayWrite z v d) is may in w.2
 
-pub halted_writes : (port : Port) (r : Reg) (v : ℕ) (old new : Device) → IsStable (MayWrite r v) old → (r ≡ Px port Cmd → bit v 0 ≡ false) → Writes r v old new → IsHalted (old.port port.0) → IsHalted (new.port port.0)
-halted_writes port r v old new may off x h =
+pub halted_writes : StepLaws → (port : Port) (r : Reg) (v : ℕ) (old new : Device) → IsStable (MayWrite r v) old → (r ≡ Px port Cmd → bit v 0 ≡ false) → Writes r v old new → IsHalted (old.port port.0) → IsHalted (new.port port.0)
+halted_writes laws port r v old new may off x h =
     subst (λ (d : Device). IsHalted (d.port port.0)) (sym x.effect)
     (written_on IsHalted port noted_halted unacknowledged_halted r v x.mid
     (λ q is. port_halted q v x.mid (x.mid.port port.0) (may_port port r q v x.mid is (may x.mid x.steps)) (λ c. off (is ∙ ap (Px port) c)))
-    (law_halted_stays port.0 old x.mid x.steps h))
+    (law_halted_stays laws port.0 old x.mid x.steps h))
 
-pub reset_writes : (port : Port) (r : Reg) (v : ℕ) (old new : Device) → IsStable (MayWrite r v) old → (r ≡ Px port Cmd → (bit v 0 ≡ false) × (bit v 4 ≡ false)) → Writes r v old new → IsAfterReset (old.port port.0) → IsAfterReset (new.port port.0)
-reset_writes port r v old new may off x h =
+pub reset_writes : StepLaws → (port : Port) (r : Reg) (v : ℕ) (old new : Device) → IsStable (MayWrite r v) old → (r ≡ Px port Cmd → (bit v 0 ≡ false) × (bit v 4 ≡ false)) → Writes r v old new → IsAfterReset (old.port port.0) → IsAfterReset (new.port port.0)
+reset_writes laws port r v old new may off x h =
     subst (λ (d : Device). IsAfterReset (d.port port.0)) (sym x.effect)
     (written_on IsAfterReset port noted_reset unacknowledged_reset r v x.mid
     (λ q is. port_reset q v x.mid (x.mid.port port.0) (may_port port r q v x.mid is (may x.mid x.steps)) (λ c. off (is ∙ ap (Px port) c)))
-    (reset_stays port.0 old x.mid x.steps h))
+    (reset_stays laws port.0 old x.mid x.steps h))
 
 -- ---- CR is read 0
 
@@ -171,11 +171,11 @@ stopped_halts uses m d port a st cr =
     let over : (slot : ℕ) → IsOver (d.port port) slot = λ slot. over_of m d port slot (uses port slot) st cr (a.slot port slot) in
     record { st = st; cr = cr; ci = λ s. (over s).issued; taken = λ s. (over s).free }
 
-pub law_stop_is_found : (uses : SlotStates) (m : Machine) (port : Port) (v : ℕ) (old new : Device) → IsReachable m → StateRelation uses m old →
+pub law_stop_is_found : StepLaws → (uses : SlotStates) (m : Machine) (port : Port) (v : ℕ) (old new : Device) → IsReachable m → StateRelation uses m old →
     (old.port port.0).st ≡ false → Reads (Px port Cmd) v old new → bit v 15 ≡ false → IsHalted (new.port port.0)
-law_stop_is_found uses m port v old new reached a st call clear =
+law_stop_is_found laws uses m port v old new reached a st call clear =
     let f : SimulatesSteps uses m old call.mid = steps_follow uses m old call.mid reached a call.steps in
-    let k : KeepsPort (old.port port.0) (call.mid.port port.0) = (law_steps_keep call.steps).port port.0 in
+    let k : KeepsPort (old.port port.0) (call.mid.port port.0) = (laws.keeps _ _ call.steps).port port.0 in
     let h : IsHalted (call.mid.port port.0) = stopped_halts uses (left.after m f.steps) call.mid port.0 f.agrees (k.st st) (sym call.shows.3 ∙ clear) in
     let is : new.port port.0 ≡ record (call.mid.port port.0) { notes = note Cmd v (call.mid.port port.0) } = ap (λ (d : Device). d.port port.0) call.effect ∙ changed_same call.mid.port port.0 _ in
     subst IsHalted (sym is) (record { st = h.st; cr = h.cr; ci = h.ci; taken = h.taken })
@@ -219,7 +219,7 @@ reset_read v old new on call clear =
     subst (Ends old) (sym call.effect) (reset_ends call.steps.steps old call.mid on (sym call.shows.0 ∙ clear) call.steps.lead)
 
 -- what it leaves stays
-pub law_reset_is_found : (v : ℕ) (old new : Device) → old.hr ≡ true → Reads Ghc v old new → bit v 0 ≡ false → (port : ℕ) → IsAfterReset (new.port port)
-law_reset_is_found v old new on call clear port =
+pub law_reset_is_found : StepLaws → (v : ℕ) (old new : Device) → old.hr ≡ true → Reads Ghc v old new → bit v 0 ≡ false → (port : ℕ) → IsAfterReset (new.port port)
+law_reset_is_found laws v old new on call clear port =
     let s = reset_read v old new on call clear in
-    reset_stays port (device_after ResetEnds s.0) new s.1 (reset_left s.0 port)
+    (reset_stays laws) port (device_after ResetEnds s.0) new s.1 (reset_left s.0 port)

@@ -15,7 +15,7 @@ use Rattle.adapter.specs.Steps.{DeviceTransition, Can, device_after, StepLeads, 
 use Rattle.adapter.specs.Steps.DeviceTransition.{Fetch, FetchFault, Move, Clear, Done, Fault, Fatal, Fall, FrFall, LinkUp, Unplug, Plug, ResetEnds, Scribble}
 use Rattle.adapter.specs.declared.tape.Entry.{Entry}
 use Rattle.adapter.proofs.Changed.{changed_same}
-use Rattle.adapter.proofs.KeptLemmas.{step_keeps, law_steps_keep}
+use Rattle.refinement.specs.Below.{StepLaws}
 use Rattle.refinement.specs.Errors.{NoneFatal, IsFatalOf}
 use Rattle.refinement.specs.Links.{SparesRegister, PlugsNone, LeavesDisk, SameLink, ComesUp, LeavesLink, IsPlugging}
 use Rattle.refinement.specs.Started.{IsUp, IsStarted, ClearsNoStart}
@@ -38,14 +38,14 @@ linked_on p new l disk control h = record {
   released = λ one. h.released (sym control ∙ one);
 }
 
-pub steps_linked : (port : ℕ) (old new : Device) → old.hr ≡ false → PlugsNone port old new → Steps old new → IsLinked (old.port port) → IsLinked (new.port port)
-steps_linked port old new off none s h =
-    linked_on (old.port port) (new.port port) (steps_link port old new off s none) (steps_disk port old new s none) (((law_steps_keep s).on off).controls port).sctl_det h
+pub steps_linked : StepLaws → (port : ℕ) (old new : Device) → old.hr ≡ false → PlugsNone port old new → Steps old new → IsLinked (old.port port) → IsLinked (new.port port)
+steps_linked laws port old new off none s h =
+    linked_on (old.port port) (new.port port) (steps_link laws port old new off s none) (steps_disk laws port old new s none) (((laws.keeps _ _ s).on off).controls port).sctl_det h
 
-pub access_linked : (port : Port) (access : Access) (old new : Device) → old.hr ≡ false → SparesRegister (Px port Sctl) access → PlugsNone port.0 old new → Does access old new → IsLinked (old.port port.0) → IsLinked (new.port port.0)
-access_linked port access old new off spares none x h =
-    linked_on (old.port port.0) (new.port port.0) (access_link port access old new off spares x none) (access_disk port.0 access old new x none)
-    ((access_controls port access old new off x).control spares).0 h
+pub access_linked : StepLaws → (port : Port) (access : Access) (old new : Device) → old.hr ≡ false → SparesRegister (Px port Sctl) access → PlugsNone port.0 old new → Does access old new → IsLinked (old.port port.0) → IsLinked (new.port port.0)
+access_linked laws port access old new off spares none x h =
+    linked_on (old.port port.0) (new.port port.0) (access_link laws port access old new off spares x none) (access_disk laws port.0 access old new x none)
+    ((access_controls laws port access old new off x).control spares).0 h
 
 pub started_linked : (p : DevicePort) → IsStarted p → p.sctl_det ≢ 1 → IsLinked p
 started_linked p h released = record { det = h.det; present = h.present; fresh = h.fresh; linked = h.linked; released = released }
@@ -84,18 +84,18 @@ module _ (port : ℕ) (d : Device) (gained others : List Entry) (none : NoneOf (
   step_runs ResetEnds off can is too h = absurd (both_ways _ off can)
   step_runs (Scribble p slot at bytes) off can is too h = h
 
-leads_run : (port : ℕ) (steps : List DeviceTransition) (old new : Device) → old.hr ≡ false → PlugsNone port old new → NoneFatal port old new → StepLeads steps old new → Runs (old.port port) → Runs (new.port port)
-leads_run port [] old new off none calm e h = subst (λ (d : Device). Runs (d.port port)) (sym e) h
-leads_run port (step ∷ steps) old new off none calm (can, lead) h =
-    let k : Keeps old (device_after step old) = step_keeps step old can in
-    let l : Keeps (device_after step old) new = law_steps_keep (record { steps = steps; lead = lead }) in
+leads_run : StepLaws → (port : ℕ) (steps : List DeviceTransition) (old new : Device) → old.hr ≡ false → PlugsNone port old new → NoneFatal port old new → StepLeads steps old new → Runs (old.port port) → Runs (new.port port)
+leads_run laws port [] old new off none calm e h = subst (λ (d : Device). Runs (d.port port)) (sym e) h
+leads_run laws port (step ∷ steps) old new off none calm (can, lead) h =
+    let k : Keeps old (device_after step old) = laws.step step _ can in
+    let l : Keeps (device_after step old) new = laws.keeps _ _ (record { steps = steps; lead = lead }) in
     let plugs = plugs_parts port old (device_after step old) new k.gained l.gained k.tape l.tape none in
     let fatal = fatal_parts port old (device_after step old) new k.gained l.gained k.tape l.tape calm in
-    leads_run port steps (device_after step old) new (k.on off).no_reset plugs.1 fatal.1 lead
+    leads_run laws port steps (device_after step old) new (k.on off).no_reset plugs.1 fatal.1 lead
     (step_runs port old plugs.0.gained fatal.0.gained plugs.0.none fatal.0.none step off can plugs.0.tape fatal.0.tape h)
 
-pub steps_run : (port : ℕ) (old new : Device) → old.hr ≡ false → PlugsNone port old new → NoneFatal port old new → Steps old new → RunsLinked (old.port port) → RunsLinked (new.port port)
-steps_run port old new off none calm s h = is_running (new.port port) (leads_run port s.steps old new off none calm s.lead (runs_of (old.port port) h))
+pub steps_run : StepLaws → (port : ℕ) (old new : Device) → old.hr ≡ false → PlugsNone port old new → NoneFatal port old new → Steps old new → RunsLinked (old.port port) → RunsLinked (new.port port)
+steps_run laws port old new off none calm s h = is_running (new.port port) (leads_run laws port s.steps old new off none calm s.lead (runs_of (old.port port) h))
 
 -- ST stays 1
 command_runs : (v tape : ℕ) (p : DevicePort) → bit v 0 ≡ true → Runs p → Runs (port_written Cmd v tape p)
@@ -112,11 +112,11 @@ written_runs _ v tape p on other h = h
 fatal_before : (port : ℕ) (old mid new : Device) → new.tape ≡ mid.tape → NoneFatal port old new → NoneFatal port old mid
 fatal_before port old mid new same h = record { gained = h.gained; tape = sym same ∙ h.tape; none = h.none }
 
-pub access_runs : (port : Port) (access : Access) (old new : Device) → old.hr ≡ false → ClearsNoStart port access → SparesRegister (Px port Sctl) access → PlugsNone port.0 old new → NoneFatal port.0 old new → Does access old new →
+pub access_runs : StepLaws → (port : Port) (access : Access) (old new : Device) → old.hr ≡ false → ClearsNoStart port access → SparesRegister (Px port Sctl) access → PlugsNone port.0 old new → NoneFatal port.0 old new → Does access old new →
     RunsLinked (old.port port.0) → RunsLinked (new.port port.0)
-access_runs port access old new off keeps spares none calm x h =
+access_runs laws port access old new off keeps spares none calm x h =
     let s = access_steps access old new x in
-    let c = leads_run port.0 s.1.steps old s.0 off (plugs_before port.0 old s.0 new s.2 none) (fatal_before port.0 old s.0 new s.2 calm) s.1.lead (runs_of (old.port port.0) h) in
+    let c = leads_run laws port.0 s.1.steps old s.0 off (plugs_before port.0 old s.0 new s.2 none) (fatal_before port.0 old s.0 new s.2 calm) s.1.lead (runs_of (old.port port.0) h) in
     is_running (new.port port.0)
     (effect_keeps Runs port (λ p r v y. y) (λ p y. y) access old new x
     (λ r v mid is steps y. written_runs r v (length mid.tape) (mid.port port.0)
@@ -129,13 +129,13 @@ running_now v tape p on off u =
     (subst (λ (x : DevicePort). RunsLinked (with_fre (bit v 4) x)) (sym (cond-false p.st p _ off))
     (record { st = refl; cr = refl; det = u.det; present = u.present; fresh = u.fresh; linked = u.linked; whole = refl }))
 
-pub start_runs : (port : Port) (v : ℕ) (old new : Device) → old.hr ≡ false → (old.port port.0).st ≡ false → (old.port port.0).cr ≡ false → bit v 0 ≡ true → PlugsNone port.0 old new → Writes (Px port Cmd) v old new →
+pub start_runs : StepLaws → (port : Port) (v : ℕ) (old new : Device) → old.hr ≡ false → (old.port port.0).st ≡ false → (old.port port.0).cr ≡ false → bit v 0 ≡ true → PlugsNone port.0 old new → Writes (Px port Cmd) v old new →
     IsLinked (old.port port.0) → RunsLinked (new.port port.0)
-start_runs port v old new off stopped stands on none call h =
-    let k : Keeps old call.mid = law_steps_keep call.steps in
+start_runs laws port v old new off stopped stands on none call h =
+    let k : Keeps old call.mid = laws.keeps _ _ call.steps in
     let before : PlugsNone port.0 old call.mid = plugs_before port.0 old call.mid new (ap (λ (d : Device). d.tape) call.effect ∙ written_tape (Px port Cmd) v call.mid) none in
     subst RunsLinked (sym (ap (λ (d : Device). d.port port.0) call.effect ∙ changed_same call.mid.port port.0 _))
-    (running_now v (length call.mid.tape) (call.mid.port port.0) on ((k.port port.0).st stopped) (steps_linked port.0 old call.mid off before call.steps h))
+    (running_now v (length call.mid.tape) (call.mid.port port.0) on ((k.port port.0).st stopped) (steps_linked laws port.0 old call.mid off before call.steps h))
 
 pub running_started : (p : DevicePort) → RunsLinked p → p.halt ≡ NotHalted → IsStarted p
 running_started p h ends = record { st = h.st; cr = h.cr; det = h.det; present = h.present; fresh = h.fresh; linked = h.linked; running = ends; whole = h.whole }

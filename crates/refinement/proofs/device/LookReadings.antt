@@ -9,7 +9,8 @@ use Rattle.adapter.specs.Access.{Reads}
 use Rattle.adapter.specs.Access.Access.{Reading}
 use Rattle.adapter.specs.Device.{Device}
 use Rattle.adapter.specs.Kept.{KeepsControls}
-use Rattle.adapter.proofs.Calls.{SeenAt, seen}
+use Rattle.adapter.specs.Seen.{SeenAt}
+use Rattle.refinement.specs.Below.{StepLaws}
 use Rattle.refinement.specs.Errors.{ChangesByDisks, NoneFails}
 use Rattle.refinement.specs.Links.{PlugsNone, LeavesLink, SameLink, ComesUp}
 use Rattle.refinement.proofs.device.ErrorBits.{access_change, plugs_come}
@@ -17,10 +18,10 @@ use Rattle.refinement.proofs.device.PortControls.{access_link}
 use Rattle.refinement.proofs.device.RaisedBits.{access_raises}
 use Rattle.refinement.proofs.device.TroubleBits.{shown_place}
 
-module _ (port : Port) (v : ℕ) (old new : Device) (off : old.hr ≡ false) where
+module _ (laws : StepLaws) (port : Port) (v : ℕ) (old new : Device) (off : old.hr ≡ false) where
   module _ (call : Reads (Px port Is) v old new) where
     seen_is : SeenAt port.0 Is v old new
-    seen_is = seen port Is v old new call off
+    seen_is = laws.seen port Is v old new call off
 
     kept : KeepsControls (old.port port.0) (new.port port.0)
     kept = seen_is.keeps.on.controls port.0
@@ -42,7 +43,7 @@ module _ (port : Port) (v : ℕ) (old new : Device) (off : old.hr ≡ false) whe
         (cases_Bool (old.port port.0).serr_n)
       where
         change : ChangesByDisks port.0 old new
-        change = access_change port (Reading (Px port Is) v) old new off undue call
+        change = access_change laws port (Reading (Px port Is) v) old new off undue call
 
         neither : (old.port port.0).serr_n ≡ false → (old.port port.0).serr_x ≡ false → PlugsNone port.0 old new → ⊥
         neither n x none = ⊎_elim
@@ -53,17 +54,17 @@ module _ (port : Port) (v : ℕ) (old new : Device) (off : old.hr ≡ false) whe
     pub fault_told : bit v 30 ≡ true → ((old.port port.0).is 30 ≡ true) ⊎ (NoneFails port.0 old new → ⊥)
     fault_told told = ⊎_elim
         (λ (t : (old.port port.0).is 30 ≡ true). inl t)
-        (λ (f : (old.port port.0).is 30 ≡ false). inr (λ none. absurd (both_ways _ (seen_is.shows 30 refl ∙ (access_raises port (Reading (Px port Is) v) old new call).fault none f) told)))
+        (λ (f : (old.port port.0).is 30 ≡ false). inr (λ none. absurd (both_ways _ (seen_is.shows 30 refl ∙ (access_raises laws port (Reading (Px port Is) v) old new call).fault none f) told)))
         (cases_Bool ((old.port port.0).is 30))
 
   pub unlinked_told : (old.port port.0).link_due ≡ false → Reads (Px port Ssts) v old new → v % 16 ≢ 3 → ((old.port port.0).ssts_det ≢ 3) ⊎ (PlugsNone port.0 old new → ⊥)
   unlinked_told undue call other = ⊎_elim
-      (λ (three : (old.port port.0).ssts_det ≡ 3). inr (λ none. other (shows ∙ same three (access_link port (Reading (Px port Ssts) v) old new off tt call none))))
+      (λ (three : (old.port port.0).ssts_det ≡ 3). inr (λ none. other (shows ∙ same three (access_link laws port (Reading (Px port Ssts) v) old new off tt call none))))
       (λ (ne : (old.port port.0).ssts_det ≡ 3 → ⊥). inl ne)
       (cases_eq (old.port port.0).ssts_det 3)
     where
       shows : v % 16 ≡ (new.port port.0).ssts_det
-      shows = (seen port Ssts v old new call off).shows
+      shows = (laws.seen port Ssts v old new call off).shows
 
       same : (old.port port.0).ssts_det ≡ 3 → LeavesLink (old.port port.0) (new.port port.0) → (new.port port.0).ssts_det ≡ 3
       same three = ⊎_elim (λ (s : SameLink (old.port port.0) (new.port port.0)). s.det ∙ three) (λ (c : ComesUp (old.port port.0) (new.port port.0)). c.det)

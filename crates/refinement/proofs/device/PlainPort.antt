@@ -18,7 +18,7 @@ use Rattle.adapter.proofs.SaysLemmas.{says_meaning}
 use Rattle.block_machine.specs.Histories.{IsReachable}
 use Rattle.block_machine.specs.Left as left
 use Rattle.block_machine.specs.State.{Machine}
-use Rattle.block_machine.proofs.HistoryLemmas.{reached_more}
+use Rattle.refinement.specs.Below.{StepLaws}
 use Rattle.refinement.specs.Relation.{StateRelation}
 use Rattle.refinement.specs.Facts.{RunsWell, TellsNoTrouble}
 use Rattle.refinement.specs.Follows.{SimulatesSteps}
@@ -153,14 +153,14 @@ module _ (uses : SlotStates) (m : Machine) (d : Device) (a : StateRelation uses 
   step_plain ResetEnds can = (h.0, λ slot. refl, λ slot t none. absurd (none-some _ none))
   step_plain (Scribble p slot at bytes) can = h
 
-leads_plain : (uses : SlotStates) (m : Machine) (port : ℕ) (steps : List DeviceTransition) (old new : Device) → IsReachable m → StateRelation uses m old → StepLeads steps old new → Plain (old.port port) → Plain (new.port port)
-leads_plain uses m port [] old new r a e h = subst (λ (d : Device). Plain (d.port port)) (sym e) h
-leads_plain uses m port (step ∷ steps) old new r a (can, lead) h =
+leads_plain : StepLaws → (uses : SlotStates) (m : Machine) (port : ℕ) (steps : List DeviceTransition) (old new : Device) → IsReachable m → StateRelation uses m old → StepLeads steps old new → Plain (old.port port) → Plain (new.port port)
+leads_plain laws uses m port [] old new r a e h = subst (λ (d : Device). Plain (d.port port)) (sym e) h
+leads_plain laws uses m port (step ∷ steps) old new r a (can, lead) h =
     let f : SimulatesSteps uses m old (device_after step old) = step_follows uses m old step r a can in
-    leads_plain uses (left.after m f.steps) port steps (device_after step old) new (reached_more m f.steps r f.may) f.agrees lead (step_plain uses m old a port h step can)
+    leads_plain laws uses (left.after m f.steps) port steps (device_after step old) new (laws.reached m f.steps r f.may) f.agrees lead (step_plain uses m old a port h step can)
 
-pub steps_plain : (uses : SlotStates) (m : Machine) (port : ℕ) (old new : Device) → IsReachable m → StateRelation uses m old → Steps old new → WorksPlainly (old.port port) → WorksPlainly (new.port port)
-steps_plain uses m port old new r a s h = works_plainly (new.port port) (leads_plain uses m port s.steps old new r a s.lead (plain_of (old.port port) h))
+pub steps_plain : StepLaws → (uses : SlotStates) (m : Machine) (port : ℕ) (old new : Device) → IsReachable m → StateRelation uses m old → Steps old new → WorksPlainly (old.port port) → WorksPlainly (new.port port)
+steps_plain laws uses m port old new r a s h = works_plainly (new.port port) (leads_plain laws uses m port s.steps old new r a s.lead (plain_of (old.port port) h))
 
 -- ---- an access
 
@@ -177,14 +177,14 @@ written_plain Cmd v tape p other h = command_plain v tape p h
 written_plain Sact v tape p other h = absurd (other refl)
 written_plain _ v tape p other h = h
 
-pub access_plain : (uses : SlotStates) (m : Machine) (port : Port) (access : Access) (old new : Device) → IsReachable m → StateRelation uses m old → SparesRegister (Px port Sact) access → Does access old new →
+pub access_plain : StepLaws → (uses : SlotStates) (m : Machine) (port : Port) (access : Access) (old new : Device) → IsReachable m → StateRelation uses m old → SparesRegister (Px port Sact) access → Does access old new →
     WorksPlainly (old.port port.0) → WorksPlainly (new.port port.0)
-access_plain uses m port access old new r a spares x h =
+access_plain laws uses m port access old new r a spares x h =
     let s = access_steps access old new x in
     works_plainly (new.port port.0)
     (effect_keeps Plain port (λ p q v y. y) (λ p y. y) access old new x
     (λ q v mid is steps y. written_plain q v (length mid.tape) (mid.port port.0) (spared port q Sact access v spares is) y)
-    (leads_plain uses m port.0 s.1.steps old s.0 r a s.1.lead (plain_of (old.port port.0) h)))
+    (leads_plain laws uses m port.0 s.1.steps old s.0 r a s.1.lead (plain_of (old.port port.0) h)))
 
 -- ---- where it begins, and what it gives
 
@@ -194,7 +194,7 @@ running_plainly uses m port d a st runs clear = record { restarts = ap restarted
 pub plainly_up : (p : DevicePort) → IsLinked p → WorksPlainly p → IsUp p
 plainly_up p l w = record { det = l.det; present = l.present; fresh = l.fresh; linked = l.linked; released = l.released; restarts = w.restarts }
 
-pub plainly_well : (port : Port) (v causes : ℕ) (old mid new : Device) → old.hr ≡ false → (old.port port.0).st ≡ false → (old.port port.0).cr ≡ false → bit v 0 ≡ true → IsLinked (old.port port.0) → WorksPlainly (old.port port.0) →
+pub plainly_well : StepLaws → (port : Port) (v causes : ℕ) (old mid new : Device) → old.hr ≡ false → (old.port port.0).st ≡ false → (old.port port.0).cr ≡ false → bit v 0 ≡ true → IsLinked (old.port port.0) → WorksPlainly (old.port port.0) →
     Writes (Px port Cmd) v old mid → Reads (Px port Is) causes mid new → TellsNoTrouble causes → RunsWell (new.port port.0)
-plainly_well port v causes old mid new off stopped stands on l w start call calm =
-    well_is_found port v causes old mid new off stopped stands on (plainly_up (old.port port.0) l w) start call calm
+plainly_well laws port v causes old mid new off stopped stands on l w start call calm =
+    (well_is_found laws) port v causes old mid new off stopped stands on (plainly_up (old.port port.0) l w) start call calm

@@ -17,7 +17,7 @@ use Rattle.adapter.specs.Steps.{DeviceTransition, Can, device_after, StepLeads, 
 use Rattle.adapter.specs.Steps.DeviceTransition.{Fetch, FetchFault, Move, Clear, Done, Fault, Fatal, Fall, FrFall, LinkUp, Unplug, Plug, ResetEnds, Scribble}
 use Rattle.adapter.specs.declared.tape.Entry.{Entry}
 use Rattle.adapter.proofs.Changed.{changed_same}
-use Rattle.adapter.proofs.KeptLemmas.{step_keeps, law_steps_keep}
+use Rattle.refinement.specs.Below.{StepLaws}
 use Rattle.refinement.specs.Links.{SparesRegister, IsPlugging, PlugsNone}
 use Rattle.refinement.proofs.device.FactsOverAccesses.{access_steps, effect_keeps}
 use Rattle.refinement.proofs.device.ErrorBits.{command_beside}
@@ -70,27 +70,27 @@ step_raises port d step can gained is = by step can is
 -- ---- lists of steps
 
 -- The flag stays raised while no reset is pending: what it doesn't tell hasn't come.
-leads_untold : (port : ℕ) (steps : List DeviceTransition) (old new : Device) → old.hr ≡ false → StepLeads steps old new → (IsNoted (new.port port) → ⊥) → (gained : List Entry) → new.tape ≡ old.tape ++ gained → NoneOf (IsPlugging port) gained
-leads_untold port [] old new off e untold gained is =
+leads_untold : StepLaws → (port : ℕ) (steps : List DeviceTransition) (old new : Device) → old.hr ≡ false → StepLeads steps old new → (IsNoted (new.port port) → ⊥) → (gained : List Entry) → new.tape ≡ old.tape ++ gained → NoneOf (IsPlugging port) gained
+leads_untold laws port [] old new off e untold gained is =
     subst (NoneOf (IsPlugging port)) (append_cancel_left old.tape [] gained (append-nil old.tape ∙ ap (λ (d : Device). d.tape) (sym e) ∙ is)) (All-nil (λ e. IsPlugging port e → ⊥))
-leads_untold port (step ∷ steps) old new off (can, lead) untold gained is =
-    let k : Keeps old (device_after step old) = step_keeps step old can in
-    let l : Keeps (device_after step old) new = law_steps_keep (record { steps = steps; lead = lead }) in
+leads_untold laws port (step ∷ steps) old new off (can, lead) untold gained is =
+    let k : Keeps old (device_after step old) = laws.step step _ can in
+    let l : Keeps (device_after step old) new = laws.keeps _ _ (record { steps = steps; lead = lead }) in
     let off' : (device_after step old).hr ≡ false = (k.on off).no_reset in
     subst (NoneOf (IsPlugging port)) (sym (gained_parts old.tape (device_after step old).tape new.tape k.gained l.gained gained k.tape l.tape is))
     (All-append (λ e. IsPlugging port e → ⊥) k.gained l.gained
     (plugs port ((device_after step old).port port).serr_n k.gained (step_raises port old step can k.gained k.tape) (λ x. untold (((l.on off').controls port).serr_n x)))
-    (leads_untold port steps (device_after step old) new off' lead untold l.gained l.tape))
+    (leads_untold laws port steps (device_after step old) new off' lead untold l.gained l.tape))
   where
     plugs : (port : ℕ) (noted : Bool) (gained : List Entry) → Raises port noted gained → (noted ≡ true → ⊥) → NoneOf (IsPlugging port) gained
     plugs port noted gained (inl e) untold = subst (NoneOf (IsPlugging port)) (sym e) (All-nil (λ e. IsPlugging port e → ⊥))
     plugs port noted gained (inr (x, e, notes)) untold = subst (NoneOf (IsPlugging port)) (sym e) (All-cons (λ e. IsPlugging port e → ⊥) x [] (λ k. untold (notes k)) (All-nil (λ e. IsPlugging port e → ⊥)))
 
-pub noted_plugs : (port : ℕ) (old new : Device) → old.hr ≡ false → Steps old new → (new.port port).serr_n ≡ false → ((old.port port).serr_n ≡ false) × PlugsNone port old new
-noted_plugs port old new off s clear =
-    let k : Keeps old new = law_steps_keep s in (
+pub noted_plugs : StepLaws → (port : ℕ) (old new : Device) → old.hr ≡ false → Steps old new → (new.port port).serr_n ≡ false → ((old.port port).serr_n ≡ false) × PlugsNone port old new
+noted_plugs laws port old new off s clear =
+    let k : Keeps old new = laws.keeps _ _ s in (
       was_false (old.port port).serr_n (new.port port).serr_n ((k.on off).controls port).serr_n clear,
-      record { gained = k.gained; tape = k.tape; none = leads_untold port s.steps old new off s.lead (λ n. absurd (both_ways _ clear n)) k.gained k.tape },
+      record { gained = k.gained; tape = k.tape; none = leads_untold laws port s.steps old new off s.lead (λ n. absurd (both_ways _ clear n)) k.gained k.tape },
     )
 
 -- ---- accesses
@@ -111,20 +111,20 @@ effect_flag port access old new x spares =
     (λ r v mid is steps h. written_flag first r v (length mid.tape) (mid.port port.0) (spared port r Serr access v spares is) h)
     refl
 
-pub access_plugs : (port : Port) (access : Access) (old new : Device) → old.hr ≡ false → SparesRegister (Px port Serr) access → Does access old new → (new.port port.0).serr_n ≡ false →
+pub access_plugs : StepLaws → (port : Port) (access : Access) (old new : Device) → old.hr ≡ false → SparesRegister (Px port Serr) access → Does access old new → (new.port port.0).serr_n ≡ false →
     ((old.port port.0).serr_n ≡ false) × PlugsNone port.0 old new
-access_plugs port access old new off spares x clear =
+access_plugs laws port access old new off spares x clear =
     let s = access_steps access old new x in
     let before : (s.0.port port.0).serr_n ≡ false = sym (effect_flag port access old new x spares) ∙ clear in
-    let found = noted_plugs port.0 old s.0 off s.1 before in
+    let found = noted_plugs laws port.0 old s.0 off s.1 before in
     (found.0, record { gained = found.1.gained; tape = s.2 ∙ found.1.tape; none = found.1.none })
 
 -- ---- what is read
 
-pub read_plugs : (port : Port) (v : ℕ) (old new : Device) → old.hr ≡ false → Reads (Px port Serr) v old new → bit v 16 ≡ false →
+pub read_plugs : StepLaws → (port : Port) (v : ℕ) (old new : Device) → old.hr ≡ false → Reads (Px port Serr) v old new → bit v 16 ≡ false →
     ((new.port port.0).serr_n ≡ false) × ((old.port port.0).serr_n ≡ false) × PlugsNone port.0 old new
-read_plugs port v old new off x clear =
+read_plugs laws port v old new off x clear =
     let is : new.port port.0 ≡ record (x.mid.port port.0) { notes = note Serr v (x.mid.port port.0) } = ap (λ (d : Device). d.port port.0) x.effect ∙ changed_same x.mid.port port.0 _ in
     let n : (new.port port.0).serr_n ≡ false = ap (λ (p : DevicePort). p.serr_n) is ∙ sym x.shows.0 ∙ clear in
-    let found = access_plugs port (Reading (Px port Serr) v) old new off tt x n in
+    let found = access_plugs laws port (Reading (Px port Serr) v) old new off tt x n in
     (n, found.0, found.1)

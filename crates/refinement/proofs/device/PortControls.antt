@@ -16,7 +16,7 @@ use Rattle.adapter.specs.declared.command.Operation.{Operation}
 use Rattle.adapter.specs.declared.command.Operation.TheVariants as operation
 use Rattle.adapter.specs.declared.tape.Entry.{Entry}
 use Rattle.adapter.specs.declared.tape.Entry.TheVariants as entry
-use Rattle.adapter.proofs.KeptLemmas.{step_keeps, law_steps_keep}
+use Rattle.refinement.specs.Below.{StepLaws}
 use Rattle.refinement.specs.Relation.{port_at}
 use Rattle.refinement.specs.Facts.{IsDisturbance, Undisturbed}
 use Rattle.refinement.specs.Links.{SparesRegister, LeavesControls, IsPlugging, PlugsNone, LeavesDisk, SameLink, ComesUp, LeavesLink}
@@ -92,16 +92,16 @@ module _ (first : DevicePort) (port : ℕ) (d : Device) (gained : List Entry) (n
   step_disk ResetEnds is h = disk_on first (d.port port) _ refl refl refl refl h
   step_disk (Scribble p slot at bytes) is h = h
 
-leads_disk : (first : DevicePort) (port : ℕ) (steps : List DeviceTransition) (old new : Device) → StepLeads steps old new → PlugsNone port old new → LeavesDisk first (old.port port) → LeavesDisk first (new.port port)
-leads_disk first port [] old new e plugs h = subst (λ (d : Device). LeavesDisk first (d.port port)) (sym e) h
-leads_disk first port (step ∷ steps) old new (can, lead) plugs h =
-    let k : Keeps old (device_after step old) = step_keeps step old can in
-    let l : Keeps (device_after step old) new = law_steps_keep (record { steps = steps; lead = lead }) in
+leads_disk : StepLaws → (first : DevicePort) (port : ℕ) (steps : List DeviceTransition) (old new : Device) → StepLeads steps old new → PlugsNone port old new → LeavesDisk first (old.port port) → LeavesDisk first (new.port port)
+leads_disk laws first port [] old new e plugs h = subst (λ (d : Device). LeavesDisk first (d.port port)) (sym e) h
+leads_disk laws first port (step ∷ steps) old new (can, lead) plugs h =
+    let k : Keeps old (device_after step old) = laws.step step _ can in
+    let l : Keeps (device_after step old) new = laws.keeps _ _ (record { steps = steps; lead = lead }) in
     let parts = plugs_parts port old (device_after step old) new k.gained l.gained k.tape l.tape plugs in
-    leads_disk first port steps (device_after step old) new lead parts.1 (step_disk first port old parts.0.gained parts.0.none step parts.0.tape h)
+    leads_disk laws first port steps (device_after step old) new lead parts.1 (step_disk first port old parts.0.gained parts.0.none step parts.0.tape h)
 
-pub steps_disk : (port : ℕ) (old new : Device) → Steps old new → PlugsNone port old new → LeavesDisk (old.port port) (new.port port)
-steps_disk port old new s plugs = leads_disk (old.port port) port s.steps old new s.lead plugs (disk_refl (old.port port))
+pub steps_disk : StepLaws → (port : ℕ) (old new : Device) → Steps old new → PlugsNone port old new → LeavesDisk (old.port port) (new.port port)
+steps_disk laws port old new s plugs = leads_disk laws (old.port port) port s.steps old new s.lead plugs (disk_refl (old.port port))
 
 command_disk : (first : DevicePort) (v tape : ℕ) (p : DevicePort) → LeavesDisk first p → LeavesDisk first (port_written Cmd v tape p)
 command_disk first v tape p h = by (bit v 0) p.st refl
@@ -129,12 +129,12 @@ written_disk first _ v tape p h = h
 pub plugs_before : (port : ℕ) (old mid new : Device) → new.tape ≡ mid.tape → PlugsNone port old new → PlugsNone port old mid
 plugs_before port old mid new same plugs = record { gained = plugs.gained; tape = sym same ∙ plugs.tape; none = plugs.none }
 
-pub access_disk : (port : ℕ) (access : Access) (old new : Device) → Does access old new → PlugsNone port old new → LeavesDisk (old.port port) (new.port port)
-access_disk port access old new x plugs =
+pub access_disk : StepLaws → (port : ℕ) (access : Access) (old new : Device) → Does access old new → PlugsNone port old new → LeavesDisk (old.port port) (new.port port)
+access_disk laws port access old new x plugs =
     let s = access_steps access old new x in
     effect_keeps (LeavesDisk (old.port port)) (port_at port) (λ p r v h. disk_on (old.port port) p _ refl refl refl refl h) (λ p h. disk_on (old.port port) p _ refl refl refl refl h) access old new x
     (λ r v mid is steps h. written_disk (old.port port) r v (length mid.tape) (mid.port port) h)
-    (steps_disk port old s.0 s.1 (plugs_before port old s.0 new s.2 plugs))
+    (steps_disk laws port old s.0 s.1 (plugs_before port old s.0 new s.2 plugs))
 
 -- ---- the link
 
@@ -171,16 +171,16 @@ module _ (first : DevicePort) (port : ℕ) (d : Device) (gained : List Entry) (n
   step_link ResetEnds off can is h = absurd (both_ways _ off can)
   step_link (Scribble p slot at bytes) off can is h = h
 
-leads_link : (first : DevicePort) (port : ℕ) (steps : List DeviceTransition) (old new : Device) → old.hr ≡ false → StepLeads steps old new → PlugsNone port old new → LeavesLink first (old.port port) → LeavesLink first (new.port port)
-leads_link first port [] old new off e plugs h = subst (λ (d : Device). LeavesLink first (d.port port)) (sym e) h
-leads_link first port (step ∷ steps) old new off (can, lead) plugs h =
-    let k : Keeps old (device_after step old) = step_keeps step old can in
-    let l : Keeps (device_after step old) new = law_steps_keep (record { steps = steps; lead = lead }) in
+leads_link : StepLaws → (first : DevicePort) (port : ℕ) (steps : List DeviceTransition) (old new : Device) → old.hr ≡ false → StepLeads steps old new → PlugsNone port old new → LeavesLink first (old.port port) → LeavesLink first (new.port port)
+leads_link laws first port [] old new off e plugs h = subst (λ (d : Device). LeavesLink first (d.port port)) (sym e) h
+leads_link laws first port (step ∷ steps) old new off (can, lead) plugs h =
+    let k : Keeps old (device_after step old) = laws.step step _ can in
+    let l : Keeps (device_after step old) new = laws.keeps _ _ (record { steps = steps; lead = lead }) in
     let parts = plugs_parts port old (device_after step old) new k.gained l.gained k.tape l.tape plugs in
-    leads_link first port steps (device_after step old) new (k.on off).no_reset lead parts.1 (step_link first port old parts.0.gained parts.0.none step off can parts.0.tape h)
+    leads_link laws first port steps (device_after step old) new (k.on off).no_reset lead parts.1 (step_link first port old parts.0.gained parts.0.none step off can parts.0.tape h)
 
-pub steps_link : (port : ℕ) (old new : Device) → old.hr ≡ false → Steps old new → PlugsNone port old new → LeavesLink (old.port port) (new.port port)
-steps_link port old new off s plugs = leads_link (old.port port) port s.steps old new off s.lead plugs (link_refl (old.port port))
+pub steps_link : StepLaws → (port : ℕ) (old new : Device) → old.hr ≡ false → Steps old new → PlugsNone port old new → LeavesLink (old.port port) (new.port port)
+steps_link laws port old new off s plugs = leads_link laws (old.port port) port s.steps old new off s.lead plugs (link_refl (old.port port))
 
 command_link : (first : DevicePort) (v tape : ℕ) (p : DevicePort) → LeavesLink first p → LeavesLink first (port_written Cmd v tape p)
 command_link first v tape p h = by (bit v 0) p.st refl
@@ -208,12 +208,12 @@ written_link first _ v tape p other h = h
 pub spared : (port : Port) (r q : PortReg) (access : Access) (v : ℕ) → SparesRegister (Px port q) access → access ≡ Writing (Px port r) v → r ≢ q
 spared port r q access v spares is e = subst (SparesRegister (Px port q)) is spares (ap (Px port) e)
 
-pub access_link : (port : Port) (access : Access) (old new : Device) → old.hr ≡ false → SparesRegister (Px port Sctl) access → Does access old new → PlugsNone port.0 old new → LeavesLink (old.port port.0) (new.port port.0)
-access_link port access old new off spares x plugs =
+pub access_link : StepLaws → (port : Port) (access : Access) (old new : Device) → old.hr ≡ false → SparesRegister (Px port Sctl) access → Does access old new → PlugsNone port.0 old new → LeavesLink (old.port port.0) (new.port port.0)
+access_link laws port access old new off spares x plugs =
     let s = access_steps access old new x in
     effect_keeps (LeavesLink (old.port port.0)) port (λ p r v h. link_on (old.port port.0) p _ refl refl refl refl refl refl h) (λ p h. link_on (old.port port.0) p _ refl refl refl refl refl refl h) access old new x
     (λ r v mid is steps h. written_link (old.port port.0) r v (length mid.tape) (mid.port port.0) (spared port r Sctl access v spares is) h)
-    (steps_link port.0 old s.0 off s.1 (plugs_before port.0 old s.0 new s.2 plugs))
+    (steps_link laws port.0 old s.0 off s.1 (plugs_before port.0 old s.0 new s.2 plugs))
 
 -- ---- the controls
 
@@ -274,10 +274,10 @@ module _ (access : Access) (port : Port) (first : DevicePort) where
   written_controls Ci v tape p here h = controls_on p _ refl refl refl refl refl refl refl refl h
   written_controls _ v tape p here h = h
 
-pub access_controls : (port : Port) (access : Access) (old new : Device) → old.hr ≡ false → Does access old new → LeavesControls access port (old.port port.0) (new.port port.0)
-access_controls port access old new off x =
+pub access_controls : StepLaws → (port : Port) (access : Access) (old new : Device) → old.hr ≡ false → Does access old new → LeavesControls access port (old.port port.0) (new.port port.0)
+access_controls laws port access old new off x =
     let s = access_steps access old new x in
-    let k : Keeps old s.0 = law_steps_keep s.1 in
+    let k : Keeps old s.0 = laws.keeps _ _ s.1 in
     let c : KeepsControls (old.port port.0) (s.0.port port.0) = (k.on off).controls port.0 in
     effect_keeps (LeavesControls access port (old.port port.0)) port (noted_controls access port (old.port port.0)) (λ p h. controls_on access port (old.port port.0) p _ refl refl refl refl refl refl refl refl h) access old new x
     (λ r v mid is steps h. written_controls access port (old.port port.0) r v (length mid.tape) (mid.port port.0) (λ spares. spared port r r access v spares is refl) h)

@@ -14,10 +14,9 @@ use Rattle.adapter.specs.Access.Access.{Reading, Writing, Loading, Storing}
 use Rattle.adapter.specs.Device.{Notes, DevicePort, Device}
 use Rattle.adapter.specs.Kept.{KeepsControls}
 use Rattle.adapter.specs.Steps.{Steps}
-use Rattle.adapter.proofs.Calls.{seen}
 use Rattle.adapter.proofs.Changed.{changed_same}
-use Rattle.adapter.proofs.KeptLemmas.{law_steps_keep}
-use Rattle.block_machine.proofs.Keeps.{same_port}
+use Rattle.refinement.specs.Below.{StepLaws}
+use Rattle.refinement.specs.Relation.{port_at}
 use Rattle.refinement.specs.Links.{SparesRegister}
 use Rattle.refinement.specs.Noted.{SparesReading, LeavesNotes}
 use Rattle.refinement.proofs.device.HealthyPort.{at_port}
@@ -56,19 +55,19 @@ note_same Sact v p q st fre det notes = rw notes refl
 note_same Is v p q st fre det notes = rw notes refl
 note_same _ v p q st fre det notes = notes
 
-pub notes_read : (port : Port) (r : PortReg) (v : ℕ) (old new : Device) → old.hr ≡ false → Reads (Px port r) v old new → (new.port port.0).notes ≡ note r v (old.port port.0)
-notes_read port r v old new off x =
-    let k = law_steps_keep x.steps in
+pub notes_read : StepLaws → (port : Port) (r : PortReg) (v : ℕ) (old new : Device) → old.hr ≡ false → Reads (Px port r) v old new → (new.port port.0).notes ≡ note r v (old.port port.0)
+notes_read laws port r v old new off x =
+    let k = laws.keeps _ _ x.steps in
     let c : KeepsControls (old.port port.0) (x.mid.port port.0) = (k.on off).controls port.0 in
     read_notes port r v old new x ∙ note_same r v (old.port port.0) (x.mid.port port.0) c.st c.fre c.sctl_det (k.notes port.0)
 
-pub shown_after : (port : Port) (r : PortReg) (v : ℕ) (old new : Device) → old.hr ≡ false → Reads (Px port r) v old new → PortShows r v (new.port port.0)
-shown_after port r v old new off x = (seen port r v old new x off).shows
+pub shown_after : StepLaws → (port : Port) (r : PortReg) (v : ℕ) (old new : Device) → old.hr ≡ false → Reads (Px port r) v old new → PortShows r v (new.port port.0)
+shown_after laws port r v old new off x = (laws.seen port r v old new x off).shows
 
 -- ---- what leaves it
 
-pub law_notes_stay : (port : ℕ) (old new : Device) → Steps old new → (new.port port).notes ≡ (old.port port).notes
-law_notes_stay port old new s = (law_steps_keep s).notes port
+pub law_notes_stay : StepLaws → (port : ℕ) (old new : Device) → Steps old new → (new.port port).notes ≡ (old.port port).notes
+law_notes_stay laws port old new s = (laws.keeps _ _ s).notes port
 
 module _ (access : Access) (port : Port) (first : Notes) where
   -- the fields of `LeavesNotes`
@@ -123,7 +122,7 @@ module _ (access : Access) (port : Port) (first : Notes) where
 -- a reading, and a write
 reading_leaves : (port : Port) (first : Notes) (r : Reg) (v : ℕ) (d : Device) → Leaves (Reading r v) port first (d.port port.0) → Leaves (Reading r v) port first ((noted r v d).port port.0)
 reading_leaves port first (Px p r) v d h = at_port (Leaves (Reading (Px p r) v) port first) (Leaves (Reading (Px p r) v) port first) d p.0 port.0 _ h
-    (λ e x. noted_leaves (Reading (Px p r) v) port first r v (d.port p.0) (λ s. s (ap (λ (q : Port). Px q r) (same_port p port e))) x)
+    (λ e x. noted_leaves (Reading (Px p r) v) port first r v (d.port p.0) (λ s. s (ap (λ (q : Port). Px q r) (ap port_at e))) x)
     (λ ne x. x)
 reading_leaves port first Cap v d h = h
 reading_leaves port first Ghc v d h = h
@@ -135,7 +134,7 @@ reading_leaves port first Bohc v d h = h
 
 writing_leaves : (port : Port) (first : Notes) (r : Reg) (v : ℕ) (d : Device) → Leaves (Writing r v) port first (d.port port.0) → Leaves (Writing r v) port first ((written r v d).port port.0)
 writing_leaves port first (Px p r) v d h = at_port (Leaves (Writing (Px p r) v) port first) (Leaves (Writing (Px p r) v) port first) d p.0 port.0 _ h
-    (λ e x. written_leaves (Writing (Px p r) v) port first r v (length d.tape) (d.port p.0) (λ s. s (ap (λ (q : Port). Px q r) (same_port p port e))) x)
+    (λ e x. written_leaves (Writing (Px p r) v) port first r v (length d.tape) (d.port p.0) (λ s. s (ap (λ (q : Port). Px q r) (ap port_at e))) x)
     (λ ne x. x)
 writing_leaves port first adapter.Is v d h = by (bit v port.0)
   where
@@ -149,16 +148,16 @@ writing_leaves port first Vs v d h = h
 writing_leaves port first Cap2 v d h = h
 writing_leaves port first Bohc v d h = h
 
-access_leaves : (port : Port) (access : Access) (old new : Device) → Does access old new → Leaves access port (old.port port.0).notes (new.port port.0)
-access_leaves port (Reading r v) old new x = subst (λ (d : Device). Leaves (Reading r v) port (old.port port.0).notes (d.port port.0)) (sym x.effect)
-    (reading_leaves port (old.port port.0).notes r v x.mid (left_notes (Reading r v) port (old.port port.0).notes (x.mid.port port.0) (law_notes_stay port.0 old x.mid x.steps)))
-access_leaves port (Writing r v) old new x = subst (λ (d : Device). Leaves (Writing r v) port (old.port port.0).notes (d.port port.0)) (sym x.effect)
-    (writing_leaves port (old.port port.0).notes r v x.mid (left_notes (Writing r v) port (old.port port.0).notes (x.mid.port port.0) (law_notes_stay port.0 old x.mid x.steps)))
-access_leaves port (Loading at bytes) old new x = left_notes (Loading at bytes) port (old.port port.0).notes (new.port port.0) (law_notes_stay port.0 old new x.steps)
-access_leaves port (Storing at bytes) old new x = left_notes (Storing at bytes) port (old.port port.0).notes (new.port port.0)
-    (ap (λ (d : Device). (d.port port.0).notes) x.effect ∙ law_notes_stay port.0 old x.mid x.steps)
+access_leaves : StepLaws → (port : Port) (access : Access) (old new : Device) → Does access old new → Leaves access port (old.port port.0).notes (new.port port.0)
+access_leaves laws port (Reading r v) old new x = subst (λ (d : Device). Leaves (Reading r v) port (old.port port.0).notes (d.port port.0)) (sym x.effect)
+    (reading_leaves port (old.port port.0).notes r v x.mid (left_notes (Reading r v) port (old.port port.0).notes (x.mid.port port.0) (law_notes_stay laws port.0 old x.mid x.steps)))
+access_leaves laws port (Writing r v) old new x = subst (λ (d : Device). Leaves (Writing r v) port (old.port port.0).notes (d.port port.0)) (sym x.effect)
+    (writing_leaves port (old.port port.0).notes r v x.mid (left_notes (Writing r v) port (old.port port.0).notes (x.mid.port port.0) (law_notes_stay laws port.0 old x.mid x.steps)))
+access_leaves laws port (Loading at bytes) old new x = left_notes (Loading at bytes) port (old.port port.0).notes (new.port port.0) (law_notes_stay laws port.0 old new x.steps)
+access_leaves laws port (Storing at bytes) old new x = left_notes (Storing at bytes) port (old.port port.0).notes (new.port port.0)
+    (ap (λ (d : Device). (d.port port.0).notes) x.effect ∙ law_notes_stay laws port.0 old x.mid x.steps)
 
-pub access_notes : (port : Port) (access : Access) (old new : Device) → Does access old new → LeavesNotes access port (old.port port.0).notes (new.port port.0).notes
-access_notes port access old new x =
-    let h : Leaves access port (old.port port.0).notes (new.port port.0) = access_leaves port access old new x in
+pub access_notes : StepLaws → (port : Port) (access : Access) (old new : Device) → Does access old new → LeavesNotes access port (old.port port.0).notes (new.port port.0).notes
+access_notes laws port access old new x =
+    let h : Leaves access port (old.port port.0).notes (new.port port.0) = access_leaves laws port access old new x in
     record { command = h.0; link = h.1; file = h.2; issued = h.3; active = h.4; signature = h.5 }

@@ -14,7 +14,7 @@ use Rattle.adapter.specs.declared.tape.Fault as tape_fault
 use Rattle.adapter.specs.declared.tape.Entry.{Entry}
 use Rattle.adapter.specs.declared.tape.Entry.TheVariants as entry
 use Rattle.adapter.proofs.Changed.{changed_other}
-use Rattle.adapter.proofs.KeptLemmas.{step_keeps, law_steps_keep}
+use Rattle.refinement.specs.Below.{StepLaws}
 use Rattle.refinement.specs.Relation.{port_at}
 use Rattle.refinement.specs.Errors.{IsFatalOf, ChangesByErrors}
 use Rattle.refinement.specs.Facts.{IsFaultOf}
@@ -35,7 +35,7 @@ fatal_place k place (inl z) e = inl (e ∙ z)
 fatal_place k place (inr z) e = inr (e ∙ z)
 
 -- Entries of a kind that has the port's faults, where the bit is TFES, and its fatal errors, where it is IFS or HBFS.
-module _ (IsKind : Entry → Type 0) (port place : ℕ) (high : 27 ≤ place) (faults : (f : tape_fault.Fault) → f.port.0 ≡ port → place ≡ 30 → IsKind (entry.Fault f))
+module _ (laws : StepLaws) (IsKind : Entry → Type 0) (port place : ℕ) (high : 27 ≤ place) (faults : (f : tape_fault.Fault) → f.port.0 ≡ port → place ≡ 30 → IsKind (entry.Fault f))
     (fatals : (at : Port) → at.0 ≡ port → (place ≡ 27) ⊎ (place ≡ 29) → IsKind (entry.Fatal at)) where
   abbrev Unset : DevicePort → Type 0
   Unset p = p.is place ≡ false
@@ -76,8 +76,8 @@ module _ (IsKind : Entry → Type 0) (port place : ℕ) (high : 27 ≤ place) (f
   leads_unset : (steps : List DeviceTransition) (old new : Device) → StepLeads steps old new → GainsNone IsKind old new → Unset (old.port port) → Unset (new.port port)
   leads_unset [] old new e none h = subst (λ (d : Device). Unset (d.port port)) (sym e) h
   leads_unset (step ∷ steps) old new (can, lead) none h =
-      let k : Keeps old (device_after step old) = step_keeps step old can in
-      let l : Keeps (device_after step old) new = law_steps_keep (record { steps = steps; lead = lead }) in
+      let k : Keeps old (device_after step old) = laws.step step _ can in
+      let l : Keeps (device_after step old) new = laws.keeps _ _ (record { steps = steps; lead = lead }) in
       let parts = gains_parts IsKind old (device_after step old) new k.gained l.gained k.tape l.tape none in
       leads_unset steps (device_after step old) new lead parts.1 (step_unset old parts.0.0 parts.0.2 step can parts.0.1 h)
 
@@ -105,16 +105,16 @@ no_fatal : (place : ℕ) → place ≡ 30 → (place ≡ 27) ⊎ (place ≡ 29) 
 no_fatal place e (inl z) = omega (arith, e, z)
 no_fatal place e (inr z) = omega (arith, e, z)
 
-pub steps_raise : (port : ℕ) (old new : Device) → Steps old new → ChangesByErrors port old new
-steps_raise port old new s = record {
+pub steps_raise : StepLaws → (port : ℕ) (old new : Device) → Steps old new → ChangesByErrors port old new
+steps_raise laws port old new s = record {
   fatal = λ none place low up h.
-      steps_unset (IsFatalOf port) port place low (λ f e z. no_fault place up z) (λ at e z. e) old new s (fatal_gains port old new none) h;
-  fault = λ none h. steps_unset (IsFaultOf port) port 30 (omega arith) (λ f e z. e) (λ at e z. no_fatal 30 refl z) old new s (fails_gains port old new none) h;
+      (steps_unset laws) (IsFatalOf port) port place low (λ f e z. no_fault place up z) (λ at e z. e) old new s (fatal_gains port old new none) h;
+  fault = λ none h. steps_unset laws (IsFaultOf port) port 30 (omega arith) (λ f e z. e) (λ at e z. no_fatal 30 refl z) old new s (fails_gains port old new none) h;
 }
 
-pub access_raises : (port : Port) (access : Access) (old new : Device) → Does access old new → ChangesByErrors port.0 old new
-access_raises port access old new x = record {
+pub access_raises : StepLaws → (port : Port) (access : Access) (old new : Device) → Does access old new → ChangesByErrors port.0 old new
+access_raises laws port access old new x = record {
   fatal = λ none place low up h.
-      access_unset (IsFatalOf port.0) port.0 place low (λ f e z. no_fault place up z) (λ at e z. e) access old new x (fatal_gains port.0 old new none) h;
-  fault = λ none h. access_unset (IsFaultOf port.0) port.0 30 (omega arith) (λ f e z. e) (λ at e z. no_fatal 30 refl z) access old new x (fails_gains port.0 old new none) h;
+      (access_unset laws) (IsFatalOf port.0) port.0 place low (λ f e z. no_fault place up z) (λ at e z. e) access old new x (fatal_gains port.0 old new none) h;
+  fault = λ none h. access_unset laws (IsFaultOf port.0) port.0 30 (omega arith) (λ f e z. e) (λ at e z. no_fatal 30 refl z) access old new x (fails_gains port.0 old new none) h;
 }

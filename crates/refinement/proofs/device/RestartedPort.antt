@@ -12,7 +12,7 @@ use Rattle.adapter.specs.Device.Halt.{NotHalted}
 use Rattle.adapter.specs.Steps.{DeviceTransition, Can, device_after, Steps, restarted}
 use Rattle.adapter.specs.Steps.DeviceTransition.{Fetch, FetchFault, Move, Clear, Done, Fault, Fatal, Fall, FrFall, LinkUp, Unplug, Plug, ResetEnds, Scribble}
 use Rattle.adapter.specs.declared.tape.Entry.{Entry}
-use Rattle.adapter.proofs.KeptLemmas.{step_keeps}
+use Rattle.refinement.specs.Below.{StepLaws}
 use Rattle.refinement.specs.Facts.{IsDisturbance, Undisturbed}
 use Rattle.refinement.specs.Links.{SparesRegister}
 use Rattle.refinement.specs.Started.{IsUp, IsStarted}
@@ -50,14 +50,14 @@ module _ (port : ℕ) (d : Device) (gained : List Entry) (calm : NoneOf (IsDistu
   step_up ResetEnds off can is h = absurd (both_ways _ off can)
   step_up (Scribble p slot at bytes) off can is h = h
 
-on_up : (port : ℕ) (old new : Device) → old.hr ≡ false → Undisturbed port old new → Steps old new → Up (old.port port) → Up (new.port port)
-on_up port old new off u s h =
-    (leads_calmly port (λ d. (d.hr ≡ false) × Up (d.port port))
-    (λ d gained calm step can is x. (((step_keeps step d can).on x.0).no_reset, step_up port d gained calm step x.0 can is x.1))
+on_up : StepLaws → (port : ℕ) (old new : Device) → old.hr ≡ false → Undisturbed port old new → Steps old new → Up (old.port port) → Up (new.port port)
+on_up laws port old new off u s h =
+    (leads_calmly laws port (λ d. (d.hr ≡ false) × Up (d.port port))
+    (λ d gained calm step can is x. (((laws.step step _ can).on x.0).no_reset, step_up port d gained calm step x.0 can is x.1))
     s.steps old new s.lead u (off, h)).1
 
-pub steps_stay_up : (port : ℕ) (old new : Device) → old.hr ≡ false → Undisturbed port old new → Steps old new → IsUp (old.port port) → IsUp (new.port port)
-steps_stay_up port old new off u s h = is_up (new.port port) (on_up port old new off u s (up_of (old.port port) h))
+pub steps_stay_up : StepLaws → (port : ℕ) (old new : Device) → old.hr ≡ false → Undisturbed port old new → Steps old new → IsUp (old.port port) → IsUp (new.port port)
+steps_stay_up laws port old new off u s h = is_up (new.port port) (on_up laws port old new off u s (up_of (old.port port) h))
 
 -- ---- accesses
 
@@ -78,10 +78,10 @@ written_up Cmd v tape p other h = command_up v tape p h
 written_up Sctl v tape p other h = absurd (other refl)
 written_up _ v tape p other h = h
 
-pub access_stays_up : (port : Port) (access : Access) (old new : Device) → old.hr ≡ false → SparesRegister (Px port Sctl) access → Undisturbed port.0 old new → Does access old new → IsUp (old.port port.0) → IsUp (new.port port.0)
-access_stays_up port access old new off spares u x h =
+pub access_stays_up : StepLaws → (port : Port) (access : Access) (old new : Device) → old.hr ≡ false → SparesRegister (Px port Sctl) access → Undisturbed port.0 old new → Does access old new → IsUp (old.port port.0) → IsUp (new.port port.0)
+access_stays_up laws port access old new off spares u x h =
     let s = access_steps access old new x in
     is_up (new.port port.0)
     (effect_keeps Up port (λ p r v y. y) (λ p y. y) access old new x
     (λ r v mid is steps y. written_up r v (length mid.tape) (mid.port port.0) (spared port r Sctl access v spares is) y)
-    (on_up port.0 old s.0 off (calm_before port.0 old s.0 new s.2 u) s.1 (up_of (old.port port.0) h)))
+    (on_up laws port.0 old s.0 off (calm_before port.0 old s.0 new s.2 u) s.1 (up_of (old.port port.0) h)))

@@ -16,7 +16,7 @@ use Rattle.adapter.specs.Steps.{DeviceTransition, Can, device_after, StepLeads, 
 use Rattle.adapter.specs.Steps.DeviceTransition.{Fetch, FetchFault, Move, Clear, Done, Fault, Fatal, Fall, FrFall, LinkUp, Unplug, Plug, ResetEnds, Scribble}
 use Rattle.adapter.specs.declared.tape.Entry.{Entry}
 use Rattle.adapter.proofs.Changed.{changed_same}
-use Rattle.adapter.proofs.KeptLemmas.{step_keeps, law_steps_keep}
+use Rattle.refinement.specs.Below.{StepLaws}
 use Rattle.refinement.specs.Errors.{IsComing, NoneComes}
 use Rattle.refinement.specs.Links.{SparesRegister, PlugsNone, SameLink, ComesUp}
 use Rattle.refinement.specs.Started.{IsUp, IsComingUp, SetsNoStart}
@@ -80,16 +80,16 @@ module _ (port : ℕ) (d : Device) (gained : List Entry) (none : NoneOf (IsComin
   step_coming ResetEnds can is = (refl, λ det. not_three det)
   step_coming (Scribble p slot at bytes) can is = h
 
-leads_coming : (port : ℕ) (steps : List DeviceTransition) (old new : Device) → StepLeads steps old new → NoneComes port old new → Coming (old.port port) → Coming (new.port port)
-leads_coming port [] old new e none h = subst (λ (d : Device). Coming (d.port port)) (sym e) h
-leads_coming port (step ∷ steps) old new (can, lead) none h =
-    let k : Keeps old (device_after step old) = step_keeps step old can in
-    let l : Keeps (device_after step old) new = law_steps_keep (record { steps = steps; lead = lead }) in
+leads_coming : StepLaws → (port : ℕ) (steps : List DeviceTransition) (old new : Device) → StepLeads steps old new → NoneComes port old new → Coming (old.port port) → Coming (new.port port)
+leads_coming laws port [] old new e none h = subst (λ (d : Device). Coming (d.port port)) (sym e) h
+leads_coming laws port (step ∷ steps) old new (can, lead) none h =
+    let k : Keeps old (device_after step old) = laws.step step _ can in
+    let l : Keeps (device_after step old) new = laws.keeps _ _ (record { steps = steps; lead = lead }) in
     let parts = comes_parts port old (device_after step old) new k.gained l.gained k.tape l.tape none in
-    leads_coming port steps (device_after step old) new lead parts.1 (step_coming port old parts.0.gained parts.0.none h step can parts.0.tape)
+    leads_coming laws port steps (device_after step old) new lead parts.1 (step_coming port old parts.0.gained parts.0.none h step can parts.0.tape)
 
-pub steps_coming : (port : ℕ) (old new : Device) → NoneComes port old new → Steps old new → IsComingUp (old.port port) → IsComingUp (new.port port)
-steps_coming port old new none s h = is_coming (new.port port) (leads_coming port s.steps old new s.lead none (coming_of (old.port port) h))
+pub steps_coming : StepLaws → (port : ℕ) (old new : Device) → NoneComes port old new → Steps old new → IsComingUp (old.port port) → IsComingUp (new.port port)
+steps_coming laws port old new none s h = is_coming (new.port port) (leads_coming laws port s.steps old new s.lead none (coming_of (old.port port) h))
 
 -- ---- an access
 
@@ -119,36 +119,36 @@ written_coming Cmd v tape p off h = command_coming v tape p (off refl) h
 written_coming Sctl v tape p off h = control_coming v tape p (v % 16) h
 written_coming _ v tape p off h = h
 
-module _ (port : Port) (access : Access) (old new : Device) (off : SetsNoStart port access) (x : Does access old new) where
+module _ (laws : StepLaws) (port : Port) (access : Access) (old new : Device) (off : SetsNoStart port access) (x : Does access old new) where
   pub access_coming : NoneComes port.0 old new → IsComingUp (old.port port.0) → IsComingUp (new.port port.0)
   access_coming none h =
       let s = access_steps access old new x in
-      let c = leads_coming port.0 s.1.steps old s.0 s.1.lead (comes_before port.0 old s.0 new s.2 none) (coming_of (old.port port.0) h) in
+      let c = leads_coming laws port.0 s.1.steps old s.0 s.1.lead (comes_before port.0 old s.0 new s.2 none) (coming_of (old.port port.0) h) in
       is_coming (new.port port.0)
       (effect_keeps Coming port (λ p r v y. y) (λ p y. y) access old new x
       (λ r v mid is steps y. written_coming r v (length mid.tape) (mid.port port.0) (λ e. off v (is ∙ ap (λ (q : PortReg). Writing (Px port q) v) e)) y) c)
 
 -- ---- it begins
 
-pub comreset_comes : (port : Port) (v : ℕ) (old new : Device) → (old.port port.0).cr ≡ false → v % 16 ≡ 1 → Writes (Px port Sctl) v old new → IsComingUp (new.port port.0)
-comreset_comes port v old new stands one call =
-    let k : KeepsPort (old.port port.0) (call.mid.port port.0) = (law_steps_keep call.steps).port port.0 in
+pub comreset_comes : StepLaws → (port : Port) (v : ℕ) (old new : Device) → (old.port port.0).cr ≡ false → v % 16 ≡ 1 → Writes (Px port Sctl) v old new → IsComingUp (new.port port.0)
+comreset_comes laws port v old new stands one call =
+    let k : KeepsPort (old.port port.0) (call.mid.port port.0) = (laws.keeps _ _ call.steps).port port.0 in
     subst IsComingUp (sym (ap (λ (d : Device). d.port port.0) call.effect ∙ changed_same call.mid.port port.0 _))
     (is_coming _ (subst (λ (n : ℕ). Coming (with_det n (length call.mid.tape) (call.mid.port port.0))) (sym one) (k.cr stands, λ det. not_three det)))
 
-pub reset_comes : (v : ℕ) (old new : Device) → old.hr ≡ true → Reads Ghc v old new → bit v 0 ≡ false → (port : ℕ) → NoneComes port old new → IsComingUp (new.port port)
-reset_comes v old new on call clear port none =
+pub reset_comes : StepLaws → (v : ℕ) (old new : Device) → old.hr ≡ true → Reads Ghc v old new → bit v 0 ≡ false → (port : ℕ) → NoneComes port old new → IsComingUp (new.port port)
+reset_comes laws v old new on call clear port none =
     let s = reset_read v old new on call clear in
-    let a : Keeps old (device_after ResetEnds s.0) = law_steps_keep s.2 in
-    let b : Keeps (device_after ResetEnds s.0) new = law_steps_keep s.1 in
+    let a : Keeps old (device_after ResetEnds s.0) = laws.keeps _ _ s.2 in
+    let b : Keeps (device_after ResetEnds s.0) new = laws.keeps _ _ s.1 in
     let parts = comes_parts port old (device_after ResetEnds s.0) new a.gained b.gained a.tape b.tape none in
-    steps_coming port (device_after ResetEnds s.0) new parts.1 s.1 (is_coming _ (refl, λ det. not_three det))
+    (steps_coming laws) port (device_after ResetEnds s.0) new parts.1 s.1 (is_coming _ (refl, λ det. not_three det))
 
 -- ---- it is found up
 
-pub up_is_found : (port : Port) (v : ℕ) (old new : Device) → NoneComes port.0 old new → Reads (Px port Ssts) v old new → v % 16 ≡ 3 → IsComingUp (old.port port.0) → IsUp (new.port port.0)
-up_is_found port v old new none call three h =
-    (access_coming port (Reading (Px port Ssts) v) old new (λ w e. absurd (let z : Reading (Px port Ssts) v ≡ Writing (Px port Cmd) w = e in cc)) call none h).up
+pub up_is_found : StepLaws → (port : Port) (v : ℕ) (old new : Device) → NoneComes port.0 old new → Reads (Px port Ssts) v old new → v % 16 ≡ 3 → IsComingUp (old.port port.0) → IsUp (new.port port.0)
+up_is_found laws port v old new none call three h =
+    (access_coming laws port (Reading (Px port Ssts) v) old new (λ w e. absurd (let z : Reading (Px port Ssts) v ≡ Writing (Px port Cmd) w = e in cc)) call none h).up
     (ap (λ (d : Device). (d.port port.0).ssts_det) call.effect ∙ ap (λ (p : DevicePort). p.ssts_det) (changed_same call.mid.port port.0 _) ∙ sym call.shows ∙ three)
 
 -- ---- and stays so
@@ -157,13 +157,13 @@ up_is_found port v old new none call three h =
 still_three : (p new : DevicePort) → p.ssts_det ≡ 3 → SameLink p new ⊎ ComesUp p new → new.ssts_det ≡ 3
 still_three p new three = ⊎_elim (λ (s : SameLink p new). s.det ∙ three) (λ (c : ComesUp p new). c.det)
 
-pub steps_up : (port : ℕ) (old new : Device) → old.hr ≡ false → (old.port port).cr ≡ false → PlugsNone port old new → Steps old new → IsUp (old.port port) → IsUp (new.port port)
-steps_up port old new off stands none s u =
-    (steps_coming port old new (plugs_come port old new none) s (record { stands = stands; up = λ _. u })).up
-    (still_three (old.port port) (new.port port) u.det (steps_link port old new off s none))
+pub steps_up : StepLaws → (port : ℕ) (old new : Device) → old.hr ≡ false → (old.port port).cr ≡ false → PlugsNone port old new → Steps old new → IsUp (old.port port) → IsUp (new.port port)
+steps_up laws port old new off stands none s u =
+    (steps_coming laws port old new (plugs_come port old new none) s (record { stands = stands; up = λ _. u })).up
+    (still_three (old.port port) (new.port port) u.det (steps_link laws port old new off s none))
 
-pub access_up : (port : Port) (access : Access) (old new : Device) → old.hr ≡ false → (old.port port.0).cr ≡ false → SetsNoStart port access → SparesRegister (Px port Sctl) access → PlugsNone port.0 old new → Does access old new →
+pub access_up : StepLaws → (port : Port) (access : Access) (old new : Device) → old.hr ≡ false → (old.port port.0).cr ≡ false → SetsNoStart port access → SparesRegister (Px port Sctl) access → PlugsNone port.0 old new → Does access old new →
     IsUp (old.port port.0) → IsUp (new.port port.0)
-access_up port access old new off stands sets spares none x u =
-    (access_coming port access old new sets x (plugs_come port.0 old new none) (record { stands = stands; up = λ _. u })).up
-    (still_three (old.port port.0) (new.port port.0) u.det (access_link port access old new off spares x none))
+access_up laws port access old new off stands sets spares none x u =
+    (access_coming laws port access old new sets x (plugs_come port.0 old new none) (record { stands = stands; up = λ _. u })).up
+    (still_three (old.port port.0) (new.port port.0) u.det (access_link laws port access old new off spares x none))

@@ -15,7 +15,7 @@ use Rattle.adapter.specs.Kept.{Keeps}
 use Rattle.adapter.specs.Steps.{DeviceTransition, Can, device_after, StepLeads, Steps}
 use Rattle.adapter.specs.Steps.DeviceTransition.{Fetch, FetchFault, Move, Clear, Done, Fault, Fatal, Fall, FrFall, LinkUp, Unplug, Plug, ResetEnds, Scribble}
 use Rattle.adapter.specs.declared.tape.Entry.{Entry}
-use Rattle.adapter.proofs.KeptLemmas.{step_keeps, law_steps_keep}
+use Rattle.refinement.specs.Below.{StepLaws}
 use Rattle.refinement.specs.Relation.{port_at}
 use Rattle.refinement.specs.Errors.{ChangesByDisks, StaysClear}
 use Rattle.refinement.specs.Facts.{RunsWell, IsDisturbance, Undisturbed, ShowsNoTrouble}
@@ -35,15 +35,15 @@ pub calm_before : (port : ℕ) (old mid new : Device) → new.tape ≡ mid.tape 
 calm_before port old mid new same u = record { gained = u.gained; tape = sym same ∙ u.tape; calm = u.calm }
 
 -- what each step keeps that is no disturbance, lists of them keep
-pub leads_calmly : (port : ℕ) (P : Device → Type 0) →
+pub leads_calmly : StepLaws → (port : ℕ) (P : Device → Type 0) →
     ((d : Device) (gained : List Entry) → NoneOf (IsDisturbance port) gained → (step : DeviceTransition) → Can step d → (device_after step d).tape ≡ d.tape ++ gained → P d → P (device_after step d)) →
     (steps : List DeviceTransition) (old new : Device) → StepLeads steps old new → Undisturbed port old new → P old → P new
-leads_calmly port P keep [] old new e u h = subst P (sym e) h
-leads_calmly port P keep (step ∷ steps) old new (can, lead) u h =
-    let k : Keeps old (device_after step old) = step_keeps step old can in
-    let l : Keeps (device_after step old) new = law_steps_keep (record { steps = steps; lead = lead }) in
+leads_calmly laws port P keep [] old new e u h = subst P (sym e) h
+leads_calmly laws port P keep (step ∷ steps) old new (can, lead) u h =
+    let k : Keeps old (device_after step old) = laws.step step _ can in
+    let l : Keeps (device_after step old) new = laws.keeps _ _ (record { steps = steps; lead = lead }) in
     let parts = undisturbed_parts port old (device_after step old) new k.gained l.gained k.tape l.tape u in
-    leads_calmly port P keep steps (device_after step old) new lead parts.1 (keep old parts.0.gained parts.0.calm step can parts.0.tape h)
+    leads_calmly laws port P keep steps (device_after step old) new lead parts.1 (keep old parts.0.gained parts.0.calm step can parts.0.tape h)
 
 -- ---- a port that was started
 
@@ -87,14 +87,14 @@ module _ (port : ℕ) (d : Device) (gained : List Entry) (calm : NoneOf (IsDistu
 abbrev OnStarted : ℕ → Device → Type 0
 OnStarted port d = (d.hr ≡ false) × Started (d.port port)
 
-on_started : (port : ℕ) (old new : Device) → old.hr ≡ false → Undisturbed port old new → Steps old new → Started (old.port port) → Started (new.port port)
-on_started port old new off u s h =
-    (leads_calmly port (OnStarted port)
-    (λ d gained calm step can is x. (((step_keeps step d can).on x.0).no_reset, step_started port d gained calm step x.0 can is x.1))
+on_started : StepLaws → (port : ℕ) (old new : Device) → old.hr ≡ false → Undisturbed port old new → Steps old new → Started (old.port port) → Started (new.port port)
+on_started laws port old new off u s h =
+    (leads_calmly laws port (OnStarted port)
+    (λ d gained calm step can is x. (((laws.step step _ can).on x.0).no_reset, step_started port d gained calm step x.0 can is x.1))
     s.steps old new s.lead u (off, h)).1
 
-pub steps_started : (port : ℕ) (old new : Device) → old.hr ≡ false → Undisturbed port old new → Steps old new → IsStarted (old.port port) → IsStarted (new.port port)
-steps_started port old new off u s h = is_started (new.port port) (on_started port old new off u s (started_of (old.port port) h))
+pub steps_started : StepLaws → (port : ℕ) (old new : Device) → old.hr ≡ false → Undisturbed port old new → Steps old new → IsStarted (old.port port) → IsStarted (new.port port)
+steps_started laws port old new off u s h = is_started (new.port port) (on_started laws port old new off u s (started_of (old.port port) h))
 
 -- ST stays 1
 command_started : (v tape : ℕ) (p : DevicePort) → bit v 0 ≡ true → Started p → Started (port_written Cmd v tape p)
@@ -107,11 +107,11 @@ written_started Cmd v tape p on other h = command_started v tape p (on refl) h
 written_started Sctl v tape p on other h = absurd (other refl)
 written_started _ v tape p on other h = h
 
-pub access_started : (port : Port) (access : Access) (old new : Device) → old.hr ≡ false → ClearsNoStart port access → SparesRegister (Px port Sctl) access → Undisturbed port.0 old new → Does access old new →
+pub access_started : StepLaws → (port : Port) (access : Access) (old new : Device) → old.hr ≡ false → ClearsNoStart port access → SparesRegister (Px port Sctl) access → Undisturbed port.0 old new → Does access old new →
     IsStarted (old.port port.0) → IsStarted (new.port port.0)
-access_started port access old new off keeps spares u x h =
+access_started laws port access old new off keeps spares u x h =
     let s = access_steps access old new x in
-    let c = on_started port.0 old s.0 off (calm_before port.0 old s.0 new s.2 u) s.1 (started_of (old.port port.0) h) in
+    let c = on_started laws port.0 old s.0 off (calm_before port.0 old s.0 new s.2 u) s.1 (started_of (old.port port.0) h) in
     is_started (new.port port.0)
     (effect_keeps Started port (λ p r v y. y) (λ p y. y) access old new x
     (λ r v mid is steps y. written_started r v (length mid.tape) (mid.port port.0)
@@ -123,11 +123,11 @@ abbrev Quiets : DevicePort → DevicePort → Type 0
 Quiets first p = (place : ℕ) → 27 ≤ place → place ≤ 30 → first.is place ≡ false → p.is place ≡ false
 
 -- faults and fatal errors are disturbances
-on_quiets : (port : ℕ) (old new : Device) → Undisturbed port old new → Steps old new → Quiets (old.port port) (new.port port)
-on_quiets port old new u s = λ place low up clear. steps_unset (IsDisturbance port) port place low (λ f e z. e) (λ at e z. e) old new s (u.gained, u.tape, u.calm) clear
+on_quiets : StepLaws → (port : ℕ) (old new : Device) → Undisturbed port old new → Steps old new → Quiets (old.port port) (new.port port)
+on_quiets laws port old new u s = λ place low up clear. steps_unset laws (IsDisturbance port) port place low (λ f e z. e) (λ at e z. e) old new s (u.gained, u.tape, u.calm) clear
 
-access_quiets : (port : ℕ) (access : Access) (old new : Device) → Undisturbed port old new → Does access old new → Quiets (old.port port) (new.port port)
-access_quiets port access old new u x = λ place low up clear. access_unset (IsDisturbance port) port place low (λ f e z. e) (λ at e z. e) access old new x (u.gained, u.tape, u.calm) clear
+access_quiets : StepLaws → (port : ℕ) (access : Access) (old new : Device) → Undisturbed port old new → Does access old new → Quiets (old.port port) (new.port port)
+access_quiets laws port access old new u x = λ place low up clear. access_unset laws (IsDisturbance port) port place low (λ f e z. e) (λ at e z. e) access old new x (u.gained, u.tape, u.calm) clear
 
 -- N and X, where no link is due
 clear_of : (port : ℕ) (old new : Device) → Undisturbed port old new → ChangesByDisks port old new → Quiets (old.port port) (new.port port) → StaysClear (old.port port) (new.port port)
@@ -135,11 +135,11 @@ clear_of port old new u c quiets =
     let none = undisturbed_plugs port old new u in
     record { serr_n = c.serr_n none; serr_x = c.serr_x (plugs_come port old new none); is = quiets }
 
-pub steps_clear : (port : ℕ) (old new : Device) → old.hr ≡ false → (old.port port).link_due ≡ false → Undisturbed port old new → Steps old new → StaysClear (old.port port) (new.port port)
-steps_clear port old new off undue u s = clear_of port old new u (steps_change port old new off undue s) (on_quiets port old new u s)
+pub steps_clear : StepLaws → (port : ℕ) (old new : Device) → old.hr ≡ false → (old.port port).link_due ≡ false → Undisturbed port old new → Steps old new → StaysClear (old.port port) (new.port port)
+steps_clear laws port old new off undue u s = clear_of port old new u (steps_change laws port old new off undue s) (on_quiets laws port old new u s)
 
-pub access_clear : (port : Port) (access : Access) (old new : Device) → old.hr ≡ false → (old.port port.0).link_due ≡ false → Undisturbed port.0 old new → Does access old new → StaysClear (old.port port.0) (new.port port.0)
-access_clear port access old new off undue u x = clear_of port.0 old new u (access_change port access old new off undue x) (access_quiets port.0 access old new u x)
+pub access_clear : StepLaws → (port : Port) (access : Access) (old new : Device) → old.hr ≡ false → (old.port port.0).link_due ≡ false → Undisturbed port.0 old new → Does access old new → StaysClear (old.port port.0) (new.port port.0)
+access_clear laws port access old new off undue u x = clear_of port.0 old new u (access_change laws port access old new off undue x) (access_quiets laws port.0 access old new u x)
 
 -- ---- both
 
@@ -162,23 +162,23 @@ started_well p h = record { st = h.st; cr = h.cr; det = h.det; present = h.prese
 pub shows_still : (p new : DevicePort) → StaysClear p new → ShowsNoTrouble p → ShowsNoTrouble new
 shows_still p new c h = record { serr_n = c.serr_n h.serr_n; serr_x = c.serr_x h.serr_x; quiet = λ place low up. c.is place low up (h.quiet place low up) }
 
-pub law_healthy_stays : (port : ℕ) (old new : Device) → old.hr ≡ false → Steps old new → Undisturbed port old new → RunsWell (old.port port) → RunsWell (new.port port)
-law_healthy_stays port old new off s u h =
-    well_of (new.port port) (steps_started port old new off u s (started_well (old.port port) h))
-    (shows_still (old.port port) (new.port port) (steps_clear port old new off h.linked u s) h.quiet)
+pub law_healthy_stays : StepLaws → (port : ℕ) (old new : Device) → old.hr ≡ false → Steps old new → Undisturbed port old new → RunsWell (old.port port) → RunsWell (new.port port)
+law_healthy_stays laws port old new off s u h =
+    well_of (new.port port) (steps_started laws port old new off u s (started_well (old.port port) h))
+    (shows_still (old.port port) (new.port port) (steps_clear laws port old new off h.linked u s) h.quiet)
 
-healthy_access : (port : Port) (access : Access) (old new : Device) → old.hr ≡ false → ClearsNoStart port access → SparesRegister (Px port Sctl) access → Undisturbed port.0 old new → Does access old new →
+healthy_access : StepLaws → (port : Port) (access : Access) (old new : Device) → old.hr ≡ false → ClearsNoStart port access → SparesRegister (Px port Sctl) access → Undisturbed port.0 old new → Does access old new →
     RunsWell (old.port port.0) → RunsWell (new.port port.0)
-healthy_access port access old new off keeps spares u x h =
-    well_of (new.port port.0) (access_started port access old new off keeps spares u x (started_well (old.port port.0) h))
-    (shows_still (old.port port.0) (new.port port.0) (access_clear port access old new off h.linked u x) h.quiet)
+healthy_access laws port access old new off keeps spares u x h =
+    well_of (new.port port.0) (access_started laws port access old new off keeps spares u x (started_well (old.port port.0) h))
+    (shows_still (old.port port.0) (new.port port.0) (access_clear laws port access old new off h.linked u x) h.quiet)
 
 -- a reading writes nothing
 pub reading_clears : (port : Port) (r : Reg) (v : ℕ) → ClearsNoStart port (Reading r v)
 reading_clears port r v w e = absurd (let z : Reading r v ≡ Writing (Px port Cmd) w = e in cc)
 
-pub healthy_reads : (port : ℕ) (r : Reg) (v : ℕ) (old new : Device) → old.hr ≡ false → Reads r v old new → Undisturbed port old new → RunsWell (old.port port) → RunsWell (new.port port)
-healthy_reads port r v old new off call u h = healthy_access (port_at port) (Reading r v) old new off (reading_clears (port_at port) r v) tt u call h
+pub healthy_reads : StepLaws → (port : ℕ) (r : Reg) (v : ℕ) (old new : Device) → old.hr ≡ false → Reads r v old new → Undisturbed port old new → RunsWell (old.port port) → RunsWell (new.port port)
+healthy_reads laws port r v old new off call u h = healthy_access laws (port_at port) (Reading r v) old new off (reading_clears (port_at port) r v) tt u call h
 
 -- what a write writes
 register_of : Reg → Access → Reg
@@ -189,9 +189,9 @@ value_of : ℕ → Access → ℕ
 value_of n (Writing q v) = v
 value_of n _ = n
 
-pub healthy_writes : (port : Port) (r : Reg) (v : ℕ) (old new : Device) → old.hr ≡ false → (r ≡ Px port Cmd → bit v 0 ≡ true) → (r ≡ Px port Sctl → ⊥) → Writes r v old new →
+pub healthy_writes : StepLaws → (port : Port) (r : Reg) (v : ℕ) (old new : Device) → old.hr ≡ false → (r ≡ Px port Cmd → bit v 0 ≡ true) → (r ≡ Px port Sctl → ⊥) → Writes r v old new →
     Undisturbed port.0 old new → RunsWell (old.port port.0) → RunsWell (new.port port.0)
 unfolding register_of value_of
-healthy_writes port r v old new off on other call u h =
-    healthy_access port (Writing r v) old new off
+healthy_writes laws port r v old new off on other call u h =
+    (healthy_access laws) port (Writing r v) old new off
     (λ w e. subst (λ (n : ℕ). bit n 0 ≡ true) (ap (value_of v) e) (on (ap (register_of r) e))) other u call h

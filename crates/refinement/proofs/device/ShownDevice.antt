@@ -9,7 +9,7 @@ use Rattle.adapter.specs.Access.{Access, Does, port_written}
 use Rattle.adapter.specs.Device.{DevicePort, Device}
 use Rattle.adapter.specs.Steps.{DeviceTransition, Can, device_after, StepLeads, Steps}
 use Rattle.adapter.specs.Steps.DeviceTransition.{Fetch, FetchFault, Move, Clear, Done, Fault, Fatal, Fall, FrFall, LinkUp, Unplug, Plug, ResetEnds, Scribble}
-use Rattle.adapter.proofs.KeptLemmas.{step_keeps}
+use Rattle.refinement.specs.Below.{StepLaws}
 use Rattle.refinement.specs.Links.{SparesRegister, HasDeviceOrNone}
 use Rattle.refinement.proofs.device.FactsOverAccesses.{access_steps, effect_keeps}
 use Rattle.refinement.proofs.device.ErrorBits.{command_beside}
@@ -35,13 +35,13 @@ step_shown port d (Plug p disk) off can h = at_port Shown Shown d p port _ h (λ
 step_shown port d ResetEnds off can h = absurd (both_ways _ off can)
 step_shown port d (Scribble p slot at bytes) off can h = h
 
-leads_shown : (port : ℕ) (steps : List DeviceTransition) (old new : Device) → old.hr ≡ false → StepLeads steps old new → Shown (old.port port) → Shown (new.port port)
-leads_shown port [] old new off e h = subst (λ (d : Device). Shown (d.port port)) (sym e) h
-leads_shown port (step ∷ steps) old new off (can, lead) h =
-    leads_shown port steps (device_after step old) new ((step_keeps step old can).on off).no_reset lead (step_shown port old step off can h)
+leads_shown : StepLaws → (port : ℕ) (steps : List DeviceTransition) (old new : Device) → old.hr ≡ false → StepLeads steps old new → Shown (old.port port) → Shown (new.port port)
+leads_shown laws port [] old new off e h = subst (λ (d : Device). Shown (d.port port)) (sym e) h
+leads_shown laws port (step ∷ steps) old new off (can, lead) h =
+    leads_shown laws port steps (device_after step old) new ((laws.step step _ can).on off).no_reset lead (step_shown port old step off can h)
 
-pub steps_shown : (port : ℕ) (old new : Device) → old.hr ≡ false → Steps old new → HasDeviceOrNone (old.port port) → HasDeviceOrNone (new.port port)
-steps_shown port old new off s h = leads_shown port s.steps old new off s.lead h
+pub steps_shown : StepLaws → (port : ℕ) (old new : Device) → old.hr ≡ false → Steps old new → HasDeviceOrNone (old.port port) → HasDeviceOrNone (new.port port)
+steps_shown laws port old new off s h = leads_shown laws port s.steps old new off s.lead h
 
 written_shown : (r : PortReg) (v tape : ℕ) (p : DevicePort) → r ≢ Sctl → Shown p → Shown (port_written r v tape p)
 written_shown Sctl v tape p other h = absurd (other refl)
@@ -50,9 +50,9 @@ written_shown Cmd v tape p other h =
     ⊎_elim (λ (up : p.ssts_det ≡ 3). inl (c.3 ∙ up)) (λ (out : p.present ≡ false). inr (c.6 ∙ out)) h
 written_shown _ v tape p other h = h
 
-pub access_shown : (port : Port) (access : Access) (old new : Device) → old.hr ≡ false → SparesRegister (Px port Sctl) access → Does access old new → HasDeviceOrNone (old.port port.0) → HasDeviceOrNone (new.port port.0)
-access_shown port access old new off spares x h =
+pub access_shown : StepLaws → (port : Port) (access : Access) (old new : Device) → old.hr ≡ false → SparesRegister (Px port Sctl) access → Does access old new → HasDeviceOrNone (old.port port.0) → HasDeviceOrNone (new.port port.0)
+access_shown laws port access old new off spares x h =
     let s = access_steps access old new x in
     effect_keeps Shown port (λ p r v y. y) (λ p y. y) access old new x
     (λ r v mid is steps y. written_shown r v (length mid.tape) (mid.port port.0) (spared port r Sctl access v spares is) y)
-    (steps_shown port.0 old s.0 off s.1 h)
+    (steps_shown laws port.0 old s.0 off s.1 h)

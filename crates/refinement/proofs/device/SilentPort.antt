@@ -11,7 +11,7 @@ use Rattle.adapter.specs.Kept.{Keeps}
 use Rattle.adapter.specs.Steps.{DeviceTransition, Can, device_after, StepLeads, Steps}
 use Rattle.adapter.specs.Steps.DeviceTransition.{Fetch, FetchFault, Move, Clear, Done, Fault, Fatal, Fall, FrFall, LinkUp, Unplug, Plug, ResetEnds, Scribble}
 use Rattle.adapter.specs.declared.tape.Entry.{Entry}
-use Rattle.adapter.proofs.KeptLemmas.{step_keeps, law_steps_keep}
+use Rattle.refinement.specs.Below.{StepLaws}
 use Rattle.refinement.specs.Relation.{port_at}
 use Rattle.refinement.specs.Errors.{IsComing, NoneComes, IsWork}
 use Rattle.refinement.proofs.device.FactsOverAccesses.{access_steps, effect_keeps}
@@ -48,23 +48,23 @@ module _ (port : ℕ) (d : Device) (cr : (d.port port).cr ≡ false) where
   step_silent ResetEnds can = ([], no_entry, All-nil (λ e. IsWork port e → ⊥))
   step_silent (Scribble p slot at bytes) can = ([], no_entry, All-nil (λ e. IsWork port e → ⊥))
 
-leads_silent : (port : ℕ) (steps : List DeviceTransition) (old new : Device) → (old.port port).cr ≡ false → StepLeads steps old new → GainsNone (IsWork port) old new
-leads_silent port [] old new cr e = subst (GainsNone (IsWork port) old) (sym e) (gains_nothing (IsWork port) old)
-leads_silent port (step ∷ steps) old new cr (can, lead) =
-    let k : Keeps old (device_after step old) = step_keeps step old can in
-    gains_more (IsWork port) old (device_after step old) new (step_silent port old cr step can) (leads_silent port steps (device_after step old) new ((k.port port).cr cr) lead)
+leads_silent : StepLaws → (port : ℕ) (steps : List DeviceTransition) (old new : Device) → (old.port port).cr ≡ false → StepLeads steps old new → GainsNone (IsWork port) old new
+leads_silent laws port [] old new cr e = subst (GainsNone (IsWork port) old) (sym e) (gains_nothing (IsWork port) old)
+leads_silent laws port (step ∷ steps) old new cr (can, lead) =
+    let k : Keeps old (device_after step old) = laws.step step _ can in
+    gains_more (IsWork port) old (device_after step old) new (step_silent port old cr step can) (leads_silent laws port steps (device_after step old) new ((k.port port).cr cr) lead)
 
-pub steps_silent : (port : ℕ) (old new : Device) (gained : List Entry) → (old.port port).cr ≡ false → Steps old new → new.tape ≡ old.tape ++ gained → NoneOf (IsWork port) gained
-steps_silent port old new gained cr s is =
-    let g = leads_silent port s.steps old new cr s.lead in
+pub steps_silent : StepLaws → (port : ℕ) (old new : Device) (gained : List Entry) → (old.port port).cr ≡ false → Steps old new → new.tape ≡ old.tape ++ gained → NoneOf (IsWork port) gained
+steps_silent laws port old new gained cr s is =
+    let g = leads_silent laws port s.steps old new cr s.lead in
     subst (NoneOf (IsWork port)) (append_cancel_left old.tape g.0 gained (sym g.1 ∙ is)) g.2
 
-pub access_silent : (port : ℕ) (access : Access) (old new : Device) (gained : List Entry) → (old.port port).cr ≡ false → Does access old new → new.tape ≡ old.tape ++ gained → NoneOf (IsWork port) gained
-access_silent port access old new gained cr x is = let s = access_steps access old new x in steps_silent port old s.0 gained cr s.1 (sym s.2 ∙ is)
+pub access_silent : StepLaws → (port : ℕ) (access : Access) (old new : Device) (gained : List Entry) → (old.port port).cr ≡ false → Does access old new → new.tape ≡ old.tape ++ gained → NoneOf (IsWork port) gained
+access_silent laws port access old new gained cr x is = let s = access_steps access old new x in steps_silent laws port old s.0 gained cr s.1 (sym s.2 ∙ is)
 
 -- ---- its disk
 
-module _ (disk : Disk) where
+module _ (laws : StepLaws) (disk : Disk) where
   -- the engine stands, and the disk is this one
   abbrev Rests : DevicePort → Type 0
   Rests p = (p.cr ≡ false) × (p.disk ≡ disk)
@@ -88,8 +88,8 @@ module _ (disk : Disk) where
   leads_rest : (port : ℕ) (steps : List DeviceTransition) (old new : Device) → StepLeads steps old new → NoneComes port old new → Rests (old.port port) → Rests (new.port port)
   leads_rest port [] old new e comes h = subst (λ (d : Device). Rests (d.port port)) (sym e) h
   leads_rest port (step ∷ steps) old new (can, lead) comes h =
-      let k : Keeps old (device_after step old) = step_keeps step old can in
-      let l : Keeps (device_after step old) new = law_steps_keep (record { steps = steps; lead = lead }) in
+      let k : Keeps old (device_after step old) = laws.step step _ can in
+      let l : Keeps (device_after step old) new = laws.keeps _ _ (record { steps = steps; lead = lead }) in
       let parts = comes_parts port old (device_after step old) new k.gained l.gained k.tape l.tape comes in
       leads_rest port steps (device_after step old) new lead parts.1 (step_rests port old parts.0.gained parts.0.none step can parts.0.tape h)
 
@@ -100,12 +100,12 @@ module _ (disk : Disk) where
   written_disk Cmd v tape p h = (command_beside v tape p).5 ∙ h
   written_disk _ v tape p h = h
 
-pub steps_hold : (port : ℕ) (old new : Device) → (old.port port).cr ≡ false → Steps old new → NoneComes port old new → (new.port port).disk ≡ (old.port port).disk
-steps_hold port old new cr s comes = (leads_rest (old.port port).disk port s.steps old new s.lead comes (cr, refl)).1
+pub steps_hold : StepLaws → (port : ℕ) (old new : Device) → (old.port port).cr ≡ false → Steps old new → NoneComes port old new → (new.port port).disk ≡ (old.port port).disk
+steps_hold laws port old new cr s comes = (leads_rest laws (old.port port).disk port s.steps old new s.lead comes (cr, refl)).1
 
-pub access_hold : (port : ℕ) (access : Access) (old new : Device) → (old.port port).cr ≡ false → Does access old new → NoneComes port old new → (new.port port).disk ≡ (old.port port).disk
-access_hold port access old new cr x comes =
+pub access_hold : StepLaws → (port : ℕ) (access : Access) (old new : Device) → (old.port port).cr ≡ false → Does access old new → NoneComes port old new → (new.port port).disk ≡ (old.port port).disk
+access_hold laws port access old new cr x comes =
     let s = access_steps access old new x in
-    effect_keeps (Holds (old.port port).disk) (port_at port) (λ p r v h. h) (λ p h. h) access old new x
-    (λ r v mid is steps h. written_disk (old.port port).disk r v (length mid.tape) (mid.port port) h)
-    (steps_hold port old s.0 cr s.1 (comes_before port old s.0 new s.2 comes))
+    effect_keeps (Holds laws (old.port port).disk) (port_at port) (λ p r v h. h) (λ p h. h) access old new x
+    (λ r v mid is steps h. written_disk laws (old.port port).disk r v (length mid.tape) (mid.port port) h)
+    (steps_hold laws port old s.0 cr s.1 (comes_before port old s.0 new s.2 comes))

@@ -16,7 +16,7 @@ use Rattle.adapter.specs.Kept.{KeepsPort}
 use Rattle.adapter.specs.Steps.{DeviceTransition, Can, device_after, Steps}
 use Rattle.adapter.specs.Steps.DeviceTransition.{Fetch, FetchFault, Move, Clear, Done, Fault, Fatal, Fall, FrFall, LinkUp, Unplug, Plug, ResetEnds, Scribble}
 use Rattle.adapter.proofs.Changed.{changed_same}
-use Rattle.adapter.proofs.KeptLemmas.{law_steps_keep}
+use Rattle.refinement.specs.Below.{StepLaws}
 use Rattle.refinement.specs.Relation.{port_at}
 use Rattle.refinement.specs.Facts.{IsAwaited, IsUnflagged, IsQuiet}
 use Rattle.refinement.proofs.device.FactsOverAccesses.{noted_on, written_on}
@@ -66,9 +66,9 @@ reads_unflagged port r v old new x h =
     subst (λ (d : Device). IsUnflagged (d.port port)) (sym x.effect) (noted_on IsUnflagged (port_at port) (λ p q w y. y) r v x.mid (steps_unflagged port old x.mid x.steps h))
 
 -- PxIS is written with bit 30
-pub clearing_unflags : (port : Port) (v : ℕ) (old new : Device) → (old.port port.0).cr ≡ false → bit v 30 ≡ true → Writes (Px port Is) v old new → IsUnflagged (new.port port.0)
-clearing_unflags port v old new cr set call =
-    let k : KeepsPort (old.port port.0) (call.mid.port port.0) = (law_steps_keep call.steps).port port.0 in
+pub clearing_unflags : StepLaws → (port : Port) (v : ℕ) (old new : Device) → (old.port port.0).cr ≡ false → bit v 30 ≡ true → Writes (Px port Is) v old new → IsUnflagged (new.port port.0)
+clearing_unflags laws port v old new cr set call =
+    let k : KeepsPort (old.port port.0) (call.mid.port port.0) = (laws.keeps _ _ call.steps).port port.0 in
     subst IsUnflagged (sym (ap (λ (d : Device). d.port port.0) call.effect ∙ changed_same call.mid.port port.0 _))
     (k.cr cr, and_right ((call.mid.port port.0).is 30) (not (bit v 30)) (ap not set))
 

@@ -17,10 +17,10 @@ use Rattle.adapter.specs.Memory.{changed}
 use Rattle.adapter.specs.Steps.{DeviceTransition, Can, device_after, StepLeads, Steps}
 use Rattle.adapter.specs.Steps.DeviceTransition.{Fetch, FetchFault, Move, Clear, Done, Fault, Fatal, Fall, FrFall, LinkUp, Unplug, Plug, ResetEnds, Scribble}
 use Rattle.adapter.specs.declared.tape.Entry.{Entry}
-use Rattle.adapter.proofs.Calls.{SeenAt, seen}
+use Rattle.adapter.specs.Seen.{SeenAt}
 use Rattle.adapter.proofs.Changed.{changed_same}
-use Rattle.adapter.proofs.KeptLemmas.{step_keeps, law_steps_keep}
-use Rattle.block_machine.proofs.Keeps.{same_port}
+use Rattle.refinement.specs.Below.{StepLaws}
+use Rattle.refinement.specs.Relation.{port_at}
 use Rattle.refinement.specs.Facts.{RunsWell, IsDisturbance, Undisturbed, ShowsNoTrouble, TellsNoTrouble, ClearsNoTrouble}
 use Rattle.refinement.proofs.steps.AdapterCalls.{noted_tape}
 use Rattle.refinement.proofs.relation.OneSlot.{changed_at}
@@ -109,27 +109,27 @@ module _ (port : ℕ) (d : Device) where
   step_calm ResetEnds off can h = still refl
   step_calm (Scribble p slot at bytes) off can h = still refl
 
-leads_calm : (port : ℕ) (steps : List DeviceTransition) (old new : Device) → old.hr ≡ false → StepLeads steps old new → ShowsNoTrouble (new.port port) → Undisturbed port old new
-leads_calm port [] old new off e h = subst (Undisturbed port old) (sym e) (undisturbed_none port old)
-leads_calm port (step ∷ steps) old new off (can, lead) h =
-    let k : Keeps old (device_after step old) = step_keeps step old can in
-    let l : Keeps (device_after step old) new = law_steps_keep (record { steps = steps; lead = lead }) in
+leads_calm : StepLaws → (port : ℕ) (steps : List DeviceTransition) (old new : Device) → old.hr ≡ false → StepLeads steps old new → ShowsNoTrouble (new.port port) → Undisturbed port old new
+leads_calm laws port [] old new off e h = subst (Undisturbed port old) (sym e) (undisturbed_none port old)
+leads_calm laws port (step ∷ steps) old new off (can, lead) h =
+    let k : Keeps old (device_after step old) = laws.step step _ can in
+    let l : Keeps (device_after step old) new = laws.keeps _ _ (record { steps = steps; lead = lead }) in
     let on : KeepsOn old (device_after step old) = k.on off in
     let mid : ShowsNoTrouble ((device_after step old).port port) = shown_before ((device_after step old).port port) (new.port port) ((l.on on.no_reset).controls port) h in
-    undisturbed_more port old (device_after step old) new (step_calm port old step off can mid) (leads_calm port steps (device_after step old) new on.no_reset lead h)
+    undisturbed_more port old (device_after step old) new (step_calm port old step off can mid) (leads_calm laws port steps (device_after step old) new on.no_reset lead h)
 
-pub steps_show : (port : ℕ) (old new : Device) → old.hr ≡ false → Steps old new → ShowsNoTrouble (new.port port) → ShowsNoTrouble (old.port port) × Undisturbed port old new
-steps_show port old new off s h =
-    let on : KeepsOn old new = (law_steps_keep s).on off in
-    (shown_before (old.port port) (new.port port) (on.controls port) h, leads_calm port s.steps old new off s.lead h)
+pub steps_show : StepLaws → (port : ℕ) (old new : Device) → old.hr ≡ false → Steps old new → ShowsNoTrouble (new.port port) → ShowsNoTrouble (old.port port) × Undisturbed port old new
+steps_show laws port old new off s h =
+    let on : KeepsOn old new = (laws.keeps _ _ s).on off in
+    (shown_before (old.port port) (new.port port) (on.controls port) h, leads_calm laws port s.steps old new off s.lead h)
 
 -- ---- an access
 
 -- steps, and then an effect that writes no tape, and sets no bit and clears none
-module _ (port : ℕ) (old mid new : Device) (off : old.hr ≡ false) (s : Steps old mid) where
+module _ (laws : StepLaws) (port : ℕ) (old mid new : Device) (off : old.hr ≡ false) (s : Steps old mid) where
   then_effect : new.tape ≡ mid.tape → (ShowsNoTrouble (new.port port) → ShowsNoTrouble (mid.port port)) → ShowsNoTrouble (new.port port) → ShowsNoTrouble (old.port port) × Undisturbed port old new
   then_effect tape back h =
-      let x = steps_show port old mid off s (back h) in
+      let x = steps_show laws port old mid off s (back h) in
       (x.0, record { gained = x.1.gained; tape = tape ∙ x.1.tape; calm = x.1.calm })
 
 noted_before : (port : ℕ) (r : Reg) (v : ℕ) (d : Device) → ShowsNoTrouble ((noted r v d).port port) → ShowsNoTrouble (d.port port)
@@ -142,14 +142,14 @@ noted_before port Vs v d = λ h. h
 noted_before port Cap2 v d = λ h. h
 noted_before port Bohc v d = λ h. h
 
-pub reads_show : (port : ℕ) (r : Reg) (v : ℕ) (old new : Device) → old.hr ≡ false → Reads r v old new → ShowsNoTrouble (new.port port) → ShowsNoTrouble (old.port port) × Undisturbed port old new
-reads_show port r v old new off call =
-    then_effect port old call.mid new off call.steps (ap (λ (d : Device). d.tape) call.effect ∙ noted_tape r v call.mid)
+pub reads_show : StepLaws → (port : ℕ) (r : Reg) (v : ℕ) (old new : Device) → old.hr ≡ false → Reads r v old new → ShowsNoTrouble (new.port port) → ShowsNoTrouble (old.port port) × Undisturbed port old new
+reads_show laws port r v old new off call =
+    (then_effect laws) port old call.mid new off call.steps (ap (λ (d : Device). d.tape) call.effect ∙ noted_tape r v call.mid)
     (λ h. noted_before port r v call.mid (subst (λ (d : Device). ShowsNoTrouble (d.port port)) call.effect h))
 
-pub stores_show : (port at : ℕ) (bytes : List ℕ) (old new : Device) → old.hr ≡ false → Stores at bytes old new → ShowsNoTrouble (new.port port) → ShowsNoTrouble (old.port port) × Undisturbed port old new
-stores_show port at bytes old new off call =
-    then_effect port old call.mid new off call.steps (ap (λ (d : Device). d.tape) call.effect)
+pub stores_show : StepLaws → (port at : ℕ) (bytes : List ℕ) (old new : Device) → old.hr ≡ false → Stores at bytes old new → ShowsNoTrouble (new.port port) → ShowsNoTrouble (old.port port) × Undisturbed port old new
+stores_show laws port at bytes old new off call =
+    (then_effect laws) port old call.mid new off call.steps (ap (λ (d : Device). d.tape) call.effect)
     (λ h. subst (λ (d : Device). ShowsNoTrouble (d.port port)) call.effect h)
 
 -- a bit that isn't cleared was clear before
@@ -188,7 +188,7 @@ port_before port Ssts v tape p keep h = h
 written_before : (port : Port) (r : Reg) (v : ℕ) (d : Device) → ClearsNoTrouble port r v → ShowsNoTrouble ((written r v d).port port.0) → ShowsNoTrouble (d.port port.0)
 written_before port (Px p r) v d keep =
     changed_at d.port p.0 _ (λ k x. k ≡ port.0 → ShowsNoTrouble x → ShowsNoTrouble (d.port k))
-    (λ e. port_before p r v (length d.tape) (d.port p.0) (subst (λ (q : Port). ClearsNoTrouble q (Px p r) v) (sym (same_port p port e)) keep))
+    (λ e. port_before p r v (length d.tape) (d.port p.0) (subst (λ (q : Port). ClearsNoTrouble q (Px p r) v) (sym (ap port_at e)) keep))
     (λ k _ _ h. h) port.0 refl
 written_before port adapter.Is v d keep =
     either ShowsNoTrouble (bit v port.0) (unacknowledged (d.port port.0)) (d.port port.0) (shows_alike (d.port port.0) _ refl refl (λ place. refl)) (λ h. h)
@@ -199,10 +199,10 @@ written_before port Vs v d keep = λ h. h
 written_before port Cap2 v d keep = λ h. h
 written_before port Bohc v d keep = λ h. h
 
-pub writes_show : (port : Port) (r : Reg) (v : ℕ) (old new : Device) → old.hr ≡ false → ClearsNoTrouble port r v → Writes r v old new → ShowsNoTrouble (new.port port.0) →
+pub writes_show : StepLaws → (port : Port) (r : Reg) (v : ℕ) (old new : Device) → old.hr ≡ false → ClearsNoTrouble port r v → Writes r v old new → ShowsNoTrouble (new.port port.0) →
     ShowsNoTrouble (old.port port.0) × Undisturbed port.0 old new
-writes_show port r v old new off keep call =
-    then_effect port.0 old call.mid new off call.steps (ap (λ (d : Device). d.tape) call.effect ∙ written_tape r v call.mid)
+writes_show laws port r v old new off keep call =
+    (then_effect laws) port.0 old call.mid new off call.steps (ap (λ (d : Device). d.tape) call.effect ∙ written_tape r v call.mid)
     (λ h. written_before port r v call.mid keep (subst (λ (d : Device). ShowsNoTrouble (d.port port.0)) call.effect h))
 
 -- ---- what PxIS tells
@@ -220,9 +220,9 @@ four P a b c e place low up =
 pub shown_place : (v : ℕ) (p : DevicePort) → PortShows Is v p → (place : ℕ) → 27 ≤ place → place ≤ 30 → bit v place ≡ p.is place
 shown_place v p shows = four (λ place. bit v place ≡ p.is place) (shows 27 refl) (shows 28 refl) (shows 29 refl) (shows 30 refl)
 
-module _ (port : Port) (v : ℕ) (old new : Device) (off : old.hr ≡ false) (call : Reads (Px port Is) v old new) where
+module _ (laws : StepLaws) (port : Port) (v : ℕ) (old new : Device) (off : old.hr ≡ false) (call : Reads (Px port Is) v old new) where
   here : SeenAt port.0 Is v old new
-  here = seen port Is v old new call off
+  here = laws.seen port Is v old new call off
 
   pub told_calm : TellsNoTrouble v → ShowsNoTrouble (new.port port.0)
   told_calm h = record {
@@ -240,8 +240,8 @@ module _ (port : Port) (v : ℕ) (old new : Device) (off : old.hr ≡ false) (ca
 
   pub calm_is_found : TellsNoTrouble v → RunsWell (old.port port.0) → Undisturbed port.0 old new × RunsWell (new.port port.0)
   calm_is_found h healthy =
-      let x = reads_show port.0 (Px port Is) v old new off call (told_calm h) in
-      (x.1, healthy_reads port.0 (Px port Is) v old new off call x.1 healthy)
+      let x = reads_show laws port.0 (Px port Is) v old new off call (told_calm h) in
+      (x.1, healthy_reads laws port.0 (Px port Is) v old new off call x.1 healthy)
 
 -- so it may be written back
 pub back_clears : (port : Port) (v : ℕ) → TellsNoTrouble v → ClearsNoTrouble port (Px port Is) v
@@ -251,16 +251,16 @@ pub healthy_shows : (p : DevicePort) → RunsWell p → ShowsNoTrouble p
 healthy_shows p h = h.quiet
 
 -- PxIS, and then PxSERR
-pub pair_is_found : (port : Port) (v errors : ℕ) (old mid new : Device) → old.hr ≡ false → Reads (Px port Is) v old mid → Reads (Px port Serr) errors mid new →
+pub pair_is_found : StepLaws → (port : Port) (v errors : ℕ) (old mid new : Device) → old.hr ≡ false → Reads (Px port Is) v old mid → Reads (Px port Serr) errors mid new →
     ((place : ℕ) → 27 ≤ place → place ≤ 30 → bit v place ≡ false) → bit errors 16 ≡ false → bit errors 26 ≡ false → RunsWell (old.port port.0) → Undisturbed port.0 old mid × RunsWell (mid.port port.0)
-pair_is_found port v errors old mid new off one two quiet n x healthy =
-    let a : SeenAt port.0 Is v old mid = seen port Is v old mid one off in
-    let b : SeenAt port.0 Serr errors mid new = seen port Serr errors mid new two a.keeps.on.no_reset in
+pair_is_found laws port v errors old mid new off one two quiet n x healthy =
+    let a : SeenAt port.0 Is v old mid = laws.seen port Is v old mid one off in
+    let b : SeenAt port.0 Serr errors mid new = laws.seen port Serr errors mid new two a.keeps.on.no_reset in
     let c : KeepsControls (mid.port port.0) (new.port port.0) = b.keeps.on.controls port.0 in
     let shows : ShowsNoTrouble (mid.port port.0) = record {
       serr_n = was_false (mid.port port.0).serr_n (new.port port.0).serr_n c.serr_n (sym b.shows.0 ∙ n);
       serr_x = was_false (mid.port port.0).serr_x (new.port port.0).serr_x c.serr_x (sym b.shows.1 ∙ x);
       quiet = λ place low up. sym (shown_place v (mid.port port.0) a.shows place low up) ∙ quiet place low up;
     } in
-    let calm = reads_show port.0 (Px port Is) v old mid off one shows in
-    (calm.1, healthy_reads port.0 (Px port Is) v old mid off one calm.1 healthy)
+    let calm = reads_show laws port.0 (Px port Is) v old mid off one shows in
+    (calm.1, healthy_reads laws port.0 (Px port Is) v old mid off one calm.1 healthy)

@@ -13,6 +13,7 @@ use Rattle.block_machine.specs.Left as left
 use Rattle.block_machine.specs.State.{Machine}
 use Rattle.block_machine.specs.Steps.{Step}
 use Rattle.block_machine.proofs.EventLemmas.{after-append}
+use Rattle.refinement.specs.Below.{StepLaws}
 use Rattle.refinement.specs.Acts.{Act, AccessLeads, IsDone, AreDone, with_access, accesses_of, act_steps}
 use Rattle.refinement.specs.Driven.{SendsNone}
 use Rattle.refinement.specs.Driver.{DriverState, DriverRelation, Goes}
@@ -95,13 +96,13 @@ acts_of_kind May (act ∷ acts) all = let x = apart act.access (accesses_of acts
     apart (Some access) rest all = (All-head May access rest all, All-tail May access rest all)
 
 -- A port for whose disk slot 0 has no command of this operation, before any of the acts, is sent no page by it.
-module _ (port : ℕ) (o : Operation) (own : op_of o ≡ None) where
+module _ (laws : StepLaws) (port : ℕ) (o : Operation) (own : op_of o ≡ None) where
   act_silent : (k : DriverState) (m : Machine) (act : Act) → IsReachable m → DriverRelation m k → IsDone k m act → (k.uses port 0 ≡ Own o → ⊥) → SendsNone port o k.device act.later.device
   act_silent k m act reached x done none = over act.access done.leads
     where
       over : (access : Option Access) → AccessLeads access k.device act.later.device → SendsNone port o k.device act.later.device
       over None same = subst (λ (d : Device). SendsNone port o k.device d) (sym same) (gains_nothing (IsMove port o) k.device)
-      over (Some access) does = access_sends_none k.uses m access k.device act.later.device port o reached x.agrees does own none
+      over (Some access) does = access_sends_none laws k.uses m access k.device act.later.device port o reached x.agrees does own none
 
   pub done_silent : (acts : List Act) (k later : DriverState) (m : Machine) → IsReachable m → DriverRelation m k → (k.uses port 0 ≡ Own o → ⊥) →
       All (λ act. act.later.uses port 0 ≡ Own o → ⊥) acts → AreDone acts k m later → SendsNone port o k.device later.device
@@ -113,12 +114,12 @@ module _ (port : ℕ) (o : Operation) (own : op_of o ≡ None) where
       (All-head Q act acts all) (All-tail Q act acts all) done.1)
 
 -- a port that works on plain commands alone goes on so, where none of the accesses writes its PxSACT
-pub done_plain : (acts : List Act) (k later : DriverState) (m : Machine) (port : Port) → IsReachable m → DriverRelation m k → All (SparesRegister (Px port Sact)) (accesses_of acts) → AreDone acts k m later →
+pub done_plain : StepLaws → (acts : List Act) (k later : DriverState) (m : Machine) (port : Port) → IsReachable m → DriverRelation m k → All (SparesRegister (Px port Sact)) (accesses_of acts) → AreDone acts k m later →
     WorksPlainly (k.device.port port.0) → WorksPlainly (later.device.port port.0)
-done_plain acts k later m port reached x all done = done_keeps (λ (z : DriverState). WorksPlainly (z.device.port port.0)) (λ act. IsOfKind (SparesRegister (Px port Sact)) act.access)
+done_plain laws acts k later m port reached x all done = done_keeps (λ (z : DriverState). WorksPlainly (z.device.port port.0)) (λ act. IsOfKind (SparesRegister (Px port Sact)) act.access)
     (λ z n act r knows is spares. over z n act r knows act.access is.leads spares) acts k later m reached x (acts_of_kind (SparesRegister (Px port Sact)) acts all) done
   where
     over : (z : DriverState) (n : Machine) (act : Act) → IsReachable n → DriverRelation n z → (access : Option Access) → AccessLeads access z.device act.later.device → IsOfKind (SparesRegister (Px port Sact)) access →
         WorksPlainly (z.device.port port.0) → WorksPlainly (act.later.device.port port.0)
     over z n act r knows None same spares here = subst (λ (d : Device). WorksPlainly (d.port port.0)) (sym same) here
-    over z n act r knows (Some access) does spares here = access_plain z.uses n port access z.device act.later.device r knows.agrees spares does here
+    over z n act r knows (Some access) does spares here = access_plain laws z.uses n port access z.device act.later.device r knows.agrees spares does here

@@ -17,11 +17,10 @@ use Rattle.adapter.specs.declared.command.Operation.{Operation}
 use Rattle.adapter.specs.declared.tape.Entry.{Entry}
 use Rattle.adapter.specs.declared.tape.Entry.TheVariants as entry
 use Rattle.adapter.proofs.Changed.{changed_same, changed_other}
-use Rattle.adapter.proofs.KeptLemmas.{step_keeps, law_steps_keep}
 use Rattle.block_machine.specs.Histories.{IsReachable}
 use Rattle.block_machine.specs.Left as left
 use Rattle.block_machine.specs.State.{Machine}
-use Rattle.block_machine.proofs.HistoryLemmas.{reached_more}
+use Rattle.refinement.specs.Below.{StepLaws}
 use Rattle.refinement.specs.Relation.{StateRelation}
 use Rattle.refinement.specs.Follows.{SimulatesSteps}
 use Rattle.refinement.specs.Places.{scratch_of}
@@ -41,7 +40,7 @@ IsSpent p = IsOver p 0 ⊎ ((t : FetchedCommand) × (p.taken 0 ≡ Some t) × (t
 
 -- ---- a step
 
-module _ (uses : SlotStates) (m : Machine) (d : Device) (a : StateRelation uses m d) (port : ℕ) (o : Operation) (own : op_of o ≡ None) where
+module _ (laws : StepLaws) (uses : SlotStates) (m : Machine) (d : Device) (a : StateRelation uses m d) (port : ℕ) (o : Operation) (own : op_of o ≡ None) where
   -- a page that comes is of the command in slot 0
   page_asked : (p slot : ℕ) (t : FetchedCommand) (bytes : List ℕ) → MayMove d p slot t bytes → IsMove port o (entry.Move (move_of p slot t bytes)) →
       (uses port 0 ≡ Own o) × (p ≡ port) × (slot ≡ 0)
@@ -135,7 +134,7 @@ module _ (uses : SlotStates) (m : Machine) (d : Device) (a : StateRelation uses 
   -- and it goes on having none
   step_spent : (uses port 0 ≡ Own o) → (step : steps.DeviceTransition) → Can step d → IsSpent (d.port port) → IsSpent ((device_after step d).port port)
   step_spent u step can (inl over) =
-      let k : KeepsPort (d.port port) ((device_after step d).port port) = (step_keeps step d can).port port in
+      let k : KeepsPort (d.port port) ((device_after step d).port port) = (laws.step step _ can).port port in
       inl (record { issued = k.ci 0 over.issued; free = k.free 0 over.issued over.free })
   step_spent u step can (inr (t, is, all)) = by step can
     where
@@ -202,7 +201,7 @@ module _ (uses : SlotStates) (m : Machine) (d : Device) (a : StateRelation uses 
 
 -- ---- lists of steps
 
-module _ (uses : SlotStates) (port : ℕ) (o : Operation) (own : op_of o ≡ None) where
+module _ (laws : StepLaws) (uses : SlotStates) (port : ℕ) (o : Operation) (own : op_of o ≡ None) where
   no_pages : NoneOf (IsMove port o) []
   no_pages = All-nil (λ e. IsMove port o e → ⊥)
 
@@ -214,13 +213,13 @@ module _ (uses : SlotStates) (port : ℕ) (o : Operation) (own : op_of o ≡ Non
   leads_none m [] old new r a e spent gained is = subst (NoneOf (IsMove port o)) (sym (nothing_gained old new gained e is)) no_pages
   leads_none m (step ∷ steps) old new r a (can, lead) spent gained is =
       let f : SimulatesSteps uses m old (device_after step old) = step_follows uses m old step r a can in
-      let later = law_steps_keep (record { steps = steps; lead = lead }) in
+      let later = laws.keeps _ _ (record { steps = steps; lead = lead }) in
       subst (NoneOf (IsMove port o)) (sym (gained_parts old.tape (device_after step old).tape new.tape f.gained later.gained gained f.tape later.tape is))
       (All-append (λ e. IsMove port o e → ⊥) f.gained later.gained
-      (first f.gained (step_gains uses m old a port o own step can f.gained f.tape))
-      (leads_none (left.after m f.steps) steps (device_after step old) new (reached_more m f.steps r f.may) f.agrees lead (λ u. step_spent uses m old a port o own u step can (spent u)) later.gained later.tape))
+      (first f.gained (step_gains laws uses m old a port o own step can f.gained f.tape))
+      (leads_none (left.after m f.steps) steps (device_after step old) new (laws.reached m f.steps r f.may) f.agrees lead (λ u. step_spent laws uses m old a port o own u step can (spent u)) later.gained later.tape))
     where
-      first : (entries : List Entry) → Gains uses m old a port o own (device_after step old) entries → NoneOf (IsMove port o) entries
+      first : (entries : List Entry) → (Gains laws) uses m old a port o own (device_after step old) entries → NoneOf (IsMove port o) entries
       first entries (inl e) = subst (NoneOf (IsMove port o)) (sym e) no_pages
       first entries (inr (x, e, brings)) = subst (NoneOf (IsMove port o)) (sym e) (All-cons (λ y. IsMove port o y → ⊥) x [] (λ k. let b = brings k in b.unspent (spent b.asked)) no_pages)
 
@@ -228,43 +227,43 @@ module _ (uses : SlotStates) (port : ℕ) (o : Operation) (own : op_of o ≡ Non
   leads_once m [] old new r a e gained is = subst (OneAtMost (IsMove port o)) (sym (nothing_gained old new gained e is)) tt
   leads_once m (step ∷ steps) old new r a (can, lead) gained is =
       let f : SimulatesSteps uses m old (device_after step old) = step_follows uses m old step r a can in
-      let later = law_steps_keep (record { steps = steps; lead = lead }) in
+      let later = laws.keeps _ _ (record { steps = steps; lead = lead }) in
       subst (OneAtMost (IsMove port o)) (sym (gained_parts old.tape (device_after step old).tape new.tape f.gained later.gained gained f.tape later.tape is))
-      (first f.gained later.gained (step_gains uses m old a port o own step can f.gained f.tape)
-      (λ spent. leads_none (left.after m f.steps) steps (device_after step old) new (reached_more m f.steps r f.may) f.agrees lead (λ u. spent) later.gained later.tape)
-      (leads_once (left.after m f.steps) steps (device_after step old) new (reached_more m f.steps r f.may) f.agrees lead later.gained later.tape))
+      (first f.gained later.gained (step_gains laws uses m old a port o own step can f.gained f.tape)
+      (λ spent. leads_none (left.after m f.steps) steps (device_after step old) new (laws.reached m f.steps r f.may) f.agrees lead (λ u. spent) later.gained later.tape)
+      (leads_once (left.after m f.steps) steps (device_after step old) new (laws.reached m f.steps r f.may) f.agrees lead later.gained later.tape))
     where
-      first : (entries later : List Entry) → Gains uses m old a port o own (device_after step old) entries → (IsSpent ((device_after step old).port port) → NoneOf (IsMove port o) later) → OneAtMost (IsMove port o) later → OneAtMost (IsMove port o) (entries ++ later)
+      first : (entries later : List Entry) → (Gains laws) uses m old a port o own (device_after step old) entries → (IsSpent ((device_after step old).port port) → NoneOf (IsMove port o) later) → OneAtMost (IsMove port o) later → OneAtMost (IsMove port o) (entries ++ later)
       first entries later (inl e) none once = subst (λ (l : List Entry). OneAtMost (IsMove port o) (l ++ later)) (sym e) once
       first entries later (inr (x, e, brings)) none once = subst (λ (l : List Entry). OneAtMost (IsMove port o) (l ++ later)) (sym e) (λ k. none (brings k).spent, once)
 
 -- ---- accesses
 
-pub pages_asked : (uses : SlotStates) (m : Machine) (old new : Device) (port : ℕ) (o : Operation) (gained : List Entry) → IsReachable m → StateRelation uses m old → Steps old new → new.tape ≡ old.tape ++ gained → op_of o ≡ None →
+pub pages_asked : StepLaws → (uses : SlotStates) (m : Machine) (old new : Device) (port : ℕ) (o : Operation) (gained : List Entry) → IsReachable m → StateRelation uses m old → Steps old new → new.tape ≡ old.tape ++ gained → op_of o ≡ None →
     (uses port 0 ≡ Own o → IsOver (old.port port) 0) → All (λ e. IsMove port o e → ⊥) gained
-pages_asked uses m old new port o gained r a s is own over = leads_none uses port o own m s.steps old new r a s.lead (λ u. inl (over u)) gained is
+pages_asked laws uses m old new port o gained r a s is own over = leads_none laws uses port o own m s.steps old new r a s.lead (λ u. inl (over u)) gained is
 
-pub pages_once : (uses : SlotStates) (m : Machine) (old new : Device) (port : ℕ) (o : Operation) (gained : List Entry) → IsReachable m → StateRelation uses m old → Steps old new → new.tape ≡ old.tape ++ gained → op_of o ≡ None →
+pub pages_once : StepLaws → (uses : SlotStates) (m : Machine) (old new : Device) (port : ℕ) (o : Operation) (gained : List Entry) → IsReachable m → StateRelation uses m old → Steps old new → new.tape ≡ old.tape ++ gained → op_of o ≡ None →
     OneAtMost (IsMove port o) gained
-pages_once uses m old new port o gained r a s is own = leads_once uses port o own m s.steps old new r a s.lead gained is
+pages_once laws uses m old new port o gained r a s is own = leads_once laws uses port o own m s.steps old new r a s.lead gained is
 
-pub access_pages_asked : (uses : SlotStates) (m : Machine) (access : Access) (old new : Device) (port : ℕ) (o : Operation) (gained : List Entry) → IsReachable m → StateRelation uses m old → Does access old new → new.tape ≡ old.tape ++ gained → op_of o ≡ None →
+pub access_pages_asked : StepLaws → (uses : SlotStates) (m : Machine) (access : Access) (old new : Device) (port : ℕ) (o : Operation) (gained : List Entry) → IsReachable m → StateRelation uses m old → Does access old new → new.tape ≡ old.tape ++ gained → op_of o ≡ None →
     (uses port 0 ≡ Own o → IsOver (old.port port) 0) → All (λ e. IsMove port o e → ⊥) gained
-access_pages_asked uses m access old new port o gained r a x is own over =
+access_pages_asked laws uses m access old new port o gained r a x is own over =
     let s = access_steps access old new x in
-    pages_asked uses m old s.0 port o gained r a s.1 (sym s.2 ∙ is) own over
+    (pages_asked laws) uses m old s.0 port o gained r a s.1 (sym s.2 ∙ is) own over
 
 -- where slot 0 has no command for such a page
-pub access_sends_none : (uses : SlotStates) (m : Machine) (access : Access) (old new : Device) (port : ℕ) (o : Operation) → IsReachable m → StateRelation uses m old → Does access old new → op_of o ≡ None →
+pub access_sends_none : StepLaws → (uses : SlotStates) (m : Machine) (access : Access) (old new : Device) (port : ℕ) (o : Operation) → IsReachable m → StateRelation uses m old → Does access old new → op_of o ≡ None →
     (uses port 0 ≡ Own o → ⊥) → GainsNone (IsMove port o) old new
-access_sends_none uses m access old new port o r a x own none =
+access_sends_none laws uses m access old new port o r a x own none =
     let s = access_steps access old new x in
-    let k : Keeps old s.0 = law_steps_keep s.1 in
+    let k : Keeps old s.0 = laws.keeps _ _ s.1 in
     let is : new.tape ≡ old.tape ++ k.gained = s.2 ∙ k.tape in
-    (k.gained, is, access_pages_asked uses m access old new port o k.gained r a x is own (λ u. absurd (none u)))
+    (k.gained, is, access_pages_asked laws uses m access old new port o k.gained r a x is own (λ u. absurd (none u)))
 
-pub access_pages_once : (uses : SlotStates) (m : Machine) (access : Access) (old new : Device) (port : ℕ) (o : Operation) (gained : List Entry) → IsReachable m → StateRelation uses m old → Does access old new → new.tape ≡ old.tape ++ gained → op_of o ≡ None →
+pub access_pages_once : StepLaws → (uses : SlotStates) (m : Machine) (access : Access) (old new : Device) (port : ℕ) (o : Operation) (gained : List Entry) → IsReachable m → StateRelation uses m old → Does access old new → new.tape ≡ old.tape ++ gained → op_of o ≡ None →
     OneAtMost (IsMove port o) gained
-access_pages_once uses m access old new port o gained r a x is own =
+access_pages_once laws uses m access old new port o gained r a x is own =
     let s = access_steps access old new x in
-    pages_once uses m old s.0 port o gained r a s.1 (sym s.2 ∙ is) own
+    (pages_once laws) uses m old s.0 port o gained r a s.1 (sym s.2 ∙ is) own

@@ -23,12 +23,11 @@ use Rattle.adapter.specs.declared.tape.Entry.{Entry}
 use Rattle.adapter.specs.declared.tape.Move as tape_move
 use Rattle.adapter.specs.declared.tape.Entry.TheVariants as entry
 use Rattle.adapter.proofs.Changed.{changed_same, changed_other}
-use Rattle.adapter.proofs.KeptLemmas.{step_keeps, law_steps_keep}
 use Rattle.adapter.proofs.SaysLemmas.{says_meaning}
 use Rattle.block_machine.specs.Histories.{IsReachable}
 use Rattle.block_machine.specs.Left as left
 use Rattle.block_machine.specs.State.{Machine}
-use Rattle.block_machine.proofs.HistoryLemmas.{reached_more}
+use Rattle.refinement.specs.Below.{StepLaws}
 use Rattle.refinement.specs.Relation.{StateRelation}
 use Rattle.refinement.specs.Awaits.{IsUnbrought, HasCome, AwaitsPage}
 use Rattle.refinement.specs.Driver.{IsOwnPrepared}
@@ -215,9 +214,9 @@ module _ (uses : SlotStates) (m : Machine) (d : Device) (a : StateRelation uses 
 longer : (tape gained new : List Entry) (n : ℕ) → new ≡ tape ++ gained → n ≤ length tape → n ≤ length new
 longer tape gained new n is le = let l = length-append tape gained in let same : length new ≡ length (tape ++ gained) = ap length is in omega (arith, l, same, le)
 
-step_waits : (uses : SlotStates) (m : Machine) (port : ℕ) (o : Operation) (since : ℕ) (step : DeviceTransition) (d : Device) → StateRelation uses m d → Can step d → AwaitsPage uses port o since d → AwaitsPage uses port o since (device_after step d)
-step_waits uses m port o since step d a can w =
-    let k : Keeps d (device_after step d) = step_keeps step d can in
+step_waits : StepLaws → (uses : SlotStates) (m : Machine) (port : ℕ) (o : Operation) (since : ℕ) (step : DeviceTransition) (d : Device) → StateRelation uses m d → Can step d → AwaitsPage uses port o since d → AwaitsPage uses port o since (device_after step d)
+step_waits laws uses m port o since step d a can w =
+    let k : Keeps d (device_after step d) = laws.step step _ can in
     let on : KeepsOn d (device_after step d) = k.on w.off in
     record {
       off = on.no_reset;
@@ -233,14 +232,14 @@ step_waits uses m port o since step d a can w =
           w.page;
     }
 
-leads_wait : (uses : SlotStates) (m : Machine) (port : ℕ) (o : Operation) (since : ℕ) (steps : List DeviceTransition) (old new : Device) → IsReachable m → StateRelation uses m old → StepLeads steps old new → AwaitsPage uses port o since old → AwaitsPage uses port o since new
-leads_wait uses m port o since [] old new r a e w = subst (AwaitsPage uses port o since) (sym e) w
-leads_wait uses m port o since (step ∷ steps) old new r a (can, lead) w =
+leads_wait : StepLaws → (uses : SlotStates) (m : Machine) (port : ℕ) (o : Operation) (since : ℕ) (steps : List DeviceTransition) (old new : Device) → IsReachable m → StateRelation uses m old → StepLeads steps old new → AwaitsPage uses port o since old → AwaitsPage uses port o since new
+leads_wait laws uses m port o since [] old new r a e w = subst (AwaitsPage uses port o since) (sym e) w
+leads_wait laws uses m port o since (step ∷ steps) old new r a (can, lead) w =
     let f : SimulatesSteps uses m old (device_after step old) = step_follows uses m old step r a can in
-    leads_wait uses (left.after m f.steps) port o since steps (device_after step old) new (reached_more m f.steps r f.may) f.agrees lead (step_waits uses m port o since step old a can w)
+    leads_wait laws uses (left.after m f.steps) port o since steps (device_after step old) new (laws.reached m f.steps r f.may) f.agrees lead (step_waits laws uses m port o since step old a can w)
 
-pub steps_wait : (uses : SlotStates) (m : Machine) (port : ℕ) (o : Operation) (since : ℕ) (old new : Device) → IsReachable m → StateRelation uses m old → Steps old new → AwaitsPage uses port o since old → AwaitsPage uses port o since new
-steps_wait uses m port o since old new r a s w = leads_wait uses m port o since s.steps old new r a s.lead w
+pub steps_wait : StepLaws → (uses : SlotStates) (m : Machine) (port : ℕ) (o : Operation) (since : ℕ) (old new : Device) → IsReachable m → StateRelation uses m old → Steps old new → AwaitsPage uses port o since old → AwaitsPage uses port o since new
+steps_wait laws uses m port o since old new r a s w = leads_wait laws uses m port o since s.steps old new r a s.lead w
 
 -- ---- accesses
 
@@ -267,11 +266,11 @@ written_un Cmd v tape p on h =
 written_un Ci v tape p on h = (or_left (p.ci 0) (bit v 0) h.0, h.1)
 written_un _ v tape p on h = h
 
-pub access_waits : (uses : SlotStates) (m : Machine) (port : Port) (o : Operation) (since : ℕ) (access : Access) (old new : Device) → IsReachable m → StateRelation uses m old → ClearsNoStart port access → new.hr ≡ false → Does access old new →
+pub access_waits : StepLaws → (uses : SlotStates) (m : Machine) (port : Port) (o : Operation) (since : ℕ) (access : Access) (old new : Device) → IsReachable m → StateRelation uses m old → ClearsNoStart port access → new.hr ≡ false → Does access old new →
     AwaitsPage uses port.0 o since old → AwaitsPage uses port.0 o since new
-access_waits uses m port o since access old new r a keeps off x w =
+access_waits laws uses m port o since access old new r a keeps off x w =
     let s = access_steps access old new x in
-    let y : AwaitsPage uses port.0 o since s.0 = steps_wait uses m port.0 o since old s.0 r a s.1 w in
+    let y : AwaitsPage uses port.0 o since s.0 = steps_wait laws uses m port.0 o since old s.0 r a s.1 w in
     record {
       off = off;
       st = effect_keeps Runs port (λ p q v h. h) (λ p h. h) access old new x
@@ -289,15 +288,15 @@ access_waits uses m port o since access old new r a keeps off x w =
 
 -- ---- it is issued, found and loaded
 
-pub page_is_issued : (uses : SlotStates) (m : Machine) (port : Port) (o : Operation) (v : ℕ) (old new : Device) → IsReachable m → StateRelation uses m old → old.hr ≡ false → IsOwnPrepared uses old port.0 o v → Writes (Px port Ci) v old new →
+pub page_is_issued : StepLaws → (uses : SlotStates) (m : Machine) (port : Port) (o : Operation) (v : ℕ) (old new : Device) → IsReachable m → StateRelation uses m old → old.hr ≡ false → IsOwnPrepared uses old port.0 o v → Writes (Px port Ci) v old new →
     AwaitsPage (put uses port.0 0 (Own o)) port.0 o (length new.tape) new
-page_is_issued uses m port o v old new r a off x call =
+page_is_issued laws uses m port o v old new r a off x call =
     let f : SimulatesSteps uses m old call.mid = steps_follow uses m old call.mid r a call.steps in
     let y : IsOwnPrepared uses call.mid port.0 o v = own_prepared_stays uses m old call.mid port.0 o v r a off call.steps x in
     let over : IsOver (call.mid.port port.0) 0 = own_over uses (left.after m f.steps) call.mid f.agrees port.0 o v y in
     let is : new.port port.0 ≡ issued_port (call.mid.port port.0) v = ap (λ (d : Device). d.port port.0) call.effect ∙ changed_same call.mid.port port.0 _ in
     record {
-      off = ap (λ (d : Device). d.hr) call.effect ∙ ((law_steps_keep call.steps).on off).no_reset;
+      off = ap (λ (d : Device). d.hr) call.effect ∙ ((laws.keeps _ _ call.steps).on off).no_reset;
       st = ap (λ (p : DevicePort). p.st) is ∙ y.started;
       own = put_same uses port.0 0 (Own o);
       known = le_refl (length new.tape);
@@ -311,20 +310,20 @@ page_is_issued uses m port o v old new r a off x call =
 come_of : (uses : SlotStates) (port : ℕ) (o : Operation) (since : ℕ) (d : Device) → AwaitsPage uses port o since d → (d.port port).ci 0 ≡ false → HasCome d.tape port o since
 come_of uses port o since d w clear = ⊎_elim (λ (x : IsUnbrought (d.port port)). absurd (both_ways _ clear x.issued)) (λ (x : HasCome d.tape port o since). x) w.page
 
-pub law_page_is_awaited : (uses : SlotStates) (m : Machine) (port : Port) (o : Operation) (since v : ℕ) (old new : Device) → IsReachable m → StateRelation uses m old → AwaitsPage uses port.0 o since old → Reads (Px port Ci) v old new → bit v 0 ≡ false →
+pub law_page_is_awaited : StepLaws → (uses : SlotStates) (m : Machine) (port : Port) (o : Operation) (since v : ℕ) (old new : Device) → IsReachable m → StateRelation uses m old → AwaitsPage uses port.0 o since old → Reads (Px port Ci) v old new → bit v 0 ≡ false →
     FindsOwnPage uses m port.0 o old new × Brought new.memory new.tape port.0 o since
-law_page_is_awaited uses m port o since v old new r a w call clear =
-    let page : FindsOwnPage uses m port.0 o old new = page_is_read uses m port o v old new r a w.off w.st w.own call clear in
-    let y : AwaitsPage uses port.0 o since call.mid = steps_wait uses m port.0 o since old call.mid r a call.steps w in
+law_page_is_awaited laws uses m port o since v old new r a w call clear =
+    let page : FindsOwnPage uses m port.0 o old new = page_is_read laws uses m port o v old new r a w.off w.st w.own call clear in
+    let y : AwaitsPage uses port.0 o since call.mid = steps_wait laws uses m port.0 o since old call.mid r a call.steps w in
     let come : HasCome call.mid.tape port.0 o since = come_of uses port.0 o since call.mid y (sym (call.shows 0 (omega arith)) ∙ clear) in
     let there : HasCome new.tape port.0 o since = subst (λ (t : List Entry). HasCome t port.0 o since) (sym (ap (λ (d : Device). d.tape) call.effect)) come in
     (page, (brought_since new.memory new.tape port.0 o since (new.port port.0).notes.st_set_at there page.brought).0)
 
-pub awaited_is_loaded : (uses : SlotStates) (m : Machine) (port : ℕ) (o : Operation) (since : ℕ) (bytes : List ℕ) (old new : Device) → IsReachable m → StateRelation uses m old → AwaitsPage uses port o since old → IsOver (old.port port) 0 →
+pub awaited_is_loaded : StepLaws → (uses : SlotStates) (m : Machine) (port : ℕ) (o : Operation) (since : ℕ) (bytes : List ℕ) (old new : Device) → IsReachable m → StateRelation uses m old → AwaitsPage uses port o since old → IsOver (old.port port) 0 →
     Loads (scratch_of port) bytes old new → length bytes ≡ 512 → (b : Brought new.memory new.tape port o since) × (bytes ≡ b.move.bytes.value)
-awaited_is_loaded uses m port o since bytes old new r a w over call size =
-    let page = page_is_loaded uses m port o bytes old new r a w.off w.st w.own over call size in
-    let y : AwaitsPage uses port o since new = steps_wait uses m port o since old new r a call.steps w in
-    let come : HasCome new.tape port o since = come_of uses port o since new y (((law_steps_keep call.steps).port port).ci 0 over.issued) in
+awaited_is_loaded laws uses m port o since bytes old new r a w over call size =
+    let page = page_is_loaded laws uses m port o bytes old new r a w.off w.st w.own over call size in
+    let y : AwaitsPage uses port o since new = steps_wait laws uses m port o since old new r a call.steps w in
+    let come : HasCome new.tape port o since = come_of uses port o since new y (((laws.keeps _ _ call.steps).port port).ci 0 over.issued) in
     let b = brought_since new.memory new.tape port o since (new.port port).notes.st_set_at come page.0.brought in
     (b.0, page.1 ∙ ap (λ (x : tape_move.Move). x.bytes.value) (sym b.1))

@@ -18,7 +18,7 @@ use Rattle.block_machine.specs.State.{Machine}
 use Rattle.block_machine.specs.Steps.{Store, Load, May, after_step}
 use Rattle.block_machine.proofs.Configured.{owners_stay}
 use Rattle.block_machine.proofs.Limits.{owned}
-use Rattle.block_machine.proofs.HistoryLemmas.{reached_more}
+use Rattle.refinement.specs.Below.{StepLaws}
 use Rattle.refinement.specs.Relation.{StateRelation}
 use Rattle.refinement.specs.Driver.{DriverState, DriverRelation, IsBacked, EndsWith}
 use Rattle.refinement.specs.Follows.{SimulatesSteps}
@@ -66,11 +66,11 @@ stored_on uses m d reached a client frame offset bytes opens =
       lasting = a.lasting;
     }
 
-pub client_stores : (k : DriverState) (m : Machine) (client : ClientId) (frame : Frame) (offset : ℕ) (bytes : List ℕ) (new : Device) → IsReachable m → DriverRelation m k → May m (Store client frame offset bytes) →
+pub client_stores : StepLaws → (k : DriverState) (m : Machine) (client : ClientId) (frame : Frame) (offset : ℕ) (bytes : List ℕ) (new : Device) → IsReachable m → DriverRelation m k → May m (Store client frame offset bytes) →
     Stores (4096 * frame.0 + offset) bytes k.device new → EndsWith k m (Store client frame offset bytes) (record k { device = new })
-client_stores k m client frame offset bytes new r knows may call =
+client_stores laws k m client frame offset bytes new r knows may call =
     let f : SimulatesSteps k.uses m k.device call.mid = steps_follow k.uses m k.device call.mid r knows.agrees call.steps in
-    let later : IsReachable (left.after m f.steps) = reached_more m f.steps r f.may in
+    let later : IsReachable (left.after m f.steps) = laws.reached m f.steps r f.may in
     let opens = open_stays k.uses m k.device call.mid f client frame offset (length bytes) may in
     let first : IsBacked k.device call.mid m f.steps = backed k.uses m k.device call.mid f in
     let all : IsBacked k.device call.mid m (Store client frame offset bytes ∷ f.steps) = backed_then k.device call.mid call.mid m f.steps (Store client frame offset bytes ∷ []) first (own_backed call.mid (left.after m f.steps) (Store client frame offset bytes) (λ z. z)) in
@@ -89,11 +89,11 @@ client_stores k m client frame offset bytes new r knows may call =
 
 -- ---- a load
 
-pub client_loads : (k : DriverState) (m : Machine) (client : ClientId) (frame : Frame) (offset : ℕ) (bytes : List ℕ) (new : Device) → IsReachable m → DriverRelation m k → IsOpen m.owner m.lent client frame offset (length bytes) →
+pub client_loads : StepLaws → (k : DriverState) (m : Machine) (client : ClientId) (frame : Frame) (offset : ℕ) (bytes : List ℕ) (new : Device) → IsReachable m → DriverRelation m k → IsOpen m.owner m.lent client frame offset (length bytes) →
     Loads (4096 * frame.0 + offset) bytes k.device new → EndsWith k m (Load client frame offset bytes) (record k { device = new })
-client_loads k m client frame offset bytes new r knows may call =
+client_loads laws k m client frame offset bytes new r knows may call =
     let f : SimulatesSteps k.uses m k.device new = steps_follow k.uses m k.device new r knows.agrees call.steps in
-    let later : IsReachable (left.after m f.steps) = reached_more m f.steps r f.may in
+    let later : IsReachable (left.after m f.steps) = laws.reached m f.steps r f.may in
     let opens = open_stays k.uses m k.device new f client frame offset (length bytes) may in
     let x = open_in (left.after m f.steps) later client frame offset (length bytes) opens in
     let first : IsBacked k.device new m f.steps = backed k.uses m k.device new f in

@@ -17,11 +17,10 @@ use Rattle.adapter.specs.Steps.{DeviceTransition, Can, device_after, StepLeads, 
 use Rattle.adapter.specs.Steps.DeviceTransition.{Fetch, FetchFault, Move, Clear, Done, Fault, Fatal, Fall, FrFall, LinkUp, Unplug, Plug, ResetEnds, Scribble}
 use Rattle.adapter.specs.declared.command.Operation.{Operation}
 use Rattle.adapter.proofs.Changed.{changed_same}
-use Rattle.adapter.proofs.KeptLemmas.{step_keeps, law_steps_keep}
 use Rattle.block_machine.specs.Histories.{IsReachable}
 use Rattle.block_machine.specs.Left as left
 use Rattle.block_machine.specs.State.{Machine}
-use Rattle.block_machine.proofs.HistoryLemmas.{reached_more}
+use Rattle.refinement.specs.Below.{StepLaws}
 use Rattle.refinement.specs.Relation.{StateRelation}
 use Rattle.refinement.specs.Driver.{IsOwnPrepared}
 use Rattle.refinement.specs.Facts.{RunsWell, TellsNoTrouble}
@@ -125,17 +124,17 @@ module _ (uses : SlotStates) (m : Machine) (d : Device) (a : StateRelation uses 
   step_ends ResetEnds can = absurd (both_ways _ off can)
   step_ends (Scribble p slot at bytes) can = h
 
-leads_end : (uses : SlotStates) (m : Machine) (port : ℕ) → ((slot : ℕ) → slot ≢ 0 → uses port slot ≡ Free) → (steps : List DeviceTransition) (old new : Device) → IsReachable m → StateRelation uses m old → old.hr ≡ false → StepLeads steps old new → Ends (old.port port) →
+leads_end : StepLaws → (uses : SlotStates) (m : Machine) (port : ℕ) → ((slot : ℕ) → slot ≢ 0 → uses port slot ≡ Free) → (steps : List DeviceTransition) (old new : Device) → IsReachable m → StateRelation uses m old → old.hr ≡ false → StepLeads steps old new → Ends (old.port port) →
     (new.hr ≡ false) × Ends (new.port port)
-leads_end uses m port alone [] old new r a off e h = subst (λ (d : Device). (d.hr ≡ false) × Ends (d.port port)) (sym e) (off, h)
-leads_end uses m port alone (step ∷ steps) old new r a off (can, lead) h =
+leads_end laws uses m port alone [] old new r a off e h = subst (λ (d : Device). (d.hr ≡ false) × Ends (d.port port)) (sym e) (off, h)
+leads_end laws uses m port alone (step ∷ steps) old new r a off (can, lead) h =
     let f : SimulatesSteps uses m old (device_after step old) = step_follows uses m old step r a can in
-    leads_end uses (left.after m f.steps) port alone steps (device_after step old) new (reached_more m f.steps r f.may) f.agrees ((step_keeps step old can).on off).no_reset lead
+    leads_end laws uses (left.after m f.steps) port alone steps (device_after step old) new (laws.reached m f.steps r f.may) f.agrees ((laws.step step _ can).on off).no_reset lead
     (step_ends uses m old a port alone off h step can)
 
-pub steps_end : (uses : SlotStates) (m : Machine) (port : ℕ) (old new : Device) → IsReachable m → StateRelation uses m old → Steps old new → EndsHalt uses port old → EndsHalt uses port new
-steps_end uses m port old new r a s h =
-    let x = leads_end uses m port h.alone s.steps old new r a h.off s.lead (h.st, h.plain, h.ends) in
+pub steps_end : StepLaws → (uses : SlotStates) (m : Machine) (port : ℕ) (old new : Device) → IsReachable m → StateRelation uses m old → Steps old new → EndsHalt uses port old → EndsHalt uses port new
+steps_end laws uses m port old new r a s h =
+    let x = leads_end laws uses m port h.alone s.steps old new r a h.off s.lead (h.st, h.plain, h.ends) in
     record { off = x.0; st = x.1.0; plain = x.1.1; alone = h.alone; ends = x.1.2 }
 
 -- ---- an access
@@ -152,11 +151,11 @@ written_ends Sact v tape p on other h = absurd (other refl)
 written_ends Ci v tape p on other h = (h.0, h.1, ⊎_elim (λ (i : p.ci 0 ≡ true). inl (or_left (p.ci 0) (bit v 0) i)) (λ (r : p.halt ≡ NotHalted). inr r) h.2)
 written_ends _ v tape p on other h = h
 
-pub access_ends : (uses : SlotStates) (m : Machine) (port : Port) (access : Access) (old new : Device) → IsReachable m → StateRelation uses m old → ClearsNoStart port access → SparesRegister (Px port Sact) access → new.hr ≡ false → Does access old new →
+pub access_ends : StepLaws → (uses : SlotStates) (m : Machine) (port : Port) (access : Access) (old new : Device) → IsReachable m → StateRelation uses m old → ClearsNoStart port access → SparesRegister (Px port Sact) access → new.hr ≡ false → Does access old new →
     EndsHalt uses port.0 old → EndsHalt uses port.0 new
-access_ends uses m port access old new r a keeps spares off x h =
+access_ends laws uses m port access old new r a keeps spares off x h =
     let s = access_steps access old new x in
-    let c = leads_end uses m port.0 h.alone s.1.steps old s.0 r a h.off s.1.lead (h.st, h.plain, h.ends) in
+    let c = leads_end laws uses m port.0 h.alone s.1.steps old s.0 r a h.off s.1.lead (h.st, h.plain, h.ends) in
     let e : Ends (new.port port.0) =
     effect_keeps Ends port (λ p q v y. y) (λ p y. y) access old new x
     (λ q v mid is steps y. written_ends q v (length mid.tape) (mid.port port.0)
@@ -169,37 +168,37 @@ pub or_set : (b c : Bool) → c ≡ true → b || c ≡ true
 or_set true c e = refl
 or_set false c e = e
 
-pub issued_ends : (uses : SlotStates) (m : Machine) (port : Port) (o : Operation) (v : ℕ) (old new : Device) → IsReachable m → StateRelation uses m old → old.hr ≡ false → ((slot : ℕ) → slot ≢ 0 → uses port.0 slot ≡ Free) →
+pub issued_ends : StepLaws → (uses : SlotStates) (m : Machine) (port : Port) (o : Operation) (v : ℕ) (old new : Device) → IsReachable m → StateRelation uses m old → old.hr ≡ false → ((slot : ℕ) → slot ≢ 0 → uses port.0 slot ≡ Free) →
     IsOwnPrepared uses old port.0 o v → Writes (Px port Ci) v old new → EndsHalt (put uses port.0 0 (Own o)) port.0 new
-issued_ends uses m port o v old new r a off alone x call =
+issued_ends laws uses m port o v old new r a off alone x call =
     let y : IsOwnPrepared uses call.mid port.0 o v = own_prepared_stays uses m old call.mid port.0 o v r a off call.steps x in
     let is : new.port port.0 ≡ port_written Ci v (length call.mid.tape) (call.mid.port port.0) = ap (λ (d : Device). d.port port.0) call.effect ∙ changed_same call.mid.port port.0 _ in
     record {
-      off = ap (λ (d : Device). d.hr) call.effect ∙ ((law_steps_keep call.steps).on off).no_reset;
+      off = ap (λ (d : Device). d.hr) call.effect ∙ ((laws.keeps _ _ call.steps).on off).no_reset;
       st = ap (λ (p : DevicePort). p.st) is ∙ y.started;
-      plain = ap (λ (p : DevicePort). p.sact 0) is ∙ steps_clear port.0 0 old call.mid call.steps (free_unarmed uses m old a port.0 0 x.free);
+      plain = ap (λ (p : DevicePort). p.sact 0) is ∙ steps_clear laws port.0 0 old call.mid call.steps (free_unarmed uses m old a port.0 0 x.free);
       alone = λ slot ne. put_other uses port.0 0 (Own o) port.0 slot (λ _ z. ne z) ∙ alone slot ne;
       ends = inl (ap (λ (p : DevicePort). p.ci 0) is ∙ or_set ((call.mid.port port.0).ci 0) (bit v 0) y.here);
     }
 
 -- ---- PxCI is read
 
-reads_end : (uses : SlotStates) (m : Machine) (port : Port) (v : ℕ) (old new : Device) → IsReachable m → StateRelation uses m old → EndsHalt uses port.0 old → Reads (Px port Ci) v old new → EndsHalt uses port.0 new
-reads_end uses m port v old new r a h call =
-    let mid : EndsHalt uses port.0 call.mid = steps_end uses m port.0 old call.mid r a call.steps h in
-    access_ends uses m port (Reading (Px port Ci) v) old new r a (reading_clears port (Px port Ci) v) tt (ap (λ (d : Device). d.hr) call.effect ∙ mid.off) call h
+reads_end : StepLaws → (uses : SlotStates) (m : Machine) (port : Port) (v : ℕ) (old new : Device) → IsReachable m → StateRelation uses m old → EndsHalt uses port.0 old → Reads (Px port Ci) v old new → EndsHalt uses port.0 new
+reads_end laws uses m port v old new r a h call =
+    let mid : EndsHalt uses port.0 call.mid = steps_end laws uses m port.0 old call.mid r a call.steps h in
+    (access_ends laws) uses m port (Reading (Px port Ci) v) old new r a (reading_clears port (Px port Ci) v) tt (ap (λ (d : Device). d.hr) call.effect ∙ mid.off) call h
 
-pub halt_ended : (uses : SlotStates) (m : Machine) (port : Port) (v : ℕ) (old new : Device) → IsReachable m → StateRelation uses m old → EndsHalt uses port.0 old → Reads (Px port Ci) v old new → bit v 0 ≡ false → (new.port port.0).halt ≡ NotHalted
-halt_ended uses m port v old new r a h call clear =
+pub halt_ended : StepLaws → (uses : SlotStates) (m : Machine) (port : Port) (v : ℕ) (old new : Device) → IsReachable m → StateRelation uses m old → EndsHalt uses port.0 old → Reads (Px port Ci) v old new → bit v 0 ≡ false → (new.port port.0).halt ≡ NotHalted
+halt_ended laws uses m port v old new r a h call clear =
     let shown : (new.port port.0).ci 0 ≡ false = ap (λ (d : Device). (d.port port.0).ci 0) call.effect ∙ (ap (λ (p : DevicePort). p.ci 0) (changed_same call.mid.port port.0 _) ∙ (sym (call.shows 0 (omega arith)) ∙ clear)) in
-    ⊎_elim (λ (i : (new.port port.0).ci 0 ≡ true). absurd (both_ways _ shown i)) (λ (n : (new.port port.0).halt ≡ NotHalted). n) (reads_end uses m port v old new r a h call).ends
+    ⊎_elim (λ (i : (new.port port.0).ci 0 ≡ true). absurd (both_ways _ shown i)) (λ (n : (new.port port.0).halt ≡ NotHalted). n) (reads_end laws uses m port v old new r a h call).ends
 
-pub ended_well : (uses : SlotStates) (m : Machine) (port : Port) (v causes : ℕ) (old mid new : Device) → IsReachable m → StateRelation uses m old → EndsHalt uses port.0 old → RunsLinked (old.port port.0) → Reads (Px port Ci) v old mid → bit v 0 ≡ false →
+pub ended_well : StepLaws → (uses : SlotStates) (m : Machine) (port : Port) (v causes : ℕ) (old mid new : Device) → IsReachable m → StateRelation uses m old → EndsHalt uses port.0 old → RunsLinked (old.port port.0) → Reads (Px port Ci) v old mid → bit v 0 ≡ false →
     Reads (Px port Is) causes mid new → TellsNoTrouble causes → RunsWell (new.port port.0)
-ended_well uses m port v causes old mid new r a h runs read clear call calm =
-    let off : mid.hr ≡ false = (reads_end uses m port v old mid r a h read).off in
-    let late = reads_show port.0 (Px port Is) causes mid new off call (told_calm port causes mid new off call calm) in
-    let early = (reads_show port.0 (Px port Ci) v old mid h.off read late.0).1 in
+ended_well laws uses m port v causes old mid new r a h runs read clear call calm =
+    let off : mid.hr ≡ false = (reads_end laws uses m port v old mid r a h read).off in
+    let late = reads_show laws port.0 (Px port Is) causes mid new off call (told_calm laws port causes mid new off call calm) in
+    let early = (reads_show laws port.0 (Px port Ci) v old mid h.off read late.0).1 in
     let goes : RunsLinked (mid.port port.0) =
-    access_runs port (Reading (Px port Ci) v) old mid h.off (reading_clears port (Px port Ci) v) tt (undisturbed_plugs port.0 old mid early) (undisturbed_fatal port.0 old mid early) read runs in
-    well_is_told port causes mid new off call calm (running_started (mid.port port.0) goes (halt_ended uses m port v old mid r a h read clear))
+    (access_runs laws) port (Reading (Px port Ci) v) old mid h.off (reading_clears port (Px port Ci) v) tt (undisturbed_plugs port.0 old mid early) (undisturbed_fatal port.0 old mid early) read runs in
+    (well_is_told laws) port causes mid new off call calm (running_started (mid.port port.0) goes (halt_ended laws uses m port v old mid r a h read clear))

@@ -13,16 +13,15 @@ use Rattle.adapter.specs.Device.{Device}
 use Rattle.adapter.specs.Kept.{Keeps, KeepsOn}
 use Rattle.adapter.specs.Memory.{bytes_at}
 use Rattle.adapter.specs.declared.command.Operation.{Operation}
-use Rattle.adapter.proofs.Calls.{SeenAt, seen}
-use Rattle.adapter.proofs.KeptLemmas.{law_steps_keep}
+use Rattle.adapter.specs.Seen.{SeenAt}
 use Rattle.block_machine.specs.Left.{after}
 use Rattle.block_machine.specs.Histories.{IsReachable}
 use Rattle.block_machine.specs.State.{Pending, Machine}
 use Rattle.block_machine.specs.Steps.{MayStillMove}
-use Rattle.block_machine.proofs.Keeps.{same_port}
 use Rattle.block_machine.proofs.Standing.{standing}
 use Rattle.block_machine.proofs.Trace.{living_one, runs_lives}
-use Rattle.refinement.specs.Relation.{StateRelation}
+use Rattle.refinement.specs.Below.{StepLaws}
+use Rattle.refinement.specs.Relation.{StateRelation, port_at}
 use Rattle.refinement.specs.Facts.{EndedIn, IsClear, FindsOwnPage}
 use Rattle.refinement.specs.Follows.{SimulatesSteps}
 use Rattle.refinement.specs.Places.{scratch_of}
@@ -42,12 +41,12 @@ is_ended m d port slot id h x = (
     pending = h.pending;
     moves = h.moves;
     id_is = h.id_is;
-    port_is = same_port h.pending.request.port port h.port_is;
+    port_is = ap port_at h.port_is;
     ended = x.ended;
     touched = x.touched;
     booked = λ none. ⊎_elim
         (λ (z : Contains m.book h.pending × (h.pending.issued ≡ true)). z.0)
-        (λ (k : Contains m.kept h.pending). absurd (none h.pending k (same_port h.pending.request.port port h.port_is)))
+        (λ (k : Contains m.kept h.pending). absurd (none h.pending k (ap port_at h.port_is)))
         h.moves;
   },
 )
@@ -108,11 +107,11 @@ module _ (uses : SlotStates) (m : Machine) (d : Device) (port : ℕ) (o : Operat
   own_clear : IsClear (d.port port) 0
   own_clear = record { over = own_over.over; sact = own.unqueued }
 
-pub page_is_read : (uses : SlotStates) (m : Machine) (port : Port) (o : Operation) (v : ℕ) (old new : Device) → IsReachable m → StateRelation uses m old → old.hr ≡ false → (old.port port.0).st ≡ true →
+pub page_is_read : StepLaws → (uses : SlotStates) (m : Machine) (port : Port) (o : Operation) (v : ℕ) (old new : Device) → IsReachable m → StateRelation uses m old → old.hr ≡ false → (old.port port.0).st ≡ true →
     uses port.0 0 ≡ Own o → Reads (Px port Ci) v old new → bit v 0 ≡ false → FindsOwnPage uses m port.0 o old new
-page_is_read uses m port o v old new reached a h st u call clear =
+page_is_read laws uses m port o v old new reached a h st u call clear =
     let f : SimulatesSteps uses m old new = read_follows uses m (Px port Ci) v old new reached a call in
-    let s : SeenAt port.0 Ci v old new = seen port Ci v old new call h in
+    let s : SeenAt port.0 Ci v old new = laws.seen port Ci v old new call h in
     let now : (new.port port.0).st ≡ true = (s.keeps.on.controls port.0).st ∙ st in
     let none : (new.port port.0).ci 0 ≡ false = sym (s.shows 0 (omega arith)) ∙ clear in
     record {
@@ -121,12 +120,12 @@ page_is_read uses m port o v old new reached a h st u call clear =
       brought = own_brought uses (after m f.steps) new port.0 o f.agrees u now none;
     }
 
-pub page_is_loaded : (uses : SlotStates) (m : Machine) (port : ℕ) (o : Operation) (bytes : List ℕ) (old new : Device) → IsReachable m → StateRelation uses m old → old.hr ≡ false → (old.port port).st ≡ true →
+pub page_is_loaded : StepLaws → (uses : SlotStates) (m : Machine) (port : ℕ) (o : Operation) (bytes : List ℕ) (old new : Device) → IsReachable m → StateRelation uses m old → old.hr ≡ false → (old.port port).st ≡ true →
     uses port 0 ≡ Own o → IsOver (old.port port) 0 → Loads (scratch_of port) bytes old new → length bytes ≡ 512 →
     (page : FindsOwnPage uses m port o old new) × (bytes ≡ page.brought.move.bytes.value)
-page_is_loaded uses m port o bytes old new reached a h st u over call size =
+page_is_loaded laws uses m port o bytes old new reached a h st u over call size =
     let f : SimulatesSteps uses m old new = load_follows uses m (scratch_of port) bytes old new reached a call in
-    let k : Keeps old new = law_steps_keep call.steps in
+    let k : Keeps old new = laws.keeps _ _ call.steps in
     let on : KeepsOn old new = k.on h in
     let now : (new.port port).st ≡ true = (on.controls port).st ∙ st in
     let none : (new.port port).ci 0 ≡ false = (k.port port).ci 0 over.issued in

@@ -13,11 +13,11 @@ use Rattle.adapter.specs.Access.Access.{Writing}
 use Rattle.adapter.specs.Device.{DevicePort, Device}
 use Rattle.adapter.specs.Kept.{KeepsPort}
 use Rattle.adapter.specs.Steps.{Steps}
-use Rattle.adapter.proofs.KeptLemmas.{law_steps_keep}
 use Rattle.block_machine.specs.Events.{AllDevices}
 use Rattle.block_machine.specs.Left.{after}
 use Rattle.block_machine.specs.State.{Accepted, Pending, Machine}
 use Rattle.block_machine.specs.Steps.{Step, MayStillMove, NoneKept}
+use Rattle.refinement.specs.Below.{StepLaws}
 use Rattle.refinement.specs.Facts.{EndedIn, IsClear}
 use Rattle.refinement.specs.Slots.{IsOver}
 use Rattle.refinement.specs.Spares.{IsFurther, SparesBook}
@@ -28,13 +28,13 @@ use Rattle.refinement.proofs.steps.RegisterWrites.{or_false}
 
 -- ---- a slot
 
-pub steps_over : (port slot : ℕ) (old new : Device) → Steps old new → IsOver (old.port port) slot → IsOver (new.port port) slot
-steps_over port slot old new s h =
-    let k : KeepsPort (old.port port) (new.port port) = (law_steps_keep s).port port in
+pub steps_over : StepLaws → (port slot : ℕ) (old new : Device) → Steps old new → IsOver (old.port port) slot → IsOver (new.port port) slot
+steps_over laws port slot old new s h =
+    let k : KeepsPort (old.port port) (new.port port) = (laws.keeps _ _ s).port port in
     record { issued = k.ci slot h.issued; free = k.free slot h.issued h.free }
 
-pub steps_clear : (port slot : ℕ) (old new : Device) → Steps old new → IsClear (old.port port) slot → IsClear (new.port port) slot
-steps_clear port slot old new s h = record { over = steps_over port slot old new s h.over; sact = ((law_steps_keep s).port port).sact slot h.sact }
+pub steps_clear : StepLaws → (port slot : ℕ) (old new : Device) → Steps old new → IsClear (old.port port) slot → IsClear (new.port port) slot
+steps_clear laws port slot old new s h = record { over = steps_over laws port slot old new s h.over; sact = ((laws.keeps _ _ s).port port).sact slot h.sact }
 
 -- the slot's bits are clear
 abbrev IsUnset : Bool → DevicePort → ℕ → Type 0
@@ -77,18 +77,18 @@ effect_unset armed port slot access old new x ci sact h =
     (λ a e. sact a v (is ∙ ap (λ (q : PortReg). Writing (Px port q) v) e)) y)
     h
 
-pub access_over : (port : Port) (slot : ℕ) (access : Access) (old new : Device) → ((v : ℕ) → access ≡ Writing (Px port Ci) v → bit v slot ≡ false) → Does access old new → IsOver (old.port port.0) slot → IsOver (new.port port.0) slot
-access_over port slot access old new ci x h =
+pub access_over : StepLaws → (port : Port) (slot : ℕ) (access : Access) (old new : Device) → ((v : ℕ) → access ≡ Writing (Px port Ci) v → bit v slot ≡ false) → Does access old new → IsOver (old.port port.0) slot → IsOver (new.port port.0) slot
+access_over laws port slot access old new ci x h =
     let s = access_steps access old new x in
-    let mid : IsOver (s.0.port port.0) slot = steps_over port.0 slot old s.0 s.1 h in
+    let mid : IsOver (s.0.port port.0) slot = steps_over laws port.0 slot old s.0 s.1 h in
     let e = effect_unset false port slot access old new x ci (λ a. absurd (false≢true a)) (mid.issued, mid.free, λ a. absurd (false≢true a)) in
     record { issued = e.0; free = e.1 }
 
-pub access_clear : (port : Port) (slot : ℕ) (access : Access) (old new : Device) → ((v : ℕ) → access ≡ Writing (Px port Ci) v → bit v slot ≡ false) → ((v : ℕ) → access ≡ Writing (Px port Sact) v → bit v slot ≡ false) →
+pub access_clear : StepLaws → (port : Port) (slot : ℕ) (access : Access) (old new : Device) → ((v : ℕ) → access ≡ Writing (Px port Ci) v → bit v slot ≡ false) → ((v : ℕ) → access ≡ Writing (Px port Sact) v → bit v slot ≡ false) →
     Does access old new → IsClear (old.port port.0) slot → IsClear (new.port port.0) slot
-access_clear port slot access old new ci sact x h =
+access_clear laws port slot access old new ci sact x h =
     let s = access_steps access old new x in
-    let mid : IsClear (s.0.port port.0) slot = steps_clear port.0 slot old s.0 s.1 h in
+    let mid : IsClear (s.0.port port.0) slot = steps_clear laws port.0 slot old s.0 s.1 h in
     let e = effect_unset true port slot access old new x ci (λ a. sact) (mid.over.issued, mid.over.free, λ a. mid.sact) in
     record { over = record { issued = e.0; free = e.1 }; sact = e.2 refl }
 

@@ -81,8 +81,11 @@ module _ (k : DriverState) (port : ℕ) where
   still q s id = changed_at k.uses port (λ slot. Free) (λ n f. f s ≡ Serves id → (n ≢ port) × (k.uses n s ≡ Serves id))
       (λ e. absurd (let z : Free ≡ Serves id = e in cc)) (λ n ne e. (ne, e)) q
 
+  pub parked_then : (parking_all k port).parked port ≡ served_ids k.uses port 32 ++ k.parked port
+  parked_then = changed_same k.parked port (served_ids k.uses port 32 ++ k.parked port)
+
   parked_is : (id : RequestId) → Contains (served_ids k.uses port 32 ++ k.parked port) id → Contains ((parking_all k port).parked port) id
-  parked_is id c = subst (λ (l : List RequestId). Contains l id) (sym (changed_same k.parked port (served_ids k.uses port 32 ++ k.parked port))) c
+  parked_is id c = subst (λ (l : List RequestId). Contains l id) (sym parked_then) c
 
   pub still_parked : (id : RequestId) → Contains (k.parked port) id → Contains ((parking_all k port).parked port) id
   still_parked id c = parked_is id (Contains-append_right (served_ids k.uses port 32) (k.parked port) id c)

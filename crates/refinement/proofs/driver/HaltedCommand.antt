@@ -17,7 +17,7 @@ use Rattle.adapter.specs.declared.command.Operation.TheVariants.{Trim}
 use Rattle.block_machine.specs.Histories.{IsReachable}
 use Rattle.block_machine.specs.Left as left
 use Rattle.block_machine.specs.State.{Machine}
-use Rattle.block_machine.proofs.HistoryLemmas.{reached_more}
+use Rattle.refinement.specs.Below.{StepLaws}
 use Rattle.refinement.specs.Acts.{Act, AreDone, accesses_of}
 use Rattle.refinement.specs.Acts.{AccessLeads}
 use Rattle.refinement.specs.Relation.{StateRelation}
@@ -120,14 +120,14 @@ module _ (uses : SlotStates) (m : Machine) (d : Device) (a : StateRelation uses 
   step_halts ResetEnds can = λ st. absurd (false≢true st)
   step_halts (Scribble p slot at bytes) can = h
 
-leads_halts : (uses : SlotStates) (m : Machine) (port : ℕ) (steps : List DeviceTransition) (old new : Device) → IsReachable m → StateRelation uses m old → StepLeads steps old new → IsHaltedAsTaken (old.port port) → IsHaltedAsTaken (new.port port)
-leads_halts uses m port [] old new r a e h = subst (λ (d : Device). IsHaltedAsTaken (d.port port)) (sym e) h
-leads_halts uses m port (step ∷ steps) old new r a (can, lead) h =
+leads_halts : StepLaws → (uses : SlotStates) (m : Machine) (port : ℕ) (steps : List DeviceTransition) (old new : Device) → IsReachable m → StateRelation uses m old → StepLeads steps old new → IsHaltedAsTaken (old.port port) → IsHaltedAsTaken (new.port port)
+leads_halts laws uses m port [] old new r a e h = subst (λ (d : Device). IsHaltedAsTaken (d.port port)) (sym e) h
+leads_halts laws uses m port (step ∷ steps) old new r a (can, lead) h =
     let f : SimulatesSteps uses m old (device_after step old) = step_follows uses m old step r a can in
-    leads_halts uses (left.after m f.steps) port steps (device_after step old) new (reached_more m f.steps r f.may) f.agrees lead (step_halts uses m old a port h step can)
+    leads_halts laws uses (left.after m f.steps) port steps (device_after step old) new (laws.reached m f.steps r f.may) f.agrees lead (step_halts uses m old a port h step can)
 
-pub steps_halts : (uses : SlotStates) (m : Machine) (port : ℕ) (old new : Device) → IsReachable m → StateRelation uses m old → Steps old new → IsHaltedAsTaken (old.port port) → IsHaltedAsTaken (new.port port)
-steps_halts uses m port old new r a s h = leads_halts uses m port s.steps old new r a s.lead h
+pub steps_halts : StepLaws → (uses : SlotStates) (m : Machine) (port : ℕ) (old new : Device) → IsReachable m → StateRelation uses m old → Steps old new → IsHaltedAsTaken (old.port port) → IsHaltedAsTaken (new.port port)
+steps_halts laws uses m port old new r a s h = leads_halts laws uses m port s.steps old new r a s.lead h
 
 -- ---- an access
 
@@ -135,17 +135,17 @@ written_halts : (r : PortReg) (v tape : ℕ) (p : DevicePort) → (r ≡ Cmd →
 written_halts Cmd v tape p other h = absurd (other refl)
 written_halts _ v tape p other h = λ st. same_halts p _ refl refl (h st)
 
-pub access_halts : (uses : SlotStates) (m : Machine) (port : Port) (access : Access) (old new : Device) → IsReachable m → StateRelation uses m old → SparesRegister (Px port Cmd) access → Does access old new
+pub access_halts : StepLaws → (uses : SlotStates) (m : Machine) (port : Port) (access : Access) (old new : Device) → IsReachable m → StateRelation uses m old → SparesRegister (Px port Cmd) access → Does access old new
     → IsHaltedAsTaken (old.port port.0) → IsHaltedAsTaken (new.port port.0)
-access_halts uses m port access old new r a spares x h =
+access_halts laws uses m port access old new r a spares x h =
     let s = access_steps access old new x in
     effect_keeps IsHaltedAsTaken port (λ p q v y st. same_halts p _ refl refl (y st)) (λ p y st. same_halts p _ refl refl (y st)) access old new x
     (λ q v mid is steps y. written_halts q v (length mid.tape) (mid.port port.0) (spared port q Cmd access v spares is) y)
-    (leads_halts uses m port.0 s.1.steps old s.0 r a s.1.lead h)
+    (leads_halts laws uses m port.0 s.1.steps old s.0 r a s.1.lead h)
 
 -- ---- acts
 
-module _ (port : Port) where
+module _ (laws : StepLaws) (port : Port) where
   abbrev Holds : DriverState → Type 0
   Holds z = IsHaltedAsTaken (z.device.port port.0)
 
@@ -157,4 +157,4 @@ module _ (port : Port) where
       over : (z : DriverState) (n : Machine) (act : Act) → IsReachable n → DriverRelation n z → (access : Option Access) → AccessLeads access z.device act.later.device → IsOfKind (SparesRegister (Px port Cmd)) access
           → Holds z → Holds act.later
       over z n act r knows None same spares here = subst (λ (d : Device). IsHaltedAsTaken (d.port port.0)) (sym same) here
-      over z n act r knows (Some access) does spares here = access_halts z.uses n port access z.device act.later.device r knows.agrees spares does here
+      over z n act r knows (Some access) does spares here = access_halts laws z.uses n port access z.device act.later.device r knows.agrees spares does here

@@ -17,7 +17,6 @@ use Rattle.adapter.proofs.Changed.{changed_same}
 use Rattle.block_machine.specs.State.{Accepted, Pending, Machine, DiskBytes, Memory}
 use Rattle.block_machine.specs.Histories.{IsReachable}
 use Rattle.block_machine.specs.Steps.{Accept, Answer, Again, Age, Release, MayStillMove, after_step, at, without, newly_accepted, older, requeued, stays, Revoke}
-use Rattle.block_machine.proofs.Keeps.{same_id}
 use Rattle.block_machine.proofs.Members.{map_in, into_map, at_cases, without_in, contains_here, contains_there, contains_cases, contains_none, append_in}
 use Rattle.block_machine.proofs.Sound.{Sound}
 use Rattle.block_machine.proofs.Standing.{standing}
@@ -167,7 +166,7 @@ without_into id (y ∷ ys) e ne c = go (y.request.id.0 == id.0) refl (λ w. with
 
     go : (b : Bool) → (y.request.id.0 == id.0) ≡ b → (Contains ys e → Contains (without id ys) e) → Contains (cond (not b) (y ∷ without id ys) (without id ys)) e
     go true p on = ⊎_elim
-        (λ (w : e ≡ y). absurd (ne (ap (λ (x : Pending). x.request.id) w ∙ same_id y.request.id id (eqb-true y.request.id.0 id.0 p))))
+        (λ (w : e ≡ y). absurd (ne (ap (λ (x : Pending). x.request.id) w ∙ ap (λ (n : ℕ). record { 0 = n }) (eqb-true y.request.id.0 id.0 p))))
         (λ (w : Contains ys e). on w) rest
     go false p on = ⊎_elim
         (λ (w : e ≡ y). contains_here y (without id ys) e w)

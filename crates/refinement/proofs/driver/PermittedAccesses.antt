@@ -13,7 +13,6 @@ use Rattle.adapter.specs.Kept.{Keeps, KeepsOn}
 use Rattle.adapter.specs.Rules.{InUse, IsUnowned, IsOn, HasPort, MayWrite, IsStable}
 use Rattle.adapter.specs.Decoding.{DecodesTo}
 use Rattle.adapter.specs.declared.command.Operation.{Operation}
-use Rattle.adapter.proofs.KeptLemmas.{law_steps_keep}
 use Rattle.adapter.proofs.SaysLemmas.{says_meaning}
 use Rattle.block_machine.specs.Due.{is_plain}
 use Rattle.block_machine.specs.declared.due.QueueMode.{QueueMode}
@@ -21,7 +20,7 @@ use Rattle.block_machine.specs.Histories.{IsReachable}
 use Rattle.block_machine.specs.Left as left
 use Rattle.block_machine.specs.Refusals.{IsOpen}
 use Rattle.block_machine.specs.State.{Pending, Machine}
-use Rattle.block_machine.proofs.HistoryLemmas.{reached_more}
+use Rattle.refinement.specs.Below.{StepLaws}
 use Rattle.refinement.specs.Places.{scratch_of}
 use Rattle.refinement.specs.Slots.{SlotStates, IsOver, op_of}
 use Rattle.refinement.specs.Relation.{StateRelation}
@@ -39,14 +38,14 @@ use Rattle.refinement.proofs.relation.OtherSlots.{true_false}
 use Rattle.refinement.proofs.relation.ReachedMachine.{client_frame}
 use Rattle.refinement.proofs.steps.TakenCommand.{own_plain}
 
-module _ (uses : SlotStates) (m : Machine) (old : Device) (reached : IsReachable m) (a : StateRelation uses m old) where
+module _ (laws : StepLaws) (uses : SlotStates) (m : Machine) (old : Device) (reached : IsReachable m) (a : StateRelation uses m old) where
   -- ---- the driver's own bytes
 
   pub stores_are_free : (at n : ℕ) → at + n ≤ old.size → MayStore uses at n → IsStable (IsUnowned at n) old
   stores_are_free at n inside may mid s =
       let f : SimulatesSteps uses m old mid = steps_follow uses m old mid reached a s in
-      let r : IsReachable (left.after m f.steps) = reached_more m f.steps reached f.may in
-      let size : mid.size ≡ old.size = (law_steps_keep s).size in
+      let r : IsReachable (left.after m f.steps) = laws.reached m f.steps reached f.may in
+      let size : mid.size ≡ old.size = (laws.keeps _ _ s).size in
       record {
         inside = omega (arith, inside, size);
         unused = λ port slot byte low high used. stores_unused uses (left.after m f.steps) mid at n byte may low high (λ e moves i lt. client_frame (left.after m f.steps) r e moves (i / 8) lt) (is_used uses (left.after m f.steps) mid r f.agrees port slot byte used);
@@ -56,8 +55,8 @@ module _ (uses : SlotStates) (m : Machine) (old : Device) (reached : IsReachable
   pub page_is_free : (port : ℕ) → port < 4 → scratch_of port + 512 ≤ old.size → IsOver (old.port port) 0 → IsStable (IsUnowned (scratch_of port) 512) old
   page_is_free port below inside over mid s =
       let f : SimulatesSteps uses m old mid = steps_follow uses m old mid reached a s in
-      let r : IsReachable (left.after m f.steps) = reached_more m f.steps reached f.may in
-      let k : Keeps old mid = law_steps_keep s in
+      let r : IsReachable (left.after m f.steps) = laws.reached m f.steps reached f.may in
+      let k : Keeps old mid = laws.keeps _ _ s in
       let still : IsOver (mid.port port) 0 = record { issued = (k.port port).ci 0 over.issued; free = (k.port port).free 0 over.issued over.free } in
       record {
         inside = (let size = k.size in omega (arith, inside, size));
@@ -97,7 +96,7 @@ module _ (uses : SlotStates) (m : Machine) (old : Device) (reached : IsReachable
   issue_is_permitted port slot mode e v on there usable x mid s =
       let f : SimulatesSteps uses m old mid = steps_follow uses m old mid reached a s in
       let y : IsPrepared uses (left.after m f.steps) mid port.0 slot mode e v = prepared_stays uses m old mid port.0 slot mode e v reached a on.no_reset s f x in
-      let k : Keeps old mid = law_steps_keep s in
+      let k : Keeps old mid = laws.keeps _ _ s in
       let c : KeepsOn old mid = k.on on.no_reset in
       let over : IsOver (mid.port port.0) slot = (readied_slot uses (left.after m f.steps) mid f.agrees port.0 slot (is_plain mode e.request.asked.op) y.free y.started).0 in (
         record { ae = c.ae ∙ on.ae; no_reset = c.no_reset },
@@ -118,7 +117,7 @@ module _ (uses : SlotStates) (m : Machine) (old : Device) (reached : IsReachable
   own_is_permitted port o v on there x mid s =
       let f : SimulatesSteps uses m old mid = steps_follow uses m old mid reached a s in
       let y : IsOwnPrepared uses mid port.0 o v = own_prepared_stays uses m old mid port.0 o v reached a on.no_reset s x in
-      let k : Keeps old mid = law_steps_keep s in
+      let k : Keeps old mid = laws.keeps _ _ s in
       let c : KeepsOn old mid = k.on on.no_reset in
       let over : IsOver (mid.port port.0) 0 = own_over uses (left.after m f.steps) mid f.agrees port.0 o v y in (
         record { ae = c.ae ∙ on.ae; no_reset = c.no_reset },

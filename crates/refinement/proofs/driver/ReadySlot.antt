@@ -14,7 +14,6 @@ use Rattle.adapter.specs.Kept.{Keeps, KeepsOn}
 use Rattle.adapter.specs.Rules.{IsOn, HasPort, MayWrite, IsStable}
 use Rattle.adapter.specs.Decoding.{DecodesTo}
 use Rattle.adapter.specs.Steps.{Steps}
-use Rattle.adapter.proofs.KeptLemmas.{law_steps_keep}
 use Rattle.adapter.proofs.MemoryLemmas.{patched_apart}
 use Rattle.adapter.proofs.SaysLemmas.{says_meaning}
 use Rattle.block_machine.specs.Due.{is_plain}
@@ -23,6 +22,7 @@ use Rattle.block_machine.specs.Left as left
 use Rattle.block_machine.specs.State.{Pending, Machine}
 use Rattle.block_machine.specs.Steps.{Issue, May}
 use Rattle.block_machine.specs.declared.due.QueueMode.{QueueMode}
+use Rattle.refinement.specs.Below.{StepLaws}
 use Rattle.refinement.specs.Relation.{StateRelation}
 use Rattle.refinement.specs.Driver.{IsPrepared, LeavesFree, MissesTable}
 use Rattle.refinement.specs.Follows.{SimulatesSteps}
@@ -50,13 +50,13 @@ stored_on old new port slot c places st list same x = record {
 
 -- ---- the device's steps
 
-module _ (uses : SlotStates) (m : Machine) (port slot : ℕ) (c : Meaning) (places : List ℕ) (old new : Device) (reached : IsReachable m) (a : StateRelation uses m old) (off : old.hr ≡ false) (s : Steps old new) where
+module _ (laws : StepLaws) (uses : SlotStates) (m : Machine) (port slot : ℕ) (c : Meaning) (places : List ℕ) (old new : Device) (reached : IsReachable m) (a : StateRelation uses m old) (off : old.hr ≡ false) (s : Steps old new) where
   leaves : LeavesFree uses old new
   leaves = steps_leave uses m old new reached a off s
 
   pub steps_stored : IsStored old port slot c places → IsStored new port slot c places
   steps_stored x =
-      let k : Keeps old new = law_steps_keep s in
+      let k : Keeps old new = laws.keeps _ _ s in
       stored_on old new port slot c places (((k.on off).controls port).st ∙ x.started) (ap (λ (b : Bases). b.clb) (k.port port).bases)
       (λ low small at t. leaves.tables port slot at low small t) x
 
@@ -85,7 +85,7 @@ written_on_still list Cmd v tape p on other h =
 written_on_still list Clb v tape p on other h = absurd (other refl)
 written_on_still list _ v tape p on other h = h
 
-module _ (uses : SlotStates) (m : Machine) (port : Port) (slot : ℕ) (c : Meaning) (places : List ℕ) (access : Access) (old new : Device) (reached : IsReachable m) (a : StateRelation uses m old) (off : old.hr ≡ false)
+module _ (laws : StepLaws) (uses : SlotStates) (m : Machine) (port : Port) (slot : ℕ) (c : Meaning) (places : List ℕ) (access : Access) (old new : Device) (reached : IsReachable m) (a : StateRelation uses m old) (off : old.hr ≡ false)
     (keeps : ClearsNoStart port access) (spares : SparesRegister (Px port Clb) access) where
   started_by : (r : PortReg) (v : ℕ) → access ≡ Writing (Px port r) v → r ≡ Cmd → bit v 0 ≡ true
   started_by r v is e = keeps v (is ∙ ap (λ (w : PortReg). Writing (Px port w) v) e)
@@ -93,8 +93,8 @@ module _ (uses : SlotStates) (m : Machine) (port : Port) (slot : ℕ) (c : Meani
   pub access_stored : ((at : ℕ) (bytes : List ℕ) → access ≡ Storing at bytes → MissesTable port.0 slot at (length bytes)) → Does access old new → IsStored old port.0 slot c places → IsStored new port.0 slot c places
   access_stored misses x h =
       let s = access_steps access old new x in
-      let y : IsStored s.0 port.0 slot c places = steps_stored uses m port.0 slot c places old s.0 reached a off s.1 h in
-      let k : Keeps old s.0 = law_steps_keep s.1 in
+      let y : IsStored s.0 port.0 slot c places = steps_stored laws uses m port.0 slot c places old s.0 reached a off s.1 h in
+      let k : Keeps old s.0 = laws.keeps _ _ s.1 in
       let on : On (old.port port.0).bases.clb (new.port port.0) =
       effect_keeps (On (old.port port.0).bases.clb) port (λ p q v z. z) (λ p z. z) access old new x
       (λ q v mid is steps z. written_on_still (old.port port.0).bases.clb q v (length mid.tape) (mid.port port.0) (started_by q v is) (spared port q Clb access v spares is) z)
@@ -105,11 +105,11 @@ module _ (uses : SlotStates) (m : Machine) (port : Port) (slot : ℕ) (c : Meani
 sact_keeps : (port : Port) (v : ℕ) → ClearsNoStart port (Writing (Px port Sact) v)
 sact_keeps port v w e = absurd (let z : Writing (Px port Sact) v ≡ Writing (Px port Cmd) w = e in cc)
 
-pub arming_readies : (uses : SlotStates) (m : Machine) (port : Port) (slot : ℕ) (c : Meaning) (places : List ℕ) (v : ℕ) (old new : Device) → IsReachable m → StateRelation uses m old → old.hr ≡ false → is_queued c.operation ≡ true →
+pub arming_readies : StepLaws → (uses : SlotStates) (m : Machine) (port : Port) (slot : ℕ) (c : Meaning) (places : List ℕ) (v : ℕ) (old new : Device) → IsReachable m → StateRelation uses m old → old.hr ≡ false → is_queued c.operation ≡ true →
     Writes (Px port Sact) v old new → IsStored old port.0 slot c places → IsReadied (put uses port.0 slot Armed) new port.0 slot c places
-arming_readies uses m port slot c places v old new reached a off queued call x = record {
+arming_readies laws uses m port slot c places v old new reached a off queued call x = record {
   used = put_same uses port.0 slot Armed ∙ sym (cond-true (is_queued c.operation) Armed Free queued);
-  stored = access_stored uses m port slot c places (Writing (Px port Sact) v) old new reached a off (sact_keeps port v)
+  stored = access_stored laws uses m port slot c places (Writing (Px port Sact) v) old new reached a off (sact_keeps port v)
       (λ e. let z : Px port Sact ≡ Px port Clb = e in cc)
       (λ at bytes e. absurd (let z : Writing (Px port Sact) v ≡ Storing at bytes = e in cc)) call x;
 }
@@ -138,12 +138,12 @@ used_so : (plain queued : Bool) → queued ≡ not plain → (if queued then Arm
 used_so true queued e = cond-false queued Armed Free e
 used_so false queued e = cond-true queued Armed Free e
 
-pub readied_permitted : (uses : SlotStates) (m : Machine) (d : Device) (port : Port) (slot : ℕ) (c : Meaning) (places : List ℕ) (v : ℕ) → IsReachable m → StateRelation uses m d → IsOn d → HasPort d port.0 → slot ≤ d.cap / 256 % 32 →
+pub readied_permitted : StepLaws → (uses : SlotStates) (m : Machine) (d : Device) (port : Port) (slot : ℕ) (c : Meaning) (places : List ℕ) (v : ℕ) → IsReachable m → StateRelation uses m d → IsOn d → HasPort d port.0 → slot ≤ d.cap / 256 % 32 →
     IsReadied uses d port.0 slot c places → bit v slot ≡ true → ((k : ℕ) → k ≢ slot → bit v k ≡ false) → IsStable (MayWrite (Px port Ci) v) d
-readied_permitted uses m d port slot c places v reached a on there usable x here alone mid s =
+readied_permitted laws uses m d port slot c places v reached a on there usable x here alone mid s =
     let f : SimulatesSteps uses m d mid = steps_follow uses m d mid reached a s in
-    let y : IsStored mid port.0 slot c places = steps_stored uses m port.0 slot c places d mid reached a on.no_reset s x.stored in
-    let k : Keeps d mid = law_steps_keep s in
+    let y : IsStored mid port.0 slot c places = steps_stored laws uses m port.0 slot c places d mid reached a on.no_reset s x.stored in
+    let k : Keeps d mid = laws.keeps _ _ s in
     let w : KeepsOn d mid = k.on on.no_reset in
     let h : ReadyTo (is_queued c.operation) (mid.port port.0) slot =
     served_ready (left.after m f.steps) mid port.0 slot (is_queued c.operation) (uses port.0 slot) x.used y.started (f.agrees.slot port.0 slot) in (

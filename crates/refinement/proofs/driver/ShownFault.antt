@@ -17,11 +17,10 @@ use Rattle.adapter.specs.Steps.{DeviceTransition, Can, device_after, StepLeads, 
 use Rattle.adapter.specs.Steps.DeviceTransition.{Fetch, FetchFault, Move, Clear, Done, Fault, Fatal, Fall, FrFall, LinkUp, Unplug, Plug, ResetEnds, Scribble}
 use Rattle.adapter.specs.declared.command.Operation.{Operation}
 use Rattle.adapter.proofs.Changed.{changed_same, changed_other}
-use Rattle.adapter.proofs.KeptLemmas.{step_keeps, law_steps_keep}
 use Rattle.block_machine.specs.Histories.{IsReachable}
 use Rattle.block_machine.specs.Left as left
 use Rattle.block_machine.specs.State.{Machine}
-use Rattle.block_machine.proofs.HistoryLemmas.{reached_more}
+use Rattle.refinement.specs.Below.{StepLaws}
 use Rattle.refinement.specs.Relation.{StateRelation}
 use Rattle.refinement.specs.Facts.{RunsWell, IsFaulted, IsQuiet}
 use Rattle.refinement.specs.Follows.{SimulatesSteps}
@@ -141,17 +140,17 @@ module _ (uses : SlotStates) (m : Machine) (d : Device) (a : StateRelation uses 
   step_opens ResetEnds can = absurd (both_ways _ off can)
   step_opens (Scribble p slot at bytes) can = h
 
-leads_open : (uses : SlotStates) (m : Machine) (port : ℕ) → ((slot : ℕ) → slot ≢ 0 → uses port slot ≡ Free) → (steps : List DeviceTransition) (old new : Device) → IsReachable m → StateRelation uses m old → old.hr ≡ false → StepLeads steps old new → Open (old.port port) →
+leads_open : StepLaws → (uses : SlotStates) (m : Machine) (port : ℕ) → ((slot : ℕ) → slot ≢ 0 → uses port slot ≡ Free) → (steps : List DeviceTransition) (old new : Device) → IsReachable m → StateRelation uses m old → old.hr ≡ false → StepLeads steps old new → Open (old.port port) →
     (new.hr ≡ false) × Open (new.port port)
-leads_open uses m port alone [] old new r a off e h = subst (λ (d : Device). (d.hr ≡ false) × Open (d.port port)) (sym e) (off, h)
-leads_open uses m port alone (step ∷ steps) old new r a off (can, lead) h =
+leads_open laws uses m port alone [] old new r a off e h = subst (λ (d : Device). (d.hr ≡ false) × Open (d.port port)) (sym e) (off, h)
+leads_open laws uses m port alone (step ∷ steps) old new r a off (can, lead) h =
     let f : SimulatesSteps uses m old (device_after step old) = step_follows uses m old step r a can in
-    leads_open uses (left.after m f.steps) port alone steps (device_after step old) new (reached_more m f.steps r f.may) f.agrees ((step_keeps step old can).on off).no_reset lead
+    leads_open laws uses (left.after m f.steps) port alone steps (device_after step old) new (laws.reached m f.steps r f.may) f.agrees ((laws.step step _ can).on off).no_reset lead
     (step_opens uses m old a port alone off h step can)
 
-pub steps_open : (uses : SlotStates) (m : Machine) (port : ℕ) (old new : Device) → IsReachable m → StateRelation uses m old → Steps old new → FailsOpenly uses port old → FailsOpenly uses port new
-steps_open uses m port old new r a s h =
-    let x = leads_open uses m port h.alone s.steps old new r a h.off s.lead (h.st, h.plain, h.undue, h.told) in
+pub steps_open : StepLaws → (uses : SlotStates) (m : Machine) (port : ℕ) (old new : Device) → IsReachable m → StateRelation uses m old → Steps old new → FailsOpenly uses port old → FailsOpenly uses port new
+steps_open laws uses m port old new r a s h =
+    let x = leads_open laws uses m port h.alone s.steps old new r a h.off s.lead (h.st, h.plain, h.undue, h.told) in
     record { off = x.0; st = x.1.0; plain = x.1.1; undue = x.1.2; alone = h.alone; told = x.1.3 }
 
 -- ---- an access
@@ -180,11 +179,11 @@ written_opens Is v tape p on other control h = (
 )
 written_opens _ v tape p on other control h = h
 
-pub access_opens : (uses : SlotStates) (m : Machine) (port : Port) (access : Access) (old new : Device) → IsReachable m → StateRelation uses m old → ClearsNoStart port access → SparesRegister (Px port Sact) access → SparesRegister (Px port Sctl) access →
+pub access_opens : StepLaws → (uses : SlotStates) (m : Machine) (port : Port) (access : Access) (old new : Device) → IsReachable m → StateRelation uses m old → ClearsNoStart port access → SparesRegister (Px port Sact) access → SparesRegister (Px port Sctl) access →
     new.hr ≡ false → Does access old new → FailsOpenly uses port.0 old → FailsOpenly uses port.0 new
-access_opens uses m port access old new r a keeps spares controls off x h =
+access_opens laws uses m port access old new r a keeps spares controls off x h =
     let s = access_steps access old new x in
-    let c = leads_open uses m port.0 h.alone s.1.steps old s.0 r a h.off s.1.lead (h.st, h.plain, h.undue, h.told) in
+    let c = leads_open laws uses m port.0 h.alone s.1.steps old s.0 r a h.off s.1.lead (h.st, h.plain, h.undue, h.told) in
     let e : Open (new.port port.0) =
     effect_keeps Open port (λ p q v y. y) (λ p y. y) access old new x
     (λ q v mid is steps y. written_opens q v (length mid.tape) (mid.port port.0)
@@ -193,10 +192,10 @@ access_opens uses m port access old new r a keeps spares controls off x h =
 
 -- ---- where it begins
 
-pub start_opens : (uses : SlotStates) (port : Port) (v : ℕ) (old new : Device) → old.hr ≡ false → bit v 0 ≡ true → ((slot : ℕ) → uses port.0 slot ≡ Free) → (old.port port.0).sact 0 ≡ false → IsQuiet (old.port port.0) →
+pub start_opens : StepLaws → (uses : SlotStates) (port : Port) (v : ℕ) (old new : Device) → old.hr ≡ false → bit v 0 ≡ true → ((slot : ℕ) → uses port.0 slot ≡ Free) → (old.port port.0).sact 0 ≡ false → IsQuiet (old.port port.0) →
     (old.port port.0).st ≡ false → Writes (Px port Cmd) v old new → FailsOpenly uses port.0 new
-start_opens uses port v old new off on free clear quiet stopped call =
-    let k = law_steps_keep call.steps in
+start_opens laws uses port v old new off on free clear quiet stopped call =
+    let k = laws.keeps _ _ call.steps in
     let q : IsQuiet (call.mid.port port.0) = steps_quiet port.0 old call.mid call.steps quiet in
     let w : Open (with_fre (bit v 4) (with_st (bit v 0) (length call.mid.tape) (call.mid.port port.0))) =
     subst (λ (b : Bool). Open (with_fre (bit v 4) (with_st b (length call.mid.tape) (call.mid.port port.0)))) (sym on)
@@ -224,9 +223,9 @@ used_opens uses port u d h = record {
 
 -- ---- PxCI is read
 
-pub unfailed : (uses : SlotStates) (m : Machine) (port : Port) (v : ℕ) (old new : Device) → IsReachable m → StateRelation uses m old → FailsOpenly uses port.0 old → Reads (Px port Ci) v old new → bit v 0 ≡ false → (new.port port.0).is 30 ≡ false
-unfailed uses m port v old new r a h call clear =
-    let mid : FailsOpenly uses port.0 call.mid = steps_open uses m port.0 old call.mid r a call.steps h in
+pub unfailed : StepLaws → (uses : SlotStates) (m : Machine) (port : Port) (v : ℕ) (old new : Device) → IsReachable m → StateRelation uses m old → FailsOpenly uses port.0 old → Reads (Px port Ci) v old new → bit v 0 ≡ false → (new.port port.0).is 30 ≡ false
+unfailed laws uses m port v old new r a h call clear =
+    let mid : FailsOpenly uses port.0 call.mid = steps_open laws uses m port.0 old call.mid r a call.steps h in
     let shown : (call.mid.port port.0).ci 0 ≡ false = sym (call.shows 0 (omega arith)) ∙ clear in
     ap (λ (d : Device). (d.port port.0).is 30) call.effect ∙ (ap (λ (p : DevicePort). p.is 30) (changed_same call.mid.port port.0 _) ∙ ⊎_elim
     (λ (n : (call.mid.port port.0).is 30 ≡ false). n)

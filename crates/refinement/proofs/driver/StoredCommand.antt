@@ -9,6 +9,7 @@ use Rattle.adapter.specs.Device.{Device}
 use Rattle.adapter.specs.Rules.{IsOn}
 use Rattle.block_machine.specs.Histories.{IsReachable}
 use Rattle.block_machine.specs.State.{Machine}
+use Rattle.refinement.specs.Below.{StepLaws}
 use Rattle.refinement.specs.Acts.{Act, AccessLeads, AreDone, accesses_of}
 use Rattle.refinement.specs.Driver.{DriverState, DriverRelation}
 use Rattle.refinement.specs.Links.{SparesRegister}
@@ -17,7 +18,7 @@ use Rattle.refinement.proofs.device.AdapterOverAccesses.{access_on}
 use Rattle.refinement.proofs.driver.ActParts.{IsOfKind, acts_of_kind, done_keeps}
 use Rattle.refinement.proofs.driver.ReadySlot.{access_stored}
 
-module _ (port : Port) (slot : ℕ) (c : Meaning) (places : List ℕ) where
+module _ (laws : StepLaws) (port : Port) (slot : ℕ) (c : Meaning) (places : List ℕ) where
   -- the adapter is on, and this is stored
   abbrev Holds : Device → Type 0
   Holds d = IsOn d × IsStored d port.0 slot c places
@@ -32,5 +33,5 @@ module _ (port : Port) (slot : ℕ) (c : Meaning) (places : List ℕ) where
       over z n act r knows None same leaves here = subst Holds (sym same) here
       over z n act r knows (Some access) does leaves here = (
         access_on access z.device act.later.device here.0 (λ v e. absurd (subst (SparesRegister Ghc) e leaves.host refl)) does,
-        access_stored z.uses n port slot c places access z.device act.later.device r knows.agrees here.0.no_reset leaves.start leaves.list leaves.table does here.1,
+        (access_stored laws) z.uses n port slot c places access z.device act.later.device r knows.agrees here.0.no_reset leaves.start leaves.list leaves.table does here.1,
       )

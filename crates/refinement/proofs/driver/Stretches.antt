@@ -15,16 +15,17 @@ use Rattle.adapter.specs.Rules.{IsOn, MayWrite, IsStable}
 use Rattle.adapter.specs.declared.command.Operation.{Operation}
 use Rattle.adapter.proofs.Calls.{does_append}
 use Rattle.adapter.proofs.Changed.{changed_other}
-use Rattle.block_machine.proofs.Keeps.{same_port}
 use Rattle.block_machine.specs.Events.{AllDevices}
 use Rattle.block_machine.specs.Histories.{IsReachable, IsSimulatedBySteps}
 use Rattle.block_machine.specs.Left.{after}
 use Rattle.block_machine.specs.State.{Machine}
+use Rattle.refinement.specs.Below.{StepLaws}
 use Rattle.refinement.specs.Acts.{Act, InSlots, IsDone, at_slots, accesses_of, act_steps}
 use Rattle.refinement.specs.Driver.{DriverRelation, ByDevice, LeavesUses, MayStore, IsOwnPrepared}
 use Rattle.refinement.specs.Driven.{known, AnyUse, IsDrivenBy, IsSimulated, IsSimulatedTo, IsSimulatedAlong, IsSimulatedAlongTo, NoneWrites, SendsNone}
 use Rattle.refinement.specs.Links.{SparesRegister}
 use Rattle.refinement.specs.Recovering.{WorksPlainly}
+use Rattle.refinement.specs.Relation.{port_at}
 use Rattle.refinement.specs.Slots.{SlotState, Own, SlotStates, put, op_of}
 use Rattle.refinement.proofs.driver.ActParts.{accesses_append, steps_append, all_acts, done_more, done_goes, done_plain, done_silent, done_uses}
 use Rattle.refinement.proofs.driver.AddedSteps.{read_adds, load_adds, store_adds, write_adds}
@@ -230,23 +231,23 @@ followed_adds {May} {Fits} {next} {old} {new} a uses parked fits = record {
 }
 
 -- no page of a port that issues nothing and whose slot 0 has no such command
-pub followed_silent : {May : Access → Type 0} {Fits : SlotStates → Type 0} {next : SlotStates → SlotStates} {old new : Device} → IsSimulatedTo May Fits next old new →
+pub followed_silent : StepLaws → {May : Access → Type 0} {Fits : SlotStates → Type 0} {next : SlotStates → SlotStates} {old new : Device} → IsSimulatedTo May Fits next old new →
     (uses : SlotStates) (parked : ℕ → List RequestId) (m : Machine) → Fits uses → IsReachable m → DriverRelation m (known uses parked old) → (port : Port) (o : Operation) → op_of o ≡ None →
     NoneWrites May (Px port Ci) → NoneWrites May (Px port Sact) → (uses port.0 0 ≡ Own o → ⊥) → SendsNone port.0 o old new
-followed_silent {May} {Fits} {next} {old} {new} a uses parked m fits reached x port o own issues arms none =
+followed_silent laws {May} {Fits} {next} {old} {new} a uses parked m fits reached x port o own issues arms none =
     let c = a.comes (record { uses = uses; parked = parked }) m reached x fits in
-    done_silent port.0 o own c.acts (known uses parked old) (known (next uses) parked new) m reached x none
+    (done_silent laws) port.0 o own c.acts (known uses parked old) (known (next uses) parked new) m reached x none
     (all_acts (λ act. act.later.uses port.0 ≡ uses port.0) (λ act. act.later.uses port.0 0 ≡ Own o → ⊥) c.acts
     (λ act e is. none (ap (λ (f : ℕ → SlotState). f 0) (sym e) ∙ is)) (c.tells.kept port issues arms)) c.done
 
 -- a port that works on plain commands alone, and whose PxSACT isn't written
-pub followed_plain : {May : Access → Type 0} {Fits : SlotStates → Type 0} {next : SlotStates → SlotStates} {old new : Device} → IsSimulatedTo May Fits next old new →
+pub followed_plain : StepLaws → {May : Access → Type 0} {Fits : SlotStates → Type 0} {next : SlotStates → SlotStates} {old new : Device} → IsSimulatedTo May Fits next old new →
     (uses : SlotStates) (parked : ℕ → List RequestId) (m : Machine) → Fits uses → IsReachable m → DriverRelation m (known uses parked old) → (port : Port) → NoneWrites May (Px port Sact) →
     WorksPlainly (old.port port.0) → WorksPlainly (new.port port.0)
-followed_plain {May} {Fits} {next} {old} {new} a uses parked m fits reached x port arms =
+followed_plain laws {May} {Fits} {next} {old} {new} a uses parked m fits reached x port arms =
     let c = a.comes (record { uses = uses; parked = parked }) m reached x fits in
     let spares = All-weaker May (SparesRegister (Px port Sact)) arms a.driven.accesses a.driven.only in
-    done_plain c.acts (known uses parked old) (known (next uses) parked new) m port reached x (subst (All (SparesRegister (Px port Sact))) (sym c.accesses_are) spares) c.done
+    (done_plain laws) c.acts (known uses parked old) (known (next uses) parked new) m port reached x (subst (All (SparesRegister (Px port Sact))) (sym c.accesses_are) spares) c.done
 
 -- ---- one access
 
@@ -314,4 +315,4 @@ followed_asking May Fits port o v old new kind off prepared call =
     (λ uses parked is. own_adds (known uses parked old) port o v new off (prepared uses is) call) (λ uses q issues arms. changed_other uses port.0 _ q.0 (elsewhere q issues))
   where
     elsewhere : (q : Port) → NoneWrites May (Px q Ci) → q.0 ≢ port.0
-    elsewhere q issues e = issues (Writing (Px port Ci) v) kind (ap (λ (at_slots : Port). Px at_slots Ci) (sym (same_port q port e)))
+    elsewhere q issues e = issues (Writing (Px port Ci) v) kind (ap (λ (at_slots : Port). Px at_slots Ci) (sym (ap port_at e)))

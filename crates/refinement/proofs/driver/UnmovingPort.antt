@@ -15,7 +15,7 @@ use Rattle.adapter.specs.Steps.DeviceTransition.{Fetch, FetchFault, Move, Clear,
 use Rattle.adapter.specs.declared.command.Operation.{Operation}
 use Rattle.adapter.specs.declared.tape.Entry.{Entry}
 use Rattle.adapter.proofs.Absurd.{some-none}
-use Rattle.adapter.proofs.KeptLemmas.{step_keeps}
+use Rattle.refinement.specs.Below.{StepLaws}
 use Rattle.refinement.specs.Driven.{HasNoCommand, IsControl, IsDrivenBy}
 use Rattle.refinement.specs.Slots.{IsMove}
 use Rattle.refinement.proofs.device.FactsOverAccesses.{access_steps}
@@ -23,7 +23,7 @@ use Rattle.refinement.proofs.driver.Stretches.{along}
 use Rattle.refinement.proofs.driver.FinishedCommand.{access_over}
 use Rattle.refinement.proofs.device.TapeGains.{NoneOf, GainsNone, gains_nothing, gains_more}
 
-module _ (port : ℕ) (o : Operation) where
+module _ (laws : StepLaws) (port : ℕ) (o : Operation) where
   one : (e : Entry) → (IsMove port o e → ⊥) → NoneOf (IsMove port o) (e ∷ [])
   one e other = All-cons (λ e. IsMove port o e → ⊥) e [] other (All-nil (λ e. IsMove port o e → ⊥))
 
@@ -53,7 +53,7 @@ module _ (port : ℕ) (o : Operation) where
   leads_unmoving : (steps : List DeviceTransition) (old new : Device) → HasNoCommand (old.port port) → StepLeads steps old new → GainsNone (IsMove port o) old new
   leads_unmoving [] old new none e = subst (GainsNone (IsMove port o) old) (sym e) (nothing old)
   leads_unmoving (step ∷ steps) old new none (can, lead) =
-      let k : Keeps old (device_after step old) = step_keeps step old can in
+      let k : Keeps old (device_after step old) = laws.step step _ can in
       gains_more (IsMove port o) old (device_after step old) new (step_unmoving old none step can)
       (leads_unmoving steps (device_after step old) new (λ slot. record { issued = (k.port port).ci slot (none slot).issued; free = (k.port port).free slot (none slot).issued (none slot).free }) lead)
 
@@ -70,14 +70,14 @@ module _ (port : ℕ) (o : Operation) where
 abbrev Unmoving : ℕ → Operation → Device → Device → Type 0
 Unmoving port o old new = HasNoCommand (old.port port) → GainsNone (IsMove port o) old new × HasNoCommand (new.port port)
 
-module _ (Written : PortReg → Type 0) (quiet : Written Ci → ⊥) (port : Port) (o : Operation) where
+module _ (laws : StepLaws) (Written : PortReg → Type 0) (quiet : Written Ci → ⊥) (port : Port) (o : Operation) where
   issues_none : (access : Access) → IsControl Written port access → (slot v : ℕ) → access ≡ Writing (Px port Ci) v → bit v slot ≡ false
   issues_none access may slot v is = absurd (quiet (subst (IsControl Written port) is may).1)
 
   pub controls_unmoving : (old new : Device) → IsDrivenBy (IsControl Written port) old new → HasNoCommand (old.port port.0) → GainsNone (IsMove port.0 o) old new × HasNoCommand (new.port port.0)
   controls_unmoving old new a none =
-      along (Unmoving port.0 o) (λ d h. (nothing port.0 o d, h))
+      along (Unmoving port.0 o) (λ d h. (nothing laws port.0 o d, h))
       (λ x y z p q h. let u = p h in let w = q u.1 in (gains_more (IsMove port.0 o) x y z u.0 w.0, w.1))
       (IsControl Written port)
-      (λ access x y may does h. (access_unmoving port.0 o access x y h does, λ slot. access_over port slot access x y (issues_none access may slot) does (h slot)))
+      (λ access x y may does h. (access_unmoving laws port.0 o access x y h does, λ slot. access_over laws port slot access x y (issues_none access may slot) does (h slot)))
       a.accesses old new a.only a.all none

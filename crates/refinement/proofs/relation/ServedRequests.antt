@@ -13,12 +13,11 @@ use Rattle.block_machine.specs.Histories.{IsReachable}
 use Rattle.block_machine.specs.State.{Pending, Machine, unanswered}
 use Rattle.block_machine.specs.Steps.{Issue, May, NoneKept}
 use Rattle.block_machine.proofs.Counting.{count_cons, count_eq, count_none, count_least}
-use Rattle.block_machine.proofs.Keeps.{same_id, same_port}
 use Rattle.block_machine.proofs.Limits.{law_book_in_order, finds_slot}
 use Rattle.block_machine.proofs.Members.{map_in, into_map, contains_none}
 use Rattle.block_machine.proofs.Order.{In, Ordered, in_from, from_in, ordered_from}
 use Rattle.refinement.specs.Slots.{SlotState, Free, Own, Serves, SlotStates, is_serving, serving_count, ServesRequest, ServesOwn, RelatesSlot, Armed}
-use Rattle.refinement.specs.Relation.{StateRelation, HaveSlots}
+use Rattle.refinement.specs.Relation.{StateRelation, HaveSlots, port_at}
 use Rattle.refinement.proofs.relation.OtherSlots.{true_false}
 
 -- one more is counted, where the tests differ at one member alone
@@ -95,7 +94,7 @@ pub issued_one : (uses : SlotStates) (m : Machine) (d : Device) → StateRelatio
     (e : Pending) × Contains m.book e × (e.issued ≡ true) × (e.request.id ≡ id) × (e.request.port ≡ port)
 issued_one uses m d a port none slot id u =
     let h : ServesRequest m d.memory (d.port port.0) port.0 slot id = subst (λ (v : SlotState). RelatesSlot m d.memory d.tape (d.port port.0) port.0 slot v) u (a.slot port.0 slot) in
-    let here : h.pending.request.port ≡ port = same_port h.pending.request.port port h.port_is in
+    let here : h.pending.request.port ≡ port = ap port_at h.port_is in
     ⊎_elim
     (λ (r : Contains m.book h.pending × (h.pending.issued ≡ true)). (h.pending, r.0, r.1, h.id_is, here))
     (λ (r : Contains m.kept h.pending). absurd (none h.pending r here))
@@ -129,7 +128,7 @@ module _ (uses : SlotStates) (m : Machine) (d : Device) (reached : IsReachable m
   not_below : (n : ℕ) (id : RequestId) → uses port.0 n ≡ Serves id → some_serves uses port.0 n id.0 ≡ false
   not_below n id u = false_from_ne_true (some_serves uses port.0 n id.0) (λ t.
       let r = some_found uses port.0 n id.0 t in
-      let same : r.0 ≡ n = (a.apart port.0 r.0 port.0 n id (r.2.1 ∙ ap Serves (same_id r.2.0 id r.2.2)) u).1 in
+      let same : r.0 ≡ n = (a.apart port.0 r.0 port.0 n id (r.2.1 ∙ ap Serves (ap (λ (n : ℕ). record { 0 = n }) r.2.2)) u).1 in
       let lt = r.1 in
       omega (arith, lt, same))
 

@@ -7,7 +7,7 @@ use Rattle.ata_types.specs.declared.request.RequestId.{RequestId}
 use Rattle.block_machine.specs.State.{Block, Pending, Machine}
 use Rattle.block_machine.specs.Steps.{Touch, End, MayStillMove, after_step, at, touch, mark_ended}
 use Rattle.block_machine.proofs.Members.{map_in, into_map, at_cases}
-use Rattle.block_machine.proofs.Keeps.{same_id, at_keeps}
+use Rattle.block_machine.proofs.Keeps.{at_keeps}
 
 -- all but the request of this id goes on as it was
 pub record Goes (m m' : Machine) (id : RequestId) : Type 0 where
@@ -32,7 +32,7 @@ Goes-trans a b c id x y = record {
 -- a request is left by a change of another
 pub into_other : (f : Pending → Pending) (id : RequestId) (es : List Pending) (e : Pending) → e.request.id ≢ id → Contains es e → Contains (map (at id f) es) e
 into_other f id es e ne i =
-    ⊎_elim (λ p. absurd (ne (same_id e.request.id id p.0))) (λ p. subst (λ (x : Pending). Contains (map (at id f) es) x) p.1 (into_map (at id f) es e i)) (at_cases id f e)
+    ⊎_elim (λ p. absurd (ne (ap (λ (n : ℕ). record { 0 = n }) p.0))) (λ p. subst (λ (x : Pending). Contains (map (at id f) es) x) p.1 (into_map (at id f) es e i)) (at_cases id f e)
 
 -- a change of one request that keeps what it asks, and whether it is issued
 module _ (f : Pending → Pending) (issued : (e : Pending) → (f e).issued ≡ e.issued) (request : (e : Pending) → (f e).request ≡ e.request) where

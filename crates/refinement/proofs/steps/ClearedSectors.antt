@@ -21,7 +21,6 @@ use Rattle.block_machine.specs.Steps.{Touch, MayStillMove, after_step, put_secto
 use Rattle.block_machine.specs.Left as left
 use Rattle.block_machine.specs.Left.{AllTellSectors}
 use Rattle.block_machine.specs.Events.{AllMay}
-use Rattle.block_machine.proofs.Keeps.{same_port}
 use Rattle.refinement.specs.Places.{scratch_of}
 use Rattle.refinement.specs.Slots.{SlotState, Free, Own, Serves, SlotStates, Means, MeansRange, ArePlaces, UpTo, Progress, ServesRequest, OwnWaits, OwnTaken, OwnOver, RelatesSlot, op_of, Armed}
 use Rattle.refinement.specs.Relation.{StateRelation, port_at, SameSectors}
@@ -198,7 +197,7 @@ module _ (uses : SlotStates) (m : Machine) (d : Device) (a : StateRelation uses 
     op = let e : Some Trim ≡ Some h.pending.request.asked.op = ap op_of (sym can.trim) ∙ means.op in cc
 
     here_port : h.pending.request.port ≡ port_at port
-    here_port = same_port h.pending.request.port (port_at port) h.port_is
+    here_port = ap port_at h.port_is
 
     was : Progress Trim d.memory port h.pending t
     was = subst (λ (o : Op). Progress o d.memory port h.pending t) op x.progress

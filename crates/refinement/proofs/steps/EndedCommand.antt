@@ -16,7 +16,6 @@ use Rattle.block_machine.specs.State.{Pending, Machine}
 use Rattle.block_machine.specs.Histories.{IsReachable}
 use Rattle.block_machine.specs.Steps as machine
 use Rattle.block_machine.specs.Steps.{AllTouched, after_step, mark_ended}
-use Rattle.block_machine.proofs.Keeps.{same_port}
 use Rattle.block_machine.proofs.Standing.{standing}
 use Rattle.refinement.specs.Places.{scratch_of}
 use Rattle.refinement.specs.Slots.{SlotState, Free, Own, Serves, SlotStates, Means, MeansRange, ArePlaces, UpTo, Progress, ServesRequest, Brought, OwnWaits, OwnTaken, OwnOver, ServesOwn, RelatesSlot, op_of, Armed}
@@ -162,7 +161,7 @@ module _ (uses : SlotStates) (m : Machine) (d : Device) (a : StateRelation uses 
       means = means_taken port slot h.pending.request h.command t.meaning h.places t.places x.meaning x.places_are h.means
 
       here_port : h.pending.request.port ≡ port_at port
-      here_port = same_port h.pending.request.port (port_at port) h.port_is
+      here_port = ap port_at h.port_is
 
       touched : AllTouched h.pending
       touched = all_touched h.pending.request.asked.op d.memory port h.pending t can.finished means.op means.places_are ((standing m reached).flush h.pending h.moves) x.progress

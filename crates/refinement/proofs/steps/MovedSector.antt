@@ -23,7 +23,6 @@ use Rattle.block_machine.specs.Confined.{MovesBytes}
 use Rattle.block_machine.specs.Histories.{IsReachable}
 use Rattle.block_machine.specs.Steps as machine
 use Rattle.block_machine.specs.Steps.{Touch, after_step, touch, put_sector, put_bytes}
-use Rattle.block_machine.proofs.Keeps.{same_port}
 use Rattle.block_machine.proofs.Standing.{Standing, standing}
 use Rattle.refinement.specs.Places.{scratch_of, place_in}
 use Rattle.refinement.specs.Slots.{SlotState, Free, Own, Serves, SlotStates, Means, MeansRange, ArePlaces, UpTo, Progress, Stage, ServesRequest, IsMove, ServesOwn, RelatesSlot, op_of}
@@ -101,7 +100,7 @@ module _ (uses : SlotStates) (m : Machine) (d : Device) (a : StateRelation uses 
   std = standing m reached
 
   here_port : h.pending.request.port ≡ port_at port
-  here_port = same_port h.pending.request.port (port_at port) h.port_is
+  here_port = ap port_at h.port_is
 
   serves_used : uses port slot ≡ Free → ⊥
   serves_used f = let x : Serves id ≡ Free = sym u ∙ f in cc

@@ -1,5 +1,5 @@
 -- Writes that leave each slot to its use.
-use Rattle.std.proofs.Common.{ℕ, ◌≡◌, ◌⊎◌, ◌<◌, Bool, true, false, not, ◌&&◌, ◌||◌, length, refl, sym, ◌∙◌, ap, subst, inl, inr, ⊎_elim}
+use Rattle.std.proofs.Common.{ℕ, ◌≡◌, ◌⊎◌, ◌<◌, Bool, true, false, not, ◌&&◌, ◌||◌, length, refl, sym, ◌∙◌, ap, subst, inl, inr, ⊎_elim, []}
 use Rattle.std.specs.Prelude.{if◌then◌else◌}
 use Rattle.std.proofs.lemmas.Bool.{cond-true, cond-false}
 use Rattle.hba_regs.specs.Bits.{bit}
@@ -14,7 +14,6 @@ use Rattle.adapter.specs.Device.{Lasting, DevicePort, Device}
 use Rattle.adapter.specs.Kept.{Keeps}
 use Rattle.adapter.specs.Rules.{MayWrite, IsStable}
 use Rattle.adapter.specs.Steps.{Steps, with_port, restarted}
-use Rattle.adapter.proofs.Runs.{Steps-refl}
 use Rattle.adapter.proofs.KeptLemmas.{law_steps_keep}
 use Rattle.block_machine.specs.State.{Machine}
 use Rattle.block_machine.specs.Left as left
@@ -307,7 +306,7 @@ module _ (uses : SlotStates) (m : Machine) (d : Device) (a : StateRelation uses 
 leaves_on : (uses : SlotStates) (r : Reg) (v : ℕ) (old mid : Device) → IsStable (MayWrite r v) old → Steps old mid → LeavesUses uses r v old → LeavesUses uses r v mid
 leaves_on uses (Px port px.Cmd) v old mid may s x =
     let k : Keeps old mid = law_steps_keep s in
-    let hr : old.hr ≡ false = (may old (Steps-refl old)).0.no_reset in
+    let hr : old.hr ≡ false = (may old (record { steps = []; lead = refl })).0.no_reset in
     record {
       start = λ b. ⊎_elim (λ (t : (old.port port.0).st ≡ true). inl (((k.on hr).controls port.0).st ∙ t)) (λ (f : AllFree uses port.0). inr f) (x.start b);
       receive = λ b. let y = x.receive b in (y.0, ap (λ (z : device.Bases). z.fb) (k.port port.0).bases ∙ y.1);

@@ -14,7 +14,6 @@ use Rattle.adapter.proofs.Changed.{changed_same, changed_other}
 use Rattle.adapter.proofs.MemoryLemmas.{patched_apart}
 use Rattle.block_machine.specs.State.{Block, DiskBytes, Machine}
 use Rattle.block_machine.specs.Steps.{put_bytes, put_sector}
-use Rattle.block_machine.proofs.Keeps.{same_frame}
 use Rattle.block_machine.proofs.Reading.{put_other, put_same}
 use Rattle.refinement.specs.Relation.{port_at, SameSectors, SameMemory}
 
@@ -47,7 +46,7 @@ module _ (m : Machine) (memory : ℕ → ℕ) (at : ℕ) (frame : Frame) (offset
   outside f b from small out =
       patched_apart memory at bytes (4096 * f.0 + b) (λ low high.
       let e : f.0 ≡ frame.0 = omega (arith, here, fits, small, low, high) in
-      out (same_frame f frame e) (omega (arith, here, e, low)) (omega (arith, here, e, high)))
+      out (ap (λ (n : ℕ). record { 0 = n }) e) (omega (arith, here, e, low)) (omega (arith, here, e, high)))
       ∙ same f b from small
       ∙ sym (put_other frame f offset b (length bytes) (slice_index bytes) m.memory (λ e low high. out (sym e) low high))
 
@@ -56,7 +55,7 @@ module _ (m : Machine) (memory : ℕ → ℕ) (at : ℕ) (frame : Frame) (offset
       (λ (e : f.0 ≡ frame.0). ⊎_elim
       (λ (l : b < offset). outside f b from small (λ _ low high. omega (arith, l, low)))
       (λ (g : offset ≤ b). ⊎_elim
-      (λ (l : b < offset + length bytes). inside f b (same_frame f frame e) g l)
+      (λ (l : b < offset + length bytes). inside f b (ap (λ (n : ℕ). record { 0 = n }) e) g l)
       (λ (h : offset + length bytes ≤ b). outside f b from small (λ _ low high. omega (arith, h, high)))
       (cases_lt b (offset + length bytes)))
       (cases_lt b offset))

@@ -1,5 +1,5 @@
 -- A boot of port 0, from COMRESET until the port runs well.
-use Rattle.std.proofs.Common.{ℕ, ◌≡◌, ◌≢◌, ◌==◌, ◌++◌, Bool, true, false, [], refl, sym, ◌∙◌, ap, arith, inl, inr, if◌then◌else◌}
+use Rattle.std.proofs.Common.{ℕ, ◌≡◌, ◌≢◌, ◌==◌, ◌++◌, Bool, true, false, [], refl, sym, ◌∙◌, ap, arith, inl, inr, if◌then◌else◌, ◌∷◌}
 use Rattle.std.specs.Int.{bit_at}
 use Rattle.std.specs.Prelude.{nat_eq, max}
 use Rattle.std.proofs.lemmas.Nat.Bits.{bit_at-zero, bit_at-pow_other, bit_at_or}
@@ -18,7 +18,7 @@ use Rattle.adapter.specs.Memory.{changed}
 use Rattle.adapter.specs.Rules.{MayStart, MayWrite, MayWritePort, IsStable}
 use Rattle.adapter.specs.Steps.{Can, device_after}
 use Rattle.adapter.specs.Steps.DeviceTransition.{LinkUp}
-use Rattle.adapter.proofs.Runs.{Steps-refl, Steps-one}
+use Rattle.refinement.specs.Below.{StepLaws}
 use Rattle.refinement.specs.Relation.{port_at}
 use Rattle.refinement.specs.Booted.{waking, BootIsFound}
 use Rattle.refinement.specs.Errors.{IsComing, NoneComes}
@@ -63,7 +63,7 @@ found = noted (port_reg Is) 0 started
 
 -- a write at once
 writes : (r : Reg) (v : ℕ) (d : Device) → Writes r v d (written r v d)
-writes r v d = record { mid = d; steps = Steps-refl d; effect = refl }
+writes r v d = record { mid = d; steps = record { steps = []; lead = refl }; effect = refl }
 
 can_link : Can (LinkUp 0 0x101 true) released
 unfolding changed
@@ -71,11 +71,11 @@ can_link = record { present = refl; det = refl; due = refl; fits = omega arith }
 
 links : Reads (port_reg Ssts) 3 released linked
 unfolding changed
-links = record { mid = up; steps = Steps-one (LinkUp 0 0x101 true) released up can_link refl; shows = refl; effect = refl }
+links = record { mid = up; steps = record { steps = (LinkUp 0 0x101 true) ∷ []; lead = (can_link, refl) }; shows = refl; effect = refl }
 
 waits : Reads (port_reg Tfd) 0x77 quieted ready
 unfolding changed
-waits = record { mid = quieted; steps = Steps-refl quieted; shows = refl; effect = refl }
+waits = record { mid = quieted; steps = record { steps = []; lead = refl }; shows = refl; effect = refl }
 
 is_startable : MayStart (ready.port 0)
 unfolding changed
@@ -96,7 +96,7 @@ none_shown p x n is place = no_bit place ∙ sym (by (nat_eq place 6) (nat_eq pl
 
 tells : Reads (port_reg Is) 0 started found
 unfolding changed
-tells = record { mid = started; steps = Steps-refl started; shows = λ place cause. none_shown (started.port 0) refl refl (λ k. refl) place; effect = refl }
+tells = record { mid = started; steps = record { steps = []; lead = refl }; shows = λ place cause. none_shown (started.port 0) refl refl (λ k. refl) place; effect = refl }
 
 no_trouble : TellsNoTrouble 0
 no_trouble = record { change = no_bit 6; ready = no_bit 22; quiet = λ place low high. no_bit place }
@@ -146,22 +146,22 @@ stands : ((waking.port 0).cr ≡ false) × ((linked.port 0).cr ≡ false) × ((c
 unfolding changed
 stands = (refl, refl, refl, refl, refl, refl)
 
-coming : IsComingUp (released.port 0)
-coming = access_coming (port_at 0) (Writing (port_reg Sctl) 0) sent released (no_start Sctl 0 (λ e. cc)) (writes (port_reg Sctl) 0 sent) (none_comes sent released refl)
-    (comreset_comes (port_at 0) 1 waking sent stands.0 refl (writes (port_reg Sctl) 1 waking))
+coming : StepLaws → IsComingUp (released.port 0)
+coming laws = access_coming laws (port_at 0) (Writing (port_reg Sctl) 0) sent released (no_start Sctl 0 (λ e. cc)) (writes (port_reg Sctl) 0 sent) (none_comes sent released refl)
+    (comreset_comes laws (port_at 0) 1 waking sent stands.0 refl (writes (port_reg Sctl) 1 waking))
 
-is_linked : IsUp (linked.port 0)
-is_linked = up_is_found (port_at 0) 3 released linked (none_comes released linked refl) links refl coming
+is_linked : StepLaws → IsUp (linked.port 0)
+is_linked laws = up_is_found laws (port_at 0) 3 released linked (none_comes released linked refl) links refl (coming laws)
 
-is_quieted : IsUp (quieted.port 0)
-is_quieted = access_up (port_at 0) (Writing (port_reg Is) 0xffffffff) cleared quieted refl stands.2 (no_start Is 0xffffffff (λ e. cc)) (λ e. cc) (plugs_none cleared quieted refl) (writes (port_reg Is) 0xffffffff cleared)
-    (access_up (port_at 0) (Writing (port_reg Serr) 0xffffffff) linked cleared refl stands.1 (no_start Serr 0xffffffff (λ e. cc)) (λ e. cc) (plugs_none linked cleared refl) (writes (port_reg Serr) 0xffffffff linked) is_linked)
+is_quieted : StepLaws → IsUp (quieted.port 0)
+is_quieted laws = access_up laws (port_at 0) (Writing (port_reg Is) 0xffffffff) cleared quieted refl stands.2 (no_start Is 0xffffffff (λ e. cc)) (λ e. cc) (plugs_none cleared quieted refl) (writes (port_reg Is) 0xffffffff cleared)
+    (access_up laws (port_at 0) (Writing (port_reg Serr) 0xffffffff) linked cleared refl stands.1 (no_start Serr 0xffffffff (λ e. cc)) (λ e. cc) (plugs_none linked cleared refl) (writes (port_reg Serr) 0xffffffff linked) (is_linked laws))
 
-is_ready : IsUp (ready.port 0)
-is_ready = access_up (port_at 0) (Reading (port_reg Tfd) 0x77) quieted ready refl stands.3 (λ w e. absurd (let z : Reading (port_reg Tfd) 0x77 ≡ Writing (port_reg Cmd) w = e in cc)) tt (plugs_none quieted ready refl) waits is_quieted
+is_ready : StepLaws → IsUp (ready.port 0)
+is_ready laws = access_up laws (port_at 0) (Reading (port_reg Tfd) 0x77) quieted ready refl stands.3 (λ w e. absurd (let z : Reading (port_reg Tfd) 0x77 ≡ Writing (port_reg Cmd) w = e in cc)) tt (plugs_none quieted ready refl) waits (is_quieted laws)
 
-pub boot_is_found : BootIsFound
-boot_is_found = record {
+pub boot_is_found : StepLaws → BootIsFound
+boot_is_found laws = record {
   sent = sent;
   may_send = may_send;
   sends = writes (port_reg Sctl) 1 waking;
@@ -184,5 +184,5 @@ boot_is_found = record {
   starts = writes (port_reg Cmd) 0x11 ready;
   found = found;
   tells = tells;
-  well = well_is_found (port_at 0) 0x11 0 ready started found refl stands.5 stands.4 refl is_ready (writes (port_reg Cmd) 0x11 ready) tells no_trouble;
+  well = well_is_found laws (port_at 0) 0x11 0 ready started found refl stands.5 stands.4 refl (is_ready laws) (writes (port_reg Cmd) 0x11 ready) tells no_trouble;
 }

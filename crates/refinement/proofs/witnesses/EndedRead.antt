@@ -10,12 +10,11 @@ use Rattle.adapter.specs.ReadDone.{IsReadDone}
 use Rattle.adapter.specs.Decoding.{piece_addresses}
 use Rattle.adapter.specs.Steps.{Steps}
 use Rattle.adapter.proofs.FirstRead.{first_done}
-use Rattle.adapter.proofs.KeptLemmas.{law_steps_keep}
 use Rattle.block_machine.specs.Histories.{IsReachable}
 use Rattle.block_machine.specs.Left.{after}
 use Rattle.block_machine.specs.State.{Pending, Machine}
 use Rattle.block_machine.specs.Steps.{NoneKept}
-use Rattle.block_machine.proofs.HistoryLemmas.{reached_more}
+use Rattle.refinement.specs.Below.{StepLaws}
 use Rattle.refinement.specs.Relation.{port_at}
 use Rattle.refinement.specs.Driver.{DriverState, DriverRelation}
 use Rattle.refinement.specs.Facts.{IsClear, EndedIn}
@@ -30,7 +29,7 @@ use Rattle.refinement.proofs.steps.SparedBook.{follows_spare, none_kept_on}
 use Rattle.refinement.proofs.witnesses.FirstRead.{issued, reached, first_knows}
 
 -- where the device has left the slot clear on a running port, the request has ended
-module _ (k : DriverState) (m : Machine) (reached : IsReachable m) (knows : DriverRelation m k) (id : RequestId) (u : k.uses 0 0 ≡ Serves id) (none : m.kept ≡ []) (new : Device) (s : Steps k.device new) where
+module _ (laws : StepLaws) (k : DriverState) (m : Machine) (reached : IsReachable m) (knows : DriverRelation m k) (id : RequestId) (u : k.uses 0 0 ≡ Serves id) (none : m.kept ≡ []) (new : Device) (s : Steps k.device new) where
   follows : SimulatesSteps k.uses m k.device new
   follows = steps_follow k.uses m k.device new reached knows.agrees s
 
@@ -40,12 +39,12 @@ module _ (k : DriverState) (m : Machine) (reached : IsReachable m) (knows : Driv
   pub done_is_known : k.device.hr ≡ false → (k.device.port 0).st ≡ true → (new.port 0).ci 0 ≡ false → (new.port 0).sact 0 ≡ false → DoneIsKnown k id
   done_is_known off st issued sact =
       let found : IsClear (new.port 0) 0 × EndedIn (after m follows.steps) (port_at 0) id = clear_is_ended k.uses (after m follows.steps) new (port_at 0) 0 id follows.agrees u
-      ((((law_steps_keep s).on off).controls 0).st ∙ st) issued sact in
+      ((((laws.keeps _ _ s).on off).controls 0).st ∙ st) issued sact in
       record {
         device = new;
         steps = s;
         machine = after m follows.steps;
-        reached = reached_more m follows.steps reached follows.may;
+        reached = laws.reached m follows.steps reached follows.may;
         knows = (knowing_goes_on k m new knows follows).0;
         served = u;
         request = found.1.pending;
@@ -60,10 +59,10 @@ running : ((first_read.port 0).st ≡ true) × ((first_read.port 0).sact 0 ≡ f
 unfolding changed
 running = (refl, refl)
 
-read_is_known : (new : Device) (done : IsReadDone first_read new 0 0 100 8 (piece_addresses 0x64000 8) first_read_sector) → EndedIsKnown
-read_is_known new done =
-    done_is_known first_known issued reached first_knows first_id (put_same (λ port slot. Free) 0 0 (Serves first_id)) refl new done.steps refl running.0 done.free.ci
-    (((law_steps_keep done.steps).port 0).sact 0 running.1)
+read_is_known : StepLaws → (new : Device) (done : IsReadDone first_read new 0 0 100 8 (piece_addresses 0x64000 8) first_read_sector) → EndedIsKnown
+read_is_known laws new done =
+    (done_is_known laws) first_known issued (reached laws) first_knows first_id (put_same (λ port slot. Free) 0 0 (Serves first_id)) refl new done.steps refl running.0 done.free.ci
+    (((laws.keeps _ _ done.steps).port 0).sact 0 running.1)
 
-pub ended_is_known : EndedIsKnown
-ended_is_known = read_is_known first_done.0 first_done.1
+pub ended_is_known : StepLaws → EndedIsKnown
+ended_is_known laws = read_is_known laws first_done.0 first_done.1

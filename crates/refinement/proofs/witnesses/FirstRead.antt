@@ -20,15 +20,14 @@ use Rattle.adapter.specs.Steps.{Can, WereHeld}
 use Rattle.adapter.specs.Steps.DeviceTransition.{Fetch}
 use Rattle.adapter.proofs.Changed.{fun_ext, changed_same, changed_other}
 use Rattle.adapter.proofs.FirstRead.{first_says}
-use Rattle.adapter.proofs.Runs.{Steps-refl}
 use Rattle.adapter.proofs.SaysLemmas.{cut_length}
 use Rattle.block_machine.specs.declared.due.QueueMode.{QueueMode}
 use Rattle.block_machine.specs.Histories.{IsReachable}
 use Rattle.block_machine.specs.Left.{IsInitial}
 use Rattle.block_machine.specs.State.{Accepted, Pending, Machine}
 use Rattle.block_machine.specs.Steps.{Accept, Issue, May, IsNew, MayStillMove, HasHeld, after_step, newly_accepted, newly_issued}
-use Rattle.block_machine.proofs.HistoryLemmas.{reached_more}
 use Rattle.block_machine.proofs.Setting.{empty, filled_starts}
+use Rattle.refinement.specs.Below.{StepLaws}
 use Rattle.refinement.specs.Slots.{Free, Serves, SlotDecodesTo, IsEmptySlot}
 use Rattle.refinement.specs.Relation.{StateRelation, port_at, IsDiskOf, SameSectors, HasLasting, IsReceiving}
 use Rattle.refinement.specs.Driver.{DriverRelation, IsPrepared, idle}
@@ -84,8 +83,8 @@ may_issue = ((0, omega arith, refl), record { here = (0, omega arith, refl); cle
 abbrev pub issued : Machine
 issued = after_step accepting (Issue plain waits)
 
-pub reached : IsReachable issued
-reached = reached_more accepting (Issue plain waits ∷ []) accepting_reached (tt, may_issue)
+pub reached : StepLaws → IsReachable issued
+reached laws = laws.reached accepting (Issue plain waits ∷ []) accepting_reached (tt, may_issue)
 
 moves : MayStillMove issued (newly_issued waits)
 moves = inl ((0, omega arith, refl), refl)
@@ -192,8 +191,8 @@ issues =
     ap (λ (ports : ℕ → DevicePort). record first_read { port = ports })
     (sym issued_ports ∙ ap (λ (p : DevicePort). changed (changed (λ _. quiet_port) 0 ready_port) 0 (issued_port p 1)) (sym (changed_same (λ _. quiet_port) 0 ready_port)))
 
-pub prepared_is_known : PreparedIsKnown
-prepared_is_known = record {
+pub prepared_is_known : StepLaws → PreparedIsKnown
+prepared_is_known laws = record {
   machine = accepting;
   reached = accepting_reached;
   knows = accepting_knows;
@@ -201,9 +200,9 @@ prepared_is_known = record {
   request = waits;
   id_is = refl;
   prepared = prepared;
-  permitted = issue_is_permitted (idle prepared_read).uses accepting prepared_read accepting_reached accepting_knows.agrees (port_at 0) 0 plain waits 1
+  permitted = issue_is_permitted laws (idle prepared_read).uses accepting prepared_read accepting_reached accepting_knows.agrees (port_at 0) 0 plain waits 1
       (record { ae = refl; no_reset = refl }) (omega arith, refl) (omega arith) prepared;
-  writes = record { mid = prepared_read; steps = Steps-refl prepared_read; effect = issues };
+  writes = record { mid = prepared_read; steps = record { steps = []; lead = refl }; effect = issues };
 }
 
 pub first_knows : DriverRelation issued first_known
@@ -213,5 +212,5 @@ first_knows = record {
   have = λ q. issue_have (idle prepared_read).uses accepting prepared_read accepting_reached accepting_knows.agrees 0 0 plain waits 1 prepared q [] (accepting_knows.have q);
 }
 
-pub first_is_known : FirstIsKnown
-first_is_known = record { machine = issued; reached = reached; knows = first_knows; request = newly_issued waits; moves = moves; id_is = refl }
+pub first_is_known : StepLaws → FirstIsKnown
+first_is_known laws = record { machine = issued; reached = (reached laws); knows = first_knows; request = newly_issued waits; moves = moves; id_is = refl }

@@ -13,9 +13,9 @@ use Rattle.adapter.specs.Steps.{Can, Steps, device_after, begun}
 use Rattle.adapter.specs.Steps.DeviceTransition.{Fetch, Move, Done}
 use Rattle.adapter.specs.declared.command.Operation.TheVariants.{Identify, Trim}
 use Rattle.adapter.proofs.FirstRead.{first_sane}
-use Rattle.adapter.proofs.Runs.{Steps-refl}
 use Rattle.block_machine.specs.Histories.{IsReachable}
 use Rattle.block_machine.specs.State.{Machine}
+use Rattle.refinement.specs.Below.{StepLaws}
 use Rattle.refinement.specs.Relation.{port_at}
 use Rattle.refinement.specs.Driver.{DriverRelation, IsOwnPrepared, idle}
 use Rattle.refinement.specs.Places.{scratch_of}
@@ -130,18 +130,18 @@ running : (issued_identify.port 0).st ≡ true
 unfolding changed
 running = refl
 
-pub own_is_known : OwnIsKnown
-own_is_known = record {
+pub own_is_known : StepLaws → OwnIsKnown
+own_is_known laws = record {
   machine = machine;
   reached = reached;
   before = before;
   prepared = prepared;
-  permitted = own_is_permitted (idle prepared_identify).uses machine prepared_identify reached before.agrees (port_at 0) Identify 1
+  permitted = own_is_permitted laws (idle prepared_identify).uses machine prepared_identify reached before.agrees (port_at 0) Identify 1
       (record { ae = refl; no_reset = refl }) (omega arith, refl) prepared;
-  writes = record { mid = prepared_identify; steps = Steps-refl prepared_identify; effect = refl };
+  writes = record { mid = prepared_identify; steps = record { steps = []; lead = refl }; effect = refl };
   knows = knows;
   found = noted (Px (port_at 0) Ci) 0 ended;
   reads = reads;
-  page = page_is_read own_known.uses machine (port_at 0) Identify 0 issued_identify (noted (Px (port_at 0) Ci) 0 ended) reached knows.agrees refl running
+  page = page_is_read laws own_known.uses machine (port_at 0) Identify 0 issued_identify (noted (Px (port_at 0) Ci) 0 ended) reached knows.agrees refl running
       (put_same (λ _ _. Free) 0 0 (Own Identify)) reads refl;
 }

@@ -14,12 +14,10 @@ use Rattle.adapter.specs.Memory.{changed}
 use Rattle.adapter.specs.Rules.{MayWrite, IsStable}
 use Rattle.adapter.specs.Steps.{Can}
 use Rattle.adapter.specs.Steps.DeviceTransition.{Fall}
-use Rattle.adapter.proofs.KeptLemmas.{law_steps_keep}
-use Rattle.adapter.proofs.Runs.{Steps-refl, Steps-one}
 use Rattle.block_machine.specs.State.{Pending, Machine}
 use Rattle.block_machine.specs.Steps.{Answer, after_step, newly_issued}
-use Rattle.block_machine.proofs.HistoryLemmas.{reached_more}
 use Rattle.block_machine.proofs.Members.{contains_here, contains_cases, contains_none}
+use Rattle.refinement.specs.Below.{StepLaws}
 use Rattle.refinement.specs.Relation.{StateRelation, port_at}
 use Rattle.refinement.specs.Driver.{DriverRelation, HasNoSlot, LeavesUses}
 use Rattle.refinement.specs.Facts.{IsHalted}
@@ -40,10 +38,10 @@ booked = contains_here (newly_issued waits) [] (newly_issued waits) refl
 -- ---- taken from its slot
 
 -- the write keeps FRE as it is, and the bits that it doesn't change were read 0
-permitted : IsStable (MayWrite (Px (port_at 0) Cmd) 0x10) first_read
+permitted : StepLaws → IsStable (MayWrite (Px (port_at 0) Cmd) 0x10) first_read
 unfolding changed
-permitted mid s =
-    let k : Keeps first_read mid = law_steps_keep s in
+permitted laws mid s =
+    let k : Keeps first_read mid = laws.keeps _ _ s in
     let on : KeepsOn first_read mid = k.on refl in (
       record { ae = on.ae; no_reset = on.no_reset },
       (omega arith, ap (λ (v : ℕ). bit v 0) k.pi),
@@ -60,17 +58,17 @@ leaves : LeavesUses first_uses (Px (port_at 0) Cmd) 0x10 first_read
 unfolding changed
 leaves = record { start = λ b. true_false b refl; receive = λ _. (omega arith, refl) }
 
-stopping_agrees : StateRelation first_uses issued stopping_read
-stopping_agrees = written_agrees first_uses issued first_read first_knows.agrees (Px (port_at 0) Cmd) 0x10 (permitted first_read (Steps-refl first_read)) leaves
+stopping_agrees : StepLaws → StateRelation first_uses issued stopping_read
+stopping_agrees laws = written_agrees first_uses issued first_read first_knows.agrees (Px (port_at 0) Cmd) 0x10 (permitted laws first_read (record { steps = []; lead = refl })) leaves
 
 can_fall : Can (Fall 0) stopping_read
 unfolding changed
 can_fall = (refl, refl)
 
 -- nothing is told of, so the machine makes no step
-stopped_agrees : StateRelation first_uses issued stopped_read
-stopped_agrees =
-    silent_agrees first_uses issued stopping_read stopped_read (fall_follows first_uses issued stopping_read stopping_agrees 0 can_fall.0) refl
+stopped_agrees : StepLaws → StateRelation first_uses issued stopped_read
+stopped_agrees laws =
+    silent_agrees first_uses issued stopping_read stopped_read (fall_follows first_uses issued stopping_read (stopping_agrees laws) 0 can_fall.0) refl
 
 stopped_halted : IsHalted (stopped_read.port 0)
 unfolding changed
@@ -91,20 +89,20 @@ unserved q k u = ⊎_elim
     (λ h. let w = served_at q k first_id (sym h.1 ∙ u) in h.0 w.0 w.1)
     (put_cases first_uses 0 0 Free q k)
 
-parked_knows : DriverRelation issued parked_known
-parked_knows =
-    park_knows (record first_known { device = stopped_read }) issued (record { agrees = stopped_agrees; have = first_knows.have }) 0 0
+parked_knows : StepLaws → DriverRelation issued parked_known
+parked_knows laws =
+    park_knows (record first_known { device = stopped_read }) issued (record { agrees = (stopped_agrees laws); have = first_knows.have }) 0 0
     (record { issued = stopped_halted.ci 0; free = stopped_halted.taken 0 }) first_id (put_same (λ _ _. Free) 0 0 (Serves first_id))
 
-pub parked_is_known : ParkedIsKnown
-parked_is_known = record {
-  permitted = permitted;
-  writes = record { mid = first_read; steps = Steps-refl first_read; effect = refl };
-  falls = Steps-one (Fall 0) stopping_read stopped_read can_fall refl;
+pub parked_is_known : StepLaws → ParkedIsKnown
+parked_is_known laws = record {
+  permitted = (permitted laws);
+  writes = record { mid = first_read; steps = record { steps = []; lead = refl }; effect = refl };
+  falls = record { steps = (Fall 0) ∷ []; lead = (can_fall, refl) };
   halted = stopped_halted;
   machine = issued;
-  reached = reached;
-  knows = parked_knows;
+  reached = (reached laws);
+  knows = (parked_knows laws);
   unserved = unserved;
   request = newly_issued waits;
   id_is = refl;
@@ -120,14 +118,14 @@ keeping = after_step issued (Answer (newly_issued waits) PortDead)
 kept_one : (e : Pending) → Contains keeping.kept e → e.request.id ≡ first_id
 kept_one e h = ⊎_elim (λ (is : e ≡ newly_issued waits). ap (λ (x : Pending). x.request.id) is) (λ i. absurd (contains_none e i)) (contains_cases (newly_issued waits) [] e h)
 
-pub kept_is_known : KeptIsKnown
-kept_is_known = record {
+pub kept_is_known : StepLaws → KeptIsKnown
+kept_is_known laws = record {
   machine = keeping;
-  reached = reached_more issued (Answer (newly_issued waits) PortDead ∷ []) reached (tt, (booked, tt));
+  reached = laws.reached issued (Answer (newly_issued waits) PortDead ∷ []) (reached laws) (tt, (booked, tt));
   request = newly_issued waits;
   kept = booked;
   id_is = refl;
-  knows = keeping_knows first_known issued (newly_issued waits) PortDead reached first_knows booked refl;
-  taken = keeping_knows parked_known issued (newly_issued waits) PortDead reached parked_knows booked refl;
+  knows = keeping_knows first_known issued (newly_issued waits) PortDead (reached laws) first_knows booked refl;
+  taken = keeping_knows parked_known issued (newly_issued waits) PortDead (reached laws) (parked_knows laws) booked refl;
   unserved = λ e h q k u. unserved q k (u ∙ ap Serves (kept_one e h));
 }

@@ -1,5 +1,5 @@
 -- What plain work can't do without.
-use Rattle.std.proofs.Common.{ℕ, ◌≡◌, ◌<◌, ◌+◌, ◌*◌, ◌%◌, ◌^◌, false, ◌==◌, Some, refl, sym, ◌∙◌, ap, arith, inl}
+use Rattle.std.proofs.Common.{ℕ, ◌≡◌, ◌<◌, ◌+◌, ◌*◌, ◌%◌, ◌^◌, false, ◌==◌, Some, refl, sym, ◌∙◌, ap, arith, inl, [], ◌∷◌}
 use Rattle.std.proofs.lemmas.Nat.Bits.{bit_at-pow_other, bit_at-zero}
 use Rattle.std.proofs.lemmas.Bool.{both_ways, false≢true, true≢false}
 use Rattle.std.proofs.lemmas.Option.{none-some}
@@ -17,9 +17,9 @@ use Rattle.adapter.specs.Steps.{Can, device_after, begun, Steps, restarted}
 use Rattle.adapter.specs.Steps.DeviceTransition.{Fetch, Fault}
 use Rattle.adapter.specs.declared.command.Operation.TheVariants.{ReadQueued}
 use Rattle.adapter.specs.declared.command.Prd.{Prd}
-use Rattle.adapter.proofs.Runs.{Steps-one}
 use Rattle.block_machine.specs.Histories.{IsReachable}
 use Rattle.block_machine.specs.State.{Machine}
+use Rattle.refinement.specs.Below.{StepLaws}
 use Rattle.refinement.specs.Relation.{StateRelation, port_at}
 use Rattle.refinement.specs.Driver.{LeavesUses}
 use Rattle.refinement.specs.Places.{table_of}
@@ -44,9 +44,9 @@ issued_runs : restarted (two_issued.port 0).halt ≡ NotHalted
 unfolding changed
 issued_runs = refl
 
-pub needs_unarmed : ((uses : SlotStates) (m : Machine) (port : ℕ) (old new : Device) → IsReachable m → StateRelation uses m old → Steps old new → restarted (old.port port).halt ≡ NotHalted → AreTakenPlainly old port → AreTakenPlainly new port) → ⊥
-needs_unarmed law =
-    let w : TwoAreKnown = two_are_known in
+pub needs_unarmed : StepLaws → ((uses : SlotStates) (m : Machine) (port : ℕ) (old new : Device) → IsReachable m → StateRelation uses m old → Steps old new → restarted (old.port port).halt ≡ NotHalted → AreTakenPlainly old port → AreTakenPlainly new port) → ⊥
+needs_unarmed laws law =
+    let w : TwoAreKnown = two_are_known laws in
     absurd (both_ways _ (law (two_known two_issued).uses w.machine 0 two_issued one_taken w.reached w.issued.agrees w.takes issued_runs none_taken 0 w.command w.taken) w.queued)
 
 -- ---- one was taken before ST was cleared
@@ -86,13 +86,13 @@ log_only : restarted ((device_after (Fault 0 0 0x40 0 queued_taken) stopping).po
 unfolding changed
 log_only = refl
 
-pub needs_plain : ((uses : SlotStates) (m : Machine) (port : ℕ) (old new : Device) → IsReachable m → StateRelation uses m old → Steps old new → restarted (old.port port).halt ≡ NotHalted → ((slot : ℕ) → (old.port port).sact slot ≡ false) →
+pub needs_plain : StepLaws → ((uses : SlotStates) (m : Machine) (port : ℕ) (old new : Device) → IsReachable m → StateRelation uses m old → Steps old new → restarted (old.port port).halt ≡ NotHalted → ((slot : ℕ) → (old.port port).sact slot ≡ false) →
     restarted (new.port port).halt ≡ NotHalted) → ⊥
-needs_plain law =
-    let w : TwoAreKnown = two_are_known in
+needs_plain laws law =
+    let w : TwoAreKnown = two_are_known laws in
     let a : StateRelation (two_known one_taken).uses w.machine stopping = written_agrees (two_known one_taken).uses w.machine one_taken w.knows.agrees (Px (port_at 0) Cmd) 0x10 may_stop leaves in
     let z : LogOnly ≡ NotHalted = sym log_only ∙ law (two_known one_taken).uses w.machine 0 stopping (device_after (Fault 0 0 0x40 0 queued_taken) stopping) w.reached a
-    (Steps-one (Fault 0 0 0x40 0 queued_taken) stopping (device_after (Fault 0 0 0x40 0 queued_taken) stopping) can_fail refl) stopping_is.0 stopping_is.1 in
+    (record { steps = (Fault 0 0 0x40 0 queued_taken) ∷ []; lead = (can_fail, refl) }) stopping_is.0 stopping_is.1 in
     cc
 
 -- ---- a queued command was issued without its bit
@@ -144,4 +144,4 @@ taken_then = refl
 pub needs_agreed : ((port : ℕ) (old new : Device) → Steps old new → WorksPlainly (old.port port) → WorksPlainly (new.port port)) → ⊥
 needs_agreed law =
     absurd (true≢false ((law 0 unarmed (device_after (Fetch 0 0 (queued_read 100) (piece_addresses 0x64000 8)) unarmed)
-    (Steps-one (Fetch 0 0 (queued_read 100) (piece_addresses 0x64000 8)) unarmed (device_after (Fetch 0 0 (queued_read 100) (piece_addresses 0x64000 8)) unarmed) can_fetch refl) unarmed_works).plain 0 queued_taken taken_then))
+    (record { steps = (Fetch 0 0 (queued_read 100) (piece_addresses 0x64000 8)) ∷ []; lead = (can_fetch, refl) }) unarmed_works).plain 0 queued_taken taken_then))

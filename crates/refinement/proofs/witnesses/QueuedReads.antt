@@ -18,15 +18,14 @@ use Rattle.adapter.specs.Steps.{Can, begun}
 use Rattle.adapter.specs.Steps.DeviceTransition.{Fetch}
 use Rattle.adapter.specs.declared.command.Operation.TheVariants.{ReadQueued}
 use Rattle.adapter.specs.declared.command.Prd.{Prd}
-use Rattle.adapter.proofs.Runs.{Steps-one}
 use Rattle.adapter.proofs.SaysLemmas.{cut_length}
 use Rattle.block_machine.specs.declared.due.QueueMode.{QueueMode}
 use Rattle.block_machine.specs.Histories.{IsReachable}
 use Rattle.block_machine.specs.State.{Accepted, Pending, Machine, unanswered}
 use Rattle.block_machine.specs.Steps.{Accept, Issue, May, after_step, newly_accepted, newly_issued}
-use Rattle.block_machine.proofs.HistoryLemmas.{reached_more}
 use Rattle.block_machine.proofs.Members.{contains_here, contains_there, contains_none, contains_cases, into_map}
 use Rattle.block_machine.proofs.Setting.{frame}
+use Rattle.refinement.specs.Below.{StepLaws}
 use Rattle.refinement.specs.Relation.{StateRelation, port_at, HaveSlots}
 use Rattle.refinement.specs.Driver.{DriverRelation, IsPrepared, idle}
 use Rattle.refinement.specs.Places.{table_of}
@@ -121,8 +120,8 @@ may_first = (first_in, record { here = into_map unanswered accepted.book first_w
 abbrev issuing : Machine
 issuing = after_step accepted (Issue queued first_waits)
 
-issuing_reached : IsReachable issuing
-issuing_reached = reached_more accepted (Issue queued first_waits ∷ []) accepted_reached (tt, may_first)
+issuing_reached : StepLaws → IsReachable issuing
+issuing_reached laws = laws.reached accepted (Issue queued first_waits ∷ []) accepted_reached (tt, may_first)
 
 second_in : Contains issuing.book second_waits
 second_in = contains_there (newly_issued first_waits) (second_waits ∷ []) second_waits (contains_here second_waits [] second_waits refl)
@@ -133,8 +132,8 @@ may_second = (second_in, record { here = into_map unanswered issuing.book second
 abbrev machine : Machine
 machine = after_step issuing (Issue queued second_waits)
 
-reached : IsReachable machine
-reached = reached_more issuing (Issue queued second_waits ∷ []) issuing_reached (tt, may_second)
+reached : StepLaws → IsReachable machine
+reached laws = laws.reached issuing (Issue queued second_waits ∷ []) (issuing_reached laws) (tt, may_second)
 
 -- ---- a read is prepared in a slot, with its bit of PxSACT
 
@@ -211,10 +210,10 @@ second_prepared : IsPrepared one_uses issuing one_issued 0 1 queued second_waits
 unfolding changed
 second_prepared = read_prepared one_uses issuing one_accepted one_issued 1 108 101 may_second refl (omega arith) refl refl second_told
 
-two_knows : DriverRelation machine (two_known two_issued)
-two_knows = record {
-  agrees = issue_agrees one_uses issuing one_issued issuing_reached one_agrees 0 1 queued second_waits 2 second_prepared;
-  have = λ q. issue_have one_uses issuing one_issued issuing_reached one_agrees 0 1 queued second_waits 2 second_prepared q [] (one_have q);
+two_knows : StepLaws → DriverRelation machine (two_known two_issued)
+two_knows laws = record {
+  agrees = issue_agrees one_uses issuing one_issued (issuing_reached laws) one_agrees 0 1 queued second_waits 2 second_prepared;
+  have = λ q. issue_have one_uses issuing one_issued (issuing_reached laws) one_agrees 0 1 queued second_waits 2 second_prepared q [] (one_have q);
 }
 
 -- ---- and the one is taken
@@ -228,9 +227,9 @@ can_fetch = record {
   says = first_told.says;
 }
 
-taken_agrees : StateRelation (two_known one_taken).uses machine one_taken
-taken_agrees = silent_agrees (two_known one_taken).uses machine two_issued one_taken
-    (fetch_follows (two_known one_taken).uses machine two_issued two_knows.agrees 0 0 (queued_read 100) (piece_addresses 0x64000 8) can_fetch) refl
+taken_agrees : StepLaws → StateRelation (two_known one_taken).uses machine one_taken
+taken_agrees laws = silent_agrees (two_known one_taken).uses machine two_issued one_taken
+    (fetch_follows (two_known one_taken).uses machine two_issued (two_knows laws).agrees 0 0 (queued_read 100) (piece_addresses 0x64000 8) can_fetch) refl
 
 bits : ((one_taken.port 0).taken 0 ≡ Some (begun (queued_read 100) (piece_addresses 0x64000 8))) × ((one_taken.port 0).ci 1 ≡ true)
 unfolding changed
@@ -243,13 +242,13 @@ frames_apart f a b = ⊎_elim
     (λ x. contains_none f x)
     (contains_cases (frame 100) [] f a)
 
-pub two_are_known : TwoAreKnown
-two_are_known = record {
+pub two_are_known : StepLaws → TwoAreKnown
+two_are_known laws = record {
   before = accepted;
   reached_before = accepted_reached;
   armed = record { agrees = two_armed_agrees; have = armed_have };
   machine = machine;
-  reached = reached;
+  reached = (reached laws);
   first = newly_issued first_waits;
   second = newly_issued second_waits;
   moves = (
@@ -258,13 +257,13 @@ two_are_known = record {
   );
   ids = (refl, refl);
   apart = frames_apart;
-  first_permitted = issue_is_permitted armed_uses accepted two_armed accepted_reached two_armed_agrees (port_at 0) 0 queued first_waits 1
+  first_permitted = issue_is_permitted laws armed_uses accepted two_armed accepted_reached two_armed_agrees (port_at 0) 0 queued first_waits 1
       (record { ae = refl; no_reset = refl }) (omega arith, refl) (omega arith) first_prepared;
-  second_permitted = issue_is_permitted one_uses issuing one_issued issuing_reached one_agrees (port_at 0) 1 queued second_waits 2
+  second_permitted = issue_is_permitted laws one_uses issuing one_issued (issuing_reached laws) one_agrees (port_at 0) 1 queued second_waits 2
       (record { ae = refl; no_reset = refl }) (omega arith, refl) (omega arith) second_prepared;
-  issued = two_knows;
-  takes = Steps-one (Fetch 0 0 (queued_read 100) (piece_addresses 0x64000 8)) two_issued one_taken can_fetch refl;
-  knows = record { agrees = taken_agrees; have = two_knows.have };
+  issued = (two_knows laws);
+  takes = record { steps = (Fetch 0 0 (queued_read 100) (piece_addresses 0x64000 8)) ∷ []; lead = (can_fetch, refl) };
+  knows = record { agrees = (taken_agrees laws); have = (two_knows laws).have };
   command = begun (queued_read 100) (piece_addresses 0x64000 8);
   taken = bits.0;
   queued = refl;

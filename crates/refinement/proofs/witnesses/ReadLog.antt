@@ -18,9 +18,9 @@ use Rattle.adapter.specs.Steps.DeviceTransition.{Fetch, Move, Done}
 use Rattle.adapter.specs.declared.command.Operation.TheVariants.{ReadLog, Trim}
 use Rattle.adapter.proofs.Changed.{changed_other}
 use Rattle.adapter.proofs.FirstRead.{first_sane}
-use Rattle.adapter.proofs.Runs.{Steps-refl}
 use Rattle.block_machine.specs.Histories.{IsReachable}
 use Rattle.block_machine.specs.State.{Machine}
+use Rattle.refinement.specs.Below.{StepLaws}
 use Rattle.refinement.specs.Relation.{StateRelation, port_at}
 use Rattle.refinement.specs.Driver.{DriverRelation, IsOwnPrepared, idle}
 use Rattle.refinement.specs.Facts.{TellsNoTrouble}
@@ -94,10 +94,10 @@ abbrev issued : Device
 issued = written (Px (port_at 0) Ci) 1 logging
 
 writes : Writes (Px (port_at 0) Ci) 1 logging issued
-writes = record { mid = logging; steps = Steps-refl logging; effect = refl }
+writes = record { mid = logging; steps = record { steps = []; lead = refl }; effect = refl }
 
-ends : EndsHalt log_uses 0 issued
-ends = issued_ends (idle logging).uses machine (port_at 0) ReadLog 1 logging issued reached halt_agrees refl (λ slot ne. refl) prepared writes
+ends : StepLaws → EndsHalt log_uses 0 issued
+ends laws = issued_ends laws (idle logging).uses machine (port_at 0) ReadLog 1 logging issued reached halt_agrees refl (λ slot ne. refl) prepared writes
 
 opens : FailsOpenly log_uses 0 issued
 unfolding changed
@@ -197,7 +197,7 @@ unfolding changed
 first_alone place ne = changed_other (λ _. false) 0 true place ne
 
 tells : Reads (Px (port_at 0) Is) 1 over (noted (Px (port_at 0) Is) 1 over)
-tells = record { mid = over; steps = Steps-refl over; shows = λ place cause. one_shown (over.port 0) errors.0 errors.1 errors.2 first_alone place; effect = refl }
+tells = record { mid = over; steps = record { steps = []; lead = refl }; shows = λ place cause. one_shown (over.port 0) errors.0 errors.1 errors.2 first_alone place; effect = refl }
 
 no_trouble : TellsNoTrouble 1
 no_trouble = record {
@@ -210,22 +210,22 @@ halted : (logging.port 0).halt ≡ LogOnly
 unfolding changed
 halted = refl
 
-pub log_is_ended : LogIsEnded
-log_is_ended = record {
+pub log_is_ended : StepLaws → LogIsEnded
+log_is_ended laws = record {
   machine = machine;
   reached = reached;
   knows = knows;
   halted = halted;
   runs = runs;
   prepared = prepared;
-  permitted = own_is_permitted (idle logging).uses machine logging reached halt_agrees (port_at 0) ReadLog 1 (record { ae = refl; no_reset = refl }) (omega arith, refl) prepared;
+  permitted = own_is_permitted laws (idle logging).uses machine logging reached halt_agrees (port_at 0) ReadLog 1 (record { ae = refl; no_reset = refl }) (omega arith, refl) prepared;
   issued = issued;
   writes = writes;
-  ends = ends;
+  ends = (ends laws);
   opens = opens;
   over = over;
   reads = reads;
   found = noted (Px (port_at 0) Is) 1 over;
   tells = tells;
-  well = ended_well log_uses machine (port_at 0) 0 1 issued over (noted (Px (port_at 0) Is) 1 over) reached issued_agrees ends issued_runs reads refl tells no_trouble;
+  well = ended_well laws log_uses machine (port_at 0) 0 1 issued over (noted (Px (port_at 0) Is) 1 over) reached issued_agrees (ends laws) issued_runs reads refl tells no_trouble;
 }

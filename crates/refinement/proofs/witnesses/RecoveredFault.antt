@@ -23,7 +23,7 @@ use Rattle.adapter.specs.Steps.{Can, device_after, begun, Steps}
 use Rattle.adapter.specs.Steps.DeviceTransition.{Fetch, Fault, Fall}
 use Rattle.adapter.proofs.Changed.{changed_other}
 use Rattle.adapter.proofs.FirstRead.{first_says}
-use Rattle.adapter.proofs.Runs.{Steps-refl, Steps-one}
+use Rattle.refinement.specs.Below.{StepLaws}
 use Rattle.refinement.specs.Relation.{port_at}
 use Rattle.refinement.specs.Facts.{IsHalted, TellsNoTrouble}
 use Rattle.refinement.proofs.device.AllowedWrites.{write_stays}
@@ -96,15 +96,15 @@ can_fall = (refl, refl)
 -- ---- the accesses
 
 writes : (r : Reg) (v : ℕ) (d : Device) → Writes r v d (written r v d)
-writes r v d = record { mid = d; steps = Steps-refl d; effect = refl }
+writes r v d = record { mid = d; steps = record { steps = []; lead = refl }; effect = refl }
 
 waits : Reads (port_reg Tfd) 0x4041 quieted idle
 unfolding changed
-waits = record { mid = quieted; steps = Steps-refl quieted; shows = refl; effect = refl }
+waits = record { mid = quieted; steps = record { steps = []; lead = refl }; shows = refl; effect = refl }
 
 sees : Reads (port_reg Ssts) 3 idle ready
 unfolding changed
-sees = record { mid = idle; steps = Steps-refl idle; shows = refl; effect = refl }
+sees = record { mid = idle; steps = record { steps = []; lead = refl }; shows = refl; effect = refl }
 
 -- 0 has no bit
 no_bit : (place : ℕ) → bit 0 place ≡ false
@@ -132,7 +132,7 @@ all_quiet place = ⊎_elim
     (cases_eq place 30)
 
 tells : Reads (port_reg Is) 0 started found
-tells = record { mid = started; steps = Steps-refl started; shows = λ place cause. none_shown (started.port 0) clear_errors.0 clear_errors.1 all_quiet place; effect = refl }
+tells = record { mid = started; steps = record { steps = []; lead = refl }; shows = λ place cause. none_shown (started.port 0) clear_errors.0 clear_errors.1 all_quiet place; effect = refl }
 
 no_trouble : TellsNoTrouble 0
 no_trouble = record { change = no_bit 6; ready = no_bit 22; quiet = λ place low high. no_bit place }
@@ -200,8 +200,8 @@ stands : IsHalted (stopped.port 0)
 unfolding changed
 stands = record { st = refl; cr = refl; ci = λ slot. refl; taken = λ slot. refl }
 
-pub recovery_is_found : RecoveryIsFound
-recovery_is_found = record {
+pub recovery_is_found : StepLaws → RecoveryIsFound
+recovery_is_found laws = record {
   plain = first_plain;
   linked = first_linked;
   failed = failed;
@@ -211,7 +211,7 @@ recovery_is_found = record {
   stopping = stopping;
   stops = writes (port_reg Cmd) 0x10 failed;
   stopped = stopped;
-  falls = Steps-one (Fall 0) stopping stopped can_fall refl;
+  falls = record { steps = (Fall 0) ∷ []; lead = (can_fall, refl) };
   stands = stands;
   may_clear = permitted Serr 0xffffffff stopped (λ p e. cc) refl refl refl tt;
   cleared = cleared;
@@ -230,7 +230,7 @@ recovery_is_found = record {
   tells = tells;
   still_plain = ready_plain;
   still_linked = ready_linked;
-  well = plainly_well (port_at 0) 0x11 0 ready started found refl states.1 states.2 refl ready_linked ready_plain (writes (port_reg Cmd) 0x11 ready) tells no_trouble;
+  well = plainly_well laws (port_at 0) 0x11 0 ready started found refl states.1 states.2 refl ready_linked ready_plain (writes (port_reg Cmd) 0x11 ready) tells no_trouble;
 }
 
 -- ---- the fault is seen

@@ -11,12 +11,11 @@ use Rattle.adapter.specs.Steps.DeviceTransition.{Fetch, Move, Clear, Done}
 use Rattle.adapter.specs.Trim.{trim_sectors, consecutive}
 use Rattle.adapter.specs.declared.command.Operation.TheVariants.{Trim}
 use Rattle.adapter.proofs.MemoryLemmas.{patched_bytes}
-use Rattle.adapter.proofs.Runs.{Steps-one}
 use Rattle.block_machine.specs.Histories.{IsReachable}
 use Rattle.block_machine.specs.State.{Accepted, Pending, Machine, unanswered}
 use Rattle.block_machine.specs.Steps.{Accept, Issue, May, after_step, newly_accepted, newly_issued}
-use Rattle.block_machine.proofs.HistoryLemmas.{reached_more}
 use Rattle.block_machine.proofs.Members.{contains_here, contains_none, into_map}
+use Rattle.refinement.specs.Below.{StepLaws}
 use Rattle.refinement.specs.Relation.{port_at}
 use Rattle.refinement.specs.Driver.{DriverRelation, IsPrepared, idle}
 use Rattle.refinement.specs.Places.{scratch_of}
@@ -79,8 +78,8 @@ may_issue = (waits_in, record { here = into_map unanswered accepted.book waits w
 abbrev issued : Machine
 issued = after_step accepted (Issue plain waits)
 
-reached : IsReachable issued
-reached = reached_more accepted (Issue plain waits ∷ []) accepted_reached (tt, may_issue)
+reached : StepLaws → IsReachable issued
+reached laws = laws.reached accepted (Issue plain waits ∷ []) accepted_reached (tt, may_issue)
 
 -- ---- it is issued, and taken
 
@@ -185,22 +184,22 @@ bits : ((issued_trim.port 0).st ≡ true) × ((ended.port 0).ci 0 ≡ false) × 
 unfolding changed
 bits = (refl, refl, refl, refl)
 
-pub trim_is_known : TrimIsKnown
-trim_is_known = record {
+pub trim_is_known : StepLaws → TrimIsKnown
+trim_is_known laws = record {
   machine = issued;
-  reached = reached;
+  reached = (reached laws);
   request = newly_issued waits;
   moves = inl (contains_here (newly_issued waits) [] (newly_issued waits) refl, refl);
   id_is = refl;
   op_is = refl;
-  permitted = issue_is_permitted (idle prepared_trim).uses accepted prepared_trim accepted_reached accepted_knows.agrees (port_at 0) 0 plain waits 1
+  permitted = issue_is_permitted laws (idle prepared_trim).uses accepted prepared_trim accepted_reached accepted_knows.agrees (port_at 0) 0 plain waits 1
       (record { ae = refl; no_reset = refl }) (omega arith, refl) (omega arith) prepared;
   issued = issued_knows;
-  takes = Steps-one (Fetch 0 0 trim (scratch_of 0 ∷ [])) issued_trim taken_trim can_fetch refl;
+  takes = record { steps = (Fetch 0 0 trim (scratch_of 0 ∷ [])) ∷ []; lead = (can_fetch, refl) };
   taken = bits.3;
   knows = record {
     agrees = silent_agrees first_uses issued issued_trim taken_trim (fetch_follows first_uses issued issued_trim issued_knows.agrees 0 0 trim (scratch_of 0 ∷ []) can_fetch) refl;
     have = issued_knows.have;
   };
-  done = done_is_known trim_known issued reached issued_knows first_id (put_same (λ _ _. Free) 0 0 (Serves first_id)) refl ended comes refl bits.0 bits.1 bits.2;
+  done = done_is_known laws trim_known issued (reached laws) issued_knows first_id (put_same (λ _ _. Free) 0 0 (Serves first_id)) refl ended comes refl bits.0 bits.1 bits.2;
 }

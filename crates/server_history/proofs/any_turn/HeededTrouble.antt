@@ -18,8 +18,7 @@ use Rattle.refinement.specs.Driven.{IsDrivenBy, IsOf}
 use Rattle.refinement.specs.Errors.{IsFatalOf}
 use Rattle.refinement.specs.Facts.{IsFaultOf, ShowsNoTrouble}
 use Rattle.refinement.specs.Links.{IsPlugging, SparesRegister}
-use Rattle.refinement.proofs.driver.Stretches.{by_then}
-use Rattle.server_history.proofs.state.DrivenAccesses.{by_none, driven_as}
+use Rattle.server_history.proofs.state.DrivenAccesses.{by_none, by_then, driven_as}
 use Rattle.block_machine.specs.Histories.{JointState}
 use Rattle.block_machine.specs.Ports.{Evidence, Ports}
 use Rattle.driver_history.specs.Evidence.{Gains, ShowsChange, ShowsFailure}
@@ -83,7 +82,7 @@ module _ (laws : LawsBelow) where
         (λ (none : HasNone c.mask). subst (IsDrivenBy (IsOrdinary port) turn.seen) (sym (c.idle none).1) (by_none (IsOrdinary port) turn.seen))
         (λ some.
         let k = c.checks (λ none. false≢true (sym (none some.0 some.1) ∙ some.2)) in
-        by_then (driven_as (IsFinding port) (IsOrdinary port) turn.seen k.read (finding_ordinary port) k.reads.driven)
+        by_then laws (driven_as (IsFinding port) (IsOrdinary port) turn.seen k.read (finding_ordinary port) k.reads.driven)
         (driven_as (IssuesIn port) (IsOrdinary port) k.read new (issuing_ordinary port) k.over))
         (none_or_some 32 c.mask)
       where

@@ -1,5 +1,5 @@
 -- A port of which a look told no loss showed a device: so it had a disk when the turn began, or one went or came in it.
-use Rattle.std.proofs.Common.{ℕ, ◌≡◌, ◌≢◌, ◌⊎◌, ◌++◌, true, false, List, [], ◌∷◌, append_assoc, inl, inr, sym, ap, ◌∙◌, subst, ⊎_elim}
+use Rattle.std.proofs.Common.{ℕ, ◌≡◌, ◌≢◌, ◌⊎◌, ◌++◌, true, false, List, [], ◌∷◌, append_assoc, inl, inr, refl, sym, ap, ◌∙◌, subst, ⊎_elim}
 use Rattle.std.specs.List.{Contains, list_any}
 use Rattle.std.proofs.lemmas.Bool.{cases_Bool, cases_eq, false≢true}
 use Rattle.std.proofs.lemmas.List.{append_cancel_left}
@@ -18,7 +18,6 @@ use Rattle.refinement.specs.Driven.{Grows}
 use Rattle.refinement.specs.Driver.{IsBacked}
 use Rattle.refinement.specs.Errors.{IsComing, NoneComes}
 use Rattle.refinement.specs.Links.{IsPlugging, PlugsNone, SparesRegister}
-use Rattle.refinement.proofs.driver.Stretches.{written_ghc}
 use Rattle.block_machine.specs.Events.{changes_disk}
 use Rattle.block_machine.specs.State.{Machine}
 use Rattle.block_machine.specs.Steps.{Step}
@@ -86,7 +85,7 @@ module _ (laws : LawsBelow) (port : Port) (P : DevicePort → Type 0) (one : (ac
 module _ (laws : LawsBelow) (port : Port) where
   module _ (old seen : Device) (look : PortEvent) (l : LooksAt port look old seen) (on : IsOn old) (not_lost : look ≢ LinkChanged) where
     on_over : (access : Access) (a b : Device) → SparesRegister Ghc access → Does access a b → IsOn a → IsOn b
-    on_over access a b spares does here = laws.looks.access_on access a b here (written_ghc access spares) does
+    on_over access a b spares does here = laws.looks.access_on access a b here (λ v is. absurd (subst (SparesRegister Ghc) is spares refl)) does
 
     -- a device shows at its end
     pub shows_device : (seen.port port.0).ssts_det ≡ 3

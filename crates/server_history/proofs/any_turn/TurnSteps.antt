@@ -8,13 +8,12 @@ use Rattle.ata_types.specs.declared.Port.{Port}
 use Rattle.ata_types.specs.declared.request.Outcome.{Outcome}
 use Rattle.ata_types.specs.declared.request.RequestId.{RequestId}
 use Rattle.refinement.specs.Spares.{SparesBook}
-use Rattle.refinement.proofs.driver.OwnSteps.{without_into}
 use Rattle.block_machine.specs.Events.{AllMay, IsByDevice, IsIssuedIn, handles, issues_it}
 use Rattle.block_machine.specs.Histories.{IsReachable}
 use Rattle.block_machine.specs.Left.{after}
 use Rattle.block_machine.specs.State.{Machine, Pending}
 use Rattle.block_machine.specs.Steps.{Step, Again, Answer, Issue, after_step, at, newly_issued, requeued}
-use Rattle.server_history.proofs.state.ListMembers.{at_cases, contains_cases, into_map, map_in, without_in}
+use Rattle.server_history.proofs.state.ListMembers.{at_cases, contains_cases, into_map, map_in, without_in, without_into}
 use Rattle.server_history.specs.Turns.{IsOfTurn}
 use Rattle.server_history.proofs.state.DeviceSteps.{not_handled}
 use Rattle.server_history.specs.Below.{LawsBelow}

@@ -332,7 +332,7 @@ module _ (laws : LawsBelow) (port : Port) (disposition : PendingRequest → Disp
           knows = laws.slots.answered_agrees k m x o (decided k.parked port.0 request.entry.id) may.reached may.knows comes.0 (stay ∙ never) (unserved request rest now mid k m may (fate_is ∙ never)) (forgets request rest now mid k m may);
           book = book;
           lent = λ frame. ap (λ (b : Bool). (if b then m.lent else unlend x.request.id m.lent) frame) (stay ∙ never)
-              ∙ given_back m request x now.table mid.table may.reached (inl comes.0) its_entry may.lent (All-contains (IsAccepted now.table) now.book request may.accepted (here request rest now mid k m may)).lent loan.1 frame;
+              ∙ given_back laws m request x now.table mid.table may.reached (inl comes.0) its_entry may.lent (All-contains (IsAccepted now.table) now.book request may.accepted (here request rest now mid k m may)).lent loan.1 frame;
           ordered = ordered;
           accepted = subst (All (IsAccepted mid.table)) (sym meets.1) (laws.still_answered now.table mid.table now.book request (here request rest now mid k m may) loan.1 may.accepted);
           here = still;

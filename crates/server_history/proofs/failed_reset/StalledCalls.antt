@@ -24,7 +24,6 @@ use Rattle.adapter.specs.Steps.{Steps}
 use Rattle.adapter.specs.declared.access.DeviceStep.{DeviceStep}
 use Rattle.refinement.specs.Driven.{known}
 use Rattle.refinement.specs.Links.{SameAdapter}
-use Rattle.refinement.proofs.driver.AddedSteps.{device_adds}
 use Rattle.block_machine.specs.Events.{AllMay, AnswersTick, Device as Told, HasTimedOut, LoadAt, AbstractState, RevokeOf, Served, Shown, State, Stepped, StoreAt, Submit, Submitted, Tick, WasRevoked}
 use Rattle.block_machine.specs.Histories.{Happening, JointState, now}
 use Rattle.block_machine.specs.Left.{after}
@@ -86,7 +85,7 @@ module _ (laws : LawsBelow) (s : ServerState) (t : StuckInvariant s) where
 
   moved : (new : Device) → Steps s.device new → StuckInvariant (record s { device = new })
   moved new moves =
-      let x = (device_adds (known b.stands.uses b.stands.parked s.device) new moves).adds b.machine b.reached b.stands.knows in
+      let x = (laws.basic.device_adds (known b.stands.uses b.stands.parked s.device) new moves).adds b.machine b.reached b.stands.knows in
       then_stalled new (steps_same laws s.device new moves) (steps_idle laws s.device new moves) (never_on new moves) x.0 x.1 (machine_on laws s new b.machine x.0 b.stands x.3.only x.2)
 
   pub stalled_device : (new : Device) (step : DeviceStep) → Asked step s.device new → Steps s.device new → ExtendsStuck s (record s { device = new }) (Told step) (Stepped true)

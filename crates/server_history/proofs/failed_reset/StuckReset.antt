@@ -13,7 +13,7 @@ use Rattle.adapter.specs.Device.{Device}
 use Rattle.adapter.specs.Rules.{IsOn}
 use Rattle.adapter.specs.declared.access.DeviceStep.{DeviceStep}
 use Rattle.refinement.specs.Driver.{IsBacked}
-use Rattle.refinement.proofs.driver.Stretches.{followed_adds}
+use Rattle.server_history.proofs.state.FollowedAccesses.{followed_adds}
 use Rattle.block_machine.specs.Events.{AllDevices, AllMay, Reset, WasReset}
 use Rattle.block_machine.specs.Histories.{Happening, JointState, IsReachable, now}
 use Rattle.block_machine.specs.Left.{after}
@@ -21,9 +21,8 @@ use Rattle.block_machine.specs.Ports.{AreFit, Evidence, RequestFault, IsStuck, P
 use Rattle.block_machine.specs.State.{Machine}
 use Rattle.block_machine.specs.Steps.{Step}
 use Rattle.driver_history.specs.Evidence.{IsEvidencedOf}
-use Rattle.driver_history.specs.Histories.{Begins, CallCorresponds, PortCorresponds}
+use Rattle.driver_history.specs.Histories.{PortCorresponds}
 use Rattle.driver_history.specs.Trace.{LeavesEngine}
-use Rattle.driver_history.proofs.Instants.{history_fit, ready_low}
 use Rattle.host_boot.specs.Resets.{IsOfReset}
 use Rattle.host_boot.specs.Taken.{probe_result_of}
 use Rattle.host_boot.specs.declared.ProbeResult.{ProbeResult}
@@ -149,7 +148,7 @@ module _ (laws : LawsBelow) (s new : ServerState) (b : BookInvariant s) (g : Res
 
   follows : (m : Machine) → IsReachable m → IsMachineOf s m → Follows m
   follows m reached is =
-      let x = (followed_adds g.stays.followed is.uses is.parked tt).adds m reached is.knows in
+      let x = (followed_adds laws g.stays.followed is.uses is.parked tt).adds m reached is.knows in
       record { steps = x.0; only = x.3.only; may = x.1; backed = x.3.backed; with_device_alone = machine_on laws s new.device m x.0 is x.3.only x.2 }
 
   booked_then : (m : Machine) → IsReachable m → IsMachineOf (record s { device = new.device }) m → BookInvariant n
@@ -209,7 +208,7 @@ module _ (laws : LawsBelow) (s new : ServerState) (b : BookInvariant s) (g : Res
     ports_are = leads.stands.ports_are
 
     fit : AreFit old.abstract.ports
-    fit = history_fit (Begins s.wanted) (CallCorresponds s.wanted) first past leads.history
+    fit = laws.basic.fit s.wanted first past leads.history
 
     evidence : Evidence
     evidence = stuck_told old.abstract.ports
@@ -232,7 +231,7 @@ module _ (laws : LawsBelow) (s new : ServerState) (b : BookInvariant s) (g : Res
     unfolding evidence
     evidenced_port port =
         let leaves = All-weaker IsOfReset (LeavesEngine port) (leaves_engine port) its_accesses g.stays.followed.driven.only in
-        let base = evidenced_of four Reset (WasReset None) its_accesses began (ports_of n) new.device port (λ ready. in_four port (ready_low old port fit ready).1) leaves in
+        let base = evidenced_of four Reset (WasReset None) its_accesses began (ports_of n) new.device port (λ ready. in_four port (laws.basic.ready_served old.abstract.ports port fit ready).1) leaves in
         record {
           lost = base.lost;
           gone_all = base.gone_all;
@@ -258,7 +257,7 @@ module _ (laws : LawsBelow) (s new : ServerState) (b : BookInvariant s) (g : Res
       probes = tt;
       boots = tt;
       port_error = record {
-        errors = λ ready shown. inl (inr (stuck_named port (was_served port (ready_low old port fit ready).0)));
+        errors = λ ready shown. inl (inr (stuck_named port (was_served port (laws.basic.ready_served old.abstract.ports port fit ready).0)));
         changes = λ tends shown. inl (inr (stuck_named port (was_served port tends.0)));
         fault = λ ready. absurd (never_ready n dead port.0 ready);
         fatal = λ ready. absurd (never_ready n dead port.0 ready);

@@ -15,12 +15,10 @@ use Rattle.adapter.proofs.Changed.{changed_each}
 use Rattle.block_machine.specs.Histories.{IsReachable}
 use Rattle.block_machine.specs.State.{Machine, Pending}
 use Rattle.block_machine.specs.Steps.{Answer, IsLiving, after_step, is_lent_to, unlend}
-use Rattle.block_machine.proofs.Lending.{lent_own}
 use Rattle.server_history.proofs.state.ListMembers.{contains_cases}
 use Rattle.refinement.specs.Driven.{known}
 use Rattle.refinement.specs.Driver.{ForgetsRequest, HasNoSlot, DriverState, parking}
 use Rattle.refinement.specs.Slots.{Free, Serves, SlotStates, put, IsDropped, IsEnded, IsOver, ServesRequest}
-use Rattle.refinement.proofs.device.AdapterOverAccesses.{same_refl}
 use Rattle.dma_frames.specs.Table.{Table, lent_to, LendsOnly}
 use Rattle.host_boot.specs.Taken.{probe_result_of}
 use Rattle.request_queue.specs.Entries.{Held, IsAccepted, without_entry}
@@ -35,9 +33,9 @@ use Rattle.server_history.proofs.state.PortSlots.{IsServedBy, its_mode, used_low
 -- ---- loans
 
 -- the frames of the request given back, in the machine and in the table
-pub given_back : (m : Machine) (e : Held) (x : Pending) (old new : Table) → IsReachable m → IsLiving m x → IsEntry e x → ((f : Frame) → m.lent f ≡ lent_to old f)
+pub given_back : LawsBelow → (m : Machine) (e : Held) (x : Pending) (old new : Table) → IsReachable m → IsLiving m x → IsEntry e x → ((f : Frame) → m.lent f ≡ lent_to old f)
     → All (λ f. lent_to old f ≡ Some e.entry.id) e.frames → LendsOnly old new e.frames None → (f : Frame) → unlend x.request.id m.lent f ≡ lent_to new f
-given_back m e x old new reached lives entry same lent lends f = by (m.lent f) refl
+given_back laws m e x old new reached lives entry same lent lends f = by (m.lent f) refl
   where
     -- the frame is another's, or nobody's
     left : (o : Option RequestId) → m.lent f ≡ o → (Some e.entry.id ≡ o → ⊥) → lent_to new f ≡ o
@@ -53,7 +51,7 @@ given_back m e x old new reached lives entry same lent lends f = by (m.lent f) r
         held : (b : Bool) → (o.0 == x.request.id.0) ≡ b → unlend x.request.id m.lent f ≡ lent_to new f
         held true q =
             let mine : o ≡ x.request.id = ap (λ n. record { 0 = n }) (eqb-true o.0 x.request.id.0 q) in
-            let place = lent_own m f x reached lives (is ∙ ap Some mine) in
+            let place = laws.living.own_frame m f x reached lives (is ∙ ap Some mine) in
             let there : Contains x.request.asked.frames.items f = (place.0, place.1, get_or_default x.request.asked.frames.items place.0 f _ place.1 ∙ place.2) in
             seen (Some o) is ∙ cond-true (o.0 == x.request.id.0) None (Some o) q
             ∙ sym (All-contains (λ (y : Frame). lent_to new y ≡ None) e.frames f lends.these (subst (λ (fs : List Frame). Contains fs f) entry.frames there))
@@ -140,7 +138,7 @@ module _ (laws : LawsBelow) (s new : ServerState) (port : Port) (e : Held) (k : 
     stands : IsMachineOf left answered
     stands = record {
       uses = put is.uses port.0 slot Free;
-      used = placed_uses s.slots port.0 slot None (let l = low in let f = k.four in omega (arith, l, f)) (let h = (k.slots port.0 low).places in let small = one.small in omega (arith, h, small)) s.ports is.uses is.used;
+      used = placed_uses s.slots port.0 slot None (let l = low in let f = k.four in omega (arith, l, f)) (let h = (k.slots port.0 low).places in let small = one.small in omega (arith, h, small)) laws s.ports is.uses is.used;
       parked = is.parked;
       unparked = is.unparked;
       knows = laws.slots.answered_agrees taken m done outcome.Ok is.parked reached (laws.slots.parked_agrees (known is.uses is.parked s.device) m is.knows port.0 slot over id serves) r.here refl no_slot forgets;
@@ -148,7 +146,7 @@ module _ (laws : LawsBelow) (s new : ServerState) (port : Port) (e : Held) (k : 
       kept = is.kept;
       rows = is.rows;
       owner = λ f. is.owner f ∙ sym (ap (λ (owners : List (Option ClientId)). get_or owners f.0 None) one.lent.owners);
-      lent = given_back m e done s.table new.table reached (inl r.here) entry is.lent was_accepted.lent one.lent;
+      lent = given_back laws m e done s.table new.table reached (inl r.here) entry is.lent was_accepted.lent one.lent;
       next = is.next;
     }
 
@@ -179,7 +177,7 @@ module _ (laws : LawsBelow) (s new : ServerState) (port : Port) (e : Held) (k : 
       let a = answer_one k.machine k.reached k.stands in
       subst InCallInvariant (sym one.server)
       (kept_then s s.device s.grants new.table (with_slot s.slots port.0 slot None) (without_entry id s.book) s.last k k.rows
-      k.on (same_refl s.device) k.behind one.lent.owners
+      k.on (record { telling = refl; size = refl; cap = refl; pi = refl }) k.behind one.lent.owners
       (placed_four s.ports s.modes s.slots port.0 slot None k.four low slot_low few k.slots)
       (placed_has s.ports s.modes s.slots port.0 slot None k.four low slot_low few k.slots)
       (λ q n used h is there same. k.kinds q n used h (freed_was s.slots port.0 slot in_list in_places q.0 n used is) ((laws.left s.book id h).0 there).0 same)

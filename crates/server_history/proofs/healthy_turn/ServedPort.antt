@@ -15,7 +15,8 @@ use Rattle.adapter.specs.declared.command.Operation.TheVariants.{ReadLog}
 use Rattle.refinement.specs.Driven.{AnyUse, IsDrivenBy, IsSimulated, SendsNone}
 use Rattle.refinement.specs.Driver.{IsBacked}
 use Rattle.refinement.specs.Slots.{IsOver, Serves, ServesRequest, Stage}
-use Rattle.refinement.proofs.driver.Stretches.{followed_as, followed_then, followed_adds}
+use Rattle.server_history.proofs.state.FollowedAccesses.{followed_adds}
+use Rattle.server_history.specs.Laws.Fragment.{Finding, Looking, Serving}
 use Rattle.server_history.proofs.state.DrivenAccesses.{by_none}
 use Rattle.block_machine.specs.Events.{AllDevices, AllMay, issues_it}
 use Rattle.block_machine.specs.Histories.{IsReachable}
@@ -28,7 +29,7 @@ use Rattle.host_boot.specs.Taken.{probe_result_of}
 use Rattle.host_boot.specs.declared.ProbeResult.TheVariants.{Ready}
 use Rattle.driver_history.specs.Histories.{IssuesDue}
 use Rattle.identify.specs.declared.DiskInfo.{DiskInfo}
-use Rattle.commands.specs.Masks.{ReadsDone, IsFinding, SeesClear}
+use Rattle.commands.specs.Masks.{ReadsDone, SeesClear}
 use Rattle.port_control.specs.Looks.{IsLooking, LooksAt}
 use Rattle.port_control.specs.Services.{IsService}
 use Rattle.port_control.specs.declared.events.PortEvent.TheVariants.{NoEvent}
@@ -57,10 +58,14 @@ use Rattle.server_history.proofs.state.FirstMembers.{nowhere, first_here}
 
 -- accesses of a look, and of finding a transfer done, serve ports
 pub looks_serve : LawsBelow → (port : Port) (old new : Device) → IsSimulated (IsLooking port) AnyUse old new → IsSimulated IsService AnyUse old new
-looks_serve laws port old new followed = followed_as (IsLooking port) IsService AnyUse AnyUse old new (laws.looking.looking_service port) (λ uses any. any) followed
+looks_serve laws port old new followed = (laws.looking.fragments.wider (Looking port) Serving (λ uses. uses) (laws.looking.looking_service port) (λ uses any. any) old new followed).followed
 
 pub finds_serve : LawsBelow → (port : Port) (mask done : ℕ) (old new : Device) → ReadsDone port mask done old new → IsSimulated IsService AnyUse old new
-finds_serve laws port mask done old new finds = followed_as (IsFinding port) IsService AnyUse AnyUse old new (finding_serves port) (λ uses any. any) (laws.finding_followed port mask done old new finds)
+finds_serve laws port mask done old new finds = (laws.looking.fragments.wider (Finding port) Serving (λ uses. uses) (finding_serves port) (λ uses any. any) old new (laws.finding_followed port mask done old new finds)).followed
+
+-- one stretch, and then another
+serves_then : LawsBelow → (old mid new : Device) → IsSimulated IsService AnyUse old mid → IsSimulated IsService AnyUse mid new → IsSimulated IsService AnyUse old new
+serves_then laws old mid new a b = (laws.looking.fragments.both Serving Serving (λ uses. uses) (λ uses. uses) (λ access is. is) (λ uses any. any) old mid new a b).followed
 
 -- answers issue nothing
 pub answers_issue_none : (id : RequestId) (ended : List Pending) → list_any (issues_it id) (answers_in ended) ≡ false
@@ -71,7 +76,7 @@ answers_issue_none id (e ∷ ended) = any_append (issues_it id) (answers_in ende
 pub followed_steps : LawsBelow → (s : ServerState) (new : Device) → IsSimulated IsService AnyUse s.device new → (m : Machine) → IsReachable m → IsMachineOf s m
     → (steps : List Step) × AllMay m steps × IsMachineOf (record s { device = new }) (after m steps) × IsBacked s.device new m steps × AllDevices steps
 followed_steps laws s new followed m reached is =
-    let x = (followed_adds followed is.uses is.parked tt).adds m reached is.knows in
+    let x = (followed_adds laws followed is.uses is.parked tt).adds m reached is.knows in
     (x.0, x.1, machine_on laws s new m x.0 is x.3.only x.2, x.3.backed, x.3.only)
 
 nobody_answered : LawsBelow → (s : ServerState) (new : Device) (port : Port) → SettledInvariant s → state_of (probe_result_of s.ports port.0) ≡ ReadyState → (turn : HasTurn port (slots_at s.slots port.0) [] s.device new) → IsSimulated IsService AnyUse s.device new
@@ -134,7 +139,7 @@ module _ (s : ServerState) (port : Port) (k : InCallInvariant s) (ready : state_
   still_clear : LawsBelow → (seen : Device) → IsDrivenBy (IsLooking port) s.device seen → (used : SlotUse) → used_for s.slots port.0 slot ≡ Some used → (s.device.port port.0).ci slot ≡ false
       → (s.device.port port.0).sact slot ≡ false → ((seen.port port.0).ci slot ≡ false) × ((seen.port port.0).sact slot ≡ false)
   still_clear laws seen driven used its ci sact = (
-    (still_over port slot s.device seen driven (clear_over used its ci sact)).issued,
+    (still_over laws port slot s.device seen driven (clear_over used its ci sact)).issued,
     laws.looking.looks_inactive port port.0 slot s.device seen driven sact,
   )
 
@@ -202,8 +207,8 @@ module _ (s : ServerState) (seen : Device) (port : Port) (t : SettledInvariant s
   low = (ready_found s port.0 k ready).0
 
   -- a look brings no page of the log but on dead ports
-  seen_silent : (q : ℕ) → state_of (probe_result_of s.ports q) ≢ Dead → SendsNone q ReadLog s.device seen
-  seen_silent q lives = looking_silent s seen port k looks q ReadLog refl (λ dead. lives (ap state_of dead))
+  seen_silent : LawsBelow → (q : ℕ) → state_of (probe_result_of s.ports q) ≢ Dead → SendsNone q ReadLog s.device seen
+  seen_silent laws q lives = looking_silent s seen port k laws looks q ReadLog refl (λ dead. lives (ap state_of dead))
 
   module _ (l : LooksAt port NoEvent s.device seen) where
     -- no slot is used
@@ -218,7 +223,7 @@ module _ (s : ServerState) (seen : Device) (port : Port) (t : SettledInvariant s
           calm = λ _. record { mask = 0; its = its; idle = λ _. (refl, refl); checks = λ some. absurd (some (λ slot small. bit_zero slot)) };
         })
         (looks_serve laws port s.device seen looks)
-        seen_silent
+        (seen_silent laws)
         (λ calm slot used small is ci sact. false≢true (sym (bit_zero slot) ∙ its slot small ∙ ap is_used is))
 
     module _ (laws : LawsBelow) (mask : ℕ) (its : IsMaskOf (slots_at s.slots port.0) mask) (some : HasNone mask → ⊥) where
@@ -232,7 +237,7 @@ module _ (s : ServerState) (seen : Device) (port : Port) (t : SettledInvariant s
       -- nor does finding
       found_silent : (new : Device) (done : ℕ) → ReadsDone port mask done seen new → (q : ℕ) → state_of (probe_result_of s.ports q) ≢ Dead → SendsNone q ReadLog s.device new
       found_silent new done reads q lives =
-          silent_more q ReadLog s.device seen new (seen_silent q lives)
+          silent_more q ReadLog s.device seen new (seen_silent laws q lives)
           (finding_silent (record s { device = seen }) new port seen_kept ready laws mask done reads q ReadLog refl (λ dead. lives (ap state_of dead)))
 
       -- none of what it has issued was found done
@@ -258,7 +263,7 @@ module _ (s : ServerState) (seen : Device) (port : Port) (t : SettledInvariant s
               };
             };
           })
-          (followed_then IsService AnyUse s.device seen new (looks_serve laws port s.device seen looks) (finds_serve laws port mask done seen new reads))
+          (serves_then laws s.device seen new (looks_serve laws port s.device seen looks) (finds_serve laws port mask done seen new reads))
           (found_silent new done reads)
           (λ calm slot used small is ci sact.
           let c = still_clear s port k ready slot laws seen looks.driven used is ci sact in
@@ -271,7 +276,7 @@ module _ (s : ServerState) (seen : Device) (port : Port) (t : SettledInvariant s
         from = record s { device = found }
 
         served : IsSimulated IsService AnyUse s.device found
-        served = followed_then IsService AnyUse s.device seen found (looks_serve laws port s.device seen looks) (finds_serve laws port mask done seen found reads)
+        served = serves_then laws s.device seen found (looks_serve laws port s.device seen looks) (finds_serve laws port mask done seen found reads)
 
         found_kept : InCallInvariant from
         found_kept = finding_kept (record s { device = seen }) found port seen_kept ready laws mask done reads

@@ -10,7 +10,7 @@ use Rattle.ata_types.specs.declared.PortState.{PortState}
 use Rattle.ata_types.specs.declared.limits.TheConstants.{MOST_REQUEST_SECTORS}
 use Rattle.ata_types.specs.declared.PortState.TheVariants.{Absent, Ready as ReadyState, Foreign, Unfit, Dead}
 use Rattle.ata_types.specs.declared.grant.GrantRow.{GrantRow}
-use Rattle.ata_types.specs.declared.refusal.FrameFault.TheVariants.{FrameForeign, FrameTwice, FrameLent}
+use Rattle.ata_types.specs.declared.refusal.FrameFault.TheVariants.{FrameTwice, FrameLent}
 use Rattle.ata_types.specs.declared.refusal.Refusal.TheVariants.{Rule, PortNotReady, ClientFull, IdsSpent}
 use Rattle.ata_types.specs.declared.refusal.Rule.TheVariants.{BadCount, FrameCount, Frames}
 use Rattle.ata_types.specs.declared.request.ClientId.{ClientId}
@@ -23,15 +23,11 @@ use Rattle.block_machine.specs.Confined.{IsGranted, WasAccepted}
 use Rattle.block_machine.specs.Events as events
 use Rattle.block_machine.specs.Histories.{JointState, IsReachable}
 use Rattle.block_machine.specs.Refusals.{Situation, IsAcceptable}
-use Rattle.block_machine.specs.Rules.{DifferInName, IsAllowedCount, IsNamed, Names, frames_for}
+use Rattle.block_machine.specs.Rules.{IsAllowedCount, IsNamed, Names, frames_for}
 use Rattle.block_machine.specs.State as machine
 use Rattle.block_machine.specs.State.{Machine, block_of}
 use Rattle.block_machine.specs.Steps as steps
 use Rattle.block_machine.specs.Steps.{IsLiving, IsNew, Step, newly_accepted}
-use Rattle.block_machine.proofs.Accepts.{law_accepted_is_granted}
-use Rattle.block_machine.proofs.Configured.{rows_differ}
-use Rattle.block_machine.proofs.Limits.{owned}
-use Rattle.block_machine.proofs.RuleLemmas.{one_row}
 use Rattle.dma_frames.specs.Table.{Table, owner_of, lent_to, LendsOnly}
 use Rattle.host_boot.specs.Taken.{probe_result_of}
 use Rattle.request_queue.specs.Entries.{IsAccepted, unanswered_entries}
@@ -64,12 +60,6 @@ ready_is Foreign twice = absurd (twice (λ e. cc))
 ready_is (Unfit n) twice = absurd (twice (λ e. cc))
 ready_is Dead twice = absurd (twice (λ e. cc))
 
--- the rows of a machine that is reached differ in name
-names_differ : (m : Machine) → IsReachable m → AllPairs DifferInName m.rows
-names_differ m reached =
-    subst (λ (n : Machine). AllPairs DifferInName n.rows) (sym reached.is)
-    (rows_differ reached.first reached.past reached.starts.rows)
-
 -- ---- the grant of a request that was accepted
 
 -- it is of the start
@@ -86,8 +76,9 @@ pub on_its_port : LivingLaws → (m : Machine) → IsReachable m → (e : machin
 on_its_port laws m reached e here row there named =
     let was = laws.lived reached.first reached.past e reached.starts reached.legal (subst (λ (n : Machine). IsLiving n e) reached.is (inl here)) in
     let g = was_granted laws reached.first reached.past e.request was in
+    let at_first : IsReachable reached.first = record { first = reached.first; past = []; starts = reached.starts; legal = tt; is = refl } in
     let at_start = (laws.shrunk reached.first reached.past).0 row (subst (λ (n : Machine). Contains n.rows row) reached.is there) in
-    g.port ∙ ap (λ (x : GrantRow). x.port) (one_row reached.first.rows reached.starts.rows e.request.asked.client e.request.asked.grant g.row row g.named.0 g.named.1 at_start named)
+    g.port ∙ ap (λ (x : GrantRow). x.port) (laws.one_row reached.first e.request.asked.client e.request.asked.grant g.row row at_first g.named.0 g.named.1 at_start named)
 
 module _ (s : ServerState) (r : Request) (acc : IsAcceptable (server_situation s) r) (row : GrantRow) (named : IsNamed s.grants r row) (port : Port) (port_is : row.port ≡ port) where
   -- its port is ready
@@ -133,7 +124,7 @@ module _ (s : ServerState) (r : Request) (acc : IsAcceptable (server_situation s
         unbroken = λ rule broken. allowed (Rule rule) broken;
         port = λ other there.
             let here = subst (λ (rows : List GrantRow). Contains rows row) (sym is.rows) named.0 in
-            sym port_is ∙ ap (λ (x : GrantRow). x.port) (one_row m.rows (names_differ m reached) r.client r.grant row other here named.1 there.0 there.1);
+            sym port_is ∙ ap (λ (x : GrantRow). x.port) (laws.living.one_row m r.client r.grant row other reached here named.1 there.0 there.1);
         few = ⊎_elim (λ (low : steps.unanswered_of m.book r.client < 16). low) (λ high. absurd (allowed ClientFull high)) (cases_lt (steps.unanswered_of m.book r.client) 16);
         held = refl;
       }
@@ -142,7 +133,7 @@ module _ (s : ServerState) (r : Request) (acc : IsAcceptable (server_situation s
 
     module _ (laws : LawsBelow) (k : InCallInvariant s) where
       granted : IsGranted k.machine.rows (request_in k.machine)
-      granted = law_accepted_is_granted k.machine (request_in k.machine) (is_new laws k.machine k.reached k.stands)
+      granted = laws.living.granted k.machine (request_in k.machine) (is_new laws k.machine k.reached k.stands)
 
       there : Contains s.grants granted.row
       there = subst (λ (rows : List GrantRow). Contains rows granted.row) k.stands.rows granted.named.0
@@ -161,7 +152,7 @@ module _ (s : ServerState) (r : Request) (acc : IsAcceptable (server_situation s
           omega (arith, covers.1, last)
 
       own : All (λ frame. owner_of s.table frame ≡ Some r.client) r.frames.items
-      own i d small = owned (owner_of s.table (get_or r.frames.items i d)) r.client (λ other. acc (Rule (Frames (FrameForeign i))) (get_or r.frames.items i d, slice_get-get_or r.frames.items i d small, other))
+      own = laws.acceptable_owned (server_situation s) r acc
 
       apart : AllPairs (λ a b. a ≢ b) r.frames.items
       apart i j d before small same =

@@ -27,7 +27,6 @@ use Rattle.block_machine.specs.Steps.{Step, Accept, IsNew, after_step, lend}
 use Rattle.block_machine.specs.declared.due.Unanswered.{Unanswered}
 use Rattle.server_history.proofs.state.ListMembers.{append_in, contains_there, some_in}
 use Rattle.refinement.specs.Driven.{IsDrivenBy, known}
-use Rattle.refinement.proofs.device.AdapterOverAccesses.{same_refl}
 use Rattle.dma_frames.specs.Table.{Table, lent_to, LendsOnly}
 use Rattle.host_boot.specs.Taken.{probe_result_of}
 use Rattle.host_boot.specs.declared.ProbeResult.{ProbeResult}
@@ -175,7 +174,7 @@ module _ (laws : LawsBelow) (s : ServerState) (k : InCallInvariant s) (r : Reque
   its_mark = record { tells = (λ plain. (row, named.0, named.1), λ has. refl); waiting = λ waits. refl }
 
   pub accept_kept : InCallInvariant more
-  accept_kept = kept_then s s.device s.grants table s.slots (s.book ++ e ∷ []) (s.last + 1) k k.rows k.on (same_refl s.device) k.behind lends.owners k.four k.slots kinds_then k.commands k.alone accepted
+  accept_kept = kept_then s s.device s.grants table s.slots (s.book ++ e ∷ []) (s.last + 1) k k.rows k.on (record { telling = refl; size = refl; cap = refl; pi = refl }) k.behind lends.owners k.four k.slots kinds_then k.commands k.alone accepted
       (laws.longer s.book e k.ordered earlier (refl, refl, refl, refl) its.client_from its.client_to (has_room s r acc row named port port_is))
       (All-push (HasTrueMark s.grants) s.book e k.marked its_mark)
       (All-push (λ (x : Held). x.entry.id.0 ≤ s.last + 1) s.book e (All-weaker (λ (x : Held). x.entry.id.0 ≤ s.last) (λ (x : Held). x.entry.id.0 ≤ s.last + 1) (λ x low. omega (arith, low)) s.book k.handed_out) (omega (arith, id_is)))
@@ -216,7 +215,7 @@ module _ (laws : LawsBelow) (s : ServerState) (k : InCallInvariant s) (r : Reque
         tt
         driven.accesses
         (driven.all, (row, its_row, All-weaker (IssuesIn port) (IssuesOn row.port) (λ access here. subst (λ (p : Port). IssuesOn p access) (sym port_is) (issuing_is port port_low access here)) driven.accesses driven.only))
-        (λ other. All-weaker (IssuesIn port) (LeavesEngine other) (issuing_leaves port other) driven.accesses driven.only)
+        (λ other. All-weaker (IssuesIn port) (LeavesEngine other) (issuing_leaves laws port other) driven.accesses driven.only)
         (λ other is_ready. due_now other)
         (λ other. record { finds = tt; faults = tt; probes = tt; boots = tt; port_error = laws.calls.ordinary other (with_device s.device old) new.device driven.accesses (told_by s.device old.abstract.ports) (ports_of new) k.on driven.all (All-weaker (IssuesIn port) (SparesRegister Ghc) (issuing_spares_host port) driven.accesses driven.only) (All-weaker (IssuesIn port) (ClearsNone other) (issuing_clears_none port other) driven.accesses driven.only); well = λ i. absurd (uninterrupted s.device old.abstract.ports other i); heeds = uninterrupted s.device old.abstract.ports other })
         (laws.backed_parts s.device s.device new.device m early x.steps (laws.backed_own s.device m (Accept asked) (λ no. no)) x.backed)

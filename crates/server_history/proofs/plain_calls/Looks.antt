@@ -15,9 +15,8 @@ use Rattle.refinement.specs.Relation.{port_at}
 use Rattle.refinement.specs.Driven.{AnyUse, IsDrivenBy, IsSimulated, IsOf, LeavesPort, NoneWrites, SendsNone}
 use Rattle.refinement.specs.Halting.{IsHaltedAsTaken}
 use Rattle.refinement.specs.Slots.{IsOver, SlotStates, op_of}
-use Rattle.refinement.proofs.driver.Stretches.{along, followed_adds, followed_silent}
-use Rattle.server_history.proofs.state.DrivenAccesses.{driven_as}
-use Rattle.refinement.proofs.driver.FinishedCommand.{access_over, steps_over}
+use Rattle.server_history.proofs.state.FollowedAccesses.{followed_adds, followed_silent}
+use Rattle.server_history.proofs.state.DrivenAccesses.{driven_as, kept_over as accesses_keep}
 use Rattle.host_boot.specs.Taken.{probe_result_of}
 use Rattle.host_boot.specs.declared.ProbeResult.TheVariants.{Unready}
 use Rattle.server_history.specs.Served.{IsMaskOf}
@@ -59,10 +58,10 @@ looking_spares port q r other (Storing at bytes) here = tt
 
 module _ (s : ServerState) (new : Device) (port : Port) (k : InCallInvariant s) where
   -- in followed accesses that write neither PxCI nor PxSACT, no data comes for a command of the driver's own but on dead ports
-  silent_over : (May : Access → Type 0) → ((q : Port) → NoneWrites May (Px q Ci) × NoneWrites May (Px q Sact)) → IsSimulated May AnyUse s.device new
+  silent_over : LawsBelow → (May : Access → Type 0) → ((q : Port) → NoneWrites May (Px q Ci) × NoneWrites May (Px q Sact)) → IsSimulated May AnyUse s.device new
       → (q : ℕ) (o : Operation) → op_of o ≡ None → probe_result_of s.ports q ≢ Unready Dead → SendsNone q o s.device new
-  silent_over May none followed q o own other =
-      followed_silent followed k.stands.uses k.stands.parked k.machine tt k.reached k.stands.knows (port_at q) o own (none (port_at q)).0 (none (port_at q)).1
+  silent_over laws May none followed q o own other =
+      followed_silent laws followed k.stands.uses k.stands.parked k.machine tt k.reached k.stands.knows (port_at q) o own (none (port_at q)).0 (none (port_at q)).1
       (not_own (probe_result_of s.ports q) (used_for s.slots q 0) (k.stands.uses q 0) o other (k.stands.used q 0))
 
   -- followed accesses that serve the port, and write no PxCI, where what stands behind each port goes on
@@ -71,7 +70,7 @@ module _ (s : ServerState) (new : Device) (port : Port) (k : InCallInvariant s) 
   kept_by below May service storeless none commandless behind followed =
       let uses : SlotStates = k.stands.uses in
       let driven : IsDrivenBy IsService s.device new = driven_as May IsService s.device new service followed.driven in
-      let x = (followed_adds followed uses k.stands.parked tt).adds k.machine k.reached k.stands.knows in
+      let x = (followed_adds below followed uses k.stands.parked tt).adds k.machine k.reached k.stands.knows in
       kept_on below s new k (below.looking.services_on s.device new k.on driven) (below.looking.services_same s.device new driven)
       behind
       (λ q n used is.
@@ -84,7 +83,7 @@ module _ (s : ServerState) (new : Device) (port : Port) (k : InCallInvariant s) 
         stored = below.slots.stored (port_at q) n h.command h.places acts.acts (at_slots (record { uses = uses; parked = k.stands.parked }) s.device) (at_slots (record { uses = uses; parked = k.stands.parked }) new) k.machine k.reached k.stands.knows acts.done
             (λ i d small.
             let its = subst (All May) (sym acts.accesses_are) followed.driven.only i d small in
-            service_leaves_stored (port_at q) n _ (service _ its) (λ a bytes place e x from to. storeless _ a bytes its e)) k.on h.stored;
+            service_leaves_stored below (port_at q) n _ (service _ its) (λ a bytes place e x from to. storeless _ a bytes its e)) k.on h.stored;
         kind = h.kind;
       })
       x.0 x.1
@@ -102,8 +101,8 @@ module _ (s : ServerState) (new : Device) (port : Port) (k : InCallInvariant s) 
   finding_stores : (access : Access) (at : ℕ) (bytes : List ℕ) → IsFinding port access → access ≡ Storing at bytes → ⊥
   finding_stores access at bytes is e = subst (IsFinding port) e is
 
-  pub looking_silent : IsSimulated (IsLooking port) AnyUse s.device new → (q : ℕ) (o : Operation) → op_of o ≡ None → probe_result_of s.ports q ≢ Unready Dead → SendsNone q o s.device new
-  looking_silent followed = silent_over (IsLooking port) (λ q. (looking_spares port q Ci (λ e. absurd cc), looking_spares port q Sact (λ e. absurd cc))) followed
+  pub looking_silent : LawsBelow → IsSimulated (IsLooking port) AnyUse s.device new → (q : ℕ) (o : Operation) → op_of o ≡ None → probe_result_of s.ports q ≢ Unready Dead → SendsNone q o s.device new
+  looking_silent laws followed = silent_over laws (IsLooking port) (λ q. (looking_spares port q Ci (λ e. absurd cc), looking_spares port q Sact (λ e. absurd cc))) followed
 
   -- a look, whatever the port is, where what stands behind each port goes on
   pub looked_kept : LawsBelow → IsSimulated (IsLooking port) AnyUse s.device new → ((q : ℕ) → q < 4 → IsPortOf s.wanted s.ports q new) → InCallInvariant (record s { device = new })
@@ -116,7 +115,7 @@ module _ (s : ServerState) (new : Device) (port : Port) (k : InCallInvariant s) 
   kept_over below May service storeless none commandless left followed =
       kept_by s new port k below May service storeless none commandless
       (behind_served below s new port k ready (driven_as May IsService s.device new service followed.driven) left
-      (λ q other. silent_over s new port k May none followed q Identify refl other)
+      (λ q other. silent_over s new port k below May none followed q Identify refl other)
       (λ q. followed_halts below (port_at q) May s k new followed (commandless (port_at q))))
       followed
 
@@ -132,7 +131,7 @@ module _ (s : ServerState) (new : Device) (port : Port) (k : InCallInvariant s) 
         (λ q low other. laws.looks.other_left port q s.device new other k.on (driven_as (IsFinding port) (IsOf port) s.device new (laws.finding_of port) followed.driven)) followed
 
     pub finding_silent : (q : ℕ) (o : Operation) → op_of o ≡ None → probe_result_of s.ports q ≢ Unready Dead → SendsNone q o s.device new
-    finding_silent = silent_over s new port k (IsFinding port) (λ q. (finding_spares s new port k q Ci, finding_spares s new port k q Sact)) (laws.finding_followed port mask done s.device new finds)
+    finding_silent = silent_over s new port k laws (IsFinding port) (λ q. (finding_spares s new port k q Ci, finding_spares s new port k q Sact)) (laws.finding_followed port mask done s.device new finds)
 
     -- the command of a slot that was found done is over, where only used slots were asked for
     pub found_over : IsMaskOf (slots_at s.slots port.0) mask → AreOver port done new
@@ -155,16 +154,15 @@ no_issue port access is v same = by (subst (IsLooking port) same is)
     by (inl e) = let z : Px port Ci ≡ Px port Is = e in absurd cc
     by (inr e) = absurd (let z = e.0 in cc)
 
-pub still_over : (port : Port) (slot : ℕ) (old new : Device) → IsDrivenBy (IsLooking port) old new → IsOver (old.port port.0) slot → IsOver (new.port port.0) slot
-still_over port slot old new driven =
-    along (λ a b. IsOver (a.port port.0) slot → IsOver (b.port port.0) slot) (λ d h. h) (λ a b c x y h. y (x h)) (IsLooking port)
-    (λ access a b is does h. access_over port slot access a b (λ v same. absurd (no_issue port access is v same)) does h) driven.accesses old new driven.only driven.all
+pub still_over : LawsBelow → (port : Port) (slot : ℕ) (old new : Device) → IsDrivenBy (IsLooking port) old new → IsOver (old.port port.0) slot → IsOver (new.port port.0) slot
+still_over laws port slot old new driven = accesses_keep (λ d. IsOver (d.port port.0) slot) (IsLooking port)
+    (λ access a b is does. laws.slots.over_access port slot access a b (λ v same. absurd (no_issue port access is v same)) does) old new driven
 
 -- PxCI and PxSACT, which are read after a look, show the bits of a slot clear that had no command before
 pub both_clear : LawsBelow → (port : Port) (slot issued active : ℕ) (old seen read new : Device) → slot < 32 → IsDrivenBy (IsLooking port) old seen → Reads (Px port Ci) issued seen read
     → Reads (Px port Sact) active read new → IsOver (old.port port.0) slot → (old.port port.0).sact slot ≡ false → (bit issued slot ≡ false) × (bit active slot ≡ false)
 both_clear laws port slot issued active old seen read new small looks reads shows over clear =
     let unarmed = laws.looks.reads_clear port.0 slot (Px port Ci) issued seen read reads (laws.looking.looks_inactive port port.0 slot old seen looks clear) in (
-      reads.shows slot small ∙ (steps_over port.0 slot seen reads.mid reads.steps (still_over port slot old seen looks over)).issued,
+      reads.shows slot small ∙ (laws.slots.over port.0 slot seen reads.mid reads.steps (still_over laws port slot old seen looks over)).issued,
       shows.shows slot small ∙ laws.looks.steps_clear port.0 slot read shows.mid shows.steps unarmed,
     )

@@ -206,7 +206,7 @@ module _ (laws : LawsBelow) (s new : ServerState) (port : Port) (id : RequestId)
     stands = record {
       uses = put is.uses port.0 slot (Serves p.request.id);
       used = subst (λ (u : SlotState). (q n : ℕ) → IsUsedAs (probe_result_of s.ports q) (used_for (with_slot s.slots port.0 slot its_use) q n) (put is.uses port.0 slot u q n)) (ap Serves (sym x.2.id))
-          (placed_uses s.slots port.0 slot its_use (let l = low in let f = k.four in omega (arith, l, f)) (let h = (k.slots port.0 low).places in let t = may_use.1 in omega (arith, h, t)) s.ports is.uses is.used);
+          (placed_uses s.slots port.0 slot its_use (let l = low in let f = k.four in omega (arith, l, f)) (let h = (k.slots port.0 low).places in let t = may_use.1 in omega (arith, h, t)) laws s.ports is.uses is.used);
       parked = is.parked;
       unparked = is.unparked;
       knows = ends.knows;
@@ -303,7 +303,7 @@ module _ (laws : LawsBelow) (s new : ServerState) (port : Port) (id : RequestId)
         command = h.command;
         places = h.places;
         stored = laws.slots.stored (port_at q) n h.command h.places acts.acts (at_slots (record { uses = k.stands.uses; parked = k.stands.parked }) s.device) _ k.machine k.reached k.stands.knows acts.done
-            (λ i d small. issuing_leaves_stored port (port_at q) slot n low may_use.1 t.0 t.1 other _ (subst (All (IsIssuing port slot)) (sym acts.accesses_are) one.issues.driven.only i d small)) k.on h.stored;
+            (λ i d small. issuing_leaves_stored laws port (port_at q) slot n low may_use.1 t.0 t.1 other _ (subst (All (IsIssuing port slot)) (sym acts.accesses_are) one.issues.driven.only i d small)) k.on h.stored;
         kind = h.kind;
       })
       (its_or_other port.0 slot q n)

@@ -17,17 +17,13 @@ use Rattle.adapter.specs.Rules.{IsUnowned, IsStable}
 use Rattle.adapter.specs.Steps.{Steps}
 use Rattle.adapter.specs.declared.access.DeviceStep.{DeviceStep}
 use Rattle.adapter.specs.declared.command.Operation.TheVariants.{Identify}
-use Rattle.adapter.proofs.Changed.{fun_ext}
 use Rattle.refinement.specs.Driven.{IsDrivenBy, SendsNone, known}
 use Rattle.refinement.specs.Driver.{EndsWith}
 use Rattle.refinement.specs.Links.{SameAdapter, SparesRegister}
 use Rattle.hba_regs.specs.declared.reg.PortReg.TheVariants.{Cmd}
 use Rattle.hba_regs.specs.declared.reg.Reg.TheVariants.{Ghc, Px}
 use Rattle.refinement.specs.Spares.{SparesBook}
-use Rattle.refinement.proofs.driver.AddedSteps.{device_adds, nothing_backed}
 use Rattle.server_history.proofs.state.DrivenAccesses.{by_one}
-use Rattle.refinement.proofs.device.AdapterOverAccesses.{access_same}
-use Rattle.refinement.proofs.driver.AskedPages.{access_sends_none}
 use Rattle.block_machine.specs.Events.{Ask, Submit, StoreAt, LoadAt, Service, Tick, Reset, RevokeOf, State, AllMay, Device as Told, CallResult, Submitted, Shown, Stepped, IsAnswered, AbstractState, WasRevoked}
 use Rattle.block_machine.specs.Rules.{HasRow}
 use Rattle.block_machine.specs.Histories.{JointState, Happening, IsReachable, now}
@@ -38,8 +34,6 @@ use Rattle.block_machine.specs.State.{Machine}
 use Rattle.block_machine.specs.Steps.{Step, Load, Store}
 use Rattle.block_machine.specs.Events as events
 use Rattle.ata_types.specs.declared.PortState.TheVariants.{Ready as ReadyState}
-use Rattle.block_machine.proofs.Limits.{owned}
-use Rattle.ata_types.specs.declared.refusal.MemFault.TheVariants.{FrameForeign}
 use Rattle.dma_frames.specs.Table.{owner_of, lent_to}
 use Rattle.host_boot.specs.Taken.{probe_result_of}
 use Rattle.host_boot.specs.declared.ProbeResult.TheVariants.{Unready}
@@ -72,7 +66,7 @@ module _ (laws : LawsBelow) (first : JointState Device) (past : List (Happening 
 
 -- what holds of the server's owners and loans holds of the machine's
 pub as_told : (s : ServerState) (m : Machine) → IsMachineOf s m → (P : (Frame → Option ClientId) → (Frame → Option RequestId) → Type 0) → P (owner_of s.table) (lent_to s.table) → P m.owner m.lent
-as_told s m is P holds = subst (λ owner. P owner m.lent) (sym (fun_ext is.owner)) (subst (λ lent. P (owner_of s.table) lent) (sym (fun_ext is.lent)) holds)
+as_told s m is P holds = subst (λ owner. P owner m.lent) (sym (λ i frame. is.owner frame i)) (subst (λ lent. P (owner_of s.table) lent) (sym (λ i frame. is.lent frame i)) holds)
 
 -- what it stores lies above the driver's own memory
 abbrev StoresAbove : Access → Type 0
@@ -124,12 +118,12 @@ module _ (laws : LawsBelow) where
   pub situation_is : (s : ServerState) (old : JointState Device) → ServerRelation old s → events.situation_of old.abstract ≡ server_situation s
   situation_is s old at = λ i. record {
     rows = at.machine.rows i;
-    owner = fun_ext at.machine.owner i;
-    lent = fun_ext at.machine.lent i;
+    owner = λ frame. at.machine.owner frame i;
+    lent = λ frame. at.machine.lent frame i;
     state = ap (λ (ports : Ports). ports.state) at.ports_are i;
     sectors = ap (λ (ports : Ports). ports.sectors) at.ports_are i;
     trims = ap (λ (ports : Ports). ports.trims) at.ports_are i;
-    unanswered = fun_ext (λ (client : ClientId). laws.counts s.book old.abstract.machine.book client at.machine.book) i;
+    unanswered = λ client. laws.counts s.book old.abstract.machine.book client at.machine.book i;
     next = at.machine.next i;
   }
 
@@ -176,7 +170,7 @@ module _ (laws : LawsBelow) where
   nothing_event s ask said goes came answered issues parts first past leads =
       let old : JointState Device = now first past in
       lead_by laws first past s s ask said [] refl refl leads goes.holds tt tt tt tt (answered old leads.stands (told_by s.device old.abstract.ports)) (none_grounded ask (told_by s.device old.abstract.ports)) [] (came old.abstract)
-      (λ port. All-nil (LeavesEngine port)) (issues old (reached laws first past s leads) leads.stands) (parts old.abstract leads.stands.ports_are) (nothing_backed s.device old.abstract.machine) leads.stands.machine
+      (λ port. All-nil (LeavesEngine port)) (issues old (reached laws first past s leads) leads.stands) (parts old.abstract leads.stands.ports_are) (laws.backed_none s.device old.abstract.machine) leads.stands.machine
 
   module _ (s : ServerState) (goes : GoesTo s s.device) where
     pub undone_event : (step : DeviceStep) → ExtendsHistory s s (Told step) (Stepped false)
@@ -235,7 +229,7 @@ module _ (laws : LawsBelow) where
         let old : JointState Device = now first past in
         let at : ServerRelation old s = leads.stands in
         let m = at.machine in
-        let x = (device_adds (known m.uses m.parked s.device) new moves).adds old.abstract.machine (reached laws first past s leads) m.knows in
+        let x = (laws.basic.device_adds (known m.uses m.parked s.device) new moves).adds old.abstract.machine (reached laws first past s leads) m.knows in
         let steps : List Step = x.0 in
         lead_by laws first past s then_is (Told step) (Stepped true) steps refl refl leads goes.holds x.1 (devices_belong (Told step) (ports_of s) steps x.3.only) (devices_last steps x.3.only)
         (devices_lawful old.abstract no_evidence (ports_of s) steps x.3.only)
@@ -290,7 +284,7 @@ module _ (laws : LawsBelow) where
 
   -- a frame that is open is its client's
   pub open_owned : (owner : Frame → Option ClientId) (lent : Frame → Option RequestId) (client : ClientId) (frame : Frame) (offset count : ℕ) → IsOpen owner lent client frame offset count → owner frame ≡ Some client
-  open_owned owner lent client frame offset count opens = owned (owner frame) client (opens FrameForeign)
+  open_owned = laws.open_owned
 
   pub open_free : (s : ServerState) (client : ClientId) (frame : Frame) (offset count : ℕ) → OwnsClientFrames s.table s.device.size → (m : Machine) → IsReachable m → IsMachineOf s m
       → IsOpen (owner_of s.table) (lent_to s.table) client frame offset count → IsStable (IsUnowned (4096 * frame.0 + offset) count) s.device
@@ -320,16 +314,17 @@ module _ (laws : LawsBelow) where
     served = by_one IsService access s.device new (bytes_serve access its) does
 
     same : SameAdapter s.device new
-    same = access_same access s.device new does
+    same = laws.looks.access_same access s.device new does
 
     silent : (port : ℕ) → probe_result_of s.ports port ≢ Unready Dead → SendsNone port Identify s.device new
     silent port other =
-        access_sends_none k.stands.uses k.machine access s.device new port Identify k.reached k.stands.knows.agrees does refl
-        (not_own (probe_result_of s.ports port) (used_for s.slots port 0) (k.stands.uses port 0) Identify other (k.stands.used port 0))
+        let grows = laws.looks.tape.access_grows access s.device new does in
+        let none = not_own (probe_result_of s.ports port) (used_for s.slots port 0) (k.stands.uses port 0) Identify other (k.stands.used port 0) in
+        (grows.0, grows.1, laws.slots.page_asked k.stands.uses k.machine access s.device new port Identify grows.0 k.reached k.stands.knows.agrees does grows.1 refl (λ own. absurd (none own)))
 
     ports_on : (port : ℕ) → port < 4 → IsPortOf s.wanted s.ports port new
     ports_on port below =
-        port_on laws s.wanted s.ports port s.device new same k.on served (λ unready. bytes_leave access s.device new its k.on does port) (silent port)
+        port_on laws s.wanted s.ports port s.device new same k.on served (λ unready. bytes_leave laws access s.device new its k.on does port) (silent port)
         (laws.port_error.halts_access k.stands.uses k.machine (port_at port) access s.device new k.reached k.stands.knows.agrees (bytes_spare_commands (port_at port) access its) does) (k.behind port below)
 
     -- what is stored for slots stays
@@ -337,7 +332,7 @@ module _ (laws : LawsBelow) where
     commands_on port slot used is =
         let t = used_there s port slot used k is in
         let h = k.commands port slot used is in
-        let leaves = service_leaves_stored (port_at port) slot access (bytes_serve access its) (λ at bytes place e table from to. above_table port slot place t.0 t.1 table (let a = above at bytes e in omega (arith, a, from))) in
+        let leaves = service_leaves_stored laws (port_at port) slot access (bytes_serve access its) (λ at bytes place e table from to. above_table port slot place t.0 t.1 table (let a = above at bytes e in omega (arith, a, from))) in
         record {
           command = h.command;
           places = h.places;
@@ -353,7 +348,7 @@ module _ (laws : LawsBelow) where
 
   pub device_kept : (s : ServerState) (new : Device) → InCallInvariant s → Steps s.device new → InCallInvariant (record s { device = new })
   device_kept s new k steps =
-      let x = (device_adds (known k.stands.uses k.stands.parked s.device) new steps).adds k.machine k.reached k.stands.knows in
+      let x = (laws.basic.device_adds (known k.stands.uses k.stands.parked s.device) new steps).adds k.machine k.reached k.stands.knows in
       kept_with s k new (Loading 0 []) tt (loads_above 0 []) (none_loaded s.device new steps) x.0 x.1
       (machine_on laws s new k.machine x.0 k.stands x.3.only x.2)
 

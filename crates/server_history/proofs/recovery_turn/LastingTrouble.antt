@@ -12,8 +12,7 @@ use Rattle.adapter.specs.Access.Access.{Loading, Reading, Storing, Writing}
 use Rattle.adapter.specs.Device.{Device}
 use Rattle.adapter.specs.Rules.{IsOn}
 use Rattle.refinement.specs.Driven.{AnyUse, IsDrivenBy, IsSimulated, IsOf}
-use Rattle.refinement.proofs.driver.Stretches.{by_then}
-use Rattle.server_history.proofs.state.DrivenAccesses.{driven_as}
+use Rattle.server_history.proofs.state.DrivenAccesses.{by_then, driven_as}
 use Rattle.block_machine.specs.State.{Machine}
 use Rattle.disk_page.specs.Asking.{IsAsking}
 use Rattle.driver_history.specs.Histories.{LosesNoPortError}
@@ -102,8 +101,8 @@ module _ (laws : LawsBelow) (port : Port) (old asked mid new : Device) (on : IsO
   -- what came since ST was set leaves what the port shows
   pub ready_since : IsDrivenBy (LeavesTrouble port) way.up new
   ready_since =
-      by_then (driven_as (IsAsking port) (LeavesTrouble port) way.up way.then.asked (asking_leaves port) way.then.asks)
-      (by_then
+      by_then laws (driven_as (IsAsking port) (LeavesTrouble port) way.up way.then.asked (asking_leaves port) way.then.asks)
+      (by_then laws
       (record { accesses = Writing (Px port Ie) named_causes ∷ []; all = (mid, way.then.tells, refl); only = All-cons (LeavesTrouble port) (Writing (Px port Ie) named_causes) [] (ie_apart port named_causes) (All-nil (LeavesTrouble port)) })
       later)
 
@@ -145,7 +144,7 @@ module _ (laws : LawsBelow) (port : Port) (replies : List Reply) (old new : Serv
 
   -- the adapter is on when the port was recovered
   pub recovered_driven : IsDrivenBy (IsOf port) old.device a.device
-  recovered_driven = by_then (driven_as (IsEarlyPart port) (IsOf port) old.device a.mid.device (λ access is. is.0.1) t.early)
+  recovered_driven = by_then laws (driven_as (IsEarlyPart port) (IsOf port) old.device a.mid.device (λ access is. is.0.1) t.early)
       (record { accesses = x.handling.accesses; all = t.does; only = All-weaker (IsPart port) (IsOf port) (λ access is. is.1) x.handling.accesses t.kinds })
 
   pub recovered_on : IsOn a.device

@@ -15,8 +15,7 @@ use Rattle.adapter.specs.Access.Access.{Loading, Reading, Storing, Writing}
 use Rattle.adapter.specs.Device.{Device}
 use Rattle.refinement.specs.Driven.{IsControl, IsDrivenBy}
 use Rattle.refinement.specs.Links.{SparesRegister}
-use Rattle.refinement.proofs.driver.Stretches.{by_then}
-use Rattle.server_history.proofs.state.DrivenAccesses.{by_none, driven_as}
+use Rattle.server_history.proofs.state.DrivenAccesses.{by_none, by_then, driven_as}
 use Rattle.disk_page.specs.Asking.{IsAsking}
 use Rattle.driver_history.specs.Trace.{ResetsLink}
 use Rattle.error_recovery.specs.Recovery.{IsRecovered, IsRecovering}
@@ -113,30 +112,30 @@ module _ (laws : LawsBelow) (port : Port) where
   without r Sees count old new w = driven_as (ReadsNot port r Sees) (IsBeside port) old new (unread r Sees) w.reads
 
   pub until : (r : PortReg) (Sees : ℕ → Type 0) (old new : Device) → ReadsUntil port r Sees old new → IsDrivenBy (IsBeside port) old new
-  until r Sees old new u = by_then (without r Sees u.count old u.waited u.waits) (read_one r u.value u.waited new u.reads)
+  until r Sees old new u = by_then laws (without r Sees u.count old u.waited u.waits) (read_one r u.value u.waited new u.reads)
 
   clearing : (old new : Device) → ClearsErrors port old new → IsDrivenBy (IsBeside port) old new
-  clearing old new c = by_then
+  clearing old new c = by_then laws
       (write_one Serr 0xffffffff old c.between (inr (inl (inr (inl refl)))) (λ e. let z : Serr ≡ Sctl = e in cc) c.errors)
       (write_one Is 0xffffffff c.between new (inr (inl (inr (inr refl)))) (λ e. let z : Is ≡ Sctl = e in cc) c.causes)
 
   -- where a device was seen, errors are cleared, and this comes then
   pub cleared_then : (old mid new : Device) → ClearsErrors port old mid → IsDrivenBy (IsBeside port) mid new → IsDrivenBy (IsBeside port) old new
-  cleared_then old mid new c rest = by_then (clearing old mid c) rest
+  cleared_then old mid new c rest = by_then laws (clearing old mid c) rest
 
   linking : (old new : Device) → FindsLink port old new → IsDrivenBy (IsBeside port) old new
-  linking old new l = by_then (until Ssts _ old l.seen l.sees) (clearing l.seen new l.clears)
+  linking old new l = by_then laws (until Ssts _ old l.seen l.sees) (clearing l.seen new l.clears)
 
   -- what comes once the link was found, and the errors were cleared
   pub linked_then : (signature : ℕ) (old new : Device) → (f : FindsSignature port signature old new) → IsDrivenBy (IsBeside port) f.linked new
-  linked_then signature old new f = by_then (until Tfd _ f.linked f.idle f.waits) (read_one Sig signature f.idle new f.reads)
+  linked_then signature old new f = by_then laws (until Tfd _ f.linked f.idle f.waits) (read_one Sig signature f.idle new f.reads)
 
   signing : (signature : ℕ) (old new : Device) → FindsSignature port signature old new → IsDrivenBy (IsBeside port) old new
-  signing signature old new f = by_then (linking old f.linked f.links) (linked_then signature old new f)
+  signing signature old new f = by_then laws (linking old f.linked f.links) (linked_then signature old new f)
 
   looking : (fault : PortFault) (old new : Device) → Looks port fault old new → IsDrivenBy (IsBeside port) old new
   looking NoDevice old new l = without Ssts _ MOST_READINGS old new l
-  looking Busy old new l = by_then (linking old l.linked l.links) (without Tfd _ MOST_READINGS l.linked new l.waits)
+  looking Busy old new l = by_then laws (linking old l.linked l.links) (without Tfd _ MOST_READINGS l.linked new l.waits)
   looking (NotAta signature) old new l = signing signature old new l
   looking EngineStuck old new l = absurd l
 
@@ -148,14 +147,14 @@ module _ (laws : LawsBelow) (port : Port) where
 
   -- what comes once the link was found of a port that is started, and then
   pub started_then : (old up new : Device) (g : GetsUp port old up) → IsDrivenBy (IsBeside port) up new → IsDrivenBy (IsBeside port) g.resets.rest.linked new
-  started_then old up new g rest = by_then (linked_then 0x101 g.resets.ended g.found g.resets.rest) (by_then (commanding g.found up g.starts) rest)
+  started_then old up new g rest = by_then laws (linked_then 0x101 g.resets.ended g.found g.resets.rest) (by_then laws (commanding g.found up g.starts) rest)
 
   -- what comes once a port was started that is ready then, or stopped
   pub ready_then : (old new : Device) (g : GetsReady port old new) → IsDrivenBy (IsBeside port) g.up new
-  ready_then old new g = by_then (asking g.up g.then.asked g.then.asks) (write_one Ie named_causes g.then.asked new (inr (inr refl)) (λ e. let z : Ie ≡ Sctl = e in cc) g.then.tells)
+  ready_then old new g = by_then laws (asking g.up g.then.asked g.then.asks) (write_one Ie named_causes g.then.asked new (inr (inr refl)) (λ e. let z : Ie ≡ Sctl = e in cc) g.then.tells)
 
   pub late_then : (old new : Device) (g : EndsLate port old new) → IsDrivenBy (IsBeside port) g.up new
-  late_then old new g = by_then (asking g.up g.then.asked g.then.asks) (commanding g.then.asked new g.then.stops)
+  late_then old new g = by_then laws (asking g.up g.then.asked g.then.asks) (commanding g.then.asked new g.then.stops)
 
   -- ---- the whole
 
@@ -187,7 +186,7 @@ module _ (laws : LawsBelow) (port : Port) where
       list = Writing (Px port Sctl) 1 ∷ Writing (Px port Sctl) 0 ∷ rest.accesses
 
   getting_up : (old up new : Device) → GetsUp port old up → IsDrivenBy (IsBeside port) up new → ResetsBy port old new
-  getting_up old up new g rest = resetting old g.placed g.resets.sent g.resets.ended new g.places g.resets.sends g.resets.ends (by_then (linking g.resets.ended g.resets.rest.linked g.resets.rest.links) (started_then old up new g rest))
+  getting_up old up new g rest = resetting old g.placed g.resets.sent g.resets.ended new g.places g.resets.sends g.resets.ends (by_then laws (linking g.resets.ended g.resets.rest.linked g.resets.rest.links) (started_then old up new g rest))
 
   pub ready_resets : (old new : Device) → GetsReady port old new → ResetsBy port old new
   ready_resets old new g = getting_up old g.up new g.first (ready_then old new g)

@@ -181,7 +181,7 @@ module _ (laws : LawsBelow) (port : Port) (later : List Reply) (old new : Server
       let g = ends.1 in
       let was = (m.behind port.0 small).runs its_ready in
       record {
-        behind = ready_on wanted a.was port.0 mid.device a.device recovered_same l.det l.enabled l.written
+        behind = ready_on laws wanted a.was port.0 mid.device a.device recovered_same l.det l.enabled l.written
             (l.silent (
               m.stands.uses,
               (λ own. not_own (probe_result_of mid.ports port.0) (used_for mid.slots port.0 0) (m.stands.uses port.0 0) Identify (not_dead mid port.0 its_ready) (m.stands.used port.0 0) own),

@@ -14,7 +14,6 @@ use Rattle.adapter.specs.Device.{Device}
 use Rattle.adapter.specs.Rules.{IsOn}
 use Rattle.adapter.specs.declared.command.Operation.{Operation}
 use Rattle.adapter.specs.declared.command.Operation.TheVariants.{Identify, ReadLog}
-use Rattle.adapter.proofs.Changed.{changed_other, changed_same}
 use Rattle.refinement.specs.Acts.{Act, Comes, InSlots, act_steps, at_slots}
 use Rattle.refinement.specs.Relation.{port_at}
 use Rattle.refinement.specs.Driven.{AnyUse, IsControl, IsDrivenBy, IsSimulated, IsSimulatedTo, IsOf, SendsNone}
@@ -23,9 +22,9 @@ use Rattle.refinement.specs.GivingUp.{given_up}
 use Rattle.refinement.specs.Halting.{IsHaltedAsTaken}
 use Rattle.refinement.specs.Links.{SparesRegister}
 use Rattle.refinement.specs.Readying.{LeavesStored}
-use Rattle.refinement.specs.Slots.{Free, Own, SlotState, SlotStates, op_of, put}
-use Rattle.refinement.proofs.driver.Stretches.{by_then, followed_silent}
-use Rattle.server_history.proofs.state.DrivenAccesses.{by_none}
+use Rattle.refinement.specs.Slots.{Own, SlotState, SlotStates, op_of, put}
+use Rattle.server_history.proofs.state.FollowedAccesses.{followed_silent}
+use Rattle.server_history.proofs.state.DrivenAccesses.{by_none, by_then}
 use Rattle.block_machine.specs.Histories.{IsReachable}
 use Rattle.block_machine.specs.Left.{after}
 use Rattle.block_machine.specs.State.{Machine}
@@ -135,7 +134,7 @@ module _ (laws : LawsBelow) (s : ServerState) (port : Port) (k : InCallInvariant
         → ((q : ℕ) (o : Operation) → q ≢ port.0 → probe_result_of s.ports q ≢ Unready DeadState → then.uses q 0 ≡ Own o → ⊥)
         → ((q : ℕ) (o : Operation) → op_of o ≡ None → q ≢ port.0 → probe_result_of s.ports q ≢ Unready DeadState → SendsNone q o d new) → Passes s port then new
     passes_on accesses all only Tells c clients silent = record {
-      driven = by_then p.driven its;
+      driven = by_then laws p.driven its;
       on = laws.of_on port d new p.on its;
       machine = after p.machine (act_steps c.acts);
       reached = laws.recovery.gone_reached (at_slots slots d) (at_slots then new) p.machine (act_steps c.acts) p.reached goes;
@@ -175,7 +174,7 @@ module _ (laws : LawsBelow) (s : ServerState) (port : Port) (k : InCallInvariant
         passes_on slots (record slots { uses = next_uses slots.uses }) d new p f.driven.accesses f.driven.all (All-weaker May (IsMild port) mild f.driven.accesses f.driven.only) _
         (f.comes slots p.machine p.reached p.knows fits)
         (λ q o other alive is. p.clients q o other alive (sym (others q other) ∙ is))
-        (λ q o own other alive. followed_silent f slots.uses slots.parked p.machine fits p.reached p.knows (port_at q) o own
+        (λ q o own other alive. followed_silent laws f slots.uses slots.parked p.machine fits p.reached p.knows (port_at q) o own
         (λ access may. laws.of_spares port (port_at q) Ci other access (mild access may).0)
         (λ access may. laws.of_spares port (port_at q) Sact other access (mild access may).0)
         (p.clients q o other alive))
@@ -195,10 +194,10 @@ module _ (laws : LawsBelow) (s : ServerState) (port : Port) (k : InCallInvariant
         r.leaves.others (port_at q) o other own (slots.uses, first.clients q o other alive, record { machine = first.machine; parked = slots.parked; reached = first.reached; knows = first.knows })
 
     given_others : (q : ℕ) → q ≢ port.0 → (given_up port.0 slots).uses q ≡ slots.uses q
-    given_others q other = changed_other slots.uses port.0 (λ slot. Free) q other
+    given_others q other = (laws.slots.given_others (at_slots slots d) port.0 q other).0
 
     given_free : AllFree (given_up port.0 slots).uses port.0
-    given_free slot = ap (λ (f : ℕ → SlotState). f slot) (changed_same slots.uses port.0 (λ slot. Free))
+    given_free = laws.slots.given_free (at_slots slots d) port.0
 
     given : (Tells : List Act → Type 0) → DoesAll r.accesses d new → Comes r.accesses (at_slots slots d) first.machine (at_slots (given_up port.0 slots) new) Tells → Passes s port (given_up port.0 slots) new
     given Tells does c =

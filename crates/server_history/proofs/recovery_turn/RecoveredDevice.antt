@@ -11,17 +11,15 @@ use Rattle.ata_types.specs.declared.PortState.TheVariants.{Absent, Dead, Foreign
 use Rattle.ata_types.specs.declared.request.RequestId.{RequestId}
 use Rattle.adapter.specs.Access.{Access}
 use Rattle.adapter.specs.Device.{Device}
-use Rattle.adapter.specs.Memory.{changed}
 use Rattle.adapter.specs.declared.command.Operation.{Operation}
 use Rattle.adapter.specs.declared.command.Operation.TheVariants.{Identify, ReadLog}
-use Rattle.adapter.proofs.Changed.{changed_other, changed_same}
 use Rattle.refinement.specs.Acts.{AnySlots, ByDeviceAlone, InSlots, Performs, at_slots, act_steps}
 use Rattle.refinement.specs.Relation.{ServeApart}
 use Rattle.refinement.specs.Driven.{IsSimulated, IsSimulatedTo}
 use Rattle.refinement.specs.Driver.{AllFree, HasNoSlot, IsBacked, DriverState, DriverRelation}
 use Rattle.refinement.specs.GivingUp.{given_up, served_ids}
-use Rattle.refinement.specs.Slots.{Free, Own, Serves, SlotState, SlotStates, put}
-use Rattle.refinement.proofs.driver.Stretches.{followed_adds}
+use Rattle.refinement.specs.Slots.{Own, Serves, SlotState, SlotStates, put}
+use Rattle.server_history.proofs.state.FollowedAccesses.{followed_adds}
 use Rattle.block_machine.specs.Events.{AllDevices, AllMay}
 use Rattle.block_machine.specs.Histories.{IsReachable}
 use Rattle.block_machine.specs.Left.{after}
@@ -69,10 +67,10 @@ passes_then laws a b c m x y = record {
 }
 
 -- what was followed
-passes_followed : (May : Access → Type 0) (Fits : SlotStates → Type 0) (next : SlotStates → SlotStates) (old new : Device) → IsSimulatedTo May Fits next old new → (s : InSlots) (m : Machine) → Fits s.uses → IsReachable m → DriverRelation m (at_slots s old)
+passes_followed : LawsBelow → (May : Access → Type 0) (Fits : SlotStates → Type 0) (next : SlotStates → SlotStates) (old new : Device) → IsSimulatedTo May Fits next old new → (s : InSlots) (m : Machine) → Fits s.uses → IsReachable m → DriverRelation m (at_slots s old)
     → Passes (at_slots s old) (at_slots (record s { uses = next s.uses }) new) m
-passes_followed May Fits next old new followed s m fits reached knows =
-    let x = (followed_adds followed s.uses s.parked fits).adds m reached knows in
+passes_followed laws May Fits next old new followed s m fits reached knows =
+    let x = (followed_adds laws followed s.uses s.parked fits).adds m reached knows in
     record { steps = x.0; only = x.3.only; may = x.1; backed = x.3.backed; knows = x.2 }
 
 -- a part of a call
@@ -115,15 +113,15 @@ pub record IsPassed (port : ℕ) (way : Next) (found : ProbeResult) (old new : D
 
 module _ (laws : LawsBelow) (port : ℕ) (s : InSlots) (d : Device) where
   free_then : AllFree (given_up port s).uses port
-  free_then slot = ap (λ (uses : ℕ → SlotState). uses slot) (changed_same s.uses port (λ slot. Free))
+  free_then = laws.slots.given_free (at_slots s d) port
 
   its_then : (id : RequestId) → Contains ((given_up port s).parked port) id → Contains (served_ids s.uses port 32 ++ s.parked port) id
-  its_then id here = subst (λ (ids : List RequestId). Contains ids id) (changed_same s.parked port (served_ids s.uses port 32 ++ s.parked port)) here
+  its_then id here = subst (λ (ids : List RequestId). Contains ids id) (laws.slots.given_parked (at_slots s d) port) here
 
   left_given : (way : Next) (found : ProbeResult) → LeavesIn port way found s (given_up port s)
   left_given way found = record {
-    uses = λ q ne. changed_other s.uses port (λ slot. Free) q ne;
-    parked = λ q ne. changed_other s.parked port (served_ids s.uses port 32 ++ s.parked port) q ne;
+    uses = λ q ne. (laws.slots.given_others (at_slots s d) port q ne).0;
+    parked = λ q ne. (laws.slots.given_others (at_slots s d) port q ne).1;
     its = its_then;
     unserved = λ lives apart slot id serves. laws.slots.frees (at_slots s d) port slot id apart serves;
     free = λ lives. free_then;
@@ -132,8 +130,8 @@ module _ (laws : LawsBelow) (port : ℕ) (s : InSlots) (d : Device) where
   -- with a command of the driver's own in slot 0 of a dead port
   left_own : (way : Next) (found : ProbeResult) (o : Operation) → found ≡ Unready Dead → LeavesIn port way found s (with_own port o (given_up port s))
   left_own way found o dead = record {
-    uses = λ q ne. changed_other (given_up port s).uses port (changed ((given_up port s).uses port) 0 (Own o)) q ne ∙ changed_other s.uses port (λ slot. Free) q ne;
-    parked = λ q ne. changed_other s.parked port (served_ids s.uses port 32 ++ s.parked port) q ne;
+    uses = λ q ne. (λ i slot. laws.recovery.put_other (given_up port s).uses port 0 (Own o) q slot (λ same _. ne same) i) ∙ (laws.slots.given_others (at_slots s d) port q ne).0;
+    parked = λ q ne. (laws.slots.given_others (at_slots s d) port q ne).1;
     its = its_then;
     unserved = λ lives apart slot id serves.
         laws.slots.put_unserved (given_up port s).uses port 0 (Own o) id (laws.slots.frees (at_slots s d) port slot id apart serves) (λ other same. let z : Own o ≡ Serves other = same in absurd cc);
@@ -167,7 +165,7 @@ module _ (laws : LawsBelow) (wanted : Wanted) (port : Port) (old mid new : Devic
       slots = given;
       left = left_given laws port.0 s old way (Ready info);
       passes = passes_then laws (at_slots s old) (at_slots given mid) (at_slots given new) m x
-          (passes_followed (IsOfBoot port) (λ uses. AllFree uses port.0) (λ uses. uses) mid new boots.boots.followed given (after m x.steps) (free_then laws port.0 s old) here x.knows);
+          (passes_followed laws (IsOfBoot port) (λ uses. AllFree uses port.0) (λ uses. uses) mid new boots.boots.followed given (after m x.steps) (free_then laws port.0 s old) here x.knows);
     }
     booted way (Unready state) boots = by state boots.boots
       where
@@ -176,7 +174,7 @@ module _ (laws : LawsBelow) (wanted : Wanted) (port : Port) (old mid new : Devic
           slots = given;
           left = left_given laws port.0 s old way (Unready state);
           passes = passes_then laws (at_slots s old) (at_slots given mid) (at_slots given new) m x
-              (passes_followed (IsOfBoot port) (λ uses. AllFree uses port.0) (λ uses. uses) mid new boots.followed given (after m x.steps) (free_then laws port.0 s old) here x.knows);
+              (passes_followed laws (IsOfBoot port) (λ uses. AllFree uses port.0) (λ uses. uses) mid new boots.followed given (after m x.steps) (free_then laws port.0 s old) here x.knows);
         }
 
         by : (state : PortState) → IsBootTo (StopsOnWay port state) port state mid new → IsPassed port.0 way (Unready state) old new s m
@@ -185,7 +183,7 @@ module _ (laws : LawsBelow) (wanted : Wanted) (port : Port) (old mid new : Devic
           slots = with_own port.0 Identify given;
           left = left_own laws port.0 s old way (Unready Dead) Identify refl;
           passes = passes_then laws (at_slots s old) (at_slots given mid) (at_slots (with_own port.0 Identify given) new) m x
-              (passes_followed (IsOfBoot port) (λ uses. AllFree uses port.0) (λ uses. put uses port.0 0 (Own Identify)) mid new boots.followed given (after m x.steps) (free_then laws port.0 s old) here x.knows);
+              (passes_followed laws (IsOfBoot port) (λ uses. AllFree uses port.0) (λ uses. put uses port.0 0 (Own Identify)) mid new boots.followed given (after m x.steps) (free_then laws port.0 s old) here x.knows);
         }
         by Absent boots = plainly (StopsOnWay port Absent) boots Absent
         by ReadyState boots = plainly (StopsOnWay port ReadyState) boots ReadyState
@@ -215,7 +213,7 @@ passed laws wanted port port_error was (Restart token) accesses old mid new foun
     started : (d : Device) → IsSimulated (IsOfStart port) (λ uses. AllFree uses port.0) mid d → Passes (at_slots s old) (at_slots (given_up port.0 s) d) m
     started d asks =
         passes_then laws (at_slots s old) (at_slots (given_up port.0 s) mid) (at_slots (given_up port.0 s) d) m x
-        (passes_followed (IsOfStart port) (λ uses. AllFree uses port.0) (λ uses. uses) mid d asks (given_up port.0 s) (after m x.steps) (free_then laws port.0 s old) (laws.basic.reached m x.steps reached x.may) x.knows)
+        (passes_followed laws (IsOfStart port) (λ uses. AllFree uses port.0) (λ uses. uses) mid d asks (given_up port.0 s) (after m x.steps) (free_then laws port.0 s old) (laws.basic.reached m x.steps reached x.may) x.knows)
 passed laws wanted port port_error was Stuck accesses old mid new found (inl performs) (is, same) s m reached knows = record {
   slots = s;
   left = left_stuck laws port.0 s old found is;

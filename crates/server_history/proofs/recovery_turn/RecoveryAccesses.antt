@@ -20,7 +20,7 @@ use Rattle.refinement.specs.Driven.{IsDrivenBy, IsSimulated, IsSimulatedTo, IsOf
 use Rattle.refinement.specs.Driver.{AllFree, DriverRelation}
 use Rattle.refinement.specs.Links.{SparesRegister}
 use Rattle.refinement.specs.Slots.{Own, SlotStates, op_of, put}
-use Rattle.refinement.proofs.driver.Stretches.{followed_adds, followed_silent}
+use Rattle.server_history.proofs.state.FollowedAccesses.{followed_adds, followed_silent}
 use Rattle.block_machine.specs.Histories.{IsReachable}
 use Rattle.block_machine.specs.Left.{after}
 use Rattle.block_machine.specs.State.{Machine}
@@ -123,10 +123,10 @@ module _ (laws : LawsBelow) (port : Port) (low : port.0 < 4) (wanted : Wanted) (
   module _ (token : Stopped) (old asked new : Device) (asks : IsSimulated (IsOfStart port) (λ uses. AllFree uses port.0) old asked) (then : SlotStates → SlotStates) (boots : IsSimulatedTo (IsOfBoot port) (λ uses. AllFree uses port.0) then asked new) where
     boot_silent : (q : Port) (o : Operation) → q.0 ≢ port.0 → op_of o ≡ None → (g : IsGivenUp port old) → (g.uses q.0 0 ≡ Own o → ⊥) → SendsNone q.0 o old new
     boot_silent q o other own g none =
-        let x = (followed_adds asks g.uses g.parked g.free).adds g.machine g.reached g.knows in
+        let x = (followed_adds laws asks g.uses g.parked g.free).adds g.machine g.reached g.knows in
         silent_more q.0 o old asked new
-        (followed_silent asks g.uses g.parked g.machine g.free g.reached g.knows q o own (λ access is. laws.of_spares port q Ci other access (start_part laws port low access is).1) (λ access is. laws.of_spares port q Sact other access (start_part laws port low access is).1) none)
-        (followed_silent boots g.uses g.parked (after g.machine x.0) g.free (laws.basic.reached g.machine x.0 g.reached x.1) x.2 q o own
+        (followed_silent laws asks g.uses g.parked g.machine g.free g.reached g.knows q o own (λ access is. laws.of_spares port q Ci other access (start_part laws port low access is).1) (λ access is. laws.of_spares port q Sact other access (start_part laws port low access is).1) none)
+        (followed_silent laws boots g.uses g.parked (after g.machine x.0) g.free (laws.basic.reached g.machine x.0 g.reached x.1) x.2 q o own
         (λ access is. laws.of_spares port q Ci other access (laws.booting_of port access is)) (λ access is. laws.of_spares port q Sact other access (laws.booting_of port access is)) none)
 
     boot_list : (found : ProbeResult) (by : IsDrivenBy (IsOfBoot port) asked new) → (found ≡ Unready DeadState → Sticks port by.accesses) → (found ≡ Unready DeadState → (new.port port.0).notes.engine_count ≡ MOST_READINGS)
@@ -159,7 +159,7 @@ module _ (laws : LawsBelow) (port : Port) (low : port.0 < 4) (wanted : Wanted) (
     unreset = λ never. absurd (never token refl);
     silent = λ q o other own given.
         let g = given token refl in
-        followed_silent absent.starts g.0.uses g.0.parked g.0.machine g.0.free g.0.reached g.0.knows q o own
+        followed_silent laws absent.starts g.0.uses g.0.parked g.0.machine g.0.free g.0.reached g.0.knows q o own
         (λ access is. laws.of_spares port q Ci other access (start_part laws port low access is).1) (λ access is. laws.of_spares port q Sact other access (start_part laws port low access is).1) g.1;
   }
     where

@@ -35,7 +35,6 @@ use Rattle.host_boot.specs.Taken.{FoundBadDisk, IsServed, StillStandsBehind, pro
 use Rattle.host_boot.specs.declared.Booted.{Booted}
 use Rattle.host_boot.specs.declared.ProbeResult.{ProbeResult}
 use Rattle.host_boot.specs.declared.ProbeResult.TheVariants.{Unserved, Ready, Unready}
-use Rattle.host_boot.proofs.Leaving.{boots_begin}
 use Rattle.identify.specs.Wanted.{serial_of}
 use Rattle.identify.specs.declared.DiskInfo.{DiskInfo}
 use Rattle.identify.specs.declared.wanted.Wanted.{Wanted}
@@ -74,7 +73,7 @@ its_port wanted found port d s = record { behind = s.behind; runs = s.runs; show
 other_stands : LawsBelow → (port : Port) (wanted : Wanted) (found : ProbeResult) (q : ℕ) (old new : Device) → q ≢ port.0 → IsOn old → IsDrivenBy (IsOf port) old new → SameAdapter old new
     → (found ≢ Unready DeadState → SendsNone q Identify old new) → (IsHaltedAsTaken (old.port q) → IsHaltedAsTaken (new.port q)) → StandsAt wanted found q old → StandsAt wanted found q new
 other_stands laws port wanted found q old new other on driven same silent halts s = record {
-  behind = left_on wanted found q old new same left silent s.behind;
+  behind = left_on laws wanted found q old new same left silent s.behind;
   runs = λ ready.
       let r = s.runs ready in
       let st = left.controls.st ∙ r.st in
@@ -156,7 +155,7 @@ module _ (laws : LawsBelow) (wanted : Wanted) (port : Port) (d new : Device) (on
 
     pub boots_then : StandsAt wanted booted.found port.0 new
     boots_then = record {
-      behind = boots_begin wanted booted.found port.0 new (laws.recovery.again_stands wanted port booted d new b served);
+      behind = laws.recovery.stands_begin wanted booted.found port.0 new (laws.recovery.again_stands wanted port booted d new b served);
       runs = runs_as booted.found b.boots;
       shown = shown_as booted.found refl;
       own = own_as;

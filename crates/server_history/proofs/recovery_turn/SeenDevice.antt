@@ -22,4 +22,4 @@ saw_still laws port (access ∷ accesses) old new only (mid, does, rest) on saw 
     let spares = laws.of_host port access (laws.recovering_of port access its) in
     saw_still laws port accesses mid new (All-tail (IsRecovering port) access accesses only) rest
     (laws.looks.access_on access old mid on (λ v e. absurd (subst (SparesRegister Ghc) e spares refl)) does)
-    (link_still port access old mid on (recovering_spares laws port access its) does saw)
+    (link_still laws port access old mid on (recovering_spares laws port access its) does saw)

@@ -17,7 +17,6 @@ use Rattle.adapter.specs.Access.Access.{Reading}
 use Rattle.adapter.specs.Device.{Device}
 use Rattle.adapter.specs.declared.command.Operation.TheVariants.{ReadLog}
 use Rattle.adapter.specs.Memory.{changed}
-use Rattle.adapter.proofs.Changed.{changed_other, changed_same}
 use Rattle.refinement.specs.Acts.{AnySlots, ByDeviceAlone, InSlots, Performs, at_slots, act_steps}
 use Rattle.refinement.specs.Relation.{port_at}
 use Rattle.refinement.specs.Driven.{AnyUse, IsDrivenBy, IsSimulated, SendsNone}
@@ -140,7 +139,7 @@ module _ (laws : LawsBelow) (port : Port) (replies : List Reply) (old new : Serv
       looked told l = record {
         accesses = look_list port l.causes l.own l.status;
         all = look_does port told old.device x.seen l;
-        only = λ i d small. let t = look_turns port l.causes l.own l.status l.alone i d small in let leaves = turn_leaves port port _ t in ((t.1, leaves.0), leaves.1);
+        only = λ i d small. let t = look_turns port l.causes l.own l.status l.alone i d small in let leaves = turn_leaves laws port port _ t in ((t.1, leaves.0), leaves.1);
       }
 
       by : (port_error : PortError) → IsFoundOut port port_error old.device x.seen → IsDrivenBy IsLookingOn old.device x.seen
@@ -197,7 +196,7 @@ module _ (laws : LawsBelow) (port : Port) (replies : List Reply) (old new : Serv
 
   issuing_spares : All (SparesRegister (Px port Sctl)) issuing.accesses
   unfolding issuing
-  issuing_spares = All-weaker (IssuesIn port) (SparesRegister (Px port Sctl)) (λ access is. (issuing_leaves port port access is).1) each.accesses each.only
+  issuing_spares = All-weaker (IssuesIn port) (SparesRegister (Px port Sctl)) (λ access is. (issuing_leaves laws port port access is).1) each.accesses each.only
 
   -- nothing is issued on a dead port, of which there are no requests
   none_issued : state_of (probe_result_of r.mid.ports port.0) ≡ DeadState → new ≡ r.mid
@@ -244,16 +243,16 @@ module _ (laws : LawsBelow) (port : Port) (replies : List Reply) (old new : Serv
             uses = changed s.uses port.0 (λ slot. Free);
             parked = (given_up port.0 s).parked;
             machine = after m (act_steps c.acts);
-            free = λ slot. ap (λ (f : ℕ → SlotState). f slot) (changed_same s.uses port.0 (λ slot. Free));
+            free = laws.slots.given_free (at_slots s a.mid.device) port.0;
             reached = laws.basic.reached m (act_steps c.acts) mid_kept.reached g.may;
             knows = g.knows;
           },
-          λ own. none_own (ap (λ (f : ℕ → SlotState). f 0) (sym (changed_other s.uses port.0 (λ slot. Free) q other)) ∙ own),
+          λ own. none_own (ap (λ (f : ℕ → SlotState). f 0) (sym (laws.slots.given_others (at_slots s a.mid.device) port.0 q other).0) ∙ own),
         )
 
     early_silent : SendsNone q ReadLog old.device a.mid.device
     early_silent = subst (SendsNone q ReadLog old.device) (sym mid_device)
-        (silent_more q ReadLog old.device x.seen x.found (looking_silent old x.seen port k looks q ReadLog refl (λ dead. lives (ap state_of dead)))
+        (silent_more q ReadLog old.device x.seen x.found (looking_silent old x.seen port k laws looks q ReadLog refl (λ dead. lives (ap state_of dead)))
         (finding_silent (record old { device = x.seen }) x.found port seen_kept ready laws x.mask x.done x.reads q ReadLog refl (λ dead. lives (ap state_of dead))))
 
     recovery_silent : SendsNone q ReadLog a.mid.device a.device

@@ -161,7 +161,7 @@ module _ (laws : ResetLaws) (s taken settled : ServerState) (booked : BookInvari
     there = λ port served.
         let below = four laws.taken settled takes.host takes.idle takes.resets.idle over ports_then takes.four port served in
         (below, served_there (wanted_of settled.wanted port) (probe_result_of settled.ports port) port settled.device (behind laws.taken settled takes.host takes.idle takes.resets.idle over ports_then takes.four port below) served);
-    behind = ports_on laws.taken settled takes.host takes.idle takes.resets.idle over ports_then takes.four;
+    behind = ports_on laws.taken settled takes.host takes.idle takes.resets.idle over ports_then takes.four laws.below;
     four = ap (λ (c : ServerState). length c.slots) its_fated.settings ∙ takes.four_slots;
     four_modes = ap (λ (c : ServerState). length c.modes) its_fated.settings ∙ takes.four_modes;
     four_remembered = ap (λ (c : ServerState). length c.remembered) its_fated.settings ∙ takes.four_remembered;

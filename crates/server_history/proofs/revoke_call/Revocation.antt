@@ -175,7 +175,7 @@ module _ (laws : LawsBelow) (s : ServerState) (client : ClientId) (number : ℕ)
             tt
             driven.accesses
             (driven.all, (revoked.has_row laws s client number replies mid r m h, All-weaker (IssuesIn port) (IssuesOn port) (λ access here. issuing_is port port_low access here) driven.accesses driven.only, λ other. absurd (other its_state)))
-            (λ q. All-weaker (IssuesIn port) (LeavesEngine q) (issuing_leaves port q) driven.accesses driven.only)
+            (λ q. All-weaker (IssuesIn port) (LeavesEngine q) (issuing_leaves laws port q) driven.accesses driven.only)
             (λ q is_ready. due_now q)
             (λ q. record {
               finds = tt;

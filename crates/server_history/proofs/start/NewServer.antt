@@ -18,14 +18,11 @@ use Rattle.refinement.specs.Driven.{known}
 use Rattle.refinement.specs.Driver.{DriverRelation, idle}
 use Rattle.refinement.specs.Slots.{Free, SlotStates}
 use Rattle.refinement.specs.Spares.{AllFurther, SparesBook}
-use Rattle.refinement.proofs.relation.IdleAgreement.{idle_knows}
-use Rattle.refinement.proofs.steps.SparedBook.{steps_spare}
 use Rattle.block_machine.specs.Histories.{IsReachable}
 use Rattle.block_machine.specs.Left.{after, IsRow, IsInitial}
 use Rattle.block_machine.specs.Ports.{AreFit, IsMode}
 use Rattle.block_machine.specs.State.{DiskBytes, Machine, Pending}
 use Rattle.block_machine.specs.Rules.{DifferInName}
-use Rattle.block_machine.proofs.HistoryLemmas.{reached_more}
 use Rattle.dma_frames.specs.Loan.{Lending}
 use Rattle.dma_frames.specs.Table.{owner_of}
 use Rattle.host_boot.specs.Taken.{StillStandsBehind, IsUnusedOrDead, StandsBehind, TakesOver, probe_result_of, wanted_of}
@@ -41,6 +38,7 @@ use Rattle.port_boot.specs.States.{EndsAs, IsUnfit}
 use Rattle.refinement.specs.Facts.{RunsWell, Undisturbed}
 use Rattle.server_history.proofs.state.PortSlots.{its_mode, ready_found, stood_mode}
 use Rattle.server_history.proofs.state.ServerInstant.{holds_with, slots}
+use Rattle.server_history.specs.Below.{LawsBelow}
 use Rattle.server_history.specs.Ended.{TakenLaws}
 use Rattle.server_history.specs.Histories.{HasBegun}
 use Rattle.block_machine.specs.Due.{NoneDue}
@@ -48,7 +46,7 @@ use Rattle.request_queue.specs.Entries.{Held, IsAccepted, BookIsInOrder, asks_of
 use Rattle.request_queue.specs.Machine.{IsBook}
 use Rattle.slots.specs.Uses.{PortSlots}
 use Rattle.server_history.specs.Server.{ServerState, AreUsesOf, InCallInvariant, IsMachineOf, IsNewServer, IsPortOf, SettledInvariant, IsUsedAs, is_served, AreKept, AreOfTwo, kept_at, mode_in, ports_of, state_of, use_of, used_for, HasTrueMark}
-use Rattle.refinement.proofs.driver.Stretches.{followed_adds}
+use Rattle.server_history.proofs.state.FollowedAccesses.{followed_adds}
 use Rattle.server_history.proofs.start.TakenOverPorts.{behind, found_is, four, none_past, ports_on, served_there}
 use Rattle.server_history.proofs.state.FirstMembers.{nowhere}
 
@@ -76,10 +74,10 @@ machine_of d rows owner = record {
   next = 1;
 }
 
-machine_knows : (d : Device) (rows : List GrantRow) (owner : Frame → Option ClientId) → IsInitial (machine_of d rows owner) → IsIdle d
+machine_knows : LawsBelow → (d : Device) (rows : List GrantRow) (owner : Frame → Option ClientId) → IsInitial (machine_of d rows owner) → IsIdle d
     → TellsDisks d → DriverRelation (machine_of d rows owner) (idle d)
-machine_knows d rows owner start is told =
-    idle_knows (machine_of d rows owner) d start is (λ q. record { present = refl; id = refl; size = refl }) (λ f b low small. refl) sectors (λ _ port k. refl)
+machine_knows laws d rows owner start is told =
+    laws.idle_agrees (machine_of d rows owner) d start is (λ q. record { present = refl; id = refl; size = refl }) (λ f b low small. refl) sectors (λ _ port k. refl)
   where
     sectors : d.telling ≡ true → (port : ℕ) → SameSectors (machine_of d rows owner) (d.port port).disk port
     sectors tells q =
@@ -176,9 +174,9 @@ none_in_order = record {
 
 -- ---- the whole
 
-module _ (laws : TakenLaws) (s : ServerState) (host : Host) (d : Device) (is : IsIdle d) (told : TellsDisks d) (taken : TakesOver s.wanted host d s.device) (n : IsNewServer host s) where
+module _ (below : LawsBelow) (laws : TakenLaws) (s : ServerState) (host : Host) (d : Device) (is : IsIdle d) (told : TellsDisks d) (taken : TakesOver s.wanted host d s.device) (n : IsNewServer host s) where
   ports_as : (port : ℕ) → port < 4 → IsPortOf s.wanted s.ports port s.device
-  ports_as port low = ports_on laws s host d is taken n.ports n.four port low
+  ports_as port low = ports_on laws s host d is taken n.ports n.four below port low
 
   stood : (port : ℕ) → port < 4 → StandsBehind (wanted_of s.wanted port) (probe_result_of s.ports port) port s.device
   stood port low = behind laws s host d is taken n.ports n.four port low
@@ -278,12 +276,12 @@ module _ (laws : TakenLaws) (s : ServerState) (host : Host) (d : Device) (is : I
 
   pub new_server : SettledInvariant s × HasBegun s
   new_server =
-      let x = (followed_adds taken.followed (λ port slot. Free) (λ port. []) refl).adds first_machine reached_first (machine_knows d s.grants (owner_of s.table) start is told) in
+      let x = (followed_adds below taken.followed (λ port slot. Free) (λ port. []) refl).adds first_machine reached_first (machine_knows below d s.grants (owner_of s.table) start is told) in
       let later : Machine = after first_machine x.0 in
-      let spares : SparesBook first_machine later = steps_spare first_machine x.0 x.3.only in
+      let spares : SparesBook first_machine later = below.basic.spares first_machine x.0 x.3.only in
       let begun : IsInitial later = start_on first_machine later start spares in
       let stands : IsMachineOf s later = stands_for later begun spares x.2 in
-      let reached : IsReachable later = reached_more first_machine x.0 reached_first x.1 in
+      let reached : IsReachable later = below.basic.reached first_machine x.0 reached_first x.1 in
       let kept : InCallInvariant s = kept_by later reached stands in (
         record { kept = kept; issued = none_due },
         (

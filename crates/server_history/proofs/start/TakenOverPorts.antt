@@ -10,7 +10,6 @@ use Rattle.ata_types.specs.declared.PortState.{PortState}
 use Rattle.ata_types.specs.declared.PortState.TheVariants.{Absent, Ready as ReadyState}
 use Rattle.driver_history.specs.Holds.{Runs}
 use Rattle.hba_regs.specs.Bits.{bit}
-use Rattle.host_boot.proofs.Leaving.{boots_begin}
 use Rattle.host_boot.specs.Taken.{FoundBadDisk, StandsBehind, TakesOver, probe_result_of, wanted_of}
 use Rattle.host_boot.specs.declared.ProbeResult.{ProbeResult}
 use Rattle.host_boot.specs.declared.ProbeResult.TheVariants.{Ready, Unready, Unserved}
@@ -19,6 +18,7 @@ use Rattle.identify.specs.Wanted.{serial_of}
 use Rattle.identify.specs.declared.DiskInfo.{DiskInfo}
 use Rattle.identify.specs.declared.wanted.Wanted.{Wanted}
 use Rattle.port_boot.specs.States.{EndsAs, ShowsOwnDisk}
+use Rattle.server_history.specs.Below.{LawsBelow}
 use Rattle.server_history.specs.Ended.{TakenLaws}
 use Rattle.server_history.specs.Server.{IsPortOf, ServerState, is_served, state_of}
 
@@ -92,9 +92,9 @@ module _ (laws : TakenLaws) (s : ServerState) (host : Host) (d : Device) (is : I
   running port below =
       ready_runs (wanted_of s.wanted port) (probe_result_of s.ports port) port s.device (behind port below) (λ info found. laws.recorded s.wanted host port info d s.device is taken (sym (found_is port) ∙ found))
 
-  pub ports_on : (port : ℕ) → port < 4 → IsPortOf s.wanted s.ports port s.device
-  ports_on port below = record {
-    behind = boots_begin (wanted_of s.wanted port) (probe_result_of s.ports port) port s.device (behind port below);
+  pub ports_on : LawsBelow → (port : ℕ) → port < 4 → IsPortOf s.wanted s.ports port s.device
+  ports_on laws_below port below = record {
+    behind = laws_below.recovery.stands_begin (wanted_of s.wanted port) (probe_result_of s.ports port) port s.device (behind port below);
     runs = λ ready. (running port below ready).0;
     shown = shown_as port (probe_result_of s.ports port) refl;
     own = own_as port (probe_result_of s.ports port) refl;

@@ -1,9 +1,11 @@
 -- Accesses of one kind that lead from a device to another.
-use Rattle.std.proofs.Common.{[], ◌∷◌, refl}
-use Rattle.std.proofs.lemmas.List.Elements.{All-cons, All-nil, All-weaker}
-use Rattle.adapter.specs.Access.{Access, Does}
+use Rattle.std.proofs.Common.{List, [], ◌∷◌, ◌++◌, refl, sym, subst}
+use Rattle.std.proofs.lemmas.List.Elements.{All-append, All-cons, All-head, All-nil, All-tail, All-weaker}
+use Rattle.std.specs.List.{All}
+use Rattle.adapter.specs.Access.{Access, Does, DoesAll}
 use Rattle.adapter.specs.Device.{Device}
 use Rattle.refinement.specs.Driven.{IsDrivenBy}
+use Rattle.server_history.specs.Below.{LawsBelow}
 
 -- what is of one kind is of a wider one
 pub driven_as : (May More : Access → Type 0) (old new : Device) → ((access : Access) → May access → More access) → IsDrivenBy May old new → IsDrivenBy More old new
@@ -16,3 +18,21 @@ by_none May d = record { accesses = []; all = refl; only = All-nil May }
 -- and one access where it leads
 pub by_one : (May : Access → Type 0) (access : Access) (old new : Device) → May access → Does access old new → IsDrivenBy May old new
 by_one May access old new may does = record { accesses = access ∷ []; all = (new, does, refl); only = All-cons May access [] may (All-nil May) }
+
+-- one stretch of accesses, and then another
+pub by_then : LawsBelow → {May : Access → Type 0} {old mid new : Device} → IsDrivenBy May old mid → IsDrivenBy May mid new → IsDrivenBy May old new
+by_then laws {May} {old} {mid} {new} a b = record {
+  accesses = a.accesses ++ b.accesses;
+  all = laws.basic.does_append a.accesses b.accesses old mid new a.all b.all;
+  only = All-append May a.accesses b.accesses a.only b.only;
+}
+
+-- what each access of a kind keeps, a stretch of them keeps
+pub kept_over : (Holds : Device → Type 0) (May : Access → Type 0) → ((access : Access) (old new : Device) → May access → Does access old new → Holds old → Holds new)
+    → (old new : Device) → IsDrivenBy May old new → Holds old → Holds new
+kept_over Holds May each old new driven = over driven.accesses old driven.only driven.all
+  where
+    over : (accesses : List Access) (from : Device) → All May accesses → DoesAll accesses from new → Holds from → Holds new
+    over [] from only is here = subst Holds (sym is) here
+    over (access ∷ rest) from only (mid, does, more) here =
+        over rest mid (All-tail May access rest only) more (each access from mid (All-head May access rest only) does here)

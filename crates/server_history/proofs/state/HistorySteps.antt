@@ -30,7 +30,6 @@ use Rattle.driver_history.specs.Heeding.{IsGrounded}
 use Rattle.driver_history.specs.Histories.{Begins, CameBy, Issues, CallCorresponds, PortCorresponds}
 use Rattle.driver_history.specs.Trace.{LeavesEngine}
 use Rattle.driver_history.specs.Holds.{HoldsAt}
-use Rattle.driver_history.proofs.Instants.{history_fit, ready_low}
 use Rattle.server_history.specs.Histories.{LeadsToServer}
 use Rattle.request_queue.specs.Entries.{Held, IsAccepted, BookIsInOrder}
 use Rattle.request_queue.specs.Machine.{IsBook, IsEntry, range_of}
@@ -254,7 +253,7 @@ lead_by laws first past s new ask said steps wanted_is ports_is leads holds may 
     (lawful_told s.device old.abstract.ports old.abstract (ports_of new) steps lawful)
     (λ e o here i same. disks_same old.abstract.ports (ports_of new) ports e.request.port)
     answered grounded accesses came
-    (evidenced ask said accesses (with_device s.device old) (ports_of new) new.device (λ port ready. (ready_low old port fit ready).1) leaves)
+    (evidenced ask said accesses (with_device s.device old) (ports_of new) new.device (λ port ready. (laws.basic.ready_served old.abstract.ports port fit ready).1) leaves)
     issues parts backed stands
   where
     old : JointState Device
@@ -264,4 +263,4 @@ lead_by laws first past s new ask said steps wanted_is ports_is leads holds may 
     ports = leads.stands.ports_are ∙ sym ports_is
 
     fit : AreFit old.abstract.ports
-    fit = history_fit (Begins s.wanted) (CallCorresponds s.wanted) first past leads.history
+    fit = laws.basic.fit s.wanted first past leads.history

@@ -1,5 +1,5 @@
 -- Members of lists, after a change: what this crate uses of such lemmas.
-use Rattle.std.proofs.Common.{◌≡◌, ◌≢◌, ◌⊎◌, ⊎_elim, ◌∙◌, Bool, true, false, cond, List, [], ◌∷◌, ◌++◌, map, sym, ap, subst}
+use Rattle.std.proofs.Common.{ℕ, ◌≡◌, ◌≢◌, ◌⊎◌, ◌==◌, ⊎_elim, ◌∙◌, Bool, true, false, cond, not, ne_eqb, refl, List, [], ◌∷◌, ◌++◌, map, sym, ap, subst}
 use Rattle.std.proofs.lemmas.Bool.{cond-true}
 use Rattle.std.specs.List.{Contains, filter, list_any}
 use Rattle.ata_types.specs.declared.request.RequestId.{RequestId}
@@ -55,3 +55,11 @@ in_filter {X} p (y ∷ xs) x here passes = ⊎_elim
 
 pub filter_in : {X : Type 0} (p : X → Bool) (xs : List X) (x : X) → Contains (filter p xs) x → Contains xs x × (p x ≡ true)
 filter_in p xs x h = members.filter_in p xs x h
+
+-- another request than the one that goes stays
+pub without_into : (id : RequestId) (es : List Pending) (e : Pending) → e.request.id ≢ id → Contains es e → Contains (without id es) e
+without_into id es e ne here = subst (λ (list : List Pending). Contains list e) (sym (without_is es)) (in_filter (λ x. not (x.request.id.0 == id.0)) es e here (ap not (ne_eqb e.request.id.0 id.0 (λ same. ne (ap (λ (n : ℕ). record { 0 = n }) same)))))
+  where
+    without_is : (list : List Pending) → without id list ≡ filter (λ x. not (x.request.id.0 == id.0)) list
+    without_is [] = refl
+    without_is (x ∷ list) = ap (λ (rest : List Pending). cond (not (x.request.id.0 == id.0)) (x ∷ rest) rest) (without_is list)

@@ -3,13 +3,20 @@ use Rattle.std.proofs.Common.{ℕ, ◌≡◌, ◌≢◌, ◌≤◌, ◌<◌, Lis
 use Rattle.std.proofs.lemmas.Bool.{cases_eq}
 use Rattle.std.proofs.lemmas.List.{get_or-set_same, get_or-set_other, length-set}
 use Rattle.refinement.specs.Slots.{SlotState, SlotStates, put}
-use Rattle.refinement.proofs.driver.PutSlot.{put_cases, put_same}
 use Rattle.block_machine.specs.declared.due.QueueMode.{QueueMode}
 use Rattle.host_boot.specs.Taken.{probe_result_of}
 use Rattle.host_boot.specs.declared.ProbeResult.{ProbeResult}
+use Rattle.server_history.specs.Below.{LawsBelow}
 use Rattle.slots.specs.Uses.{PortSlots, with_use}
 use Rattle.slots.specs.declared.SlotUse.{SlotUse}
 use Rattle.server_history.specs.Server.{HasSlots, IsUsedAs, mode_at, no_slots, usable_of, use_of, used_for, with_slot}
+
+-- it is this slot, or another
+pub its_or_other : (port slot q k : ℕ) → ((q ≡ port) × (k ≡ slot)) ⊎ (q ≡ port → k ≡ slot → ⊥)
+its_or_other port slot q k = ⊎_elim
+    (λ (same : q ≡ port). ⊎_elim (λ (its : k ≡ slot). inl (same, its)) (λ (ne : k ≢ slot). inr (λ _ its. ne its)) (cases_eq k slot))
+    (λ (ne : q ≢ port). inr (λ same _. ne same))
+    (cases_eq q port)
 
 module _ (slots : List PortSlots) (port slot : ℕ) (used : Option SlotUse) (low : port < length slots) (small : slot < length (get_or slots port no_slots).places) where
   abbrev its : PortSlots
@@ -30,28 +37,21 @@ module _ (slots : List PortSlots) (port slot : ℕ) (used : Option SlotUse) (low
       (cases_eq q port)
 
   -- where its uses are what they were but for this slot
-  pub placed_uses : (found : List ProbeResult) (uses : SlotStates) → ((q k : ℕ) → IsUsedAs (probe_result_of found q) (used_for slots q k) (uses q k))
+  pub placed_uses : LawsBelow → (found : List ProbeResult) (uses : SlotStates) → ((q k : ℕ) → IsUsedAs (probe_result_of found q) (used_for slots q k) (uses q k))
       → (q k : ℕ) → IsUsedAs (probe_result_of found q) (used_for (with_slot slots port slot used) q k) (put uses port slot (use_of used) q k)
-  placed_uses found uses was q k = ⊎_elim
+  placed_uses laws found uses was q k = ⊎_elim
       (λ (at : (q ≡ port) × (k ≡ slot)).
-      λ _. ap (λ (p : ℕ). put uses port slot (use_of used) p k) at.0 ∙ ap (λ (n : ℕ). put uses port slot (use_of used) port n) at.1 ∙ put_same uses port slot (use_of used)
+      λ _. ap (λ (p : ℕ). put uses port slot (use_of used) p k) at.0 ∙ ap (λ (n : ℕ). put uses port slot (use_of used) port n) at.1 ∙ laws.slots.put_here uses port slot (use_of used)
       ∙ ap use_of (sym placed_same ∙ ap (λ (n : ℕ). used_for (with_slot slots port slot used) port n) (sym at.1) ∙ ap (λ (p : ℕ). used_for (with_slot slots port slot used) p k) (sym at.0)))
-      (λ (there : (q ≡ port → k ≡ slot → ⊥) × (put uses port slot (use_of used) q k ≡ uses q k)).
+      (λ (there : q ≡ port → k ≡ slot → ⊥).
       let U : SlotState → Type 0 = λ u. IsUsedAs (probe_result_of found q) (used_for (with_slot slots port slot used) q k) u in
       let P : Option SlotUse → Type 0 = λ p. IsUsedAs (probe_result_of found q) p (uses q k) in
-      subst U (sym there.1) (subst P (sym (placed_other q k there.0)) (was q k)))
-      (put_cases uses port slot (use_of used) q k)
+      subst U (sym (laws.recovery.put_other uses port slot (use_of used) q k there)) (subst P (sym (placed_other q k there)) (was q k)))
+      (its_or_other port slot q k)
 
   -- what is used afterwards, but for this slot, was used before
   pub placed_was : (q k : ℕ) (u : SlotUse) → (q ≡ port → k ≡ slot → ⊥) → used_for (with_slot slots port slot used) q k ≡ Some u → used_for slots q k ≡ Some u
   placed_was q k u other is = sym (placed_other q k other) ∙ is
-
--- it is this slot, or another
-pub its_or_other : (port slot q k : ℕ) → ((q ≡ port) × (k ≡ slot)) ⊎ (q ≡ port → k ≡ slot → ⊥)
-its_or_other port slot q k = ⊎_elim
-    (λ (same : q ≡ port). ⊎_elim (λ (its : k ≡ slot). inl (same, its)) (λ (ne : k ≢ slot). inr (λ _ its. ne its)) (cases_eq k slot))
-    (λ (ne : q ≢ port). inr (λ same _. ne same))
-    (cases_eq q port)
 
 -- what is used once a slot was freed is another, and was used before
 pub freed_was : (slots : List PortSlots) (port slot : ℕ) → port < length slots → slot < length (get_or slots port no_slots).places → (q k : ℕ) (u : SlotUse)

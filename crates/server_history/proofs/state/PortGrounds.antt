@@ -8,20 +8,14 @@ use Rattle.refinement.specs.Links.{SameAdapter}
 use Rattle.host_boot.specs.Taken.{LeavesFound, StillStandsBehind}
 use Rattle.host_boot.specs.declared.ProbeResult.{ProbeResult}
 use Rattle.host_boot.specs.declared.ProbeResult.TheVariants.{Unserved, Ready, Unready}
-use Rattle.host_boot.proofs.Leaving.{still_on}
-use Rattle.host_boot.specs.Laws.{FoundLaws}
-use Rattle.port_boot.proofs.Staying.{disk_on, ends_on, ready_on as still_ready}
 use Rattle.identify.specs.declared.DiskInfo.{DiskInfo}
 use Rattle.identify.specs.declared.wanted.Wanted.{Wanted}
-
--- what a boot found goes on
-goes_on : FoundLaws
-goes_on = record { disk_on = disk_on; ready_on = λ wanted port old new info left. still_ready port old new left wanted info; ends_on = λ wanted state port old new left. ends_on port old new left wanted state }
+use Rattle.server_history.specs.Below.{LawsBelow}
 
 -- the port is left to the device
-pub left_on : (wanted : Wanted) (found : ProbeResult) (port : ℕ) (old new : Device) → SameAdapter old new → LeavesPort (old.port port) (new.port port)
+pub left_on : LawsBelow → (wanted : Wanted) (found : ProbeResult) (port : ℕ) (old new : Device) → SameAdapter old new → LeavesPort (old.port port) (new.port port)
     → (found ≢ Unready Dead → SendsNone port Identify old new) → StillStandsBehind wanted found port old → StillStandsBehind wanted found port new
-left_on wanted found port old new same l silent s = still_on goes_on wanted found port old new same (enough found) silent s
+left_on laws wanted found port old new same l silent s = laws.recovery.stands_on wanted found port old new same (enough found) silent s
   where
     enough : (f : ProbeResult) → LeavesFound f (old.port port) (new.port port)
     enough Unserved = l
@@ -29,8 +23,8 @@ left_on wanted found port old new same l silent s = still_on goes_on wanted foun
     enough (Unready state) = l
 
 -- it is ready, and neither PxSCTL nor PxIE is written
-pub ready_on : (wanted : Wanted) (info : DiskInfo) (port : ℕ) (old new : Device) → SameAdapter old new → (new.port port).sctl_det ≡ (old.port port).sctl_det
+pub ready_on : LawsBelow → (wanted : Wanted) (info : DiskInfo) (port : ℕ) (old new : Device) → SameAdapter old new → (new.port port).sctl_det ≡ (old.port port).sctl_det
     → (new.port port).ie ≡ (old.port port).ie
     → (new.port port).notes.sctl_written_at ≡ (old.port port).notes.sctl_written_at → SendsNone port Identify old new
     → StillStandsBehind wanted (Ready info) port old → StillStandsBehind wanted (Ready info) port new
-ready_on wanted info port old new same det_is ie_is written silent s = still_on goes_on wanted (Ready info) port old new same (det_is, ie_is, written) (λ other. silent) s
+ready_on laws wanted info port old new same det_is ie_is written silent s = laws.recovery.stands_on wanted (Ready info) port old new same (det_is, ie_is, written) (λ other. silent) s

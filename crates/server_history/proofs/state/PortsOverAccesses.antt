@@ -11,7 +11,6 @@ use Rattle.refinement.specs.Relation.{port_at}
 use Rattle.refinement.specs.Driven.{IsDrivenBy, IsOf, LeavesPort, SendsNone}
 use Rattle.refinement.specs.Halting.{IsHaltedAsTaken}
 use Rattle.refinement.specs.Links.{SameAdapter}
-use Rattle.refinement.proofs.driver.PortAccesses.{other_left}
 use Rattle.server_history.proofs.state.DrivenAccesses.{by_one}
 use Rattle.host_boot.specs.Taken.{StillStandsBehind, probe_result_of, wanted_of}
 use Rattle.host_boot.specs.declared.ProbeResult.{ProbeResult}
@@ -44,10 +43,10 @@ bytes_serve (Reading r v) is = absurd is
 bytes_serve (Writing r v) is = absurd is
 
 -- they leave every port to the device
-pub bytes_leave : (access : Access) (old new : Device) → IsOfBytes access → IsOn old → Does access old new → (port : ℕ) → LeavesPort (old.port port) (new.port port)
-bytes_leave access old new is on does port =
-    other_left (port_at (suc port)) old new (by_one (IsOf (port_at (suc port))) access old new (bytes_of (port_at (suc port)) access is) does) port
-    (λ same. absurd (omega (arith, same))) on
+pub bytes_leave : LawsBelow → (access : Access) (old new : Device) → IsOfBytes access → IsOn old → Does access old new → (port : ℕ) → LeavesPort (old.port port) (new.port port)
+bytes_leave laws access old new is on does port =
+    laws.looks.other_left (port_at (suc port)) port old new (λ same. absurd (omega (arith, same))) on
+    (by_one (IsOf (port_at (suc port))) access old new (bytes_of (port_at (suc port)) access is) does)
 
 -- ---- what stands behind a port
 
@@ -58,20 +57,20 @@ pub port_on : LawsBelow → (wanted : List Wanted) (found : List ProbeResult) (p
 port_on laws wanted found port old new same on by left silent halts is =
     record {
       behind = behind (probe_result_of found port) left silent is.behind;
-      runs = λ ready. runs_on laws.looks (port_at port) old new on by (is.runs ready);
-      shown = λ bad. shown_on laws.looks (port_at port) old new on by (is.shown bad);
+      runs = λ ready. runs_on laws (port_at port) old new on by (is.runs ready);
+      shown = λ bad. shown_on laws (port_at port) old new on by (is.shown bad);
       own = λ ready. laws.recovery.own_on port by.accesses old new by.all (is.own ready);
-      halts = λ ready. halts (λ _. is.halts ready) (runs_on laws.looks (port_at port) old new on by (is.runs ready)).st;
+      halts = λ ready. halts (λ _. is.halts ready) (runs_on laws (port_at port) old new on by (is.runs ready)).st;
     }
   where
     behind : (f : ProbeResult) → (state_of f ≢ ReadyState → LeavesPort (old.port port) (new.port port)) → (f ≢ Unready Dead → SendsNone port Identify old new)
         → StillStandsBehind (wanted_of wanted port) f port old → StillStandsBehind (wanted_of wanted port) f port new
-    behind Unserved left silent stays = left_on (wanted_of wanted port) Unserved port old new same (left (λ e. let z : Absent ≡ ReadyState = e in cc)) silent stays
+    behind Unserved left silent stays = left_on laws (wanted_of wanted port) Unserved port old new same (left (λ e. let z : Absent ≡ ReadyState = e in cc)) silent stays
     behind (Ready info) left silent stays =
         let c = laws.looking.services_controls port old new on by in
-        ready_on (wanted_of wanted port) info port old new same c.0 c.1 c.2 (silent (λ e. let z : Ready info ≡ Unready Dead = e in cc)) stays
+        ready_on laws (wanted_of wanted port) info port old new same c.0 c.1 c.2 (silent (λ e. let z : Ready info ≡ Unready Dead = e in cc)) stays
     behind (Unready ReadyState) left silent stays = absurd stays.1
-    behind (Unready Absent) left silent stays = left_on (wanted_of wanted port) (Unready Absent) port old new same (left (λ e. let z : Absent ≡ ReadyState = e in cc)) silent stays
-    behind (Unready Foreign) left silent stays = left_on (wanted_of wanted port) (Unready Foreign) port old new same (left (λ e. let z : Foreign ≡ ReadyState = e in cc)) silent stays
-    behind (Unready (Unfit n)) left silent stays = left_on (wanted_of wanted port) (Unready (Unfit n)) port old new same (left (λ e. let z : Unfit n ≡ ReadyState = e in cc)) silent stays
-    behind (Unready Dead) left silent stays = left_on (wanted_of wanted port) (Unready Dead) port old new same (left (λ e. let z : Dead ≡ ReadyState = e in cc)) silent stays
+    behind (Unready Absent) left silent stays = left_on laws (wanted_of wanted port) (Unready Absent) port old new same (left (λ e. let z : Absent ≡ ReadyState = e in cc)) silent stays
+    behind (Unready Foreign) left silent stays = left_on laws (wanted_of wanted port) (Unready Foreign) port old new same (left (λ e. let z : Foreign ≡ ReadyState = e in cc)) silent stays
+    behind (Unready (Unfit n)) left silent stays = left_on laws (wanted_of wanted port) (Unready (Unfit n)) port old new same (left (λ e. let z : Unfit n ≡ ReadyState = e in cc)) silent stays
+    behind (Unready Dead) left silent stays = left_on laws (wanted_of wanted port) (Unready Dead) port old new same (left (λ e. let z : Dead ≡ ReadyState = e in cc)) silent stays

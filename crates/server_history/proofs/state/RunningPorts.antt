@@ -5,25 +5,21 @@ use Rattle.std.proofs.lemmas.Bool.{cases_eq}
 use Rattle.ata_types.specs.declared.Port.{Port}
 use Rattle.ata_types.specs.declared.limits.TheConstants.{MOST_READINGS}
 use Rattle.hba_regs.specs.declared.reg.Reg.{Reg}
-use Rattle.hba_regs.specs.declared.reg.Reg.TheVariants.{Px}
+use Rattle.hba_regs.specs.declared.reg.Reg.TheVariants.{Ghc, Px}
 use Rattle.hba_regs.specs.declared.reg.PortReg.TheVariants.{Clb, Clbu, Fb, Fbu, Cmd, Ssts, Sctl}
 use Rattle.adapter.specs.Access.{Access, Does, Reads, note}
 use Rattle.adapter.specs.Access.Access.{Reading, Writing, Loading, Storing}
 use Rattle.adapter.specs.Device.{Notes, DevicePort, Device}
 use Rattle.adapter.specs.Rules.{IsOn}
-use Rattle.block_machine.proofs.Keeps.{same_port}
 use Rattle.refinement.specs.Driven.{IsDrivenBy}
 use Rattle.refinement.specs.Links.{HasDeviceOrNone, LeavesControls, SparesRegister}
-use Rattle.refinement.proofs.device.PortControls.{access_controls}
-use Rattle.refinement.proofs.device.PortNotes.{access_notes, notes_read}
-use Rattle.refinement.proofs.device.ShownDevice.{access_shown}
 use Rattle.refinement.specs.Noted.{SparesReading}
 use Rattle.port_control.specs.Ports.{programmed}
-use Rattle.port_control.specs.LookLaws.{Laws}
+use Rattle.refinement.specs.Relation.{port_at}
 use Rattle.port_control.specs.Services.{IsService}
-use Rattle.port_control.proofs.looks.Recording.{services_recorded}
-use Rattle.port_control.proofs.looks.Serving.{services_keep, spares_port}
 use Rattle.driver_history.specs.Holds.{Runs}
+use Rattle.server_history.specs.Below.{LawsBelow}
+use Rattle.server_history.proofs.state.DrivenAccesses.{kept_over}
 
 -- the engine runs, and its areas and its device were found
 record Holds (port : ℕ) (d : Device) : Type 0 where
@@ -42,17 +38,17 @@ counts_on v p is = by (nat_eq p.sctl_det 0) (nat_eq (v % 16) 3) p.notes.link_cou
     by true true n e = refl
     by true false n e = ap (λ (k : ℕ). min MOST_READINGS (k + 1)) e
 
-pub link_still : (port : Port) (access : Access) (old new : Device) → IsOn old → SparesRegister (Px port Sctl) access → Does access old new → (old.port port.0).notes.link_count ≡ MOST_READINGS → (new.port port.0).notes.link_count ≡ MOST_READINGS
-link_still port access old new on spares does saw = by access spares does
+pub link_still : LawsBelow → (port : Port) (access : Access) (old new : Device) → IsOn old → SparesRegister (Px port Sctl) access → Does access old new → (old.port port.0).notes.link_count ≡ MOST_READINGS → (new.port port.0).notes.link_count ≡ MOST_READINGS
+link_still laws port access old new on spares does saw = by access spares does
   where
     spared : (a : Access) → SparesRegister (Px port Sctl) a → Does a old new → SparesReading (Px port Ssts) a → (new.port port.0).notes.link_count ≡ MOST_READINGS
-    spared a its did other = ((access_notes port a old new did).link other).1 its ∙ saw
+    spared a its did other = ((laws.looks.access_notes port a old new did).link other).1 its ∙ saw
 
     read : (r : Reg) (v : ℕ) → Does (Reading r v) old new → (new.port port.0).notes.link_count ≡ MOST_READINGS
     read (Px p Ssts) v did = ⊎_elim
         (λ (e : p.0 ≡ port.0).
-        let same : Reads (Px port Ssts) v old new = subst (λ (q : Port). Reads (Px q Ssts) v old new) (same_port p port e) did in
-        ap (λ (n : Notes). n.link_count) (notes_read port Ssts v old new on.no_reset same) ∙ counts_on v (old.port port.0) saw)
+        let same : Reads (Px port Ssts) v old new = subst (λ (q : Port). Reads (Px q Ssts) v old new) (ap port_at e) did in
+        ap (λ (n : Notes). n.link_count) (laws.looking.noted port Ssts v old new on.no_reset same) ∙ counts_on v (old.port port.0) saw)
         (λ (ne : p.0 ≢ port.0). spared (Reading (Px p Ssts) v) tt did (λ q. ne (let same : p ≡ port = (let z : Px p Ssts ≡ Px port Ssts = q in cc) in ap (λ (x : Port). x.0) same)))
         (cases_eq p.0 port.0)
     read r v did = spared (Reading r v) tt did (λ q. absurd cc)
@@ -63,38 +59,45 @@ link_still port access old new on spares does saw = by access spares does
     by (Storing at bytes) its did = spared (Storing at bytes) its did tt
     by (Reading r v) its did = read r v did
 
-each : (port : Port) (access : Access) (old new : Device) → IsOn old → IsService access → Does access old new → Holds port.0 old → Holds port.0 new
-each port access old new on is does h =
-    let left : LeavesControls access port (old.port port.0) (new.port port.0) = access_controls port access old new on.no_reset does in
-    let command = left.command (spares_port port Cmd (λ e. cc) (λ e. cc) (λ e. cc) access is) in
-    let list = left.list (spares_port port Clb (λ e. cc) (λ e. cc) (λ e. cc) access is) in
-    let list_upper = left.list_upper (spares_port port Clbu (λ e. cc) (λ e. cc) (λ e. cc) access is) in
-    let received = left.received (spares_port port Fb (λ e. cc) (λ e. cc) (λ e. cc) access is) in
-    let received_upper = left.received_upper (spares_port port Fbu (λ e. cc) (λ e. cc) (λ e. cc) access is) in
+each : LawsBelow → (port : Port) (access : Access) (old new : Device) → IsOn old → IsService access → Does access old new → Holds port.0 old → Holds port.0 new
+each laws port access old new on is does h =
+    let left : LeavesControls access port (old.port port.0) (new.port port.0) = laws.looks.access_controls port access old new on.no_reset does in
+    let command = left.command (laws.looking.services_spare port Cmd (λ e. cc) (λ e. cc) (λ e. cc) access is) in
+    let list = left.list (laws.looking.services_spare port Clb (λ e. cc) (λ e. cc) (λ e. cc) access is) in
+    let list_upper = left.list_upper (laws.looking.services_spare port Clbu (λ e. cc) (λ e. cc) (λ e. cc) access is) in
+    let received = left.received (laws.looking.services_spare port Fb (λ e. cc) (λ e. cc) (λ e. cc) access is) in
+    let received_upper = left.received_upper (laws.looking.services_spare port Fbu (λ e. cc) (λ e. cc) (λ e. cc) access is) in
     record {
       st = command.0 ∙ h.st;
       cr = command.3 h.st h.cr;
       fre = command.1 ∙ h.fre;
       bases = (λ i. record { clb = list.0 i; fb = received.0 i; clb_set = list.1 i; clbu_set = list_upper i; fb_set = received.1 i; fbu_set = received_upper i }) ∙ h.bases;
-      saw = link_still port access old new on (spares_port port Sctl (λ e. cc) (λ e. cc) (λ e. cc) access is) does h.saw;
+      saw = link_still laws port access old new on (laws.looking.services_spare port Sctl (λ e. cc) (λ e. cc) (λ e. cc) access is) does h.saw;
     }
 
--- a device shows still, or none is in
-pub shown_on : Laws → (port : Port) (old new : Device) → IsOn old → IsDrivenBy IsService old new → HasDeviceOrNone (old.port port.0) → HasDeviceOrNone (new.port port.0)
-shown_on laws port old new on driven =
-    (services_keep laws (λ x y. HasDeviceOrNone (x.port port.0) → HasDeviceOrNone (y.port port.0)) (λ d h. h) (λ x y z p q h. q (p h))
-    (λ access x y ready is does. access_shown port access x y ready.no_reset (spares_port port Sctl (λ e. cc) (λ e. cc) (λ e. cc) access is) does) old new on driven).0
+-- over accesses that serve ports the adapter stays on, with what each of them keeps
+on_over : LawsBelow → (Kept : Device → Type 0) → ((access : Access) (old new : Device) → IsOn old → IsService access → Does access old new → Kept old → Kept new)
+    → (old new : Device) → IsOn old → IsDrivenBy IsService old new → Kept old → Kept new
+on_over laws Kept keeps old new on driven here =
+    (kept_over (λ d. IsOn d × Kept d) IsService
+    (λ access a b is does w. (laws.looks.access_on access a b w.0 (λ v same. absurd (subst (SparesRegister Ghc) same (laws.looking.services_spare_host access is) refl)) does, keeps access a b w.0 is does w.1))
+    old new driven (on, here)).1
 
-pub runs_on : Laws → (port : Port) (old new : Device) → IsOn old → IsDrivenBy IsService old new → Runs port.0 old → Runs port.0 new
+-- a device shows still, or none is in
+pub shown_on : LawsBelow → (port : Port) (old new : Device) → IsOn old → IsDrivenBy IsService old new → HasDeviceOrNone (old.port port.0) → HasDeviceOrNone (new.port port.0)
+shown_on laws port old new on driven =
+    on_over laws (λ d. HasDeviceOrNone (d.port port.0))
+    (λ access a b ready is does. laws.looking.shown_stays port access a b ready.no_reset (laws.looking.services_spare port Sctl (λ e. cc) (λ e. cc) (λ e. cc) access is) does) old new on driven
+
+pub runs_on : LawsBelow → (port : Port) (old new : Device) → IsOn old → IsDrivenBy IsService old new → Runs port.0 old → Runs port.0 new
 runs_on laws port old new on driven r = record {
   st = h.st;
   cr = h.cr;
   fre = h.fre;
   bases = h.bases;
   saw = h.saw;
-  recorded = services_recorded laws port.0 old new driven (λ _. r.recorded) h.st;
+  recorded = laws.looking.services_recorded port.0 old new driven (λ _. r.recorded) h.st;
 }
   where
     h : Holds port.0 new
-    h = (services_keep laws (λ x y. Holds port.0 x → Holds port.0 y) (λ d x. x) (λ x y z p q k. q (p k)) (λ access x y ready is does. each port access x y ready is does) old new on driven).0
-        (record { st = r.st; cr = r.cr; fre = r.fre; bases = r.bases; saw = r.saw })
+    h = on_over laws (Holds port.0) (each laws port) old new on driven (record { st = r.st; cr = r.cr; fre = r.fre; bases = r.bases; saw = r.saw })

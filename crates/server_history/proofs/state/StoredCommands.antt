@@ -13,7 +13,7 @@ use Rattle.refinement.specs.Readying.{LeavesStored}
 use Rattle.command_table.specs.Written.{IsBlockStore, IsTableStore}
 use Rattle.commands.specs.Tasks.{IsIssuing}
 use Rattle.port_control.specs.Services.{IsService}
-use Rattle.port_control.proofs.looks.Serving.{spares_ghc, spares_port}
+use Rattle.server_history.specs.Below.{LawsBelow}
 use Rattle.server_history.proofs.state.TransferAccesses.{issuing_serves}
 
 -- the slots are two
@@ -59,12 +59,12 @@ never_both port slot other k place a b c d apart x y = ⊎_elim
     other_port ne (inr h) (inr i) = omega (arith, a, b, c, d, ne, h.0, h.1, i.0, i.1)
 
 -- an access that serves ports leaves what is stored for a slot, if its store misses header and table
-pub service_leaves_stored : (other : Port) (k : ℕ) (access : Access) → IsService access
+pub service_leaves_stored : LawsBelow → (other : Port) (k : ℕ) (access : Access) → IsService access
     → ((at : ℕ) (bytes : List ℕ) (place : ℕ) → access ≡ Storing at bytes → IsTableByte other.0 k place → at ≤ place → place < at + length bytes → ⊥) → LeavesStored other k access
-service_leaves_stored other k access is misses = record {
-  host = spares_ghc access is;
-  start = λ v e. absurd (subst (SparesRegister (Px other Cmd)) e (spares_port other Cmd (λ e. cc) (λ e. cc) (λ e. cc) access is) refl);
-  list = spares_port other Clb (λ e. cc) (λ e. cc) (λ e. cc) access is;
+service_leaves_stored laws other k access is misses = record {
+  host = laws.looking.services_spare_host access is;
+  start = λ v e. absurd (subst (SparesRegister (Px other Cmd)) e (laws.looking.services_spare other Cmd (λ e. cc) (λ e. cc) (λ e. cc) access is) refl);
+  list = laws.looking.services_spare other Clb (λ e. cc) (λ e. cc) (λ e. cc) access is;
   table = λ at bytes e place t from to. misses at bytes place e t from to;
 }
 
@@ -80,8 +80,8 @@ never_beyond port other k place a b c block (inr h) = ⊎_elim
     (cases_lt other port)
 
 -- what issues in one slot leaves what is stored for another
-pub issuing_leaves_stored : (port other : Port) (slot k : ℕ) → port.0 < 4 → slot < 32 → other.0 < 4 → k < 32 → AreApart port.0 slot other.0 k → (access : Access) → IsIssuing port slot access → LeavesStored other k access
-issuing_leaves_stored port other slot k a b c d apart access is = service_leaves_stored other k access (issuing_serves port slot access is) (λ at bytes place e t from to.
+pub issuing_leaves_stored : LawsBelow → (port other : Port) (slot k : ℕ) → port.0 < 4 → slot < 32 → other.0 < 4 → k < 32 → AreApart port.0 slot other.0 k → (access : Access) → IsIssuing port slot access → LeavesStored other k access
+issuing_leaves_stored laws port other slot k a b c d apart access is = service_leaves_stored laws other k access (issuing_serves port slot access is) (λ at bytes place e t from to.
     ⊎_elim
     (λ (table : IsTableStore port.0 slot (Storing at bytes)). never_both port.0 slot other.0 k place a b c d apart (of_store port.0 slot at place bytes table from to) (of_table other.0 k place t))
     (λ (block : IsBlockStore port.0 slot (Storing at bytes)).

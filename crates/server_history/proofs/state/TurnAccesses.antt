@@ -31,8 +31,6 @@ use Rattle.port_control.specs.Looks.{LooksAt}
 use Rattle.port_control.specs.Services.{IsService}
 use Rattle.port_control.specs.declared.events.PortEvent.{PortEvent}
 use Rattle.port_control.specs.declared.events.PortEvent.TheVariants.{NoEvent}
-use Rattle.port_control.proofs.looks.Seeing.{seen_well}
-use Rattle.port_control.proofs.looks.Serving.{spares_port}
 
 -- ---- the device's steps
 
@@ -76,14 +74,14 @@ issuing_turns laws port low access here = (issues_serve port access here, (own a
     own (Loading at bytes) on = absurd on
 
 -- what serves ports writes neither PxCMD nor PxSCTL, nor GHC
-service_leaves : (port : Port) (access : Access) → IsService access → LeavesEngine port access
-service_leaves port access here = (spares_port port Cmd (λ e. cc) (λ e. cc) (λ e. cc) access here, spares_port port Sctl (λ e. cc) (λ e. cc) (λ e. cc) access here)
+service_leaves : LawsBelow → (port : Port) (access : Access) → IsService access → LeavesEngine port access
+service_leaves laws port access here = (laws.looking.services_spare port Cmd (λ e. cc) (λ e. cc) (λ e. cc) access here, laws.looking.services_spare port Sctl (λ e. cc) (λ e. cc) (λ e. cc) access here)
 
-pub issuing_leaves : (port other : Port) (access : Access) → IssuesIn port access → LeavesEngine other access
-issuing_leaves port other access here = service_leaves other access (issues_serve port access here)
+pub issuing_leaves : LawsBelow → (port other : Port) (access : Access) → IssuesIn port access → LeavesEngine other access
+issuing_leaves laws port other access here = service_leaves laws other access (issues_serve port access here)
 
-pub turn_leaves : (port other : Port) (access : Access) → IsTurn port access → LeavesEngine other access
-turn_leaves port other access here = service_leaves other access here.0
+pub turn_leaves : LawsBelow → (port other : Port) (access : Access) → IsTurn port access → LeavesEngine other access
+turn_leaves laws port other access here = service_leaves laws other access here.0
 
 -- ---- a port's turn
 
@@ -145,7 +143,7 @@ module _ (port : Port) where
     own_all driven = All-weaker (IsTurn port) IsDriversOwn (λ access is. is.1.0) driven.accesses driven.only
 
     leaves_all : (driven : IsDrivenBy (IsTurn port) old new) → All (LeavesEngine port) driven.accesses
-    leaves_all driven = All-weaker (IsTurn port) (LeavesEngine port) (turn_leaves port port) driven.accesses driven.only
+    leaves_all driven = All-weaker (IsTurn port) (LeavesEngine port) (turn_leaves laws port port) driven.accesses driven.only
 
     -- it was looked at, and that was all
     looked : (replies ≡ []) × (new ≡ t.seen) → (t.look ≡ NoEvent → IsBusy slots → ⊥) → TurnList slots replies old new t
@@ -154,7 +152,7 @@ module _ (port : Port) where
       of = of_all driven;
       own = own_all driven;
       leaves = leaves_all driven;
-      calm = λ on well undisturbed. (seen_well laws.looks port t.look old t.seen t.looks on well (subst (Undisturbed port.0 old) stop.1 undisturbed)).0;
+      calm = λ on well undisturbed. (laws.looking.looks_well port t.look old t.seen on t.looks well (subst (Undisturbed port.0 old) stop.1 undisturbed)).0;
       masks = λ is busy. absurd (never is busy);
     }
       where
@@ -180,7 +178,7 @@ module _ (port : Port) where
       late = Reading (Px port Ci) c.reads.issued ∷ Reading (Px port Sact) c.reads.active ∷ more.accesses
 
       leaves : All (LeavesCommand port) early
-      leaves i e small = (turn_leaves port port _ (look_turns t.looks.causes t.looks.own t.looks.status t.looks.alone i e small)).0
+      leaves i e small = (turn_leaves laws port port _ (look_turns t.looks.causes t.looks.own t.looks.status t.looks.alone i e small)).0
 
       checked_driven : IsDrivenBy (IsTurn port) old new
       checked_driven = record {

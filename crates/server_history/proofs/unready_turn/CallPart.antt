@@ -250,10 +250,10 @@ module _ (laws : LawsBelow) (s : ServerState) (seen : Device) (port : Port) (sta
         record {
           behind = subst (λ (f : ProbeResult). StillStandsBehind (wanted_of s.wanted port.0) f port.0 seen) (sym is)
               (looked_stands laws (wanted_of s.wanted port.0) port state result s.device seen t.kept.on lives l none (laws.looking.services_same s.device seen serves)
-              (looking_silent s seen port t.kept looks port.0 Identify refl (λ dead. lives (let z : Unready state ≡ Unready DeadState = sym is ∙ dead in cc)))
+              (looking_silent s seen port t.kept laws looks port.0 Identify refl (λ dead. lives (let z : Unready state ≡ Unready DeadState = sym is ∙ dead in cc)))
               (subst (λ (f : ProbeResult). StillStandsBehind (wanted_of s.wanted port.0) f port.0 s.device) is was.behind));
           runs = λ ready. absurd (never ready);
-          shown = λ bad. shown_on laws.looks port s.device seen t.kept.on serves (was.shown bad);
+          shown = λ bad. shown_on laws port s.device seen t.kept.on serves (was.shown bad);
           own = λ ready. absurd (never ready);
           halts = λ ready. absurd (never ready);
         }
@@ -262,7 +262,7 @@ module _ (laws : LawsBelow) (s : ServerState) (seen : Device) (port : Port) (sta
     other_port q small other =
         port_on laws s.wanted s.ports q s.device seen (laws.looking.services_same s.device seen serves) t.kept.on serves
         (λ _. laws.looks.other_left port q s.device seen other t.kept.on (driven_as (IsLooking port) (IsOf port) s.device seen (laws.looking.looking_of port) looks.driven))
-        (looking_silent s seen port t.kept looks q Identify refl)
+        (looking_silent s seen port t.kept laws looks q Identify refl)
         (followed_halts laws (port_at q) (IsLooking port) s t.kept seen looks (λ access its. (leaving port (port_at q) access its).0))
         (t.kept.behind q small)
 
@@ -284,7 +284,7 @@ module _ (laws : LawsBelow) (s : ServerState) (seen : Device) (port : Port) (sta
         of = All-weaker (IsLooking port) (IsOf port) (laws.looking.looking_of port) looks.driven.accesses looks.driven.only;
         own = All-weaker (IsLooking port) IsDriversOwn (λ access its. (looking_part laws port access its).0) looks.driven.accesses looks.driven.only;
         others = record { grants = refl; wanted = refl; last = refl; found = λ q ne. refl; remembered = λ q ne. refl; modes = λ q ne. refl; slots = λ q ne. refl; book = λ q ne. refl };
-        silent = λ q other alive. looking_silent s seen port t.kept looks q ReadLog refl (λ dead. alive (ap state_of dead));
+        silent = λ q other alive. looking_silent s seen port t.kept laws looks q ReadLog refl (λ dead. alive (ap state_of dead));
         makes = λ m reached stood.
             let x = followed_steps laws s seen (looks_serve laws port s.device seen looks) m reached stood in
             makes_try laws port s t.kept never rest rests_settled [] [] looks.driven.accesses rests_told (rests_does s port state t.kept is laws seen result l none looks.driven.accesses looks.driven.only looks.driven.all) m stood

@@ -98,7 +98,7 @@ module _ (laws : LawsBelow) (wanted : Wanted) (port : Port) (first old new : Dev
   written = ap (λ (n : Notes). n.sctl_written_at) at.notes ∙ ap (λ (n : Notes). n.sctl_written_at) noted
 
   counted : was.link_count ≡ MOST_READINGS → now.link_count ≡ MOST_READINGS
-  counted count = link_still port (Reading (Px port Ssts) v) old new on tt reads (ap (λ (n : Notes). n.link_count) noted ∙ count)
+  counted count = link_still laws port (Reading (Px port Ssts) v) old new on tt reads (ap (λ (n : Notes). n.link_count) noted ∙ count)
 
   -- but for that, the port is left to the device
   left_before : LeavesPort (first.port port.0) (before.port port.0)
@@ -142,7 +142,7 @@ module _ (laws : LawsBelow) (wanted : Wanted) (port : Port) (first old new : Dev
 
   stands : (state : Shown) → state ≢ Dead → ShowsAsBefore state v → StillStandsBehind wanted (Unready state) port.0 first → StillStandsBehind wanted (Unready state) port.0 new
   stands state lives shows s =
-      let x = left_on wanted (Unready state) port.0 first before (record { telling = same.telling; size = same.size; cap = same.cap; pi = same.pi }) left_before (λ _. silent) s in
+      let x = left_on laws wanted (Unready state) port.0 first before (record { telling = same.telling; size = same.size; cap = same.cap; pi = same.pi }) left_before (λ _. silent) s in
       (x.0, ends state lives shows x.1)
 
 -- ---- a look

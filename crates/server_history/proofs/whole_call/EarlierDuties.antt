@@ -1,7 +1,8 @@
 -- What a service has done of a port so far it has done still when another port has had its turn.
-use Rattle.std.proofs.Common.{ℕ, ◌≡◌, ◌≢◌, true, false, List, [], ◌++◌, refl, sym, ap, ◌∙◌, inl, inr, ⊎_elim, arith, ◌⊎◌}
+use Rattle.std.proofs.Common.{cond, ℕ, ◌≡◌, ◌≢◌, true, false, List, [], ◌++◌, refl, sym, ap, ◌∙◌, inl, inr, ⊎_elim, arith, ◌⊎◌}
 use Rattle.std.specs.List.{count_by, list_any}
 use Rattle.std.proofs.lemmas.List.Elements.{Contains-append_cases, Contains-append_right}
+use Rattle.std.proofs.lemmas.List.Sums.{sum_by-append}
 use Rattle.ata_types.specs.declared.Port.{Port}
 use Rattle.ata_types.specs.declared.PortState.TheVariants.{Absent, Ready as ReadyState}
 use Rattle.ata_types.specs.declared.request.Outcome.{Outcome}
@@ -16,7 +17,6 @@ use Rattle.block_machine.specs.Left.{after}
 use Rattle.block_machine.specs.Ports.{Evidence, IsInterrupted, SamePort}
 use Rattle.block_machine.specs.State.{Machine}
 use Rattle.block_machine.specs.Steps.{Step, Answer}
-use Rattle.block_machine.proofs.Counting.{count_append}
 use Rattle.host_boot.specs.Taken.{probe_result_of}
 use Rattle.driver_history.specs.Heeding.{AreTold, IsLeftAlone, ServesReady, tells_fault}
 use Rattle.driver_history.specs.Evidence.{ShowsChange, ShowsFailure}
@@ -86,7 +86,7 @@ module _ (laws : LawsBelow) (s : ServerState) (start : SettledInvariant s) (old 
 
       counted : count_by (tells_fault q) all ≡ count_by (tells_fault q) p.steps
       counted =
-          let whole = count_append (tells_fault q) x.steps p.steps in
+          let whole = sum_by-append (λ (step : Step). cond (tells_fault q step) 1 0) x.steps p.steps in
           let none = counts_apart q x.steps (carrying.not_late AService laws s start old reached at ports_are n c mid before its p part m_reached q apart) in
           omega (arith, whole, none)
 

@@ -1,8 +1,9 @@
 -- What a port's turn in a service has done of it, the service has done so far.
-use Rattle.std.proofs.Common.{ℕ, ◌≡◌, ◌≢◌, ◌⊎◌, ◌<◌, true, false, List, [], ◌++◌, Some, None, drop, refl, sym, ap, ◌∙◌, subst, inl, inr, ⊎_elim, arith, append-nil}
+use Rattle.std.proofs.Common.{cond, ℕ, ◌≡◌, ◌≢◌, ◌⊎◌, ◌<◌, true, false, List, [], ◌++◌, Some, None, drop, refl, sym, ap, ◌∙◌, subst, inl, inr, ⊎_elim, arith, append-nil}
 use Rattle.std.specs.List.{Contains, count_by, list_any}
 use Rattle.std.proofs.lemmas.Bool.{cases_Bool, cases_eq, false≢true}
 use Rattle.std.proofs.lemmas.List.Elements.{Contains-append_cases, Contains-append_left}
+use Rattle.std.proofs.lemmas.List.Sums.{sum_by-append}
 use Rattle.ata_types.specs.declared.PortState.{PortState}
 use Rattle.ata_types.specs.declared.PortState.TheVariants.{Absent, Dead, Ready as ReadyState}
 use Rattle.ata_types.specs.declared.request.Outcome.{Outcome}
@@ -21,7 +22,6 @@ use Rattle.block_machine.specs.Left.{after}
 use Rattle.block_machine.specs.Ports.{Evidence, IsInterrupted, SamePort}
 use Rattle.block_machine.specs.State.{Pending, Machine}
 use Rattle.block_machine.specs.Steps.{Step, Answer}
-use Rattle.block_machine.proofs.Counting.{count_append}
 use Rattle.host_boot.specs.Taken.{probe_result_of}
 use Rattle.host_boot.specs.declared.ProbeResult.{ProbeResult}
 use Rattle.driver_history.specs.Heeding.{AreTold, IsLeftAlone, ServesReady, tells_fault}
@@ -184,7 +184,7 @@ module _ (laws : LawsBelow) (s : ServerState) (start : SettledInvariant s) (old 
 
       counted : count_by (tells_fault (port_at n)) all ≡ count_by (tells_fault (port_at n)) x.steps
       counted =
-          let whole = count_append (tells_fault (port_at n)) x.steps p.steps in
+          let whole = sum_by-append (λ (step : Step). cond (tells_fault (port_at n) step) 1 0) x.steps p.steps in
           let none = counts_apart (port_at n) p.steps not_early in
           omega (arith, whole, none)
 

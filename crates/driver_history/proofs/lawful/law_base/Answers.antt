@@ -5,6 +5,7 @@ returns c = record {
   left = c.law_other_ports_are_left.ensures.left;
   left_none = c.law_other_ports_are_left.ensures.none;
   left_more = c.law_other_ports_are_left.ensures.more;
+  put = c.law_port_registers_are_accessed.ensures.put;
   spares = c.law_other_ports_are_left.ensures.spares;
   on = c.law_other_ports_are_left.ensures.on;
   tape = c.law_tapes.ensures;

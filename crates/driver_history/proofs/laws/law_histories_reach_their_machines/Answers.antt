@@ -1,5 +1,5 @@
-use Rattle.driver_history.proofs.Standing.{history_reached}
+use Rattle.driver_history.proofs.Telling.{history_reached}
 use Rattle.driver_history.proofs.laws.law_histories_reach_their_machines.Goals as goal
 
 pub returns : goal.returns
-returns c = history_reached
+returns c = history_reached c.law_runs.ensures

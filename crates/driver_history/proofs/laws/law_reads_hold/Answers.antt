@@ -1,5 +1,5 @@
-use Rattle.driver_history.proofs.Telling.{law_every_read_holds}
+use Rattle.driver_history.proofs.Telling.{reads_hold}
 use Rattle.driver_history.proofs.laws.law_reads_hold.Goals as goal
 
 pub returns : goal.returns
-returns c = law_every_read_holds
+returns c = reads_hold c.law_runs.ensures

@@ -2,16 +2,16 @@ use Rattle.refinement.proofs.device.LookReadings.{causes_told, errors_told, lost
 use Rattle.refinement.proofs.disks.law_look_tells.Goals as goal
 
 pub returns-clause-causes : goal.returns-clause-causes
-returns-clause-causes c = λ port v place old new off call low up set. causes_told port v old new off call place low up set
+returns-clause-causes c = λ port v place old new off call low up set. causes_told c.law_below.ensures port v old new off call place low up set
 
 pub returns-clause-errors : goal.returns-clause-errors
-returns-clause-errors c = λ port v old new off call. errors_told port v old new off call
+returns-clause-errors c = λ port v old new off call. errors_told c.law_below.ensures port v old new off call
 
 pub returns-clause-lost : goal.returns-clause-lost
-returns-clause-lost c = λ port v old new off undue call told. lost_told port v old new off call undue told
+returns-clause-lost c = λ port v old new off undue call told. lost_told c.law_below.ensures port v old new off call undue told
 
 pub returns-clause-unlinked : goal.returns-clause-unlinked
-returns-clause-unlinked c = unlinked_told
+returns-clause-unlinked c = unlinked_told c.law_below.ensures
 
 pub returns-clause-fault : goal.returns-clause-fault
-returns-clause-fault c = fault_told
+returns-clause-fault c = fault_told c.law_below.ensures

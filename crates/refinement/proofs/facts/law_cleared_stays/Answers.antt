@@ -3,16 +3,16 @@ use Rattle.refinement.proofs.device.RunningPort.{steps_clear, access_clear, show
 use Rattle.refinement.proofs.facts.law_cleared_stays.Goals as goal
 
 pub returns-clause-steps : goal.returns-clause-steps
-returns-clause-steps c = steps_clear
+returns-clause-steps c = steps_clear c.law_below.ensures
 
 pub returns-clause-access : goal.returns-clause-access
-returns-clause-access c = access_clear
+returns-clause-access c = access_clear c.law_below.ensures
 
 pub returns-clause-none : goal.returns-clause-none
 returns-clause-none c = shows_still
 
 pub returns-clause-causes : goal.returns-clause-causes
-returns-clause-causes c = steps_raise
+returns-clause-causes c = steps_raise c.law_below.ensures
 
 pub returns-clause-causes_access : goal.returns-clause-causes_access
-returns-clause-causes_access c = access_raises
+returns-clause-causes_access c = access_raises c.law_below.ensures

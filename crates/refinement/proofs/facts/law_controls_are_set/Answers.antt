@@ -5,7 +5,7 @@ pub returns-clause-command : goal.returns-clause-command
 returns-clause-command c = command_set
 
 pub returns-clause-start : goal.returns-clause-start
-returns-clause-start c = start_set
+returns-clause-start c = start_set c.law_below.ensures
 
 pub returns-clause-control : goal.returns-clause-control
 returns-clause-control c = control_set

@@ -2,10 +2,10 @@ use Rattle.refinement.proofs.device.ErrorBits.{steps_errors, access_causes, acce
 use Rattle.refinement.proofs.facts.law_errors_are_kept.Goals as goal
 
 pub returns-clause-steps : goal.returns-clause-steps
-returns-clause-steps c = steps_errors
+returns-clause-steps c = steps_errors c.law_below.ensures
 
 pub returns-clause-causes : goal.returns-clause-causes
-returns-clause-causes c = access_causes
+returns-clause-causes c = access_causes c.law_below.ensures
 
 pub returns-clause-errors : goal.returns-clause-errors
-returns-clause-errors c = access_news
+returns-clause-errors c = access_news c.law_below.ensures

@@ -3,16 +3,16 @@ use Rattle.refinement.proofs.device.ErrorBits.{change_more, change_none}
 use Rattle.refinement.proofs.facts.law_errors_rise_by_disks.Goals as goal
 
 pub returns-clause-steps : goal.returns-clause-steps
-returns-clause-steps c = steps_change
+returns-clause-steps c = steps_change c.law_below.ensures
 
 pub returns-clause-access : goal.returns-clause-access
-returns-clause-access c = access_change
+returns-clause-access c = access_change c.law_below.ensures
 
 pub returns-clause-due : goal.returns-clause-due
-returns-clause-due c = steps_undue
+returns-clause-due c = steps_undue c.law_below.ensures
 
 pub returns-clause-due_access : goal.returns-clause-due_access
-returns-clause-due_access c = access_undue
+returns-clause-due_access c = access_undue c.law_below.ensures
 
 pub returns-clause-none : goal.returns-clause-none
 returns-clause-none c = change_none

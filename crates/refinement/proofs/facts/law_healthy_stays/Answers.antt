@@ -3,13 +3,13 @@ use Rattle.refinement.proofs.device.RunningPort.{law_healthy_stays, healthy_read
 use Rattle.refinement.proofs.facts.law_healthy_stays.Goals as goal
 
 pub returns-clause-steps : goal.returns-clause-steps
-returns-clause-steps c = law_healthy_stays
+returns-clause-steps c = law_healthy_stays c.law_below.ensures
 
 pub returns-clause-reads : goal.returns-clause-reads
-returns-clause-reads c = healthy_reads
+returns-clause-reads c = healthy_reads c.law_below.ensures
 
 pub returns-clause-exists : goal.returns-clause-exists
 returns-clause-exists c = first_healthy
 
 pub returns-clause-writes : goal.returns-clause-writes
-returns-clause-writes c = healthy_writes
+returns-clause-writes c = healthy_writes c.law_below.ensures

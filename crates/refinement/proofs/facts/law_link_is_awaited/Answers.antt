@@ -4,7 +4,7 @@ use Rattle.refinement.proofs.device.OrdinaryAccesses.{access_awaited}
 use Rattle.refinement.proofs.facts.law_link_is_awaited.Goals as goal
 
 pub returns-clause-begins : goal.returns-clause-begins
-returns-clause-begins c = comreset_begins
+returns-clause-begins c = comreset_begins c.law_below.ensures
 
 pub returns-clause-steps : goal.returns-clause-steps
 returns-clause-steps c = steps_awaited

@@ -5,7 +5,7 @@ pub returns-clause-comreset : goal.returns-clause-comreset
 returns-clause-comreset c = comreset_shown
 
 pub returns-clause-due : goal.returns-clause-due
-returns-clause-due c = release_due
+returns-clause-due c = release_due c.law_below.ensures
 
 pub returns-clause-undue : goal.returns-clause-undue
-returns-clause-undue c = undue_written
+returns-clause-undue c = undue_written c.law_below.ensures

@@ -20,7 +20,7 @@ pub returns-clause-signature : goal.returns-clause-signature
 returns-clause-signature c = signature_noted
 
 pub returns-clause-counts : goal.returns-clause-counts
-returns-clause-counts c = notes_read
+returns-clause-counts c = notes_read c.law_below.ensures
 
 pub returns-clause-shows : goal.returns-clause-shows
-returns-clause-shows c = shown_after
+returns-clause-shows c = shown_after c.law_below.ensures

@@ -3,16 +3,16 @@ use Rattle.refinement.proofs.driver.OtherRequests.{stays_ended, ended_released}
 use Rattle.refinement.proofs.facts.law_over_stays.Goals as goal
 
 pub returns-clause-over : goal.returns-clause-over
-returns-clause-over c = steps_over
+returns-clause-over c = steps_over c.law_below.ensures
 
 pub returns-clause-over_access : goal.returns-clause-over_access
-returns-clause-over_access c = access_over
+returns-clause-over_access c = access_over c.law_below.ensures
 
 pub returns-clause-clear : goal.returns-clause-clear
-returns-clause-clear c = steps_clear
+returns-clause-clear c = steps_clear c.law_below.ensures
 
 pub returns-clause-clear_access : goal.returns-clause-clear_access
-returns-clause-clear_access c = access_clear
+returns-clause-clear_access c = access_clear c.law_below.ensures
 
 pub returns-clause-ended : goal.returns-clause-ended
 returns-clause-ended c = ended_stays

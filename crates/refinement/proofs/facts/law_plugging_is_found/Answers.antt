@@ -2,10 +2,10 @@ use Rattle.refinement.proofs.device.PlugFlags.{noted_plugs, access_plugs, read_p
 use Rattle.refinement.proofs.facts.law_plugging_is_found.Goals as goal
 
 pub returns-clause-steps : goal.returns-clause-steps
-returns-clause-steps c = noted_plugs
+returns-clause-steps c = noted_plugs c.law_below.ensures
 
 pub returns-clause-access : goal.returns-clause-access
-returns-clause-access c = access_plugs
+returns-clause-access c = access_plugs c.law_below.ensures
 
 pub returns-clause-read : goal.returns-clause-read
-returns-clause-read c = read_plugs
+returns-clause-read c = read_plugs c.law_below.ensures

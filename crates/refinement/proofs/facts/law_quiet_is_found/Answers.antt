@@ -4,7 +4,7 @@ use Rattle.refinement.proofs.witnesses.PortWitnesses.{second_quiet}
 use Rattle.refinement.proofs.facts.law_quiet_is_found.Goals as goal
 
 pub returns-clause-cleared : goal.returns-clause-cleared
-returns-clause-cleared c = clearing_unflags
+returns-clause-cleared c = clearing_unflags c.law_below.ensures
 
 pub returns-clause-reads : goal.returns-clause-reads
 returns-clause-reads c = reads_unflagged

@@ -3,19 +3,19 @@ use Rattle.refinement.proofs.device.HaltedPort.{law_reset_is_found, reset_stays,
 use Rattle.refinement.proofs.facts.law_reset_is_found.Goals as goal
 
 pub returns-clause-reset : goal.returns-clause-reset
-returns-clause-reset c = law_reset_is_found
+returns-clause-reset c = law_reset_is_found c.law_below.ensures
 
 pub returns-clause-stays : goal.returns-clause-stays
-returns-clause-stays c = reset_stays
+returns-clause-stays c = reset_stays c.law_below.ensures
 
 pub returns-clause-idle : goal.returns-clause-idle
 returns-clause-idle c = idle_reset
 
 pub returns-clause-reads : goal.returns-clause-reads
-returns-clause-reads c = reset_reads
+returns-clause-reads c = reset_reads c.law_below.ensures
 
 pub returns-clause-writes : goal.returns-clause-writes
-returns-clause-writes c = reset_writes
+returns-clause-writes c = reset_writes c.law_below.ensures
 
 pub returns-clause-begins : goal.returns-clause-begins
 returns-clause-begins c = reset_begins

@@ -7,8 +7,8 @@ returns-clause-agreed g c = λ kind. agreed_to (g.K.Kinds.may kind) (g.K.Kinds.f
 
 pub returns-clause-silent : goal.returns-clause-silent
 returns-clause-silent g c = λ kind next uses port o old new fits issues arms own none followed a.
-    followed_silent followed uses a.parked a.machine fits a.reached a.knows port o own issues arms none
+    (followed_silent c.law_below.ensures) followed uses a.parked a.machine fits a.reached a.knows port o own issues arms none
 
 pub returns-clause-plain : goal.returns-clause-plain
 returns-clause-plain g c = λ kind next uses port old new fits arms followed a.
-    followed_plain followed uses a.parked a.machine fits a.reached a.knows port arms
+    (followed_plain c.law_below.ensures) followed uses a.parked a.machine fits a.reached a.knows port arms

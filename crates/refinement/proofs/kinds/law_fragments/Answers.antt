@@ -5,6 +5,7 @@ returns g c = record {
   none = c.law_accesses_are_followed.ensures.none;
   reads = c.law_accesses_are_followed.ensures.reads;
   writes = c.law_accesses_are_followed.ensures.writes;
+  stores = c.law_stores_are_followed.ensures;
   both = c.law_fragments_are_followed.ensures.both;
   wider = c.law_fragments_are_followed.ensures.wider;
   over = c.law_fragments_are_followed.ensures.over;

@@ -1,17 +1,15 @@
-use Rattle.block_machine.proofs.EventLemmas.{after-append}
-use Rattle.block_machine.proofs.HistoryLemmas.{may-append, reached_more}
 use Rattle.refinement.proofs.steps.FollowedSteps.{told_append}
 use Rattle.refinement.proofs.steps.WaitingRequests.{device_append}
 use Rattle.refinement.proofs.laws.law_histories_go_on.Goals as goal
 
 pub returns-clause-reached : goal.returns-clause-reached
-returns-clause-reached c = reached_more
+returns-clause-reached c = c.law_steps_go_on.ensures.reached
 
 pub returns-clause-may : goal.returns-clause-may
-returns-clause-may c = may-append
+returns-clause-may c = c.law_steps_go_on.ensures.may
 
 pub returns-clause-after : goal.returns-clause-after
-returns-clause-after c = after-append
+returns-clause-after c = c.law_steps_go_on.ensures.joined
 
 pub returns-clause-device : goal.returns-clause-device
 returns-clause-device c = device_append

@@ -2,10 +2,10 @@ use Rattle.refinement.proofs.witnesses.PlainNeeds.{needs_unarmed, needs_plain, n
 use Rattle.refinement.proofs.limits.law_plain_work_needs_all.Goals as goal
 
 pub returns-clause-unarmed : goal.returns-clause-unarmed
-returns-clause-unarmed c = needs_unarmed
+returns-clause-unarmed c = needs_unarmed c.law_below.ensures
 
 pub returns-clause-plain : goal.returns-clause-plain
-returns-clause-plain c = needs_plain
+returns-clause-plain c = needs_plain c.law_below.ensures
 
 pub returns-clause-agreed : goal.returns-clause-agreed
 returns-clause-agreed c = needs_agreed

@@ -2,10 +2,10 @@ use Rattle.refinement.proofs.device.LinkOverFaults.{steps_linked, access_linked,
 use Rattle.refinement.proofs.recovering.law_link_is_kept.Goals as goal
 
 pub returns-clause-steps : goal.returns-clause-steps
-returns-clause-steps c = steps_linked
+returns-clause-steps c = steps_linked c.law_below.ensures
 
 pub returns-clause-access : goal.returns-clause-access
-returns-clause-access c = access_linked
+returns-clause-access c = access_linked c.law_below.ensures
 
 pub returns-clause-started : goal.returns-clause-started
 returns-clause-started c = started_linked

@@ -3,6 +3,9 @@ use Rattle.server_history.proofs.lawful.law_basics.Goals as goal
 pub returns : goal.returns
 returns c = record {
   keeps = c.law_steps_keep.ensures;
+  device_adds = c.law_device_steps_are_parts.ensures;
+  fit = c.law_each_instant_holds.ensures.fit;
+  ready_served = c.law_ready_ports_are_served.ensures;
   was_on = c.law_steps_switch_nothing_on.ensures;
   joined = c.law_steps_go_on.ensures.joined;
   may = c.law_steps_go_on.ensures.may;

@@ -3,6 +3,11 @@ use Rattle.server_history.proofs.lawful.law_looks.Goals as goal
 pub returns : goal.returns
 returns c = record {
   seen = c.law_port_registers_are_accessed.ensures.seen;
+  noted = c.law_notes_are_set.ensures.counts;
+  shown_stays = c.law_device_or_none_stays.ensures.access;
+  fragments = c.law_fragments.ensures;
+  services_spare = c.law_services_spare_registers.ensures.port;
+  services_spare_host = c.law_services_spare_registers.ensures.host;
   leaves_none = c.law_other_ports_are_left.ensures.none;
   leaves_more = c.law_other_ports_are_left.ensures.more;
   fails_look = c.law_failures_are_found.ensures.look;

@@ -1,0 +1,64 @@
+-- What laws of the crates below say of memory, and of stores of tables: the proofs of this crate rest on them.
+use Rattle.std.specs.Prelude.{ℕ, ◌≡◌, ◌+◌, ◌≤◌, ◌<◌, true, false, List, length, slice_index}
+use Rattle.hba_regs.specs.Bits.{bit}
+use Rattle.hba_regs.specs.declared.reg.Reg.TheVariants.{Ghc}
+use Rattle.adapter.specs.Access.{Access, Does, Stores}
+use Rattle.adapter.specs.Access.Access.{Writing}
+use Rattle.adapter.specs.Commands.{Meaning}
+use Rattle.adapter.specs.Device.{Device}
+use Rattle.adapter.specs.Memory.{bytes_at, patched}
+use Rattle.adapter.specs.Rules.{IsOn, IsStable, IsUnowned}
+use Rattle.block_machine.specs.Histories.{IsReachable}
+use Rattle.block_machine.specs.State.{Machine}
+use Rattle.refinement.specs.Driver.{LeavesFree, MayStore, MissesTable}
+use Rattle.refinement.specs.Laws.{FragmentLaws}
+use Rattle.refinement.specs.Links.{SameAdapter}
+use Rattle.refinement.specs.Places.{list_of}
+use Rattle.refinement.specs.Relation.{StateRelation}
+use Rattle.refinement.specs.Slots.{SlotDecodesTo, SlotStates}
+use Rattle.command_table.specs.Written.{IsStoreWithBlock, IsTableStore, IsUnused}
+
+-- header and table of a slot of a port are stored; or these of its slot 0, and a block
+pub data Fragment : Type 0 where
+  Tables : (port slot : ℕ) → Fragment
+  TablesAndBlock : (port : ℕ) → Fragment
+
+abbrev pub may_of : Fragment → Access → Type 0
+may_of (Tables port slot) = IsTableStore port slot
+may_of (TablesAndBlock port) = IsStoreWithBlock port 0
+
+abbrev pub fits_of : Fragment → SlotStates → Type 0
+fits_of (Tables port slot) = IsUnused port slot
+fits_of (TablesAndBlock port) = IsUnused port 0
+
+-- bytes that are put into memory, and read
+pub record MemoryLaws : Type 0 where
+  pub put : (memory : ℕ → ℕ) (at : ℕ) (bytes : List ℕ) → bytes_at (patched memory at bytes) at (length bytes) ≡ bytes
+  pub apart : (memory : ℕ → ℕ) (at : ℕ) (bytes : List ℕ) (place : ℕ)
+      → (at ≤ place → place < at + length bytes → ⊥) → patched memory at bytes place ≡ memory place
+  pub same : (old new : ℕ → ℕ) (at count : ℕ)
+      → ((place : ℕ) → at ≤ place → place < at + count → new place ≡ old place)
+      → bytes_at new at count ≡ bytes_at old at count
+  pub counts : (memory : ℕ → ℕ) (at count : ℕ) → length (bytes_at memory at count) ≡ count
+  pub each : (memory : ℕ → ℕ) (at count i : ℕ) → i < count
+      → slice_index (bytes_at memory at count) i ≡ memory (at + i)
+
+pub record Laws : Type 0 where
+  pub memory : MemoryLaws
+  pub on : (access : Access) (old new : Device) → IsOn old
+      → ((v : ℕ) → access ≡ Writing Ghc v → (bit v 31 ≡ true) × (bit v 0 ≡ false)) → Does access old new → IsOn new
+  pub adapter : (access : Access) (old new : Device) → Does access old new → SameAdapter old new
+  pub free : (uses : SlotStates) (m : Machine) (d : Device) → IsReachable m → StateRelation uses m d → (at n : ℕ)
+      → at + n ≤ d.size → MayStore uses at n → IsStable (IsUnowned at n) d
+  pub stores : (uses : SlotStates) (m : Machine) (old new : Device) → IsReachable m → StateRelation uses m old
+      → old.hr ≡ false → (at : ℕ) (bytes : List ℕ) → Stores at bytes old new
+      → LeavesFree uses (record old { memory = patched old.memory at bytes }) new
+  pub told : (uses : SlotStates) (old new : Device) → LeavesFree uses old new → (port slot : ℕ) (c : Meaning)
+      (places : List ℕ) → port < 4 → slot < 32 → SlotDecodesTo old.memory (list_of port) port slot c places
+      → SlotDecodesTo new.memory (list_of port) port slot c places
+  pub beside : (uses : SlotStates) (at : ℕ) (bytes : List ℕ) (old new : Device)
+      → LeavesFree uses (record old { memory = patched old.memory at bytes }) new → (port slot : ℕ) (c : Meaning)
+      (places : List ℕ) → port < 4 → slot < 32 → MissesTable port slot at (length bytes)
+      → SlotDecodesTo old.memory (list_of port) port slot c places
+      → SlotDecodesTo new.memory (list_of port) port slot c places
+  pub fragments : FragmentLaws Fragment may_of fits_of

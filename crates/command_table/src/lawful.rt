@@ -1,0 +1,32 @@
+// What laws of the crates below say of stores of tables, for this crate's proofs. Nothing comes of calling it.
+ghost use Rattle.command_table.specs.Laws.{Fragment, Laws, fits_of, may_of};
+
+use adapter::laws::law_memory_keeps_bytes;
+use refinement::facts::law_adapter_stays;
+use refinement::kinds::{Kinds, law_fragments};
+use refinement::laws::{
+    law_bytes_to_store_are_free, law_free_slots_are_left, law_what_is_told_is_left,
+};
+
+/// The kinds of stores of tables.
+enum Tables {}
+
+impl Kinds for Tables {
+    ghost Kind = { Fragment };
+
+    ghost may = { may_of };
+
+    ghost fits = { fits_of };
+}
+
+/// The laws that the proofs of this crate rest on.
+pub fn law_base()
+    ensures { Laws }
+{
+    law_memory_keeps_bytes();
+    law_adapter_stays();
+    law_bytes_to_store_are_free();
+    law_free_slots_are_left();
+    law_what_is_told_is_left();
+    law_fragments::<Tables>();
+}
