@@ -1,5 +1,5 @@
 -- An accepted request: what is asked of the calls that accept it, and what the server then is.
-use Rattle.std.proofs.Common.{ℕ, ◌≡◌, ◌+◌, ◌^◌, ◌<◌, ◌++◌, ◌∷◌, [], List, Some, inl, inr, refl, sym, ◌∙◌, ap, subst}
+use Rattle.std.proofs.Common.{◌≡◌, ◌+◌, ◌^◌, ◌<◌, ◌++◌, ◌∷◌, [], List, Some, inl, inr, refl, sym, ◌∙◌, ap, subst}
 use Rattle.std.specs.Prelude.{slice_index_or}
 use Rattle.std.proofs.lemmas.Bool.{cases_lt}
 use Rattle.ata_types.specs.declared.Port.{Port}
@@ -20,9 +20,9 @@ use Rattle.server_history.specs.Served.{Accepts, IssuesAll, accepted_as, accepti
 use Rattle.server_history.specs.Server.{ServerState, InCallInvariant, mode_in, no_slots, server_situation, state_of}
 use Rattle.server_history.proofs.plain_calls.AcceptableRequests.{has_room, on_ready}
 use Rattle.slots.specs.Uses.{PortSlots}
-use Rattle.block_server.proofs.Sending.{served_ready, slots_said}
+use Rattle.block_server.proofs.Sending.{served_ready}
 use Rattle.block_server.specs.Calls.{IsFor}
-use Rattle.block_server.specs.Ports.{Lends}
+use Rattle.block_server.specs.Ports.{HasReadyPort}
 
 -- ---- what is asked of the calls
 
@@ -46,8 +46,8 @@ module _ (s : ServerState) (r : Request) (acc : IsAcceptable (server_situation s
     there : HasPort s.device port.0
     there = k.there port.0 (served_ready (probe_result_of s.ports port.0) ready)
 
-    pub its_slots : (number : ℕ) → number ≡ port.0 → (default : PortSlots) → slice_index_or s.slots port.0 no_slots ≡ slice_index_or s.slots number default
-    its_slots = slots_said s port.0 k there.0
+    pub low : port.0 < 4
+    low = there.0
 
     -- ---- what the server then is
 
@@ -63,7 +63,7 @@ module _ (s : ServerState) (r : Request) (acc : IsAcceptable (server_situation s
       pub its_book : s.book ++ accepted_as port r id ∷ [] ≡ book
       its_book = sym (book_is ∙ ap (λ (fs : List Frame). s.book ++ record { entry = (accepted_as port r id).entry; frames = fs } ∷ []) (loan_is ∙ frames_are))
 
-      pub lends : (slots : PortSlots) → slice_index_or s.slots port.0 no_slots ≡ slots → (mode : QueueMode) → mode_in s port ≡ mode → Lends (accepting port r id table s) s.device book slots port mode
+      pub lends : (slots : PortSlots) → slice_index_or s.slots port.0 no_slots ≡ slots → (mode : QueueMode) → mode_in s port ≡ mode → HasReadyPort (accepting port r id table s) s.device book slots port mode
       lends slots are mode mode_is = record {
         kept = keeps s port r is.0 id table k acc is.1 is.2 id_is its_lent;
         ready = ready;

@@ -16,14 +16,10 @@ use Rattle.port_control.specs.declared.Running.{Running}
 use Rattle.port_control.specs.declared.Stopped.{Stopped}
 use Rattle.port_control.specs.Looks.{IsLooking}
 use Rattle.server_history.specs.ErrorHandling.{AreUnused}
-use Rattle.server_history.specs.Server.{ServerState, SettledInvariant, is_served}
+use Rattle.server_history.specs.Server.{ServerState, SettledInvariant}
 use Rattle.server_history.specs.Probing.{ProbesAnew, IsProbedAnew, IsLookedAt, ProbesPort}
 use Rattle.server_history.specs.Turns.{ProbesUnready}
 use Rattle.slots.specs.Uses.{PortSlots}
-
--- a port that isn't ready is served
-pub served_unready : (found : ProbeResult) (state : PortState) → found ≡ Unready state → is_served found ≡ true
-served_unready found state is = subst (λ (f : ProbeResult). is_served f ≡ true) (sym is) refl
 
 -- what is to be booted isn't dead
 pub booted_alive : (state : PortState) (port : Port) (old new : Device) → IsLookedAt state port true old new → state ≢ Dead

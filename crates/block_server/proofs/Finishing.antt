@@ -17,16 +17,15 @@ use Rattle.adapter.specs.Device.{Device}
 use Rattle.adapter.specs.Rules.{HasPort}
 use Rattle.block_machine.specs.declared.due.QueueMode.{QueueMode}
 use Rattle.refinement.specs.Slots.{IsOver}
-use Rattle.block_server.specs.Ports.{AnswersDoneSlots, AnswersSlot, Lends, LendsDone, with_answers, with_part}
-use Rattle.block_server.specs.View.{ServerView, server_of}
+use Rattle.block_server.specs.Ports.{AnswersDoneSlots, AnswersSlot, HasReadyPort, HasDonePort, with_answers, with_part}
 use Rattle.dma_frames.specs.Table.{LendsOnly, Table}
 use Rattle.host_boot.specs.Taken.{probe_result_of}
 use Rattle.request_queue.specs.Entries.{Held, IsEarlier, BookIsInOrder, has_id, without_entry}
 use Rattle.server_history.specs.Served.{AnswersDone, AnswersEach, AnswersOne, IssuesAll, done_reply}
-use Rattle.server_history.specs.Server.{ServerState, InCallInvariant, SettledInvariant, mode_at, mode_in, no_slots, state_of, used_for}
+use Rattle.server_history.specs.Server.{ServerState, InCallInvariant, mode_in, no_slots, state_of, used_for}
 use Rattle.slots.specs.Uses.{PortSlots, HasLeastId, use_at, with_use}
 use Rattle.slots.specs.declared.SlotUse.{SlotUse}
-use Rattle.block_server.proofs.Sending.{served_ready, slots_said}
+use Rattle.block_server.proofs.Sending.{served_ready}
 
 -- each slot that is used has a request
 abbrev pub HaveRequests : Type 0
@@ -75,7 +74,7 @@ shorter id book e here same =
 
 -- ---- one request
 
-module _ (s : ServerState) (table : Table) (book : List Held) (slots : PortSlots) (port : Port) (done : ℕ) (l : LendsDone s table book slots port done) where
+module _ (s : ServerState) (table : Table) (book : List Held) (slots : PortSlots) (port : Port) (done : ℕ) (l : HasDonePort s table book slots port done) where
   there : HasPort s.device port.0
   there = l.kept.there port.0 (served_ready (probe_result_of s.ports port.0) l.ready)
 
@@ -93,7 +92,7 @@ module _ (s : ServerState) (table : Table) (book : List Held) (slots : PortSlots
   answers_again t b u t' b' u' = ap (λ (list : List PortSlots). record s { table = t'; slots = list; book = b' }) (set-set s.slots port.0 u u')
 
   -- other parts in its place
-  pub lends_then : (t : Table) (b : List Held) (u : PortSlots) → InCallInvariant (with_answers s t b u port) → LendsDone (with_answers s t b u port) t b u port done
+  pub lends_then : (t : Table) (b : List Held) (u : PortSlots) → InCallInvariant (with_answers s t b u port) → HasDonePort (with_answers s t b u port) t b u port done
   lends_then t b u kept = record {
     kept = kept;
     ready = l.ready;
@@ -164,18 +163,18 @@ pub record AnswersSome (port : Port) (done : ℕ) (before after : List Reply) (o
   pub told : after ≡ before ++ map done_reply requests
   pub ordered : AllPairs IsEarlier requests
   pub each : AnswersEach port done requests old new
-  pub lends : LendsDone new table book slots port done
+  pub lends : HasDonePort new table book slots port done
   pub later : (slot : ℕ) (used : SlotUse) → slot < 32 → bit done slot ≡ true → use_at slots slot ≡ Some used → AllBefore requests used.id
 
 -- none, at first
-pub none_answered : (s : ServerState) (table : Table) (book : List Held) (slots : PortSlots) (port : Port) (done : ℕ) → LendsDone s table book slots port done → (before : List Reply)
+pub none_answered : (s : ServerState) (table : Table) (book : List Held) (slots : PortSlots) (port : Port) (done : ℕ) → HasDonePort s table book slots port done → (before : List Reply)
     → AnswersSome port done before before s (with_answers s table book slots port) table book slots
 none_answered s table book slots port done l before = record {
   requests = [];
   told = sym (append-nil before);
   ordered = λ i j d lt low. absurd (omega (arith, low));
   each = answers_same s table book slots port done l;
-  lends = subst (λ (x : ServerState). LendsDone x table book slots port done) (sym (answers_same s table book slots port done l)) l;
+  lends = subst (λ (x : ServerState). HasDonePort x table book slots port done) (sym (answers_same s table book slots port done l)) l;
   later = λ slot used small its_bit taken k d low. absurd (omega (arith, low));
 }
 
@@ -259,8 +258,8 @@ module _ (have : HaveRequests) (keep : AnswersKeep) (leaves : LeavesOthers) (por
 
 -- it was answered, and what is due then is issued
 module _ (s : ServerState) (port : Port) (done : ℕ) (before after : List Reply) (table : Table) (book : List Held) (slots : PortSlots)
-    (answers : AnswersDoneSlots port done before after s (with_answers s table book slots port)) (lent : LendsDone (with_answers s table book slots port) table book slots port done) where
-  pub lends_on : (mode : QueueMode) → mode_in s port ≡ mode → Lends (with_answers s table book slots port) s.device book slots port mode
+    (answers : AnswersDoneSlots port done before after s (with_answers s table book slots port)) (lent : HasDonePort (with_answers s table book slots port) table book slots port done) where
+  pub lends_on : (mode : QueueMode) → mode_in s port ≡ mode → HasReadyPort (with_answers s table book slots port) s.device book slots port mode
   lends_on mode mode_is = record { kept = lent.kept; ready = lent.ready; device_is = refl; book_is = refl; slots_are = lent.slots_are; mode_is = mode_is }
 
   pub finishes : (device : Device) (later : List Held) (u : PortSlots) → IssuesAll port (with_answers s table book slots port) (with_part (with_answers s table book slots port) device later u port)
@@ -275,25 +274,3 @@ module _ (s : ServerState) (port : Port) (done : ℕ) (before after : List Reply
     issued = subst (λ (n : ℕ). IssuesAll port (with_answers s table book slots port) (record s { device = device; table = table; slots = set s.slots n u; book = later })) (sym is)
         (subst (λ (list : List PortSlots). IssuesAll port (with_answers s table book slots port) (record s { device = device; table = table; slots = list; book = later })) (set-set s.slots port.0 slots u) issues);
   }
-
--- what a call has of the server that it begins with
-module _ {A : Type 0} (device : A → Device) (v now : ServerView A) (is : v ≡ now) (settled : SettledInvariant (server_of device v)) (port : Port) (ready : state_of (probe_result_of now.ports port.0) ≡ Ready) where
-  pub ready_before : state_of (probe_result_of v.ports port.0) ≡ Ready
-  ready_before = subst (λ (x : ServerView A). state_of (probe_result_of x.ports port.0) ≡ Ready) (sym is) ready
-
-  pub mode_before : (mode : QueueMode) → mode ≡ mode_at now.modes port.0 → mode_in (server_of device v) port ≡ mode
-  mode_before mode said = ap (λ (x : ServerView A). mode_at x.modes port.0) is ∙ sym said
-
-  module _ (done : ℕ) (over : (slot : ℕ) → slot < 32 → bit done slot ≡ true → IsOver ((device now.adapter).port port.0) slot) where
-    pub over_before : (slot : ℕ) → slot < 32 → bit done slot ≡ true → IsOver ((device v.adapter).port port.0) slot
-    over_before = subst (λ (x : ServerView A). (slot : ℕ) → slot < 32 → bit done slot ≡ true → IsOver ((device x.adapter).port port.0) slot) (sym is) over
-
-    pub lent_before : (number : ℕ) → number ≡ port.0 → (default : PortSlots) → LendsDone (server_of device v) v.table v.book (get_or v.slots number default) port done
-    lent_before number number_is default = record {
-      kept = settled.kept;
-      ready = ready_before;
-      table_is = refl;
-      book_is = refl;
-      slots_are = slots_said (server_of device v) port.0 settled.kept (settled.kept.there port.0 (served_ready (probe_result_of v.ports port.0) ready_before)).0 number number_is default;
-      over = over_before;
-    }

@@ -188,9 +188,6 @@ module _ (first now : List (List Lending)) (table mid : Table) (count : ℕ) (so
   none_past : (kept : List (List Lending)) → length kept ≡ 4 → (port : ℕ) → 4 ≤ port → kept_at kept port ≡ []
   none_past kept many port high = get_or_past kept port [] (omega (arith, many, high))
 
-  pub all_empty : (port : ℕ) → kept_at now port ≡ []
-  all_empty port = ⊎_elim (λ (low : port < 4). so_far.empty port (omega (arith, low, all))) (λ (high : 4 ≤ port). none_past now so_far.four port high) (cases_lt port 4)
-
   pub all_taken : TakesBack table mid (IsKeptIn first)
   all_taken = same_back table mid (IsBelow first count) so_far.back (IsKeptIn first) (λ loan below. (below.0, below.2)) below
     where

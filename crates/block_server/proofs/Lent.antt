@@ -28,8 +28,8 @@ use Rattle.port_control.specs.declared.events.PortError.{PortError}
 use Rattle.port_control.specs.declared.events.PortError.TheVariants.{TaskFileError}
 use Rattle.slots.specs.Uses.{PortSlots, IsTaken, use_at}
 use Rattle.slots.specs.declared.SlotUse.{SlotUse}
-use Rattle.block_server.specs.Ports.{AnswersDoneSlots, LendsDone, with_answers}
-use Rattle.block_server.specs.Recovery.{LendsInError, CompletesAndRecovers}
+use Rattle.block_server.specs.Ports.{AnswersDoneSlots, HasDonePort, with_answers}
+use Rattle.block_server.specs.Recovery.{HasPortInError, CompletesAndRecovers}
 use Rattle.block_server.proofs.Serving.{mask_of, ready_there}
 
 -- what laws say of a server of which a port failed
@@ -66,7 +66,7 @@ pub record Troubled : Type 0 where
   pub slots : PortSlots
   pub port : Port
   pub port_error : PortError
-  pub lends : LendsInError s device table book slots port port_error
+  pub lends : HasPortInError s device table book slots port port_error
 
 -- what was found done of it
 pub record FoundDone (x : Troubled) : Type 0 where
@@ -87,7 +87,7 @@ pub record Answered (x : Troubled) (f : FoundDone x) : Type 0 where
   pub b : List Held
   pub u : PortSlots
   pub answers : AnswersDoneSlots x.port f.done before after (from x f) (with_answers (from x f) t b u x.port)
-  pub lent : LendsDone (with_answers (from x f) t b u x.port) t b u x.port f.done
+  pub lent : HasDonePort (with_answers (from x f) t b u x.port) t b u x.port f.done
 
 abbrev mid : (x : Troubled) (f : FoundDone x) → Answered x f → ServerState
 mid x f a = with_answers (from x f) a.t a.b a.u x.port
@@ -113,7 +113,7 @@ module _ (x : Troubled) where
     its_mask : IsMaskOf (slots_at x.s.slots x.port.0) f.mask
     its_mask = subst (λ (u : PortSlots). IsMaskOf u f.mask) (sym x.lends.slots_are) (mask_of x.slots f.mask f.exact)
 
-    pub lends_done : LendsDone (from x f) x.table x.book x.slots x.port f.done
+    pub lends_done : HasDonePort (from x f) x.table x.book x.slots x.port f.done
     lends_done = record {
       kept = x.laws.finding seen f.found x.port f.mask f.done seen_kept x.lends.sees.ready f.reads;
       ready = x.lends.sees.ready;

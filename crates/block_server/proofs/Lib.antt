@@ -9,6 +9,7 @@ pub mod Anew
 pub mod Making
 pub mod Accepting
 pub mod Finishing
+mod Placing
 mod Sending
 pub mod Healthy
 pub mod Keeping
@@ -21,3 +22,5 @@ pub mod Restoring
 pub mod Revoking
 mod Counting
 mod Newest
+mod Usable
+mod Becoming

@@ -1,8 +1,8 @@
 -- What a server holds when it is made.
-use Rattle.std.proofs.Common.{ℕ, zero, suc, List, ◌∷◌, refl, ap, ◌∙◌, ◌≡◌, ◌*◌, ◌<◌, ◌≤◌, [], length, Option, Some, None, get_or, replicate, subst, arith, ⊎_elim}
+use Rattle.std.proofs.Common.{ℕ, zero, suc, List, ◌∷◌, refl, sym, ap, ◌∙◌, ◌≡◌, ◌+◌, ◌*◌, ◌/◌, ◌%◌, ◌<◌, ◌≤◌, [], length, Some, None, get_or, replicate, subst, arith, ⊎_elim}
 use Rattle.std.proofs.lemmas.Bool.{cases_lt}
 use Rattle.std.specs.List.{AllPairs, Contains}
-use Rattle.std.proofs.lemmas.List.{get_or-replicate, get_or_default, get_or_past, length-replicate}
+use Rattle.std.proofs.lemmas.List.{get_or-replicate, get_or_default, get_or_past, length-map, length-replicate}
 use Rattle.std.proofs.lemmas.List.Elements.{All-contains}
 use Rattle.ata_types.specs.declared.grant.GrantRow.{GrantRow}
 use Rattle.ata_types.specs.declared.request.ClientId.{ClientId}
@@ -15,23 +15,30 @@ use Rattle.dma_frames.specs.Table.{ExtentHasFrame, FrameExtent, owner_of, lent_t
 use Rattle.grants.specs.Rows.{SameRows}
 use Rattle.host_boot.specs.Taken.{probe_result_of}
 use Rattle.host_boot.specs.declared.Host.{Host}
-use Rattle.identify.specs.declared.DiskInfo.{DiskInfo}
+use Rattle.hba_regs.specs.Bits.{bit}
+use Rattle.block_machine.specs.declared.due.QueueMode.{QueueMode}
+use Rattle.host_boot.specs.declared.ProbeResult.{ProbeResult}
+use Rattle.host_boot.specs.declared.ProbeResult.TheVariants.{Unserved}
+use Rattle.identify.specs.declared.wanted.Wanted.{Wanted}
 use Rattle.configuration.specs.Plan.{HasClientFrames, IsClient, IsPlan, IsServedGrant, PlanView}
-use Rattle.server_history.specs.Server.{IsNewServer, ServerState, kept_at, mode_at, mode_found, no_slots, remembered_at, used_for}
+use Rattle.server_history.specs.Server.{IsNewServer, ServerState, kept_at, last_disk_of, mode_at, mode_found, no_slots, remembered_at, used_for}
+use Rattle.block_server.specs.Parts.{EachBecomes, IsFoundAnew, IsTakenAnew, found_by_port, kept_by_port, last_disk_by_port, mode_by_port, port_in, slots_by_port, wanted_by_port}
+use Rattle.block_server.specs.declared.served_port.ServedPort.{ServedPort}
+use Rattle.block_server.proofs.Becoming as becoming
 
 -- a row of a plan is one that a configuration may give
 row_is : (plan : PlanView) (row : GrantRow) → IsServedGrant plan.wanted row → IsRow row
 row_is plan row g = record { client = (g.client.0, g.client.1); number = g.number; port = g.port; some = g.some; below = g.sectors }
 
--- no disk is remembered at first
-pub none_remembered : (n port : ℕ) → get_or {A = Option DiskInfo} (replicate n None) port None ≡ None
-none_remembered n port = ⊎_elim
-    (λ (low : port < n). get_or-replicate n port None None low)
-    (λ (high : n ≤ port). get_or_past (replicate n None) port None (let l = length-replicate {A = Option DiskInfo} n None in omega (arith, high, l)))
-    (cases_lt port n)
+-- each of so many is the same
+at_replicate : {X : Type 0} (n : ℕ) (x : X) (place : ℕ) → get_or (replicate n x) place x ≡ x
+at_replicate n x place = ⊎_elim
+    (λ (low : place < n). get_or-replicate n place x x low)
+    (λ (high : n ≤ place). get_or_past (replicate n x) place x (let l = length-replicate n x in omega (arith, high, l)))
+    (cases_lt place n)
 
 -- and no loan of the four ports is kept
-pub none_kept : (kept : List (List Lending)) → kept ≡ [] ∷ [] ∷ [] ∷ [] ∷ [] → (length kept ≡ 4) × ((port : ℕ) → kept_at kept port ≡ [])
+none_kept : (kept : List (List Lending)) → kept ≡ [] ∷ [] ∷ [] ∷ [] ∷ [] → (length kept ≡ 4) × ((port : ℕ) → kept_at kept port ≡ [])
 none_kept kept is = (ap length is, λ port. ap (λ (lists : List (List Lending)). kept_at lists port) is ∙ empty port)
   where
     empty : (port : ℕ) → kept_at ([] ∷ [] ∷ [] ∷ [] ∷ []) port ≡ []
@@ -82,3 +89,57 @@ module _ (s : ServerState) (host : Host) (plan : PlanView) (is : IsPlan plan) (r
     book = book;
     last = last;
   }
+
+-- ---- its ports
+
+-- What a new server has of its ports: what was found and wanted, with nothing kept, remembered or used.
+pub record NewPorts (host : Host) (wanted_disks : List Wanted) (ports : List ServedPort) : Type 0 where
+  pub wanted : wanted_by_port ports ≡ wanted_disks
+  pub found : found_by_port ports ≡ host.ports
+  pub four_remembered : length (last_disk_by_port ports) ≡ 4
+  pub forgotten : (port : ℕ) → remembered_at (last_disk_by_port ports) port ≡ None
+  pub four_kept : length (kept_by_port ports) ≡ 4
+  pub unkept : (port : ℕ) → kept_at (kept_by_port ports) port ≡ []
+  pub four_slots : length (slots_by_port ports) ≡ 4
+  pub four_modes : length (mode_by_port ports) ≡ 4
+  pub places : (port : ℕ) → port < 4 → length (get_or (slots_by_port ports) port no_slots).places ≡ 32
+  pub modes : (cap : ℕ) → host.slots ≡ cap / 256 % 32 + 1 → host.queued ≡ bit cap 30 → (port : ℕ) → port < 4 → mode_at (mode_by_port ports) port ≡ mode_found cap (probe_result_of host.ports port)
+  pub usable : (port : ℕ) → port < 4 → (get_or (slots_by_port ports) port no_slots).usable ≡ (mode_at (mode_by_port ports) port).usable
+  pub unused : (port slot : ℕ) → used_for (slots_by_port ports) port slot ≡ None
+
+-- so it is once its adapter was taken over, where none was served before
+module _ (host : Host) (four_host : length host.ports ≡ 4) (wanted_disks : List Wanted) (kept : List (List Lending)) (none : kept ≡ [] ∷ [] ∷ [] ∷ [] ∷ []) (first ports : List ServedPort)
+    (wanted : wanted_by_port first ≡ wanted_disks) (keeps : kept_by_port first ≡ kept) (found : found_by_port first ≡ replicate 4 Unserved) (forgotten : last_disk_by_port first ≡ replicate 4 None)
+    (taken : EachBecomes (IsTakenAnew host) first ports) where
+  four_first : length first ≡ 4
+  four_first = sym (length-map first (λ (p : ServedPort). p.found)) ∙ ap length found ∙ length-replicate 4 Unserved
+
+  abbrev f : ℕ → ProbeResult
+  f = becoming.found_by host four_host first ports four_first taken
+
+  abbrev m : ℕ → QueueMode
+  m = becoming.mode_by host four_host first ports four_first taken
+
+  e : (number : ℕ) → number < 4 → IsFoundAnew (f number) (m number) (port_in first number) (port_in ports number)
+  e = becoming.each host four_host first ports four_first taken
+
+  pub new_ports : NewPorts host wanted_disks ports
+  new_ports =
+      let lists = becoming.same_kept f m first ports four_first taken.four e ∙ keeps in
+      record {
+        wanted = becoming.same_wanted f m first ports four_first taken.four e ∙ wanted;
+        found = becoming.found_host host four_host first ports four_first taken;
+        four_remembered = length-map ports (λ (p : ServedPort). p.last_disk) ∙ taken.four;
+        forgotten = λ port.
+            becoming.its_last_disk f m first ports four_first taken.four e port
+            ∙ (λ i. last_disk_of (probe_result_of (found i) port) (remembered_at (forgotten i) port))
+            ∙ ap (λ (one : ProbeResult). last_disk_of one (remembered_at (replicate 4 None) port)) (at_replicate 4 Unserved port) ∙ at_replicate 4 None port;
+        four_kept = length-map ports (λ (p : ServedPort). p.kept) ∙ taken.four;
+        unkept = λ port. ap (λ (all : List (List Lending)). kept_at all port) lists ∙ (none_kept kept none).1 port;
+        four_slots = length-map ports (λ (p : ServedPort). p.slots) ∙ taken.four;
+        four_modes = length-map ports (λ (p : ServedPort). p.mode) ∙ taken.four;
+        places = becoming.its_places f m first ports four_first taken.four e;
+        modes = becoming.modes_follow host four_host first ports four_first taken;
+        usable = becoming.its_usable f m first ports four_first taken.four e;
+        unused = becoming.none_used f m first ports four_first taken.four e;
+      }

@@ -4,7 +4,7 @@ use Rattle.std.specs.List.{AllPairs, count_by}
 use Rattle.std.specs.List.Sorted.{IsPermutation}
 use Rattle.std.proofs.lemmas.Bool.{cases_lt}
 use Rattle.std.proofs.Math.Seq.{drop-append_seam, take-append_seam}
-use Rattle.std.proofs.lemmas.List.{get_or_default, get_or_past, length-set, get_or-set_same, length-append, set-set}
+use Rattle.std.proofs.lemmas.List.{get_or_default, get_or_past, get_or-set_same, length-append, set-set}
 use Rattle.std.proofs.lemmas.List.Sorted.{length_permutation}
 use Rattle.ata_types.specs.declared.Port.{Port}
 use Rattle.ata_types.specs.declared.PortState.TheVariants.{Absent, Ready as ReadyState}
@@ -41,9 +41,9 @@ use Rattle.port_control.specs.declared.events.PortError.{PortError}
 use Rattle.port_control.specs.declared.events.PortError.TheVariants.{FatalError, TaskFileError, TimedOut, LinkChanged}
 use Rattle.slots.specs.Uses.{PortSlots, use_at}
 use Rattle.block_server.specs.Dispositions.{HavePlaces, BookIsSound, holding}
-use Rattle.block_server.specs.Ports.{LendsFound, with_part}
-use Rattle.block_server.specs.Recovery.{LendsInError, HandlesPortErrorOf, CompletesAndRecovers, SeesPortError}
-use Rattle.block_server.proofs.Sending.{served_ready, slots_said}
+use Rattle.block_server.specs.Ports.{HasFoundPort, with_part}
+use Rattle.block_server.specs.Recovery.{HandlesPortErrorOf, CompletesAndRecovers, SeesPortError}
+use Rattle.block_server.proofs.Sending.{served_ready}
 
 -- what laws say of what comes after a recovery
 pub record RestoringLaws : Type 0 where
@@ -73,16 +73,6 @@ boots_or_absent LinkChanged wanted port booted old new b = ⊎_elim (λ boots. i
 boots_or_absent FatalError wanted port booted old new b = inl b
 boots_or_absent TaskFileError wanted port booted old new b = inl b
 boots_or_absent TimedOut wanted port booted old new b = inl b
-
--- what is lent of a server whose port is in trouble
-pub lends_troubled : (s : ServerState) (port : Port) (port_error : PortError) (device : Device) → SeesPortError s port port_error device → (table : Table) → table ≡ s.table → (number : ℕ) → number ≡ port.0 → (default : PortSlots)
-    → LendsInError s device table s.book (get_or s.slots number default) port port_error
-lends_troubled s port port_error device sees table same number is default = record {
-  sees = sees;
-  table_is = sym same;
-  book_is = refl;
-  slots_are = slots_said s port.0 sees.kept (sees.kept.there port.0 (served_ready (probe_result_of s.ports port.0) sees.ready)).0 number is default;
-}
 
 -- the server once its port was recovered, and its requests met their fates
 abbrev pub restored : ServerState → Port → DiskInfo → Device → ProbeResult → QueueMode → PortSlots → Holdings → ServerState
@@ -230,7 +220,7 @@ module _ (x : Recovery) where
     unfolding settled_after
     then_kept = x.laws.settled x.s (then x y) x.port y.later x.sees.kept x.sees.ready settled_after x.rest.followed
 
-    pub lends_found : LendsFound (then x y) y.two y.now.book y.fresh x.port y.mode y.found
+    pub lends_found : HasFoundPort (then x y) y.two y.now.book y.fresh x.port y.mode y.found
     lends_found = record {
       kept = then_kept;
       found_is = get_or-set_same x.s.ports x.port.0 y.found Unserved in_list;
@@ -245,13 +235,6 @@ module _ (x : Recovery) where
             (λ (small : x.port.0 < length x.s.ports). small)
             (λ (past : length x.s.ports ≤ x.port.0). let z : Unserved ≡ Ready x.was = sym (get_or_past x.s.ports x.port.0 Unserved past) ∙ x.is_ready in absurd cc)
             (cases_lt x.port.0 (length x.s.ports))
-
-    -- with the slots that stand at that place
-    pub lends_issue : (number : ℕ) → number ≡ x.port.0 → (default : PortSlots) → LendsFound (then x y) y.two y.now.book (get_or (set (set x.s.slots number x.u) number y.fresh) number default) x.port y.mode y.found
-    lends_issue number is default = subst (λ (list : PortSlots). LendsFound (then x y) y.two y.now.book list x.port y.mode y.found) (sym there) lends_found
-      where
-        there : get_or (set (set x.s.slots number x.u) number y.fresh) number default ≡ y.fresh
-        there = get_or-set_same (set x.s.slots number x.u) number y.fresh default (let l = length-set x.s.slots number x.u in let f = x.sees.kept.four in let small = low in omega (arith, l, f, small, is))
 
     -- what is due was issued, and the replies stand in order
     module _ (o : Ordered x y) where
@@ -291,25 +274,3 @@ module _ (x : Recovery) where
       pub error_handled : HandlesPortErrorOf x.port x.port_error o.its x.s (with_part (then x y) o.three o.book o.slots x.port) × SettledInvariant (with_part (then x y) o.three o.book o.slots x.port)
       unfolding settled_after recovers_port
       error_handled = (record { handling = recovers_port; trouble_is = x.rest.trouble_is; followed = x.rest.followed }, goes_on x.port_error x.rest.trouble_is)
-
-    -- so it is with its lists at that place
-    pub placed : (three : Device) (book : List Held) (slots : PortSlots) (number : ℕ) → number ≡ x.port.0 → record x.s {
-      device = three;
-      table = y.now.table;
-      ports = set x.s.ports number y.found;
-      remembered = set x.s.remembered number (Some x.was);
-      modes = set x.s.modes number y.mode;
-      slots = set (set (set x.s.slots number x.u) number y.fresh) number slots;
-      kept = set x.s.kept number y.now.kept;
-      book = book;
-    } ≡ with_part (then x y) three book slots x.port
-    placed three book slots number is = subst (λ (n : ℕ). record x.s {
-      device = three;
-      table = y.now.table;
-      ports = set x.s.ports n y.found;
-      remembered = set x.s.remembered n (Some x.was);
-      modes = set x.s.modes n y.mode;
-      slots = set (set (set x.s.slots n x.u) n y.fresh) n slots;
-      kept = set x.s.kept n y.now.kept;
-      book = book;
-    } ≡ with_part (then x y) three book slots x.port) (sym is) (λ i. record (with_part (then x y) three book slots x.port) { slots = set (set-set x.s.slots x.port.0 x.u y.fresh i) x.port.0 slots })

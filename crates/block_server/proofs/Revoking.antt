@@ -1,7 +1,6 @@
 -- A grant is revoked: what is asked of the calls, and what came of them.
-use Rattle.std.proofs.Common.{ℕ, ◌≡◌, ◌<◌, ◌++◌, List, [], get_or, set, refl, sym, ap, ◌∙◌, subst, arith}
+use Rattle.std.proofs.Common.{ℕ, ◌≡◌, ◌<◌, ◌++◌, List, [], set, refl, sym, ap, ◌∙◌, subst, arith}
 use Rattle.std.specs.List.{Contains}
-use Rattle.std.proofs.lemmas.List.{get_or_default}
 use Rattle.std.proofs.lemmas.List.Elements.{All-contains}
 use Rattle.ata_types.specs.declared.grant.GrantRow.{GrantRow}
 use Rattle.ata_types.specs.declared.request.ClientId.{ClientId}
@@ -10,19 +9,18 @@ use Rattle.ata_types.specs.declared.request.Reply.{Reply}
 use Rattle.adapter.specs.Device.{Device}
 use Rattle.block_machine.specs.Left.{IsRow}
 use Rattle.block_machine.specs.Rules.{Names, without_row}
-use Rattle.block_machine.specs.declared.due.QueueMode.{QueueMode}
 use Rattle.dma_frames.specs.Loan.{Lending}
 use Rattle.dma_frames.specs.Table.{Table}
-use Rattle.host_boot.specs.declared.ProbeResult.TheVariants.{Unserved}
 use Rattle.request_queue.specs.Entries.{Held, all_marked_under, waits_under}
 use Rattle.request_queue.specs.Dispositions.{AnswersAlike}
 use Rattle.server_history.specs.Revoked.{RevokesGrant}
 use Rattle.server_history.specs.Served.{IssuesAll}
-use Rattle.server_history.specs.Server.{InCallInvariant, ServerState, kept_at, mode_in, plain_mode}
+use Rattle.server_history.specs.Server.{InCallInvariant, ServerState, kept_at}
 use Rattle.slots.specs.Uses.{PortSlots}
 use Rattle.block_server.specs.Dispositions.{holding}
-use Rattle.block_server.specs.Ports.{LendsFound, with_part}
-use Rattle.block_server.proofs.Sending.{slots_said}
+use Rattle.block_server.specs.Parts.{HasServedPort}
+use Rattle.block_server.specs.Ports.{HasFoundPort, with_part}
+use Rattle.block_server.specs.declared.served_port.ServedPort.{ServedPort}
 
 -- the row was there, and these are left
 abbrev pub TakesRow : List GrantRow → ClientId → ℕ → GrantRow → List GrantRow → Type 0
@@ -58,26 +56,12 @@ module _ (s : ServerState) (client : ClientId) (number : ℕ) (row : GrantRow) (
   }
 
   module _ (k : InCallInvariant s) (goes_on : InCallInvariant mid) where
-    low : row.port.0 < 4
+    pub low : row.port.0 < 4
     low = let its = (All-contains IsRow s.grants row k.rows takes.0).port in omega (arith, its)
 
-    -- the port's mode, wherever that is said to be
-    pub mode_said : (place : ℕ) → place ≡ row.port.0 → (default : QueueMode) → mode_in s row.port ≡ get_or s.modes place default
-    mode_said place is default =
-        let four = k.four_modes in let small = low in
-        get_or_default s.modes row.port.0 plain_mode default (omega (arith, four, small)) ∙ ap (λ (n : ℕ). get_or s.modes n default) (sym is)
-
-    -- it lends what issuing asks
-    pub lends : (place : ℕ) → place ≡ row.port.0 → (slots : PortSlots) (mode : QueueMode)
-        → LendsFound mid s.device book (get_or s.slots place slots) row.port (get_or s.modes place mode) (get_or s.ports place Unserved)
-    lends place is slots mode = record {
-      kept = goes_on;
-      found_is = ap (λ (n : ℕ). get_or s.ports n Unserved) (sym is);
-      device_is = refl;
-      book_is = refl;
-      slots_are = slots_said s row.port.0 k low place is slots;
-      mode_is = mode_said place is mode;
-    }
+    -- the port has what issuing asks
+    pub lends : (p : ServedPort) → HasServedPort s row.port.0 p → HasFoundPort mid s.device book p.slots row.port p.mode p.found
+    lends p has = record { kept = goes_on; found_is = has.found_is; device_is = refl; book_is = refl; slots_are = has.slots_are; mode_is = has.mode_is }
 
     -- and then what is due was issued
     pub issued : (place : ℕ) → place ≡ row.port.0 → (new : Device) (later : List Held) (slots : PortSlots) → IssuesAll row.port mid (with_part mid new later slots row.port)

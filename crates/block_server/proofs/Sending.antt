@@ -16,7 +16,7 @@ use Rattle.block_machine.proofs.Members.{map_in}
 use Rattle.block_machine.specs.Rules.{IsAllowedCount, frames_for}
 use Rattle.block_machine.specs.declared.due.QueueMode.{QueueMode}
 use Rattle.block_machine.specs.declared.due.Unanswered.{Unanswered}
-use Rattle.block_server.specs.Ports.{Lends, LendsFound, MayGoIn, with_part}
+use Rattle.block_server.specs.Ports.{HasReadyPort, HasFoundPort, MayGoIn, with_part}
 use Rattle.dma_frames.specs.Table.{Table}
 use Rattle.adapter.specs.Rules.{HasPort}
 use Rattle.refinement.specs.Driven.{RelatesWith}
@@ -30,6 +30,7 @@ use Rattle.request_queue.specs.declared.PendingRequest.{PendingRequest}
 use Rattle.server_history.specs.Served.{IssuesAll, IssuesEach, IssuesOne, task_of, use_for}
 use Rattle.server_history.specs.Server.{ServerState, InCallInvariant, is_served, mode_in, no_slots, slots_at, state_of, with_slot}
 use Rattle.slots.specs.Uses.{PortSlots, IsLowestFree, IsTaken, with_use}
+use Rattle.commands.specs.Issuing.{MayIssueTask}
 use Rattle.commands.specs.Tasks.{HasBlockOf, IssuesTask, addresses_of, meaning_of}
 
 -- ---- what a request of the book is
@@ -80,7 +81,7 @@ served_ready Unserved ready = let z : Absent ≡ Ready = ready in absurd cc
 served_ready (FoundReady info) ready = refl
 served_ready (Unready state) ready = refl
 
-module _ (s : ServerState) (device : Device) (book : List Held) (slots : PortSlots) (port : Port) (mode : QueueMode) (l : Lends s device book slots port mode) where
+module _ (s : ServerState) (device : Device) (book : List Held) (slots : PortSlots) (port : Port) (mode : QueueMode) (l : HasReadyPort s device book slots port mode) where
   there : HasPort s.device port.0
   there = l.kept.there port.0 (served_ready (probe_result_of s.ports port.0) l.ready)
 
@@ -95,7 +96,7 @@ module _ (s : ServerState) (device : Device) (book : List Held) (slots : PortSlo
 
   -- other parts in its place
   module _ (new : Device) (later : List Held) (used : PortSlots) where
-    pub lent_on_from : InCallInvariant (with_part s new later used port) → Lends (with_part s new later used port) new later used port mode
+    pub lent_on_from : InCallInvariant (with_part s new later used port) → HasReadyPort (with_part s new later used port) new later used port mode
     lent_on_from kept = record { kept = kept; ready = l.ready; device_is = refl; book_is = refl; slots_are = get_or-set_same s.slots port.0 used no_slots in_list; mode_is = l.mode_is }
 
     pub lent_again : (d : Device) (b : List Held) (u : PortSlots) → with_part (with_part s new later used port) d b u port ≡ with_part s d b u port
@@ -151,6 +152,21 @@ module _ (s : ServerState) (device : Device) (book : List Held) (slots : PortSlo
           subst (RelatesWith (IsUnused port.0 slot)) l.device_is (subst (λ (p : Port). RelatesWith (IsUnused p.0 slot) s.device) turn.3 m.4),
         )
 
+    pub may_issue_task : ((s : ServerState) (request : Held) → InCallInvariant s → Contains s.book request → IsDue (mode_in s request.entry.port) (asks_of s.book) (asks request.entry)
+        → (slot : ℕ) → IsLowestFree (slots_at s.slots request.entry.port.0) slot
+        → (slot < (mode_in s request.entry.port).usable) × (slot < 32) × (slot ≤ s.device.cap / 256 % 32)
+        × (is_plain (mode_in s request.entry.port) request.entry.op ≡ true → slot ≡ 0) × RelatesWith (IsUnused request.entry.port.0 slot) s.device)
+        → (slot : ℕ) → IsLowestFree slots slot → MayIssueTask port slot device
+    may_issue_task may slot lowest =
+        let runs = (l.kept.behind port.0 there.0).runs l.ready in
+        subst (MayIssueTask port slot) l.device_is (record {
+          on = l.kept.on;
+          there = there;
+          room = l.kept.room;
+          agreed = subst (RelatesWith (IsUnused port.0 slot)) (sym l.device_is) (may_issue may slot lowest).3;
+          may = record { started = runs.st; list = ap (λ b. b.clb) runs.bases };
+        })
+
     -- and there is one
     pub is_free : ((s : ServerState) (request : Held) → InCallInvariant s → Contains s.book request → IsDue (mode_in s request.entry.port) (asks_of s.book) (asks request.entry)
         → ((slot : ℕ) → slot < (slots_at s.slots request.entry.port.0).usable → IsTaken (slots_at s.slots request.entry.port.0) slot) → ⊥)
@@ -199,9 +215,9 @@ next_due book port mode ids place d low turns =
 
 -- ---- a port that was found so
 
-module _ (s : ServerState) (device : Device) (book : List Held) (slots : PortSlots) (port : Port) (mode : QueueMode) (found : ProbeResult) (l : LendsFound s device book slots port mode found) where
+module _ (s : ServerState) (device : Device) (book : List Held) (slots : PortSlots) (port : Port) (mode : QueueMode) (found : ProbeResult) (l : HasFoundPort s device book slots port mode found) where
   -- a ready one lends what issuing asks
-  pub lends_ready : (info : DiskInfo) → found ≡ FoundReady info → Lends s device book slots port mode
+  pub lends_ready : (info : DiskInfo) → found ≡ FoundReady info → HasReadyPort s device book slots port mode
   lends_ready info is = record {
     kept = l.kept;
     ready = ap state_of (l.found_is ∙ is);
@@ -213,7 +229,7 @@ module _ (s : ServerState) (device : Device) (book : List Held) (slots : PortSlo
 
 -- on another nothing is due, and so nothing issued
 pub none_issued : ((s : ServerState) (port : Port) → InCallInvariant s → ((info : DiskInfo) → probe_result_of s.ports port.0 ≡ FoundReady info → ⊥) → due_ids (mode_in s port) port (asks_of s.book) ≡ [])
-    → (s : ServerState) (device : Device) (book : List Held) (slots : PortSlots) (port : Port) (mode : QueueMode) (found : ProbeResult) → LendsFound s device book slots port mode found → ((info : DiskInfo) → found ≡ FoundReady info → ⊥)
+    → (s : ServerState) (device : Device) (book : List Held) (slots : PortSlots) (port : Port) (mode : QueueMode) (found : ProbeResult) → HasFoundPort s device book slots port mode found → ((info : DiskInfo) → found ≡ FoundReady info → ⊥)
     → IssuesAll port s (with_part s device book slots port)
 none_issued undue s device book slots port mode found l unready =
     subst (λ (ids : List RequestId). IssuesEach port ids s (with_part s device book slots port)) (sym (undue s port l.kept (λ info is. unready info (sym l.found_is ∙ is)))) same

@@ -1,5 +1,5 @@
 -- The adapter has a ready port; what a look at it tells; and a mask has the slots that it uses.
-use Rattle.std.proofs.Common.{ℕ, true, false, ◌≡◌, ◌≢◌, ◌<◌, ◌==◌, ◌↔◌, Option, Some, None, get_or, refl, sym, ap, ◌∙◌, subst, arith, eq-eqb}
+use Rattle.std.proofs.Common.{ℕ, true, false, ◌≡◌, ◌≢◌, ◌<◌, ◌==◌, ◌↔◌, Option, Some, None, refl, sym, ap, ◌∙◌, subst, arith, eq-eqb}
 use Rattle.std.specs.Int.{bit_at}
 use Rattle.std.specs.Prelude.{IsSome}
 use Rattle.std.proofs.lemmas.Bool.{eqb-false, false≢true, ne_eqb}
@@ -16,13 +16,13 @@ use Rattle.port_control.specs.declared.events.PortEvent.{PortEvent}
 use Rattle.port_control.specs.declared.events.PortEvent.TheVariants as look
 use Rattle.server_history.specs.ErrorHandling.{IsFoundOut}
 use Rattle.server_history.specs.Served.{HasNone, IsMaskOf, is_used}
-use Rattle.server_history.specs.Server.{ServerState, InCallInvariant, slots_at, state_of}
+use Rattle.server_history.specs.Server.{ServerState, InCallInvariant, state_of}
 use Rattle.port_control.specs.declared.events.PortError.{PortError}
 use Rattle.port_control.specs.declared.events.PortError.TheVariants.{FatalError, TaskFileError, TimedOut, LinkChanged}
 use Rattle.slots.specs.Uses.{PortSlots, IsTaken, use_at}
 use Rattle.slots.specs.declared.SlotUse.{SlotUse}
 use Rattle.block_server.specs.Recovery.{error_of}
-use Rattle.block_server.proofs.Sending.{served_ready, slots_said}
+use Rattle.block_server.proofs.Sending.{served_ready}
 
 pub ready_there : (s : ServerState) (port : Port) → InCallInvariant s → state_of (probe_result_of s.ports port.0) ≡ ReadyState → HasPort s.device port.0
 ready_there s port k ready = k.there port.0 (served_ready (probe_result_of s.ports port.0) ready)
@@ -60,11 +60,6 @@ mask_of slots mask exact slot small = by (use_at slots slot) refl
             go None taken = taken
             go (Some u) taken = refl
     by (Some u) is = eq-eqb (bit_at mask slot) 1 ((exact slot small).1 (subst IsSome (sym is) refl)) ∙ sym (ap is_used is)
-
-pub its_mask : (s : ServerState) (port : Port) → InCallInvariant s → state_of (probe_result_of s.ports port.0) ≡ ReadyState → (number : ℕ) → number ≡ port.0 → (default : PortSlots) (mask : ℕ)
-    → ((slot : ℕ) → slot < 32 → (bit_at mask slot ≡ 1) ↔ IsTaken (get_or s.slots number default) slot) → IsMaskOf (slots_at s.slots port.0) mask
-its_mask s port k ready number is default mask exact =
-    subst (λ (u : PortSlots). IsMaskOf u mask) (sym (slots_said s port.0 k (ready_there s port k ready).0 number is default)) (mask_of (get_or s.slots number default) mask exact)
 
 -- 0 has no bit
 pub none_of_zero : (mask : ℕ) → mask ≡ 0 → HasNone mask

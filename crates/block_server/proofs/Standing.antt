@@ -23,9 +23,6 @@ pub holds_either : {X : Type 0} {t : ServerState} (b : Bool) → InvariantBy b t
 holds_either false holds on off = on refl holds
 holds_either true holds on off = off refl holds
 
-pub to_on : {A : Type 0} {s v : ServerView A} {t : ServerState} → s ≡ v → v.stuck ≡ false → InvariantBy s.stuck t → SettledInvariant t
-to_on {t = t} is on holds = subst (λ (b : Bool). InvariantBy b t) (still false is on) holds
-
 -- the same, of the view; and what is so of a server whose adapter is on, or isn't
 pub now_on : {A : Type 0} (device : A → Device) {s v : ServerView A} → s ≡ v → s.stuck ≡ false → InvariantBy s.stuck (server_of device s) → SettledInvariant (server_of device v)
 now_on {A} device {s} is on holds = subst (λ (x : ServerView A). SettledInvariant (server_of device x)) is (subst (λ (b : Bool). InvariantBy b (server_of device s)) on holds)

@@ -1,5 +1,6 @@
 pub mod Clients
 pub mod View
+pub mod Parts
 pub mod Seen
 pub mod Made
 pub mod Calls

@@ -22,7 +22,7 @@ use Rattle.slots.specs.Uses.{PortSlots}
 
 -- the server keeps what it keeps, and has this device, this book, and these slots of a port that is ready and has this
 -- mode
-pub record Lends (s : ServerState) (device : Device) (book : List Held) (slots : PortSlots) (port : Port)
+pub record HasReadyPort (s : ServerState) (device : Device) (book : List Held) (slots : PortSlots) (port : Port)
     (mode : QueueMode) : Type 0 where
   pub kept : InCallInvariant s
   pub ready : state_of (probe_result_of s.ports port.0) ≡ Ready
@@ -32,7 +32,7 @@ pub record Lends (s : ServerState) (device : Device) (book : List Held) (slots :
   pub mode_is : mode_in s port ≡ mode
 
 -- the same of a port that was found so
-pub record LendsFound (s : ServerState) (device : Device) (book : List Held) (slots : PortSlots) (port : Port)
+pub record HasFoundPort (s : ServerState) (device : Device) (book : List Held) (slots : PortSlots) (port : Port)
     (mode : QueueMode)
     (found : ProbeResult) : Type 0 where
   pub kept : InCallInvariant s
@@ -48,7 +48,7 @@ with_part s device book slots port = record s { device = device; slots = slice_s
 
 -- The server keeps what it keeps, and has these loans, this book, and these slots of a port that is ready. The commands
 -- of the slots that have their bits set here are over.
-pub record LendsDone (s : ServerState) (table : Table) (book : List Held) (slots : PortSlots) (port : Port)
+pub record HasDonePort (s : ServerState) (table : Table) (book : List Held) (slots : PortSlots) (port : Port)
     (done : ℕ) : Type 0 where
   pub kept : InCallInvariant s
   pub ready : state_of (probe_result_of s.ports port.0) ≡ Ready

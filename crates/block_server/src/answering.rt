@@ -1,7 +1,7 @@
 // What is done on a port is answered.
 ghost use Rattle.std.specs.Prelude.{ℕ, ◌≡◌, ◌≤◌, ◌<◌, ◌+◌, length, None, Some, true};
 ghost use Rattle.ata_types.specs.declared.Port.{Port};
-ghost use Rattle.block_server.specs.Ports.{AnswersDoneSlots, AnswersSlot, LendsDone, with_answers};
+ghost use Rattle.block_server.specs.Ports.{AnswersDoneSlots, AnswersSlot, HasDonePort, with_answers};
 ghost use Rattle.hba_regs.specs.Bits.{bit};
 ghost use Rattle.server_history.specs.Server.{ServerState};
 ghost use Rattle.slots.specs.Uses.{use_at, with_use};
@@ -17,11 +17,11 @@ use slots::Slots;
 /// Answers the request of a used slot, whose command is over: its slot is free then, it leaves the book, and its frames
 /// are given back.
 fn answer_one(book: &mut Book, table: &mut FrameTable, slots: &mut Slots, slot: Slot) -> Reply
-    requires lends { (s : ServerState) × (port : Port) × (done : ℕ) × LendsDone s table.old book.old slots.old port done
-        × (bit done slot.0 ≡ true) }
+    requires lends { (s : ServerState) × (port : Port) × (done : ℕ)
+        × HasDonePort s table.old book.old slots.old port done × (bit done slot.0 ≡ true) }
     requires small { slot.0 < 32 }
     requires used { (used : SlotUse) × (use_at slots.old slot.0 ≡ Some used) }
-    ensures answers { (s : ServerState) (port : Port) (done : ℕ) → LendsDone s table.old book.old slots.old port done
+    ensures answers { (s : ServerState) (port : Port) (done : ℕ) → HasDonePort s table.old book.old slots.old port done
         → AnswersSlot port slot.0 result s (with_answers s table.new book.new slots.new port) }
     ensures freed { slots.new ≡ with_use slots.old slot.0 None }
     ensures fewer { length book.new < length book.old }
@@ -48,13 +48,13 @@ pub(crate) fn answer_done(
     done: u32,
     replies: &mut Replies,
 )
-    requires lends { (s : ServerState) × (port : Port) × LendsDone s table.old book.old slots.old port done }
+    requires lends { (s : ServerState) × (port : Port) × HasDonePort s table.old book.old slots.old port done }
     requires room { length replies.old.items + length book.old ≤ MOST_UNANSWERED }
-    ensures answers { (s : ServerState) (port : Port) → LendsDone s table.old book.old slots.old port done
+    ensures answers { (s : ServerState) (port : Port) → HasDonePort s table.old book.old slots.old port done
         → AnswersDoneSlots port done replies.old.items replies.new.items s
         (with_answers s table.new book.new slots.new port) }
-    ensures lends { (s : ServerState) (port : Port) → LendsDone s table.old book.old slots.old port done
-        → LendsDone (with_answers s table.new book.new slots.new port) table.new book.new slots.new port done }
+    ensures lends { (s : ServerState) (port : Port) → HasDonePort s table.old book.old slots.old port done
+        → HasDonePort (with_answers s table.new book.new slots.new port) table.new book.new slots.new port done }
     ensures room { length replies.new.items + length book.new ≤ MOST_UNANSWERED }
 {
     law_a_used_slot_has_its_request();

@@ -1,7 +1,7 @@
 // Loans of a dead port that are kept when their requests are answered, until a reset ends: the device may still move
 // their sectors.
 ghost use Rattle.std.specs.Prelude.{◌≡◌, ◌<◌, ◌++◌, ◌∷◌, [], ℕ, All, AllPairs, Contains, IfOk, length};
-ghost use Rattle.server_history.specs.Kept.{IsKeptIn, MayGoBack, TakesBack};
+ghost use Rattle.server_history.specs.Kept.{TakesBack};
 ghost use Rattle.server_history.specs.Server.{AreOfTwo, IsLentOut, kept_at};
 
 use ata_types::{PORTS, SLOTS};
@@ -44,7 +44,7 @@ impl Quarantine {
     }
 
     /// Ends the loans: their frames are lent to none.
-    fn give_back(&mut self, table: &mut FrameTable)
+    pub(crate) fn give_back(&mut self, table: &mut FrameTable)
         requires lent { All (IsLentOut table.old) self.old }
         requires apart { AllPairs AreOfTwo self.old }
         ensures empty { self.new ≡ [] }
@@ -90,18 +90,6 @@ pub(crate) fn none_kept(alloc: Global) -> Result<[Quarantine; PORTS], AllocError
             second.end();
             Err(error)
         }
-    }
-}
-
-/// Ends the loans of all ports: their frames are lent to none.
-pub(crate) fn give_all_back(kept: &mut [Quarantine; PORTS], table: &mut FrameTable)
-    requires { MayGoBack table.old kept.old }
-    ensures empty { (port : ℕ) → kept_at kept.new port ≡ [] }
-    ensures four { length kept.new ≡ 4 }
-    ensures back { TakesBack table.old table.new (IsKeptIn kept.old) }
-{
-    for port in 0..PORTS {
-        kept[port].give_back(table);
     }
 }
 

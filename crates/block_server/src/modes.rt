@@ -1,20 +1,20 @@
 // How the ports of an adapter that was taken over take commands.
-ghost use Rattle.std.specs.Prelude.{ℕ, ◌≡◌, ◌<◌, ◌≤◌, ◌+◌, ◌/◌, ◌%◌, ◌↔◌, None, IsTrue, false, length, slice_index_or};
+ghost use Rattle.std.specs.Prelude.{ℕ, ◌≡◌, ◌<◌, ◌≤◌, ◌+◌, ◌/◌, ◌%◌, ◌↔◌, IsTrue, false, slice_index_or};
 ghost use Rattle.refinement.specs.Relation.{port_at};
 ghost use Rattle.hba_regs.specs.Bits.{bit};
-ghost use Rattle.host_boot.specs.Taken.{probe_result_of};
 ghost use Rattle.host_boot.specs.declared.ProbeResult.TheVariants.{Ready};
 ghost use Rattle.identify.specs.declared.DiskInfo.{DiskInfo};
 ghost use Rattle.ata_types.specs.declared.Port.{Port};
 ghost use Rattle.request_queue.specs.Entries.{IsAnyOverdue, IsOverdue, is_among};
-ghost use Rattle.server_history.specs.Server.{mode_at, mode_found, slots_at, used_for};
+ghost use Rattle.block_server.specs.Parts.{port_in};
+ghost use Rattle.server_history.specs.Server.{mode_found};
 ghost use Rattle.server_history.specs.Turns.{is_ready};
 
+use crate::served_port::ServedPort;
 use ata_types::{PORTS, Port, SLOTS};
 use block_machine::QueueMode;
-use host_boot::{Host, ProbeResult};
+use host_boot::ProbeResult;
 use request_queue::Book;
-use slots::Slots;
 
 /// One plain command at a time.
 pub(crate) const PLAIN: QueueMode = QueueMode {
@@ -38,40 +38,15 @@ pub(crate) fn mode_of(slots: u8, queued: bool, found: &ProbeResult) -> QueueMode
     }
 }
 
-/// How each port takes commands.
-pub(crate) fn modes_of(host: &Host) -> [QueueMode; PORTS]
-    requires four { length host.now.ports ≡ 4 }
-    ensures found { (cap port : ℕ) → host.now.slots ≡ cap / 256 % 32 + 1 → host.now.queued ≡ bit cap 30 → port < 4
-        → mode_at result port ≡ mode_found cap (probe_result_of host.now.ports port) }
-    ensures few { (port : ℕ) → (mode_at result port).usable ≤ 32 }
-{
-    [
-        mode_of(host.slots, host.queued, &host.ports[0]),
-        mode_of(host.slots, host.queued, &host.ports[1]),
-        mode_of(host.slots, host.queued, &host.ports[2]),
-        mode_of(host.slots, host.queued, &host.ports[3]),
-    ]
-}
-
-/// Whether a port that was found so is ready.
-fn is_ready(found: &ProbeResult) -> bool
-    ensures { result ≡ is_ready found.now }
-{
-    match found {
-        ProbeResult::Ready(_) => true,
-        _ => false,
-    }
-}
-
 /// By port, whether it is ready.
-pub(crate) fn ready_ports(ports: &[ProbeResult; PORTS]) -> [bool; PORTS]
-    ensures { (port : Port) → is_among result port ≡ is_ready (probe_result_of ports.now port.0) }
+pub(crate) fn ready_ports(ports: &[ServedPort; PORTS]) -> [bool; PORTS]
+    ensures { (port : Port) → is_among result port ≡ is_ready (port_in ports.now port.0).found }
 {
     [
-        is_ready(&ports[0]),
-        is_ready(&ports[1]),
-        is_ready(&ports[2]),
-        is_ready(&ports[3]),
+        ports[0].is_ready(),
+        ports[1].is_ready(),
+        ports[2].is_ready(),
+        ports[3].is_ready(),
     ]
 }
 
@@ -90,20 +65,5 @@ pub(crate) fn overdue_ports(book: &Book, is_one: bool) -> [bool; PORTS]
         book.overdue(Port(1)),
         book.overdue(Port(2)),
         book.overdue(Port(3)),
-    ]
-}
-
-/// The slots of each port, of which none is used: as many are usable as the port's mode has.
-pub(crate) fn unused_slots(modes: &[QueueMode; PORTS]) -> [Slots; PORTS]
-    requires few { (port : ℕ) → (mode_at modes.now port).usable ≤ 32 }
-    ensures places { (port : ℕ) → port < 4 → length (slots_at result port).places ≡ 32 }
-    ensures usable { (port : ℕ) → port < 4 → (slots_at result port).usable ≡ (mode_at modes.now port).usable }
-    ensures unused { (port slot : ℕ) → used_for result port slot ≡ None }
-{
-    [
-        Slots::new(modes[0].usable),
-        Slots::new(modes[1].usable),
-        Slots::new(modes[2].usable),
-        Slots::new(modes[3].usable),
     ]
 }

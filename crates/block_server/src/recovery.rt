@@ -2,14 +2,12 @@
 // to be.
 ghost use Rattle.std.specs.Prelude.{ℕ, ◌≡◌, ◌≤◌, ◌+◌, ◌++◌, IsTrue, ◌↔◌, Some, List, AllPairs, IsPermutation, drop, length, take};
 ghost use Rattle.ata_types.specs.declared.request.Reply.{Reply};
-ghost use Rattle.block_server.specs.Recovery.{LendsInError, CompletesAndRecovers, error_of};
+ghost use Rattle.block_server.specs.Recovery.{HasPortInError, CompletesAndRecovers, error_of};
 ghost use Rattle.server_history.specs.Server.{ServerState};
 ghost use Rattle.ata_types.specs.declared.Port.{Port};
-ghost use Rattle.adapter.specs.Device.{Device};
-ghost use Rattle.adapter.specs.Rules.{HasPort, IsOn};
-ghost use Rattle.refinement.specs.Driven.{RelatesWith};
+ghost use Rattle.adapter.specs.Rules.{IsOn};
 ghost use Rattle.identify.specs.declared.error_log.FailedSlot.{FailedSlot};
-ghost use Rattle.error_recovery.specs.Recovery.{FitsFor, IsAloneIn, MayRecover, RecoversOrStops};
+ghost use Rattle.error_recovery.specs.Recovery.{MayHandleError, MayRecover, RecoversOrStops};
 ghost use Rattle.host_boot.specs.declared.ProbeResult.TheVariants.{Ready};
 ghost use Rattle.port_boot.specs.States.{IsBootable};
 ghost use Rattle.port_control.specs.Ports.{IsStopped};
@@ -24,17 +22,17 @@ ghost use Rattle.block_server.specs.Costs.{booting_accesses, handling_accesses};
 
 use super::answering::answer_done;
 use super::modes::{PLAIN, mode_of};
+use super::served_port::{ServedPort, Shared};
 use adapter::Adapter;
-use ata_types::{DRIVER_BYTES, MOST_READINGS, MOST_UNANSWERED, Port, PortState, Replies};
+use ata_types::{MOST_READINGS, MOST_UNANSWERED, Port, PortState, Replies};
 use block_machine::QueueMode;
 use commands::done;
-use dma_frames::FrameTable;
 use error_recovery::{FailedSlot, Next, Recovered, recover, stop_for_reset};
 use host_boot::{Booted, ProbeResult, reboot_if_present, reboot_port};
 use identify::{DiskInfo, Wanted};
 use port_control::Stopped;
 use port_control::events::{PortError, PortEvent};
-use request_queue::{Book, FailedRequest, Revalidation};
+use request_queue::{FailedRequest, Revalidation};
 use server_history::laws::{law_looks_keep, law_port_errors_may_be_handled};
 use slots::Slots;
 
@@ -59,11 +57,7 @@ fn recover_or_stop<A: Adapter>(
     outstanding: u32,
     queued: bool,
 ) -> Recovered
-    requires on { IsOn (A.device adapter.old) }
-    requires there { HasPort (A.device adapter.old) port.0 }
-    requires room { DRIVER_BYTES ≤ (A.device adapter.old).size }
-    requires agreed { RelatesWith (FitsFor queued port.0) (A.device adapter.old) }
-    requires alone { IsAloneIn queued outstanding }
+    requires ready { MayHandleError port outstanding queued (A.device adapter.old) }
     requires may { port_error ≡ PortError.TaskFileError → MayRecover port.0 (A.device adapter.old) }
     ensures on { IsOn (A.device adapter.new) }
     ensures handling { (m : RecoversOrStops port outstanding queued result (A.device adapter.old)
@@ -79,41 +73,48 @@ fn recover_or_stop<A: Adapter>(
     }
 }
 
-/// Answers what is done on a ready port in trouble, in order of acceptance, and handles the port's error: the request
-/// whose command failed, where it is known, and what the port has to go through. The replies come after those that
-/// there are.
-pub(crate) fn complete_and_recover<A: Adapter>(
-    adapter: &mut A,
-    book: &mut Book,
-    table: &mut FrameTable,
-    slots: &mut Slots,
-    port: Port,
-    port_error: PortError,
-    replies: &mut Replies,
-) -> (Option<FailedRequest>, Next)
-    requires lends { (s : ServerState)
-        × LendsInError s (A.device adapter.old) table.old book.old slots.old port port_error }
-    requires room { length replies.old.items + length book.old ≤ MOST_UNANSWERED }
-    ensures on { IsOn (A.device adapter.new) }
-    ensures handling { (s : ServerState)
-        → LendsInError s (A.device adapter.old) table.old book.old slots.old port port_error
-        → CompletesAndRecovers port port_error replies.old.items replies.new.items result.0 result.1 s table.new
-        book.new slots.new
-        (A.device adapter.new) }
-    ensures room { length replies.new.items + length book.new ≤ MOST_UNANSWERED }
-    ensures cost { MakesAtMost (DONE_ACCESSES + handling_accesses port_error)
-        (A.access_count adapter.old) (A.access_count adapter.new) }
-{
-    law_looks_keep();
-    law_port_errors_may_be_handled();
-    let used = slots.taken();
-    let finished = done(adapter, port, used);
-    answer_done(book, table, slots, finished, replies);
-    let outstanding = slots.taken();
-    let queued = are_queued(slots);
-    let recovered = recover_or_stop(adapter, port, port_error, outstanding, queued);
-    let failed = failed_in(slots, &recovered.failed);
-    (failed, recovered.next)
+impl ServedPort {
+    /// Answers what is done on a ready port in trouble, in order of acceptance, and handles the port's error: the
+    /// request whose command failed, where it is known, and what the port has to go through. The replies come after
+    /// those that there are.
+    pub(crate) fn complete_and_recover<A: Adapter>(
+        &mut self,
+        adapter: &mut A,
+        shared: &mut Shared,
+        port: Port,
+        port_error: PortError,
+        replies: &mut Replies,
+    ) -> (Option<FailedRequest>, Next)
+        requires lends { (s : ServerState) × HasPortInError s (A.device adapter.old) shared.old.table.value
+            shared.old.book self.old.slots port port_error }
+        requires room { length replies.old.items + length shared.old.book ≤ MOST_UNANSWERED }
+        ensures on { IsOn (A.device adapter.new) }
+        ensures handling { (s : ServerState) → HasPortInError s (A.device adapter.old) shared.old.table.value
+            shared.old.book self.old.slots port port_error
+            → CompletesAndRecovers port port_error replies.old.items replies.new.items result.0 result.1 s
+            shared.new.table.value shared.new.book self.new.slots (A.device adapter.new) }
+        ensures rest { self.new ≡ record self.old { slots = self.new.slots } }
+        ensures room { length replies.new.items + length shared.new.book ≤ MOST_UNANSWERED }
+        ensures cost { MakesAtMost (DONE_ACCESSES + handling_accesses port_error)
+            (A.access_count adapter.old) (A.access_count adapter.new) }
+    {
+        law_looks_keep();
+        law_port_errors_may_be_handled();
+        let used = self.slots.taken();
+        let finished = done(adapter, port, used);
+        answer_done(
+            &mut shared.book,
+            &mut shared.table,
+            &mut self.slots,
+            finished,
+            replies,
+        );
+        let outstanding = self.slots.taken();
+        let queued = are_queued(&self.slots);
+        let recovered = recover_or_stop(adapter, port, port_error, outstanding, queued);
+        let failed = failed_in(&self.slots, &recovered.failed);
+        (failed, recovered.next)
+    }
 }
 
 /// Puts the replies from that place on in the order of their ids.

@@ -1,75 +1,104 @@
 // What becomes of ports and requests where the adapter is reset.
-ghost use Rattle.std.specs.Prelude.{ℕ, ◌≡◌, ◌<◌, ◌≤◌, ◌+◌, ◌*◌, ◌++◌, List, length};
-ghost use Rattle.ata_types.specs.declared.request.Reply.{Reply};
-ghost use Rattle.block_server.specs.Resetting.{LendsBook, LendsPorts, with_book, with_issues};
-ghost use Rattle.host_boot.specs.Taken.{probe_result_of};
-ghost use Rattle.server_history.specs.Resets.{IsResetRevalidation, IssuePorts, SettlePorts, SettlesPort};
-ghost use Rattle.server_history.specs.Server.{ServerState, last_disk_of, remembered_at};
-ghost use Rattle.server_history.specs.Stalled.{stuck_found};
+ghost use Rattle.std.specs.Prelude.{◌≡◌, ◌<◌, ◌≤◌, ◌+◌, ◌*◌, ◌++◌, List, None, length, map, replicate};
 ghost use Rattle.adapter.specs.Counted.{MakesAtMost};
+ghost use Rattle.ata_types.specs.declared.request.Reply.{Reply};
 ghost use Rattle.block_server.specs.Costs.{ISSUES_ACCESSES};
+ghost use Rattle.block_server.specs.Parts.{EachBecomes, HasParts, IsFoundAnew, IsTakenAnew, found_by_port, kept_by_port, last_disk_by_port, wanted_by_port, with_parts, with_ports, without_loans};
+ghost use Rattle.host_boot.specs.declared.ProbeResult.TheVariants.{Unserved};
+ghost use Rattle.server_history.specs.Kept.{IsKeptIn, MayGoBack, TakesBack};
+ghost use Rattle.server_history.specs.Resets.{IsResetRevalidation, IssuePorts, MaySettle, SettlePorts, SettlesPort};
+ghost use Rattle.server_history.specs.Server.{InCallInvariant, ServerState, plain_mode};
+ghost use Rattle.server_history.specs.Stalled.{stuck_found};
 
 use super::dispositions::resolve;
 use super::kept::Quarantine;
-use super::port::issue_due;
+use super::modes::mode_of;
 use super::recovery::is_same_disk;
+use super::served_port::{ServedPort, Shared};
 use adapter::Adapter;
 use ata_types::{MOST_UNANSWERED, PORTS, Port, PortState, Replies};
-use block_machine::QueueMode;
 use dma_frames::FrameTable;
-use host_boot::ProbeResult;
-use identify::DiskInfo;
-use request_queue::{Book, Revalidation};
+use host_boot::{Host, ProbeResult};
+use identify::{DiskInfo, Wanted};
+use request_queue::Revalidation;
 use server_history::laws::law_requests_keep;
 use server_history::stalled::law_settling_goes_on;
-use slots::Slots;
 
-/// The disk that a port is ready with, or was last ready with, which is the remembered one.
-pub(crate) fn last_disk_of(found: &ProbeResult, remembered: &Option<DiskInfo>) -> Option<DiskInfo>
-    ensures { result ≡ last_disk_of found.now remembered.now }
+/// Ports of which these disks are wanted, and that keep these loans. None is served yet.
+pub(crate) fn unserved_ports(
+    wanted: &[Wanted; PORTS],
+    kept: [Quarantine; PORTS],
+) -> [ServedPort; PORTS]
+    ensures wanted { wanted_by_port result ≡ wanted.now }
+    ensures kept { kept_by_port result ≡ kept }
+    ensures found { found_by_port result ≡ replicate 4 Unserved }
+    ensures forgotten { last_disk_by_port result ≡ replicate 4 None }
 {
-    match found {
-        ProbeResult::Ready(info) => Some(*info),
-        _ => *remembered,
-    }
-}
-
-/// That disk, by port.
-pub(crate) fn disks_of(
-    ports: &[ProbeResult; PORTS],
-    remembered: &[Option<DiskInfo>; PORTS],
-) -> [Option<DiskInfo>; PORTS]
-    ensures { (port : ℕ) → remembered_at result port ≡ last_disk_of (probe_result_of ports.now port)
-        (remembered_at remembered.now port) }
-{
+    let [first, second, third, fourth] = kept;
     [
-        last_disk_of(&ports[0], &remembered[0]),
-        last_disk_of(&ports[1], &remembered[1]),
-        last_disk_of(&ports[2], &remembered[2]),
-        last_disk_of(&ports[3], &remembered[3]),
+        ServedPort::new(wanted[0], first),
+        ServedPort::new(wanted[1], second),
+        ServedPort::new(wanted[2], third),
+        ServedPort::new(wanted[3], fourth),
     ]
 }
 
-/// What a port is since a reset got stuck: dead, if it is served.
-fn stuck_port(found: ProbeResult) -> ProbeResult
-    ensures { result ≡ stuck_found found }
+/// By port, which disk is wanted.
+pub(crate) fn wanted_disks(ports: &[ServedPort; PORTS]) -> [Wanted; PORTS]
+    ensures { result ≡ wanted_by_port ports.now }
 {
-    match found {
-        ProbeResult::Unserved => ProbeResult::Unserved,
-        _ => ProbeResult::Unready(PortState::Dead),
+    [
+        ports[0].wanted,
+        ports[1].wanted,
+        ports[2].wanted,
+        ports[3].wanted,
+    ]
+}
+
+/// The loans of the ports, by port.
+pub(crate) fn into_loans(ports: [ServedPort; PORTS]) -> [Quarantine; PORTS]
+    ensures { result ≡ kept_by_port ports }
+{
+    let [first, second, third, fourth] = ports;
+    [
+        first.into_kept(),
+        second.into_kept(),
+        third.into_kept(),
+        fourth.into_kept(),
+    ]
+}
+
+/// Gives back the loans that are kept of all ports: their frames are lent to none.
+pub(crate) fn give_all_back(ports: &mut [ServedPort; PORTS], table: &mut FrameTable)
+    requires { MayGoBack table.old (kept_by_port ports.old) }
+    ensures ports { ports.new ≡ map without_loans ports.old }
+    ensures back { TakesBack table.old table.new (IsKeptIn (kept_by_port ports.old)) }
+{
+    for number in 0..PORTS {
+        ports[number].kept.give_back(table);
     }
 }
 
-/// What each port is since a reset got stuck.
-pub(crate) fn dead_ports(ports: &[ProbeResult; PORTS]) -> [ProbeResult; PORTS]
-    ensures { (port : ℕ) → probe_result_of result port ≡ stuck_found (probe_result_of ports.now port) }
+/// Notes that a reset of the adapter got stuck: each port that is served is dead.
+pub(crate) fn get_stuck(ports: &mut [ServedPort; PORTS])
+    ensures { EachBecomes (λ number old new. IsFoundAnew (stuck_found old.found) plain_mode old new) ports.old
+        ports.new }
 {
-    [
-        stuck_port(ports[0]),
-        stuck_port(ports[1]),
-        stuck_port(ports[2]),
-        stuck_port(ports[3]),
-    ]
+    for number in 0..PORTS {
+        ports[number].get_stuck();
+    }
+}
+
+/// Notes what each port was found to be once the adapter was taken over, and how it takes commands then.
+pub(crate) fn begin_anew(ports: &mut [ServedPort; PORTS], host: &Host)
+    requires { length host.now.ports ≡ 4 }
+    ensures { EachBecomes (IsTakenAnew host.now) ports.old ports.new }
+{
+    for number in 0..PORTS {
+        let found = host.ports[number];
+        let mode = mode_of(host.slots, host.queued, &found);
+        ports[number].begin_anew(found, mode);
+    }
 }
 
 /// What the requests of a port may expect after a reset, by the disk that it was last ready with, if it ever was.
@@ -86,85 +115,69 @@ fn reset_revalidation(was: &Option<DiskInfo>, found: &ProbeResult) -> Revalidati
     }
 }
 
-/// Resolves the unanswered requests of a port after a reset, in order of acceptance.
-fn resolve_port(
-    book: &mut Book,
-    table: &mut FrameTable,
-    kept: &mut [Quarantine; PORTS],
-    port: Port,
-    was: &Option<DiskInfo>,
-    found: &ProbeResult,
-    replies: &mut Replies,
-)
-    requires small { port.0 < 4 }
-    requires lends { (s : ServerState) × LendsBook s table.old book.old kept.old s.remembered s.ports
-        × (remembered_at s.remembered port.0 ≡ was.now) × (probe_result_of s.ports port.0 ≡ found.now) }
-    requires room { length replies.old.items + length book.old ≤ MOST_UNANSWERED }
-    ensures settles { (s : ServerState) → LendsBook s table.old book.old kept.old s.remembered s.ports
-        → remembered_at s.remembered port.0 ≡ was.now → probe_result_of s.ports port.0 ≡ found.now → (its : List Reply)
-        × (replies.new.items ≡ replies.old.items ++ its)
-        × SettlesPort port its s (with_book s table.new book.new kept.new) }
-    ensures room { length replies.new.items + length book.new ≤ MOST_UNANSWERED }
-{
-    let revalidation = reset_revalidation(was, found);
-    let kept = &mut kept[usize::from(port.0)];
-    resolve(book, table, kept, port, &None, revalidation, replies);
-}
-
-/// Resolves all unanswered requests after a reset, port by port, each port's in order of acceptance. The
-/// replies come after those that there are.
-pub(crate) fn resolve_ports(
-    book: &mut Book,
-    table: &mut FrameTable,
-    kept: &mut [Quarantine; PORTS],
-    remembered: &[Option<DiskInfo>; PORTS],
-    ports: &[ProbeResult; PORTS],
-    replies: &mut Replies,
-)
-    requires lends { (s : ServerState) × LendsBook s table.old book.old kept.old remembered.now ports.now }
-    requires room { length replies.old.items + length book.old ≤ MOST_UNANSWERED }
-    ensures settles { (s : ServerState) → LendsBook s table.old book.old kept.old remembered.now ports.now
-        → (its : List Reply) × (replies.new.items ≡ replies.old.items ++ its)
-        × SettlePorts 0 ports.now its s (with_book s table.new book.new kept.new) }
-{
-    law_settling_goes_on();
-    for number in 0..PORTS {
-        let port = Port(number as u8);
-        resolve_port(
-            book,
-            table,
-            kept,
+impl ServedPort {
+    /// Resolves the unanswered requests of the port after a reset, in order of acceptance.
+    fn resolve_after_reset(&mut self, shared: &mut Shared, port: Port, replies: &mut Replies)
+        requires settle { (s : ServerState) × MaySettle s × HasParts s s.device shared.old port self.old }
+        requires room { length replies.old.items + length shared.old.book ≤ MOST_UNANSWERED }
+        ensures settles { (s : ServerState) → MaySettle s → HasParts s s.device shared.old port self.old
+            → (its : List Reply) × (replies.new.items ≡ replies.old.items ++ its)
+            × SettlesPort port its s (with_parts s s.device shared.new port self.new) }
+        ensures rest { self.new ≡ record self.old { kept = self.new.kept } }
+        ensures room { length replies.new.items + length shared.new.book ≤ MOST_UNANSWERED }
+    {
+        let revalidation = reset_revalidation(&self.last_disk, &self.found);
+        resolve(
+            &mut shared.book,
+            &mut shared.table,
+            &mut self.kept,
             port,
-            &remembered[number],
-            &ports[number],
+            &None,
+            revalidation,
             replies,
         );
     }
 }
 
+/// Resolves all unanswered requests after a reset, port by port, each port's in order of acceptance. The replies come
+/// after those that there are.
+pub(crate) fn resolve_ports(
+    ports: &mut [ServedPort; PORTS],
+    shared: &mut Shared,
+    replies: &mut Replies,
+)
+    requires settle { (s : ServerState) × MaySettle (with_ports s s.device shared.old ports.old) }
+    requires room { length replies.old.items + length shared.old.book ≤ MOST_UNANSWERED }
+    ensures settles { (s : ServerState) → MaySettle (with_ports s s.device shared.old ports.old)
+        → (its : List Reply) × (replies.new.items ≡ replies.old.items ++ its)
+        × SettlePorts 0 (found_by_port ports.old) its
+        (with_ports s s.device shared.old ports.old) (with_ports s s.device shared.new ports.new) }
+    ensures found { found_by_port ports.new
+        ≡ found_by_port ports.old }
+{
+    law_settling_goes_on();
+    for number in 0..PORTS {
+        ports[number].resolve_after_reset(shared, Port(number as u8), replies);
+    }
+}
+
 /// Issues what is due on each ready port, in rising number.
 pub(crate) fn issue_ports<A: Adapter>(
+    ports: &mut [ServedPort; PORTS],
     adapter: &mut A,
-    book: &mut Book,
-    slots: &mut [Slots; PORTS],
-    modes: &[QueueMode; PORTS],
-    ports: &[ProbeResult; PORTS],
+    shared: &mut Shared,
 )
-    requires lends { (s : ServerState) × LendsPorts s (A.device adapter.old) book.old slots.old modes.now ports.now }
-    ensures issues { (s : ServerState) → LendsPorts s (A.device adapter.old) book.old slots.old modes.now ports.now
-        → IssuePorts 0 ports.now s (with_issues s (A.device adapter.new) book.new slots.new) }
+    requires kept { (s : ServerState) × InCallInvariant (with_ports s (A.device adapter.old) shared.old ports.old) }
+    ensures issues { (s : ServerState) → InCallInvariant (with_ports s (A.device adapter.old) shared.old ports.old)
+        → IssuePorts 0 (found_by_port ports.old)
+        (with_ports s (A.device adapter.old) shared.old ports.old)
+        (with_ports s (A.device adapter.new) shared.new ports.new) }
     ensures cost { MakesAtMost (PORTS * ISSUES_ACCESSES) (A.access_count adapter.old) (A.access_count adapter.new) }
 {
     law_requests_keep();
     for number in 0..PORTS {
-        if let ProbeResult::Ready(_) = ports[number] {
-            issue_due(
-                adapter,
-                book,
-                &mut slots[number],
-                Port(number as u8),
-                modes[number],
-            );
+        if let ProbeResult::Ready(_) = ports[number].found {
+            ports[number].issue_due(adapter, &mut shared.book, Port(number as u8));
         }
     }
 }

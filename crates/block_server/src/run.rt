@@ -52,7 +52,7 @@ impl<A: Stepped> Server<A> {
 
     /// Makes the call. What a service, a tick, a reset that ends, or a revocation of a grant that is there answered is
     /// all that `replies` has then; of what it has after another call nothing is told.
-    fn answer(&mut self, call: &Call<DeviceStep>, replies: &mut Replies) -> CallResult<()>
+    fn make_call(&mut self, call: &Call<DeviceStep>, replies: &mut Replies) -> CallResult<()>
         ensures adds { ExtendsHistory (server_of A.device self.old) (server_of A.device self.new) (ask_of call.now)
             (said_of (with_replies result replies.new.items)) }
         ensures wanted { self.new.wanted ≡ self.old.wanted }
@@ -112,7 +112,7 @@ impl<A: Stepped> Server<A> {
                 return Err(RunStopped { at });
             }
             out.go_on();
-            let said = self.answer(call, &mut out.replies);
+            let said = self.make_call(call, &mut out.replies);
             out.last = Some(said);
         }
         Ok(())

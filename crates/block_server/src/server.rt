@@ -1,41 +1,33 @@
 // The server.
-ghost use Rattle.std.specs.Prelude.{[], ◌≡◌, ◌≢◌, false, ◌<◌, ◌≤◌, ◌+◌, ◌↔◌, ◌*◌, ◌++◌, List, ℕ, IsTrue, IfOk, IfErr, OnOk, MatchOption, Ok, length, map, option_map, slice_index_or, true};
+ghost use Rattle.std.specs.Prelude.{[], ◌≡◌, false, ◌<◌, ◌+◌, ◌↔◌, IsTrue, IfOk, IfErr, OnOk, Ok, true};
 
 mod client_bytes;
 mod revoking;
 
 use crate::ServerError;
-use crate::answering::answer_done;
-use crate::dispositions::resolve;
-use crate::kept::{Quarantine, end_all, give_all_back, none_kept};
+use crate::kept::{end_all, none_kept};
 use crate::limits::{CLIENT_PLACES, leaves_disk};
-use crate::modes::{PLAIN, modes_of, overdue_ports, ready_ports, unused_slots};
-use crate::port::{issue_due, issue_where_ready};
-use crate::probing::{needs_probe, probe_anew};
-use crate::recovery::{
-    complete_and_recover, error_of, order_from, revalidate_port, revalidation_of,
+use crate::modes::{overdue_ports, ready_ports};
+use crate::resetting::{
+    begin_anew, get_stuck, give_all_back, into_loans, issue_ports, resolve_ports, unserved_ports,
+    wanted_disks,
 };
-use crate::resetting::{dead_ports, disks_of, issue_ports, last_disk_of, resolve_ports};
+use crate::served_port::{ServedPort, Shared};
 use adapter::{Adapter, DeviceStep, Stepped};
 use ata_types::{
     AdapterStuck, MOST_UNANSWERED, Op, PORTS, Port, PortState, Range, Refusal, Replies, Request,
     RequestId,
 };
-use block_machine::QueueMode;
 use block_machine::laws::law_due_is_exact;
-use commands::done;
 use configuration::{Config, Plan};
 use dma_frames::FrameTable;
 use grants::{Grants, decide};
 use host_boot::{ProbeResult, reset, take_over};
-use identify::{DiskInfo, Wanted};
-use port_control::events::{PortError, take_event};
+use identify::DiskInfo;
 use request_queue::laws::law_the_book_stays_in_order;
 use request_queue::{Book, PendingRequest};
 use server_history::laws::{
-    law_a_finished_port_settles, law_a_new_server_has_begun, law_a_port_goes_on_after_its_errors,
-    law_a_port_is_served, law_a_timed_out_port_is_restarted, law_acceptances_add,
-    law_an_unready_port_is_probed, law_device_steps_add, law_looks_keep, law_refusals_add,
+    law_a_new_server_has_begun, law_acceptances_add, law_device_steps_add, law_refusals_add,
     law_requests_get_older, law_requests_keep, law_services_add, law_ticks_add,
 };
 use server_history::resets::{law_a_reset_server_goes_on, law_resets_add};
@@ -43,7 +35,6 @@ use server_history::stalled::{
     law_a_server_is_booked, law_booked_loans_are_lent, law_stalled_servers_admit_none,
     law_stalled_services_add, law_stalled_ticks_add, law_stuck_resets_add,
 };
-use slots::Slots;
 use std::alloc::Global;
 use std::marker::Model;
 
@@ -52,19 +43,9 @@ use std::marker::Model;
 pub struct Server<A: Adapter> {
     adapter: A,
     grants: Grants,
-    /// On the heap, since it is large and a server is moved.
-    table: Box<FrameTable>,
-    wanted: [Wanted; PORTS],
-    ports: [ProbeResult; PORTS],
-    /// The disk that a port was last ready with, once it isn't ready, or its error was handled, or its adapter was
-    /// reset.
-    remembered: [Option<DiskInfo>; PORTS],
-    modes: [QueueMode; PORTS],
-    slots: [Slots; PORTS],
-    /// Of a dead port, the loans of requests that were issued, and then answered: until a reset ends, since the device
-    /// may still move their sectors.
-    kept: [Quarantine; PORTS],
-    book: Book,
+    shared: Shared,
+    ports: [ServedPort; PORTS],
+    /// The id that was handed out last, or 0.
     last: u64,
     /// Whether the last reset got stuck: the adapter isn't on, each port that is served is dead, and requests may wait
     /// to be told so.
@@ -91,21 +72,12 @@ impl<A: Adapter> Server<A> {
     ghost use Rattle.block_server.specs.View.{server_of};
     ghost use Rattle.configuration.specs.Rules.{MeetsAll};
     ghost use Rattle.host_boot.specs.Taken.{probe_result_of};
-    ghost use Rattle.request_queue.specs.Entries.{Held, IsOverdue};
     ghost use Rattle.server_history.specs.Histories.{ExtendsHistory};
-    ghost use Rattle.ata_types.specs.declared.request.Reply.{Reply};
-    ghost use Rattle.server_history.specs.Served.{AnswersDone};
-    ghost use Rattle.server_history.specs.Turns.{ServesPort, TicksPort, ProbesUnready, a_tick_older};
-    ghost use Rattle.block_server.specs.Recovery.{HandlesPortErrorOf, SeesPortError};
     ghost use Rattle.block_server.specs.Resetting.{DoesReset, reset_said};
-    ghost use Rattle.adapter.specs.Device.{Device};
-    ghost use Rattle.server_history.specs.Server.{SettledInvariant, last_disk_of, mode_at, remembered_at, server_situation, state_of, last_sectors_of, last_trims_of};
-    ghost use Rattle.hba_regs.specs.Bits.{bit};
-    ghost use Rattle.refinement.specs.Relation.{port_at};
-    ghost use Rattle.refinement.specs.Slots.{IsOver};
+    ghost use Rattle.server_history.specs.Server.{last_disk_of, remembered_at, server_situation, state_of, last_sectors_of, last_trims_of};
     ghost use Rattle.ata_types.specs.declared.PortState.TheVariants.{Ready};
     ghost use Rattle.adapter.specs.Counted.{MakesAtMost};
-    ghost use Rattle.block_server.specs.Costs.{ISSUES_ACCESSES, MOST_OF_NEW, MOST_OF_RESET, MOST_OF_SERVICE, MOST_OF_SUBMIT, MOST_OF_TICK, TURN_ACCESSES, port_error_accesses};
+    ghost use Rattle.block_server.specs.Costs.{MOST_OF_NEW, MOST_OF_RESET, MOST_OF_SERVICE, MOST_OF_SUBMIT, MOST_OF_TICK};
 
     /// A server of an idle adapter, by a configuration: who owns which frames, which grants there are, and which disks
     /// are wanted. Each port is booted in which a disk is wanted; nothing is asked yet.
@@ -139,21 +111,15 @@ impl<A: Adapter> Server<A> {
             end_all(kept);
             return Err((ServerError::NoMemory, adapter));
         };
-        let wanted = *plan.wanted();
-        let host = take_over(&mut adapter, &wanted);
-        let modes = modes_of(&host);
+        let mut ports = unserved_ports(plan.wanted(), kept);
+        let host = take_over(&mut adapter, plan.wanted());
+        begin_anew(&mut ports, &host);
         law_a_new_server_has_begun();
         Ok(Server {
             adapter,
             grants,
-            table,
-            wanted,
-            ports: host.ports,
-            remembered: [None; PORTS],
-            modes,
-            slots: unused_slots(&modes),
-            kept,
-            book,
+            shared: Shared { table, book },
+            ports,
             last: 0,
             stuck: false,
         })
@@ -170,20 +136,10 @@ impl<A: Adapter> Server<A> {
     fn found(&self, port: Port) -> ProbeResult
         ensures { result ≡ probe_result_of self.now.ports port.0 }
     {
-        self.ports
-            .get(usize::from(port.0))
-            .copied()
-            .unwrap_or(ProbeResult::Unserved)
-    }
-
-    /// How a port takes commands.
-    fn mode(&self, port: Port) -> QueueMode
-        ensures { result ≡ mode_at self.now.modes port.0 }
-    {
-        self.modes
-            .get(usize::from(port.0))
-            .copied()
-            .unwrap_or(PLAIN)
+        match self.ports.get(usize::from(port.0)) {
+            Some(its) => its.found,
+            None => ProbeResult::Unserved,
+        }
     }
 
     /// What a port is to its clients. One that isn't served is `Absent`.
@@ -206,8 +162,10 @@ impl<A: Adapter> Server<A> {
         ensures { result ≡ last_disk_of (probe_result_of self.now.ports port.0)
             (remembered_at self.now.remembered port.0) }
     {
-        let remembered = self.remembered.get(usize::from(port.0)).copied().flatten();
-        last_disk_of(&self.found(port), &remembered)
+        match self.ports.get(usize::from(port.0)) {
+            Some(its) => its.disk(),
+            None => None,
+        }
     }
 
     /// How many sectors that disk has; 0 where there is none.
@@ -242,7 +200,7 @@ impl<A: Adapter> Server<A> {
         ensures refused { IfErr result (λ refusal. IsFirstRefusal (server_situation (server_of A.device self.now)) r.now
             refusal) }
     {
-        if let Err(rule) = decide(r, &self.grants, &self.table) {
+        if let Err(rule) = decide(r, &self.grants, &self.shared.table) {
             return Err(Refusal::Rule(rule));
         }
         let Some(row) = self.grants.row(r.client, r.grant) else {
@@ -258,7 +216,7 @@ impl<A: Adapter> Server<A> {
         if self.lacks_trim(r, row.port) {
             return Err(Refusal::TrimUnsupported);
         }
-        if self.book.unanswered(r.client) >= CLIENT_PLACES {
+        if self.shared.book.unanswered(r.client) >= CLIENT_PLACES {
             return Err(Refusal::ClientFull);
         }
         if self.last >= u64::MAX {
@@ -281,9 +239,8 @@ impl<A: Adapter> Server<A> {
         law_requests_keep();
         law_acceptances_add();
         law_due_is_exact();
-        let mode = self.mode(port);
         let id = RequestId(self.last + 1);
-        let loan = self.table.lend(r.client, r.frames.as_slice(), id);
+        let loan = self.shared.table.lend(r.client, r.frames.as_slice(), id);
         let entry = PendingRequest {
             id,
             client: r.client,
@@ -299,10 +256,10 @@ impl<A: Adapter> Server<A> {
             age: 0,
             revoked: false,
         };
-        self.book.accept(entry, loan);
+        self.shared.book.accept(entry, loan);
         self.last = id.0;
-        let slots = &mut self.slots[usize::from(port.0)];
-        issue_due(&mut self.adapter, &mut self.book, slots, port, mode);
+        let its = &mut self.ports[usize::from(port.0)];
+        its.issue_due(&mut self.adapter, &mut self.shared.book, port);
         id
     }
 
@@ -319,166 +276,6 @@ impl<A: Adapter> Server<A> {
         let _ = &self.adapter;
         let port = self.admit(r)?;
         Ok(self.accept(r, port))
-    }
-
-    /// Answers the requests of a ready port whose slots were found done, in order of acceptance: their frames are given
-    /// back. Then what is due on the port is issued.
-    fn finish(&mut self, port: Port, done: u32, replies: &mut Replies)
-        requires on { self.old.stuck ≡ false }
-        requires ready { state_of (probe_result_of self.old.ports port.0) ≡ Ready }
-        requires over { (slot : ℕ) → slot < 32 → bit done slot ≡ true → IsOver ((A.device self.old.adapter).port port.0)
-            slot }
-        requires room { length replies.old.items + length self.old.book ≤ MOST_UNANSWERED }
-        ensures on { self.new.stuck ≡ false }
-        ensures finishes { (its : List Reply) × (replies.new.items ≡ replies.old.items ++ its)
-            × AnswersDone port done its (server_of A.device self.old) (server_of A.device self.new) }
-        ensures settled { SettledInvariant (server_of A.device self.new) }
-        ensures ports { self.new.ports ≡ self.old.ports }
-        ensures room { length replies.new.items + length self.new.book ≤ MOST_UNANSWERED }
-        ensures cost { MakesAtMost ISSUES_ACCESSES (A.access_count self.old.adapter) (A.access_count self.new.adapter) }
-    {
-        law_a_finished_port_settles();
-        let mode = self.mode(port);
-        let slots = &mut self.slots[usize::from(port.0)];
-        answer_done(&mut self.book, &mut self.table, slots, done, replies);
-        issue_due(&mut self.adapter, &mut self.book, slots, port, mode);
-    }
-
-    /// Handles the error of a ready port. What is done is answered. Where a command had failed, it is found out which
-    /// one, and the port is had to run again, by a boot where that is needed; where its link or the host's bus had, or
-    /// a request is hung, it is booted anew; where its disk was lost, if a device shows. The request whose command
-    /// failed is told so. The others wait again where their disk is there still, but are `Revoked` where their grant
-    /// was, and `Aborted` after the fourth issue; where it isn't they are `Unplugged`, and where the port is dead
-    /// `PortDead`. Then what is due is issued.
-    fn handle_port_error(
-        &mut self,
-        port: Port,
-        was: DiskInfo,
-        port_error: PortError,
-        replies: &mut Replies,
-    )
-        requires on { self.old.stuck ≡ false }
-        requires ready { probe_result_of self.old.ports port.0 ≡ ProbeResult.Ready was }
-        requires sees { (before : Device)
-            × SeesPortError (record (server_of A.device self.old) { device = before }) port
-            port_error (A.device self.old.adapter)
-            × SettledInvariant (record (server_of A.device self.old) { device = before }) }
-        requires room { length replies.old.items + length self.old.book ≤ MOST_UNANSWERED }
-        ensures on { self.new.stuck ≡ false }
-        ensures handling { (before : Device)
-            → SeesPortError (record (server_of A.device self.old) { device = before }) port
-            port_error (A.device self.old.adapter)
-            → SettledInvariant (record (server_of A.device self.old) { device = before })
-            → (its : List Reply) × (replies.new.items ≡ replies.old.items ++ its)
-            × HandlesPortErrorOf port port_error its (record (server_of A.device self.old) { device = before })
-            (server_of A.device self.new) }
-        ensures settled { SettledInvariant (server_of A.device self.new) }
-        ensures ports { (q : ℕ) → q ≢ port.0 → probe_result_of self.new.ports q ≡ probe_result_of self.old.ports q }
-        ensures room { length replies.new.items + length self.new.book ≤ MOST_UNANSWERED }
-        ensures cost { MakesAtMost (port_error_accesses port_error)
-            (A.access_count self.old.adapter) (A.access_count self.new.adapter) }
-    {
-        law_a_port_goes_on_after_its_errors();
-        law_a_port_is_served();
-        law_a_timed_out_port_is_restarted();
-        let place = usize::from(port.0);
-        let first = replies.len();
-        let wanted = self.wanted[place];
-        let mode = self.mode(port);
-        let slots = &mut self.slots[place];
-        let (failed, next) = complete_and_recover(
-            &mut self.adapter,
-            &mut self.book,
-            &mut self.table,
-            slots,
-            port,
-            port_error,
-            replies,
-        );
-        let (found, mode) = revalidate_port(
-            &mut self.adapter,
-            port_error,
-            next,
-            &was,
-            mode,
-            &wanted,
-        );
-        self.ports[place] = found;
-        self.remembered[place] = Some(was);
-        self.modes[place] = mode;
-        self.slots[place] = Slots::new(mode.usable);
-        let revalidation = revalidation_of(port_error, &was, &found);
-        let kept = &mut self.kept[place];
-        resolve(
-            &mut self.book,
-            &mut self.table,
-            kept,
-            port,
-            &failed,
-            revalidation,
-            replies,
-        );
-        order_from(replies, first);
-        let slots = &mut self.slots[place];
-        issue_where_ready(&mut self.adapter, &mut self.book, slots, port, mode, &found);
-    }
-
-    /// Looks at a ready port. Where commands of what it has issued are done, those requests are answered, and then what
-    /// is due is issued. Where the look tells an error, it is handled.
-    fn serve_port(&mut self, port: Port, replies: &mut Replies)
-        requires on { self.old.stuck ≡ false }
-        requires ready { state_of (probe_result_of self.old.ports port.0) ≡ Ready }
-        requires room { length replies.old.items + length self.old.book ≤ MOST_UNANSWERED }
-        ensures on { self.new.stuck ≡ false }
-        ensures serves { (its : List Reply) × (replies.new.items ≡ replies.old.items ++ its)
-            × ServesPort port its (server_of A.device self.old) (server_of A.device self.new) }
-        ensures settled { SettledInvariant (server_of A.device self.new) }
-        ensures ports { (q : ℕ) → q ≢ port.0 → probe_result_of self.new.ports q ≡ probe_result_of self.old.ports q }
-        ensures room { length replies.new.items + length self.new.book ≤ MOST_UNANSWERED }
-        ensures cost { MakesAtMost TURN_ACCESSES (A.access_count self.old.adapter) (A.access_count self.new.adapter) }
-    {
-        law_looks_keep();
-        law_a_port_is_served();
-        let ProbeResult::Ready(was) = self.found(port) else {
-            unreachable!()
-        };
-        let look = take_event(&mut self.adapter, port);
-        if let Some(port_error) = error_of(look) {
-            return self.handle_port_error(port, was, port_error, replies);
-        }
-        let used = self.slots[usize::from(port.0)].taken();
-        if used == 0 {
-            return;
-        }
-        let finished = done(&mut self.adapter, port, used);
-        if finished != 0 {
-            self.finish(port, finished, replies);
-        }
-    }
-
-    /// Looks at a port that isn't ready. Where an absent one shows a device, or one whose disk isn't served shows that
-    /// it is another by now, or gone, the port is stopped and booted. Nobody waits for it, so that nobody is answered.
-    /// A dead port isn't looked at.
-    fn probe_port(&mut self, port: Port, state: PortState)
-        requires on { self.old.stuck ≡ false }
-        requires unready { probe_result_of self.old.ports port.0 ≡ ProbeResult.Unready state }
-        ensures on { self.new.stuck ≡ false }
-        ensures probes { ProbesUnready port (server_of A.device self.old) (server_of A.device self.new) }
-        ensures settled { SettledInvariant (server_of A.device self.new) }
-        ensures ports { (q : ℕ) → q ≢ port.0 → probe_result_of self.new.ports q ≡ probe_result_of self.old.ports q }
-        ensures book { self.new.book ≡ self.old.book }
-        ensures cost { MakesAtMost TURN_ACCESSES (A.access_count self.old.adapter) (A.access_count self.new.adapter) }
-    {
-        law_an_unready_port_is_probed();
-        if !needs_probe(&mut self.adapter, port, state) {
-            return;
-        }
-        let number = usize::from(port.0);
-        let wanted = self.wanted[number];
-        let (found, mode) = probe_anew(&mut self.adapter, port, &wanted);
-        self.ports[number] = found;
-        self.modes[number] = mode;
-        self.slots[number] = Slots::new(mode.usable);
     }
 
     /// Looks at all served ports, in rising number, and answers what has ended.
@@ -522,14 +319,13 @@ impl<A: Adapter> Server<A> {
         if self.stuck {
             return self.fail_all(replies);
         }
-        let ports = self.ports;
         for number in 0..PORTS {
-            let port = Port(number as u8);
-            match ports[number] {
-                ProbeResult::Ready(_) => self.serve_port(port, replies),
-                ProbeResult::Unready(state) => self.probe_port(port, state),
-                ProbeResult::Unserved => {}
-            }
+            self.ports[number].take_turn(
+                &mut self.adapter,
+                &mut self.shared,
+                Port(number as u8),
+                replies,
+            );
         }
     }
 
@@ -546,55 +342,7 @@ impl<A: Adapter> Server<A> {
         law_a_server_is_booked();
         law_stalled_services_add();
         law_the_book_stays_in_order();
-        let book = &mut self.book;
-        let kept = &mut self.kept;
-        resolve_ports(
-            book,
-            &mut self.table,
-            kept,
-            &self.remembered,
-            &self.ports,
-            replies,
-        );
-    }
-
-    /// Makes the issued requests of ready ports a tick older, and tells by port whether one is overdue then.
-    fn grow_older(&mut self) -> [bool; PORTS]
-        requires on { self.old.stuck ≡ false }
-        ensures on { self.new.stuck ≡ false }
-        ensures older { server_of A.device self.new ≡ a_tick_older (server_of A.device self.old) }
-        ensures settled { SettledInvariant (server_of A.device self.new) }
-        ensures overdue { (number : ℕ) → number < 4 → IsTrue (slice_index_or result number false)
-            ↔ IsOverdue (port_at number) self.new.book }
-        ensures cost { MakesAtMost 0 (A.access_count self.old.adapter) (A.access_count self.new.adapter) }
-    {
-        law_requests_get_older();
-        let is_one = self.book.tick(&ready_ports(&self.ports));
-        overdue_ports(&self.book, is_one)
-    }
-
-    /// Restarts a ready port of which a request is overdue: the port isn't looked at, and its error is a timeout.
-    /// Another rests.
-    fn tick_port(&mut self, port: Port, was: DiskInfo, is_overdue: bool, replies: &mut Replies)
-        requires on { self.old.stuck ≡ false }
-        requires ready { probe_result_of self.old.ports port.0 ≡ ProbeResult.Ready was }
-        requires room { length replies.old.items + length self.old.book ≤ MOST_UNANSWERED }
-        ensures on { self.new.stuck ≡ false }
-        ensures ticks { (book : List Held) → (IsTrue is_overdue ↔ IsOverdue port book) → (its : List Reply)
-            × (replies.new.items ≡ replies.old.items ++ its) × TicksPort book port its (server_of A.device self.old)
-            (server_of A.device self.new) }
-        ensures settled { SettledInvariant (server_of A.device self.new) }
-        ensures ports { (q : ℕ) → q ≢ port.0 → probe_result_of self.new.ports q ≡ probe_result_of self.old.ports q }
-        ensures room { length replies.new.items + length self.new.book ≤ MOST_UNANSWERED }
-        ensures cost { MakesAtMost (port_error_accesses PortError.TimedOut)
-            (A.access_count self.old.adapter) (A.access_count self.new.adapter) }
-    {
-        law_looks_keep();
-        law_a_timed_out_port_is_restarted();
-        let _ = &self.adapter;
-        if is_overdue {
-            self.handle_port_error(port, was, PortError::TimedOut, replies);
-        }
+        resolve_ports(&mut self.ports, &mut self.shared, replies);
     }
 
     /// Notes that a tick has gone by, and restarts each ready port of which a request hangs.
@@ -628,6 +376,7 @@ impl<A: Adapter> Server<A> {
             (Served replies.new.items) }
         ensures cost { MakesAtMost MOST_OF_TICK (A.access_count self.old.adapter) (A.access_count self.new.adapter) }
     {
+        law_requests_get_older();
         law_ticks_add();
         law_stalled_ticks_add();
         law_the_book_stays_in_order();
@@ -636,13 +385,16 @@ impl<A: Adapter> Server<A> {
             // No port is ready, so no request gets older.
             return;
         }
-        let ports = self.ports;
-        let overdue = self.grow_older();
-        for place in 0..PORTS {
-            let ProbeResult::Ready(was) = ports[place] else {
-                continue;
-            };
-            self.tick_port(Port(place as u8), was, overdue[place], replies);
+        let is_one = self.shared.book.tick(&ready_ports(&self.ports));
+        let overdue = overdue_ports(&self.shared.book, is_one);
+        for number in 0..PORTS {
+            self.ports[number].tick(
+                &mut self.adapter,
+                &mut self.shared,
+                Port(number as u8),
+                overdue[number],
+                replies,
+            );
         }
     }
 
@@ -690,35 +442,17 @@ impl<A: Adapter> Server<A> {
         law_stuck_resets_add();
         law_the_book_stays_in_order();
         replies.clear();
-        self.remembered = disks_of(&self.ports, &self.remembered);
         if let Err(stuck) = reset(&mut self.adapter) {
-            self.ports = dead_ports(&self.ports);
-            self.modes = [PLAIN; PORTS];
-            self.slots = unused_slots(&self.modes);
+            get_stuck(&mut self.ports);
             self.stuck = true;
             return Err(stuck);
         }
-        give_all_back(&mut self.kept, &mut self.table);
-        let host = take_over(&mut self.adapter, &self.wanted);
-        self.ports = host.ports;
-        self.modes = modes_of(&host);
-        self.slots = unused_slots(&self.modes);
+        give_all_back(&mut self.ports, &mut self.shared.table);
+        let host = take_over(&mut self.adapter, &wanted_disks(&self.ports));
+        begin_anew(&mut self.ports, &host);
         self.stuck = false;
-        resolve_ports(
-            &mut self.book,
-            &mut self.table,
-            &mut self.kept,
-            &self.remembered,
-            &self.ports,
-            replies,
-        );
-        issue_ports(
-            &mut self.adapter,
-            &mut self.book,
-            &mut self.slots,
-            &self.modes,
-            &self.ports,
-        );
+        resolve_ports(&mut self.ports, &mut self.shared, replies);
+        issue_ports(&mut self.ports, &mut self.adapter, &mut self.shared);
         Ok(())
     }
 
@@ -731,20 +465,15 @@ impl<A: Adapter> Server<A> {
         let Server {
             adapter,
             grants: _,
-            mut table,
-            wanted: _,
-            ports: _,
-            remembered: _,
-            modes: _,
-            slots: _,
-            mut kept,
-            book,
+            shared,
+            mut ports,
             last: _,
             stuck: _,
         } = self;
+        let Shared { mut table, book } = shared;
         book.give_all_back(&mut table);
-        give_all_back(&mut kept, &mut table);
-        end_all(kept);
+        give_all_back(&mut ports, &mut table);
+        end_all(into_loans(ports));
         adapter
     }
 }

@@ -68,7 +68,8 @@ IsLater None new found = found ≡ new
 IsLater (Some old) new found = (new.id.0 ≤ found.id.0) × (old.id.0 ≤ found.id.0) × ((found ≡ new) ⊎ (found ≡ old))
 
 -- the last in order of acceptance of those that wrote the sector, or none did
-pub record IsLastWriter (port : Port) (k n before : ℕ) (history : List Step) (found : Option HistoryRequest) : Type 0 where
+pub record IsLastWriter (port : Port) (k n before : ℕ) (history : List Step)
+    (found : Option HistoryRequest) : Type 0 where
   pub wrote : IfSome found (λ w. Wrote port k n before history (accepted_of w))
   pub last : IfSome found (λ w. (other : Accepted) → Wrote port k n before history other → other.id.0 ≤ w.id.0)
   pub none : IfNone found ((other : Accepted) → Wrote port k n before history other → ⊥)

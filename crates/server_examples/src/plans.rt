@@ -1,7 +1,7 @@
 // What a configuration asks of a server, and which values break its rules. Texts of configurations stand in the cases
 // of the program.
 use ata_types::{ClientId, Frame, GrantRow, Port, Rights, Sector};
-use configuration::{ClientConfig, Config, GrantConfig, FaultKind, Plan, PortConfig};
+use configuration::{ClientConfig, Config, FaultKind, GrantConfig, Plan, PortConfig};
 use identify::Wanted;
 use std::alloc::Global;
 use std::test::Fail;
@@ -140,7 +140,10 @@ fn values_that_break_a_rule_are_refused(rt: HostRuntime) -> Result<(), Fail> {
         (Added::Grant(2, 1, 0), Some(FaultKind::UnknownClient)),
         (Added::Client(3, 115, 1), Some(FaultKind::SharedFrames)),
         (Added::Port(0), Some(FaultKind::Duplicate)),
-        (Added::Client(1, u64::MAX, u64::MAX), Some(FaultKind::OutOfRange)),
+        (
+            Added::Client(1, u64::MAX, u64::MAX),
+            Some(FaultKind::OutOfRange),
+        ),
     ] {
         match added {
             Added::Port(number) => config.port.push(PortConfig {

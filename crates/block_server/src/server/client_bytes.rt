@@ -30,10 +30,10 @@ impl<A: Adapter> Server<A> {
         ensures err { IfErr result (IsFirstMemFault (owner_of self.now.table) (lent_to self.now.table) client frame
             offset length) }
     {
-        if self.table.owner(frame) != Some(client) {
+        if self.shared.table.owner(frame) != Some(client) {
             return Err(MemFault::FrameForeign);
         }
-        if self.table.lent_to(frame).is_some() {
+        if self.shared.table.lent_to(frame).is_some() {
             return Err(MemFault::FrameLent);
         }
         if offset as u128 + length as u128 > FRAME_BYTES as u128 {

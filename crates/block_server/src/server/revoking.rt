@@ -3,7 +3,6 @@ ghost use Rattle.std.specs.Prelude.{[], IfErr, IfOk, None, Ok, Err, Some};
 
 use super::Server;
 use crate::dispositions::answer_waiting;
-use crate::port::issue_where_ready;
 use adapter::Adapter;
 use ata_types::{ClientId, NoSuchGrant, Replies};
 use request_queue::laws::{law_accepted_requests_stay, law_the_book_stays_in_order};
@@ -70,24 +69,20 @@ impl<A: Adapter> Server<A> {
         let Some(row) = self.grants.revoke(client, number) else {
             return Err(NoSuchGrant);
         };
-        self.book.revoke(client, number);
-        answer_waiting(&mut self.book, &mut self.table, client, number, replies);
+        self.shared.book.revoke(client, number);
+        answer_waiting(
+            &mut self.shared.book,
+            &mut self.shared.table,
+            client,
+            number,
+            replies,
+        );
         if self.stuck {
             // No port is ready.
             return Ok(());
         }
-        let place = usize::from(row.port.0);
-        let found = self.ports[place];
-        let mode = self.modes[place];
-        let slots = &mut self.slots[place];
-        issue_where_ready(
-            &mut self.adapter,
-            &mut self.book,
-            slots,
-            row.port,
-            mode,
-            &found,
-        );
+        let its = &mut self.ports[usize::from(row.port.0)];
+        its.issue_where_ready(&mut self.adapter, &mut self.shared.book, row.port);
         Ok(())
     }
 }

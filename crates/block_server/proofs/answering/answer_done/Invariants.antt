@@ -1,14 +1,14 @@
 use Rattle.std.proofs.Common.{◌+◌, ◌≤◌, length}
 use Rattle.ata_types.specs.declared.Port.{Port}
 use Rattle.ata_types.specs.declared.limits.TheConstants.{MOST_UNANSWERED}
-use Rattle.block_server.specs.Ports.{LendsDone, with_answers}
+use Rattle.block_server.specs.Ports.{HasDonePort, with_answers}
 use Rattle.server_history.specs.Server.{ServerState}
 use Rattle.block_server.proofs.Finishing.{AnswersSome}
 use Rattle.block_server.proofs.answering.answer_done.Given as goal
 
 abbrev pub invariant-loop-slot : goal.invariant-loop-slot
 invariant-loop-slot l = record {
-  answers : (s : ServerState) (port : Port) → LendsDone s l.fn.table l.fn.book l.fn.slots port l.done
+  answers : (s : ServerState) (port : Port) → HasDonePort s l.fn.table l.fn.book l.fn.slots port l.done
       → AnswersSome port l.done l.fn.replies.items l.replies.items s (with_answers s l.table l.book l.slots port) l.table l.book l.slots;
   room : length l.replies.items + length l.book ≤ MOST_UNANSWERED;
 }

@@ -1,42 +1,44 @@
-use Rattle.std.proofs.Common.{◌≡◌, ◌<◌, List, arith, length, set, refl, sym, ap, ◌∙◌, subst}
-use Rattle.adapter.specs.Device.{Device}
+use Rattle.std.proofs.Common.{ℕ, ◌≡◌, ◌<◌, List, arith, get_or, length, set, refl, sym, ap, ◌∙◌, subst}
+use Rattle.std.proofs.lemmas.List.{get_or_default, length-map, length-set}
+use Rattle.std.proofs.Math.ListN.{get_or-map}
+use Rattle.std.proofs.Math.Seq.{map-set_same}
 use Rattle.refinement.specs.Relation.{port_at}
-use Rattle.block_server.specs.Resetting.{LendsPorts, with_issues}
-use Rattle.server_history.specs.Resets.{IssuePorts}
-use Rattle.server_history.specs.Server.{ServerState, mode_in}
-use Rattle.request_queue.specs.Entries.{Held, asks_of, due_ids}
-use Rattle.slots.specs.Uses.{PortSlots}
+use Rattle.host_boot.specs.Taken.{probe_result_of}
+use Rattle.host_boot.specs.declared.ProbeResult.{ProbeResult}
+use Rattle.block_server.specs.Parts.{HasParts, found_by_port, no_port, with_parts, with_ports}
+use Rattle.block_server.specs.Ports.{with_part}
+use Rattle.block_server.specs.declared.served_port.ServedPort.{ServedPort}
+use Rattle.block_server.specs.declared.served_port.Shared.{Shared}
+use Rattle.server_history.specs.Served.{IssuesAll}
+use Rattle.server_history.specs.Server.{InCallInvariant, ServerState, mode_in}
+use Rattle.request_queue.specs.Entries.{asks_of, due_ids}
+use Rattle.block_server.proofs.Placing as placing
 use Rattle.block_server.proofs.Reviving as reviving
 use Rattle.block_server.proofs.resetting.issue_ports.Goals as goal
 use Rattle.block_server.proofs.resetting.issue_ports.Goals.{in-Ready, in_default}
 
+-- the port at a place was found to be one thing
+same_found : (ports : List ServedPort) (number : ℕ) (one other : ServedPort) → number < length ports → (get_or ports number one).found ≡ (get_or ports number other).found
+same_found ports number one other low = ap (λ (p : ServedPort). p.found) (get_or_default ports number one other low)
+
 pub loop-number-init : goal.loop-number-init
-loop-number-init g c =
-    let device = g.A.Adapter.device in
-    let same : (s : ServerState) → LendsPorts s (device c.args.adapter.now) c.args.book.now c.args.slots.now c.args.modes.now c.args.ports.now
-    → s ≡ with_issues s (device c.args.adapter.now) c.args.book.now c.args.slots.now = λ s l.
-    ap (λ (d : Device). record s { device = d }) l.device_is
-    ∙ ap (λ (b : List Held). record s { device = device c.args.adapter.now; book = b }) l.book_is
-    ∙ ap (λ (x : List PortSlots). with_issues s (device c.args.adapter.now) c.args.book.now x) l.slots_are in
-    record {
-      lends = λ s l.
-          subst (λ (x : ServerState). LendsPorts x (device c.args.adapter.now) c.args.book.now c.args.slots.now c.args.modes.now c.args.ports.now) (same s l) l;
-      rest = λ s l new issues. subst (λ (x : ServerState). IssuePorts 0 c.args.ports.now x new) (sym (same s l)) issues;
-      cost = omega arith;
-    }
+loop-number-init g c = record { four = c.told-ports; found = refl; kept = λ s kept. kept; rest = λ s kept new issues. issues; cost = omega arith }
 
 pub issue_due-requires : goal.issue_due-requires
 issue_due-requires g c =
-    let device = g.A.Adapter.device in
+    let device = g.A.Adapter.device c.loop-number.adapter in
     let so_far = c.loop-number.invariant in
-    let s = c.requires.lends.0 in
+    let s = c.requires.kept.0 in
+    let ports = c.loop-number.ports in
     let number = c.loop-number.number in
-    let now = with_issues s (device c.loop-number.adapter) c.loop-number.book c.loop-number.slots in
+    let low : number < length ports = let four = so_far.four in let small = c.loop-number-test.true in omega (arith, four, small) in
+    let now = with_ports s device c.loop-number.shared ports in
+    let has = placing.has_parts s device c.loop-number.shared ports number c.index-ports-number.result low in
     record {
       lends = (
         now,
-        reviving.lends_one now (device c.loop-number.adapter) c.loop-number.book c.loop-number.slots c.args.modes.now c.args.ports.now (so_far.lends s c.requires.lends.1) number c.in-Ready.field-0
-            (let four = (so_far.lends s c.requires.lends.1).kept.four in let small = c.loop-number-test.true in omega (arith, four, small)) (let four = c.told-modes in let small = c.loop-number-test.true in omega (arith, four, small)) c.in-Ready.is c.index-slots-number.result _,
+        reviving.ready_one now device c.loop-number.shared (port_at number) (get_or ports number c.index-ports-number.result) (so_far.kept s c.requires.kept.1) has c.in-Ready.field-0
+            (same_found ports number c.index-ports-number.result _ low ∙ c.in-Ready.is),
       );
     }
 
@@ -45,41 +47,64 @@ loop-number-preserved g c =
     let device = g.A.Adapter.device in
     let so_far = c.loop-number.invariant in
     let number = c.loop-number.number in
-    let ports = c.args.ports.now in
-    let low : number < length ports = let four = c.told-ports in let small = c.loop-number-test.true in omega (arith, four, small) in
+    let ports = c.loop-number.ports in
+    let found = found_by_port c.args.ports.now in
+    let four = so_far.four in
+    let small = c.loop-number-test.true in
+    let low : number < length ports = omega (arith, four, small) in
+    let told = c.told-ports in
+    let long = length-map c.args.ports.now (λ (p : ServedPort). p.found) in
+    let within : number < length found = omega (arith, told, long, small) in
     elim c.match-ports-number.branch [
-      | in-Ready w ↦ rw (w.adapter-is, w.book-is, w.slots-is) (
-          let now : ServerState → ServerState = λ s. with_issues s (device c.loop-number.adapter) c.loop-number.book c.loop-number.slots in
-          let later : ServerState → ServerState = λ s. with_issues s (device w.issue_due.new.adapter) w.issue_due.new.book (set c.loop-number.slots number w.issue_due.new.slots) in
-          let all : (s : ServerState) (l : LendsPorts s (device c.args.adapter.now) c.args.book.now c.args.slots.now c.args.modes.now ports) → _ = λ s l.
-          w.issue_due.ensures.issues (now s)
-          (reviving.lends_one (now s) (device c.loop-number.adapter) c.loop-number.book c.loop-number.slots c.args.modes.now ports (so_far.lends s l) number w.in-Ready.field-0
-          (let four = (so_far.lends s l).kept.four in let small = c.loop-number-test.true in omega (arith, four, small)) (let four = c.told-modes in let small = c.loop-number-test.true in omega (arith, four, small)) w.in-Ready.is w.index-slots-number.result _) in
+      | in-Ready w ↦ rw (w.ports-is, w.adapter-is, w.shared-is) (
+          let p : ServedPort = get_or ports number w.index-ports-number.result in
+          let is = same_found ports number w.index-ports-number.result _ low ∙ w.in-Ready.is in
+          let new = device w.issue_due.new.adapter in
+          let u = w.issue_due.new.self.slots in
+          let shared : Shared = record c.loop-number.shared { book = w.issue_due.new.book } in
+          let now : ServerState → ServerState = λ s. with_ports s (device c.loop-number.adapter) c.loop-number.shared ports in
+          let later : ServerState → ServerState = λ s. with_ports s new shared (set ports number w.issue_due.new.self) in
+          let has : (s : ServerState) → HasParts (now s) (device c.loop-number.adapter) c.loop-number.shared (port_at number) p = λ s.
+          placing.has_parts s (device c.loop-number.adapter) c.loop-number.shared ports number w.index-ports-number.result low in
+          let there : probe_result_of found number ≡ p.found = ap (λ (list : List ProbeResult). probe_result_of list number) (sym so_far.found) ∙ get_or-map (λ (q : ServedPort). q.found) ports number no_port
+          ∙ ap (λ (q : ServedPort). q.found) (get_or_default ports number no_port w.index-ports-number.result low) in
+          let back : (s : ServerState) → with_part (now s) new w.issue_due.new.book u (port_at number) ≡ later s = λ s.
+          sym (placing.with_slots (now s) (port_at number) p (has s).port_is new shared u)
+          ∙ ap (with_parts (now s) new shared (port_at number)) (sym w.issue_due.ensures.rest)
+          ∙ placing.placed s (device c.loop-number.adapter) c.loop-number.shared ports number new shared w.issue_due.new.self in
+          let all : (s : ServerState) → InCallInvariant (now s) → IssuesAll (port_at number) (now s) (later s) = λ s kept.
+          subst (IssuesAll (port_at number) (now s)) (back s)
+          (w.issue_due.ensures.issues (now s) (reviving.ready_one (now s) (device c.loop-number.adapter) c.loop-number.shared (port_at number) p kept (has s) w.in-Ready.field-0 is)) in
           record {
-            lends = λ s l. record {
-              kept = reviving.issues_keep c.law_requests_keep.ensures.issued (port_at number) (due_ids (mode_in (now s) (port_at number)) (port_at number) (asks_of (now s).book)) (now s) (later s) (so_far.lends s l).kept (all s l);
-              device_is = refl;
-              book_is = refl;
-              slots_are = refl;
-              modes_are = l.modes_are;
-              ports_are = l.ports_are;
-            };
-            rest = λ s l new issues. so_far.rest s l new (reviving.one_issued ports number low w.in-Ready.field-0 w.in-Ready.is (now s) (later s) new (all s l) issues);
+            four = length-set ports number w.issue_due.new.self ∙ four;
+            found = map-set_same (λ (q : ServedPort). q.found) ports number w.issue_due.new.self w.index-ports-number.result (ap (λ (q : ServedPort). q.found) w.issue_due.ensures.rest) ∙ so_far.found;
+            kept = λ s kept.
+                reviving.issues_keep c.law_requests_keep.ensures.issued (port_at number) (due_ids (mode_in (now s) (port_at number)) (port_at number) (asks_of (now s).book)) (now s) (later s) (so_far.kept s kept)
+                (all s (so_far.kept s kept));
+            rest = λ s kept last issues.
+                so_far.rest s kept last (reviving.one_issued found number within w.in-Ready.field-0 (there ∙ is) (now s) (later s) last (all s (so_far.kept s kept)) issues);
             cost = omega (arith, so_far.cost, w.issue_due.ensures.cost);
           })
-      | in_default w ↦ rw (w.adapter-is, w.book-is, w.slots-is) (record {
-        lends = so_far.lends;
-        rest = λ s l new issues. so_far.rest s l new (reviving.none_issued ports number low w.in_default.not-Ready (with_issues s (device c.loop-number.adapter) c.loop-number.book c.loop-number.slots) new issues);
-        cost = omega (arith, so_far.cost);
-      })
+      | in_default w ↦ rw (w.ports-is, w.adapter-is, w.shared-is) (
+          let there : probe_result_of found number ≡ (get_or ports number no_port).found = ap (λ (list : List ProbeResult). probe_result_of list number) (sym so_far.found)
+          ∙ get_or-map (λ (q : ServedPort). q.found) ports number no_port in
+          record {
+            four = four;
+            found = so_far.found;
+            kept = so_far.kept;
+            rest = λ s kept last issues.
+                so_far.rest s kept last (reviving.none_issued found number within (λ info is. w.in_default.not-Ready info (same_found ports number _ no_port low ∙ sym there ∙ is)) (with_ports s (device c.loop-number.adapter) c.loop-number.shared ports) last issues);
+            cost = omega (arith, so_far.cost);
+          })
     ]
 
 pub returns : goal.returns
-returns g c =
-    let device = g.A.Adapter.device in
-    record {
-      issues = λ s l.
-          let now = with_issues s (device c.loop-number.adapter) c.loop-number.book c.loop-number.slots in
-          c.loop-number.invariant.rest s l now (reviving.none_to_issue c.args.ports.now c.loop-number.number (let four = c.told-ports in let large = c.loop-number-test.false in omega (arith, four, large)) now);
-      cost = omega (arith, c.loop-number.invariant.cost);
-    }
+returns g c = record {
+  issues = λ s kept.
+      let now = with_ports s (g.A.Adapter.device c.loop-number.adapter) c.loop-number.shared c.loop-number.ports in
+      let long = length-map c.args.ports.now (λ (p : ServedPort). p.found) in
+      let four = c.told-ports in
+      let large = c.loop-number-test.false in
+      c.loop-number.invariant.rest s kept now (reviving.none_to_issue (found_by_port c.args.ports.now) c.loop-number.number (omega (arith, long, four, large)) now);
+  cost = omega (arith, c.loop-number.invariant.cost);
+}

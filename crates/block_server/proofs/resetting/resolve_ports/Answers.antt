@@ -1,76 +1,90 @@
-use Rattle.std.proofs.Common.{◌<◌, ◌++◌, List, [], append-nil, append_assoc, arith, length, refl, sym, ap, ◌∙◌, subst}
+use Rattle.std.proofs.Common.{◌≡◌, ◌<◌, ◌++◌, List, [], append-nil, append_assoc, arith, length, set, refl, sym, ap, ◌∙◌, subst}
+use Rattle.std.proofs.lemmas.List.{length-map, length-set}
+use Rattle.std.proofs.Math.Seq.{map-set_same}
 use Rattle.ata_types.specs.declared.request.Reply.{Reply}
 use Rattle.refinement.specs.Relation.{port_at}
-use Rattle.block_server.specs.Resetting.{LendsBook, with_book}
-use Rattle.host_boot.specs.Taken.{probe_result_of}
-use Rattle.host_boot.specs.declared.ProbeResult.{ProbeResult}
-use Rattle.server_history.specs.Resets.{SettlePorts}
-use Rattle.server_history.specs.Server.{ServerState, remembered_at}
+use Rattle.block_server.specs.Parts.{found_by_port, with_ports}
+use Rattle.block_server.specs.declared.served_port.ServedPort.{ServedPort}
+use Rattle.server_history.specs.Resets.{MaySettle, SettlesPort}
+use Rattle.server_history.specs.Server.{ServerState}
+use Rattle.block_server.proofs.Placing as placing
 use Rattle.block_server.proofs.Reviving as reviving
 use Rattle.block_server.proofs.resetting.resolve_ports.Goals as goal
+use Rattle.block_server.proofs.resetting.resolve_ports.Goals.{After-resolve_after_reset}
 
 pub loop-number-init : goal.loop-number-init
 loop-number-init c = record {
-  lends = λ s l. subst (λ (x : ServerState). LendsBook x c.args.table.now c.args.book.now c.args.kept.now c.args.remembered.now c.args.ports.now)
-      (sym (reviving.with_same s c.args.table.now c.args.book.now c.args.kept.now l.table_is l.book_is l.kept_is)) l;
-  rest = λ s l later new settles.
-      (later, refl, subst (λ (x : ServerState). SettlePorts 0 c.args.ports.now later x new) (reviving.with_same s c.args.table.now c.args.book.now c.args.kept.now l.table_is l.book_is l.kept_is) settles);
+  four = c.told-ports;
+  found = refl;
+  settle = λ s may. may;
+  rest = λ s may later new settles. (later, refl, settles);
   room = c.requires.room;
 }
 
-pub resolve_port-requires-clause-lends : goal.resolve_port-requires-clause-lends
-resolve_port-requires-clause-lends c =
+pub resolve_after_reset-requires-clause-settle : goal.resolve_after_reset-requires-clause-settle
+resolve_after_reset-requires-clause-settle c =
     let so_far = c.loop-number.invariant in
-    let s = c.requires.lends.0 in
-    let now = with_book s c.loop-number.table c.loop-number.book c.loop-number.kept in
-    let l = so_far.lends s c.requires.lends.1 in (
-      now,
-      reviving.as_own now c.loop-number.table c.loop-number.book c.loop-number.kept c.args.remembered.now c.args.ports.now l,
-      ap (λ x. remembered_at x c.loop-number.number) l.remembered_are,
-      ap (λ (x : List ProbeResult). probe_result_of x c.loop-number.number) l.ports_are,
+    let s = c.requires.settle.0 in
+    let low : c.loop-number.number < length c.loop-number.ports = let four = so_far.four in let small = c.loop-number-test.true in omega (arith, four, small) in (
+      with_ports s s.device c.loop-number.shared c.loop-number.ports,
+      so_far.settle s c.requires.settle.1,
+      placing.has_parts s s.device c.loop-number.shared c.loop-number.ports c.loop-number.number c.index-ports-number.result low,
     )
 
-pub resolve_port-requires-clause-room : goal.resolve_port-requires-clause-room
-resolve_port-requires-clause-room c = c.loop-number.invariant.room
+pub resolve_after_reset-requires-clause-room : goal.resolve_after_reset-requires-clause-room
+resolve_after_reset-requires-clause-room c = c.loop-number.invariant.room
+
+-- the port's requests were resolved
+module _ (c : After-resolve_after_reset) (s : ServerState) (may : MaySettle (with_ports s s.device c.loop-number.shared c.loop-number.ports)) (low : c.loop-number.number < length c.loop-number.ports) where
+  abbrev now : ServerState
+  now = with_ports s s.device c.loop-number.shared c.loop-number.ports
+
+  abbrev after : ServerState
+  after = with_ports s s.device c.resolve_after_reset.new.shared (set c.loop-number.ports c.loop-number.number c.resolve_after_reset.new.self)
+
+  settled : (its : List Reply) × (c.resolve_after_reset.new.replies.items ≡ c.loop-number.replies.items ++ its) × SettlesPort (port_at c.loop-number.number) its now after
+  settled =
+      let one = c.resolve_after_reset.ensures.settles now may (placing.has_parts s s.device c.loop-number.shared c.loop-number.ports c.loop-number.number c.index-ports-number.result low) in (
+        one.0,
+        one.1,
+        subst (SettlesPort (port_at c.loop-number.number) one.0 now)
+            (placing.placed s s.device c.loop-number.shared c.loop-number.ports c.loop-number.number s.device c.resolve_after_reset.new.shared c.resolve_after_reset.new.self) one.2,
+      )
 
 pub loop-number-preserved : goal.loop-number-preserved
 loop-number-preserved c =
     let so_far = c.loop-number.invariant in
     let number = c.loop-number.number in
-    let then = c.resolve_port.new in
-    let ports = c.args.ports.now in
-    let low : number < length ports = let four = c.told-ports in let small = c.loop-number-test.true in omega (arith, four, small) in
-    let settled : (s : ServerState) (l : LendsBook s c.args.table.now c.args.book.now c.args.kept.now c.args.remembered.now ports) → _ = λ s l.
-    let now = with_book s c.loop-number.table c.loop-number.book c.loop-number.kept in
-    let lent = so_far.lends s l in
-    c.resolve_port.ensures.settles now (reviving.as_own now c.loop-number.table c.loop-number.book c.loop-number.kept c.args.remembered.now ports lent)
-    (ap (λ x. remembered_at x number) lent.remembered_are) (ap (λ (x : List ProbeResult). probe_result_of x number) lent.ports_are) in
+    let ports = c.loop-number.ports in
+    let four = so_far.four in
+    let small = c.loop-number-test.true in
+    let low : number < length ports = omega (arith, four, small) in
+    let found = found_by_port c.args.ports.now in
+    let told = c.told-ports in
+    let long = length-map c.args.ports.now (λ (p : ServedPort). p.found) in
+    let at = (goal.at.loop-number-preserved c).After-resolve_after_reset in
     record {
-      lends = λ s l.
-          let now = with_book s c.loop-number.table c.loop-number.book c.loop-number.kept in
-          let lent = so_far.lends s l in
-          let one = settled s l in
-          record {
-            may = c.law_settling_goes_on.ensures now (with_book s then.table then.book then.kept) (port_at number) one.0 c.loop-number-test.true lent.may one.2;
-            table_is = refl;
-            book_is = refl;
-            kept_is = refl;
-            remembered_are = l.remembered_are;
-            ports_are = l.ports_are;
-          };
-      rest = λ s l later new settles.
-          let now = with_book s c.loop-number.table c.loop-number.book c.loop-number.kept in
-          let one = settled s l in
-          let all = so_far.rest s l (one.0 ++ later) new (reviving.one_settled ports number low now (with_book s then.table then.book then.kept) new one.0 later one.2 settles) in
+      four = length-set ports number c.resolve_after_reset.new.self ∙ four;
+      found = map-set_same (λ (p : ServedPort). p.found) ports number c.resolve_after_reset.new.self c.index-ports-number.result (ap (λ (p : ServedPort). p.found) c.resolve_after_reset.ensures.rest) ∙ so_far.found;
+      settle = λ s may.
+          let one = settled at s (so_far.settle s may) low in
+          c.law_settling_goes_on.ensures (now at s (so_far.settle s may) low) (after at s (so_far.settle s may) low) (port_at number) one.0 small (so_far.settle s may) one.2;
+      rest = λ s may later new settles.
+          let one = settled at s (so_far.settle s may) low in
+          let all = so_far.rest s may (one.0 ++ later) new
+          (reviving.one_settled found number (omega (arith, told, long, small)) (now at s (so_far.settle s may) low) (after at s (so_far.settle s may) low) new one.0 later one.2 settles) in
           (all.0, ap (λ (told : List Reply). told ++ later) one.1 ∙ append_assoc c.loop-number.replies.items one.0 later ∙ all.1, all.2);
-      room = c.resolve_port.ensures.room;
+      room = c.resolve_after_reset.ensures.room;
     }
 
-pub returns : goal.returns
-returns c = record {
-  settles = λ s l.
-      let now = with_book s c.loop-number.table c.loop-number.book c.loop-number.kept in
-      let all = c.loop-number.invariant.rest s l [] now
-      (reviving.none_to_settle c.args.ports.now c.loop-number.number (let four = c.told-ports in let large = c.loop-number-test.false in omega (arith, four, large)) now) in
-      (all.0, sym (append-nil c.loop-number.replies.items) ∙ all.1, all.2);
-}
+pub returns-clause-settles : goal.returns-clause-settles
+returns-clause-settles c = λ s may.
+    let now = with_ports s s.device c.loop-number.shared c.loop-number.ports in
+    let long = length-map c.args.ports.now (λ (p : ServedPort). p.found) in
+    let four = c.told-ports in
+    let large = c.loop-number-test.false in
+    let all = c.loop-number.invariant.rest s may [] now (reviving.none_to_settle (found_by_port c.args.ports.now) c.loop-number.number (omega (arith, long, four, large)) now) in
+    (all.0, sym (append-nil c.loop-number.replies.items) ∙ all.1, all.2)
+
+pub returns-clause-found : goal.returns-clause-found
+returns-clause-found c = c.loop-number.invariant.found

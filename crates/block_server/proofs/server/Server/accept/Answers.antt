@@ -1,4 +1,4 @@
-use Rattle.std.proofs.Common.{ℕ, ◌≡◌, ◌≤◌, ◌+◌, ◌++◌, ◌∷◌, List, Ok, length, refl, sym, ap, ◌∙◌, [], subst, arith, slice_index_or, slice_set, rules}
+use Rattle.std.proofs.Common.{ℕ, ◌≡◌, ◌≤◌, ◌+◌, ◌++◌, ◌∷◌, List, Ok, length, refl, sym, ap, ◌∙◌, [], subst, arith, get_or, set, slice_set, rules}
 use Rattle.ata_types.specs.declared.request.Frame.{Frame}
 use Rattle.block_machine.specs.Events.{Submit, Submitted}
 use Rattle.block_machine.specs.Due.{due_of}
@@ -9,7 +9,12 @@ use Rattle.block_machine.specs.Refusals.{IsAcceptable}
 use Rattle.block_machine.specs.Rules.{HasNoFault}
 use Rattle.dma_frames.specs.Table.{owner_of, lent_to}
 use Rattle.block_server.specs.Calls.{AcceptsRequest, IsFor}
-use Rattle.block_server.specs.Ports.{with_part}
+use Rattle.std.specs.Box.{with_value}
+use Rattle.block_server.specs.Parts.{HasServedPort, found_by_port, kept_by_port, last_disk_by_port, mode_by_port, slots_by_port, wanted_by_port}
+use Rattle.block_server.specs.Ports.{HasReadyPort, with_part}
+use Rattle.block_server.specs.declared.served_port.ServedPort.{ServedPort}
+use Rattle.block_server.specs.declared.served_port.Shared.{Shared}
+use Rattle.block_server.proofs.Placing as placing
 use Rattle.block_server.specs.Seen.{seen}
 use Rattle.block_server.specs.View.{ServerView, server_of}
 use Rattle.request_queue.specs.Entries.{Held, asks, asks_of}
@@ -21,60 +26,87 @@ use Rattle.block_server.proofs.Accepting as accepted
 use Rattle.block_server.proofs.Newest as newest
 use Rattle.block_server.proofs.server.Server.accept.Given.{Over}
 use Rattle.block_server.proofs.server.Server.accept.Goals as goal
-use Rattle.block_server.proofs.server.Server.accept.Goals.{After-issue_due}
+use Rattle.block_server.proofs.server.Server.accept.Goals.{After-index-self-from, After-issue_due}
 
 pub overflow_add-id : goal.overflow_add-id
 overflow_add-id g c = let h = accepted.next_fits (server_of g.A.Adapter.device (seen c.self.inside)) c.args.r.now (subst (λ (v : ServerView g.row.A.Denot). IsAcceptable (server_situation (server_of g.A.Adapter.device v)) c.args.r.now) (sym c.self.view_is) c.requires.acceptable) in omega (arith, h)
 
 pub lend-loan-requires-clause-clear : goal.lend-loan-requires-clause-clear
 lend-loan-requires-clause-clear g c =
-    rw c.deref_mut.ensures.value (subst (λ (frames : List Frame). HasNoFault (owner_of c.self.inside.table.value) (lent_to c.self.inside.table.value) c.args.r.now.client frames) (sym c.as_slice.ensures.value)
+    rw c.deref_mut.ensures.value (subst (λ (frames : List Frame). HasNoFault (owner_of c.self.inside.shared.table.value) (lent_to c.self.inside.shared.table.value) c.args.r.now.client frames) (sym c.as_slice.ensures.value)
     (accepted.faultless (server_of g.A.Adapter.device (seen c.self.inside)) c.args.r.now (subst (λ (v : ServerView g.row.A.Denot). IsAcceptable (server_situation (server_of g.A.Adapter.device v)) c.args.r.now) (sym c.self.view_is) c.requires.acceptable)))
 
 pub accept-requires-clause-few : goal.accept-requires-clause-few
 accept-requires-clause-few g c = accepted.has_place (server_of g.A.Adapter.device (seen c.self.inside)) c.args.r.now (subst (λ (v : ServerView g.row.A.Denot). IsAcceptable (server_situation (server_of g.A.Adapter.device v)) c.args.r.now) (sym c.self.view_is) c.requires.acceptable) (is_on g.A.Adapter.device (seen c.self.inside) c.args.self.now c.self.view_is c.requires.on c.self.invariant).kept c.args.port (subst (λ (v : ServerView g.row.A.Denot). IsFor v.grants c.args.r.now c.args.port) (sym c.self.view_is) c.requires.port)
 
-pub issue_due-requires : goal.issue_due-requires
-issue_due-requires g c = record {
-  lends = (
-    accepting c.args.port c.args.r.now (record { 0 = c.self.inside.last + 1 }) c.lend-loan.new.self (server_of g.A.Adapter.device (seen c.self.inside)),
-    accepted.lends (server_of g.A.Adapter.device (seen c.self.inside)) c.args.r.now (subst (λ (v : ServerView g.row.A.Denot). IsAcceptable (server_situation (server_of g.A.Adapter.device v)) c.args.r.now) (sym c.self.view_is) c.requires.acceptable) (is_on g.A.Adapter.device (seen c.self.inside) c.args.self.now c.self.view_is c.requires.on c.self.invariant).kept c.args.port (subst (λ (v : ServerView g.row.A.Denot). IsFor v.grants c.args.r.now c.args.port) (sym c.self.view_is) c.requires.port)
-        c.law_requests_keep.ensures.accepted (record { 0 = c.self.inside.last + 1 }) refl c.as_slice.result.now c.as_slice.ensures.value
-        c.lend-loan.new.self (rw c.deref_mut.ensures.value at c.lend-loan.ensures.lent) c.lend-loan.result.frames c.lend-loan.ensures.frames c.accept.new.self c.accept.ensures
-        (slice_index_or c.self.inside.slots c.from.result c.index-self-from.result)
-        (accepted.its_slots (server_of g.A.Adapter.device (seen c.self.inside)) c.args.r.now (subst (λ (v : ServerView g.row.A.Denot). IsAcceptable (server_situation (server_of g.A.Adapter.device v)) c.args.r.now) (sym c.self.view_is) c.requires.acceptable) (is_on g.A.Adapter.device (seen c.self.inside) c.args.self.now c.self.view_is c.requires.on c.self.invariant).kept c.args.port (subst (λ (v : ServerView g.row.A.Denot). IsFor v.grants c.args.r.now c.args.port) (sym c.self.view_is) c.requires.port) c.from.result c.from.ensures c.index-self-from.result) c.mode-mode.result (ap (λ (v : ServerView g.row.A.Denot). mode_in (server_of g.A.Adapter.device v) c.args.port) c.self.view_is ∙ sym c.mode-mode.ensures),
-  );
-}
+-- the port that it is for
+abbrev its_port : (g : Over) (c : After-index-self-from g) → ServedPort
+its_port g c = get_or c.self.inside.ports c.from.result c.index-self-from.result
 
--- the port's mode
-mode_is : (g : Over) (c : After-issue_due g) → mode_in (server_of g.A.Adapter.device (seen c.self.inside)) c.args.port ≡ c.mode-mode.result
-mode_is g c = ap (λ (v : ServerView g.row.A.Denot). mode_in (server_of g.A.Adapter.device v) c.args.port) c.self.view_is ∙ sym c.mode-mode.ensures
+has_port : (g : Over) (c : After-index-self-from g) → HasServedPort (server_of g.A.Adapter.device (seen c.self.inside)) c.args.port.0 (its_port g c)
+has_port g c =
+    let v = c.self.inside in
+    let four = placing.four_ports v.ports (is_on g.A.Adapter.device (seen v) c.args.self.now c.self.view_is c.requires.on c.self.invariant).kept.four in
+    let acc = (subst (λ (v : ServerView g.row.A.Denot). IsAcceptable (server_situation (server_of g.A.Adapter.device v)) c.args.r.now) (sym c.self.view_is) c.requires.acceptable) in
+    let is_for = subst (λ (x : ServerView g.row.A.Denot). IsFor x.grants c.args.r.now c.args.port) (sym c.self.view_is) c.requires.port in
+    let small = accepted.low (server_of g.A.Adapter.device (seen v)) c.args.r.now acc (is_on g.A.Adapter.device (seen v) c.args.self.now c.self.view_is c.requires.on c.self.invariant).kept c.args.port is_for in
+    let from = c.from.ensures in
+    placing.has_at_place (server_of g.A.Adapter.device (seen v)) (g.A.Adapter.device v.adapter) v.shared v.ports c.args.port.0 c.from.result from c.index-self-from.result (omega (arith, four, small, from))
+
+-- what the server has once it is accepted
+lends : (g : Over) (c : After-index-self-from g)
+    → HasReadyPort (accepting c.args.port c.args.r.now (record { 0 = c.self.inside.last + 1 }) c.lend-loan.new.self (server_of g.A.Adapter.device (seen c.self.inside))) (g.A.Adapter.device c.self.inside.adapter) c.accept.new.self (its_port g c).slots c.args.port (its_port g c).mode
+lends g c =
+    let acc = (subst (λ (v : ServerView g.row.A.Denot). IsAcceptable (server_situation (server_of g.A.Adapter.device v)) c.args.r.now) (sym c.self.view_is) c.requires.acceptable) in
+    let is_for = subst (λ (x : ServerView g.row.A.Denot). IsFor x.grants c.args.r.now c.args.port) (sym c.self.view_is) c.requires.port in
+    accepted.lends (server_of g.A.Adapter.device (seen c.self.inside)) c.args.r.now acc (is_on g.A.Adapter.device (seen c.self.inside) c.args.self.now c.self.view_is c.requires.on c.self.invariant).kept c.args.port is_for
+    c.law_requests_keep.ensures.accepted (record { 0 = c.self.inside.last + 1 }) refl c.as_slice.result.now c.as_slice.ensures.value
+    c.lend-loan.new.self (rw c.deref_mut.ensures.value at c.lend-loan.ensures.lent) c.lend-loan.result.frames c.lend-loan.ensures.frames c.accept.new.self c.accept.ensures
+    (its_port g c).slots (has_port g c).slots_are (its_port g c).mode (has_port g c).mode_is
+
+pub issue_due-requires : goal.issue_due-requires
+issue_due-requires g c =
+    let at = (goal.at.issue_due-requires g c).After-index-self-from in
+    record { lends = (accepting c.args.port c.args.r.now (record { 0 = c.self.inside.last + 1 }) c.lend-loan.new.self (server_of g.A.Adapter.device (seen c.self.inside)), lends g at) }
+
+abbrev at_issuing : (g : Over) (c : After-issue_due g) → After-index-self-from g
+at_issuing g c = (goal.at.returns-clause-cost g c).After-index-self-from
 
 -- the server then
 abbrev after : (g : Over) (c : After-issue_due g) → ServerView g.row.A.Denot
-after g c = record (seen c.self.inside) {
-  adapter = c.issue_due.new.adapter;
-  table = c.lend-loan.new.self;
-  slots = slice_set c.self.inside.slots c.from.result c.issue_due.new.slots;
-  book = c.issue_due.new.book;
-  last = c.self.inside.last + 1;
-}
+after g c =
+    let ports = set c.self.inside.ports c.from.result c.issue_due.new.self in
+    record (seen c.self.inside) {
+      adapter = c.issue_due.new.adapter;
+      table = c.lend-loan.new.self;
+      wanted = wanted_by_port ports;
+      ports = found_by_port ports;
+      remembered = last_disk_by_port ports;
+      modes = mode_by_port ports;
+      slots = slots_by_port ports;
+      kept = kept_by_port ports;
+      book = c.issue_due.new.book;
+      last = c.self.inside.last + 1;
+    }
 
 -- what was due then is issued
 sent : (g : Over) (c : After-issue_due g) → Accepts c.args.port c.args.r.now (record { 0 = c.self.inside.last + 1 }) (server_of g.A.Adapter.device (seen c.self.inside)) (server_of g.A.Adapter.device (after g c))
 sent g c =
-    let s = (server_of g.A.Adapter.device (seen c.self.inside)) in
-    let accepts = accepted.accepts (server_of g.A.Adapter.device (seen c.self.inside)) c.args.r.now (subst (λ (v : ServerView g.row.A.Denot). IsAcceptable (server_situation (server_of g.A.Adapter.device v)) c.args.r.now) (sym c.self.view_is) c.requires.acceptable) (is_on g.A.Adapter.device (seen c.self.inside) c.args.self.now c.self.view_is c.requires.on c.self.invariant).kept c.args.port (subst (λ (v : ServerView g.row.A.Denot). IsFor v.grants c.args.r.now c.args.port) (sym c.self.view_is) c.requires.port)
-    c.law_requests_keep.ensures.accepted (record { 0 = c.self.inside.last + 1 }) refl c.as_slice.result.now c.as_slice.ensures.value
+    let v = c.self.inside in
+    let s = (server_of g.A.Adapter.device (seen v)) in
+    let id : RequestId = record { 0 = v.last + 1 } in
+    let acc = (subst (λ (v : ServerView g.row.A.Denot). IsAcceptable (server_situation (server_of g.A.Adapter.device v)) c.args.r.now) (sym c.self.view_is) c.requires.acceptable) in
+    let is_for = subst (λ (x : ServerView g.row.A.Denot). IsFor x.grants c.args.r.now c.args.port) (sym c.self.view_is) c.requires.port in
+    let accepts = accepted.accepts s c.args.r.now acc (is_on g.A.Adapter.device (seen v) c.args.self.now c.self.view_is c.requires.on c.self.invariant).kept c.args.port is_for
+    c.law_requests_keep.ensures.accepted id refl c.as_slice.result.now c.as_slice.ensures.value
     c.lend-loan.new.self (rw c.deref_mut.ensures.value at c.lend-loan.ensures.lent) c.lend-loan.result.frames c.lend-loan.ensures.frames c.accept.new.self c.accept.ensures in
-    let lends = accepted.lends (server_of g.A.Adapter.device (seen c.self.inside)) c.args.r.now (subst (λ (v : ServerView g.row.A.Denot). IsAcceptable (server_situation (server_of g.A.Adapter.device v)) c.args.r.now) (sym c.self.view_is) c.requires.acceptable) (is_on g.A.Adapter.device (seen c.self.inside) c.args.self.now c.self.view_is c.requires.on c.self.invariant).kept c.args.port (subst (λ (v : ServerView g.row.A.Denot). IsFor v.grants c.args.r.now c.args.port) (sym c.self.view_is) c.requires.port)
-    c.law_requests_keep.ensures.accepted (record { 0 = c.self.inside.last + 1 }) refl c.as_slice.result.now c.as_slice.ensures.value
-    c.lend-loan.new.self (rw c.deref_mut.ensures.value at c.lend-loan.ensures.lent) c.lend-loan.result.frames c.lend-loan.ensures.frames c.accept.new.self c.accept.ensures
-    (slice_index_or c.self.inside.slots c.from.result c.index-self-from.result)
-    (accepted.its_slots (server_of g.A.Adapter.device (seen c.self.inside)) c.args.r.now (subst (λ (v : ServerView g.row.A.Denot). IsAcceptable (server_situation (server_of g.A.Adapter.device v)) c.args.r.now) (sym c.self.view_is) c.requires.acceptable) (is_on g.A.Adapter.device (seen c.self.inside) c.args.self.now c.self.view_is c.requires.on c.self.invariant).kept c.args.port (subst (λ (v : ServerView g.row.A.Denot). IsFor v.grants c.args.r.now c.args.port) (sym c.self.view_is) c.requires.port) c.from.result c.from.ensures c.index-self-from.result) c.mode-mode.result (mode_is g c) in
-    let more : ServerState = accepting c.args.port c.args.r.now (record { 0 = c.self.inside.last + 1 }) c.lend-loan.new.self s in
-    subst (λ (n : ℕ). Accepts c.args.port c.args.r.now (record { 0 = c.self.inside.last + 1 }) s (record more { device = g.A.Adapter.device c.issue_due.new.adapter; slots = slice_set c.self.inside.slots n c.issue_due.new.slots; book = c.issue_due.new.book })) (sym c.from.ensures)
-    (accepts (with_part more (g.A.Adapter.device c.issue_due.new.adapter) c.issue_due.new.book c.issue_due.new.slots c.args.port) (c.issue_due.ensures.issues more lends))
+    let more : ServerState = accepting c.args.port c.args.r.now id c.lend-loan.new.self s in
+    let new = g.A.Adapter.device c.issue_due.new.adapter in
+    let u = c.issue_due.new.self.slots in
+    let shared : Shared = record { table = with_value v.shared.table c.lend-loan.new.self; book = c.issue_due.new.book } in
+    subst (Accepts c.args.port c.args.r.now id s) (sym (placing.slots_placed (record s { last = v.last + 1 }) v.ports c.from.result c.index-self-from.result new shared c.issue_due.new.self c.issue_due.ensures.rest))
+    (subst (λ (n : ℕ). Accepts c.args.port c.args.r.now id s (record more { device = new; slots = slice_set (slots_by_port v.ports) n u; book = c.issue_due.new.book })) (sym c.from.ensures)
+    (accepts (with_part more new c.issue_due.new.book u c.args.port) (c.issue_due.ensures.issues more (lends g (at_issuing g c)))))
 
 pub invariant_of-self : goal.invariant_of-self
 invariant_of-self g c = of_on c.self.view_is c.requires.on (
@@ -91,8 +123,8 @@ returns-clause-accepts g c =
           let book = accepted.its_book (server_of g.A.Adapter.device (seen c.self.inside)) c.args.r.now (subst (λ (v : ServerView g.row.A.Denot). IsAcceptable (server_situation (server_of g.A.Adapter.device v)) c.args.r.now) (sym c.self.view_is) c.requires.acceptable) (is_on g.A.Adapter.device (seen c.self.inside) c.args.self.now c.self.view_is c.requires.on c.self.invariant).kept c.args.port (subst (λ (v : ServerView g.row.A.Denot). IsFor v.grants c.args.r.now c.args.port) (sym c.self.view_is) c.requires.port)
           c.law_requests_keep.ensures.accepted (record { 0 = c.self.inside.last + 1 }) refl c.as_slice.result.now c.as_slice.ensures.value
           c.lend-loan.new.self (rw c.deref_mut.ensures.value at c.lend-loan.ensures.lent) c.lend-loan.result.frames c.lend-loan.ensures.frames c.accept.new.self c.accept.ensures in
-          c.issue_due.ensures.none (subst (λ (b : List Held). due_of c.mode-mode.result c.args.port (asks_of b) ≡ []) book
-          (subst (λ (m : QueueMode). due_of m c.args.port (asks_of (accepting c.args.port c.args.r.now (record { 0 = c.self.inside.last + 1 }) (sent g c).table (server_of g.A.Adapter.device (seen c.self.inside))).book) ≡ []) (mode_is g c) none));
+          c.issue_due.ensures.none (subst (λ (b : List Held). due_of (its_port g (at_issuing g c)).mode c.args.port (asks_of b) ≡ []) book
+          (subst (λ (m : QueueMode). due_of m c.args.port (asks_of (accepting c.args.port c.args.r.now (record { 0 = c.self.inside.last + 1 }) (sent g c).table (server_of g.A.Adapter.device (seen c.self.inside))).book) ≡ []) (has_port g (at_issuing g c)).mode_is none));
     })
 
 pub returns-clause-adds : goal.returns-clause-adds
@@ -118,6 +150,6 @@ returns-clause-cost g c =
     let alone = newest.due_alone m book its refl c.args.port (newest.all_earlier s.book s.last its refl settled.kept.handed_out) none in
     let there : asks_of c.accept.new.self ≡ book ++ its ∷ [] = ap asks_of c.accept.ensures ∙ newest.asks_more s.book (record { entry = (accepted_as c.args.port c.args.r.now id).entry; frames = c.lend-loan.result.frames }) in
     let few : length (due_of m c.args.port (asks_of c.accept.new.self)) ≤ 1 = subst (λ (xs : List Unanswered). length (due_of m c.args.port xs) ≤ 1) (sym there) alone in
-    let one : length (due_of c.mode-mode.result c.args.port (asks_of c.accept.new.self)) ≤ 1 = subst (λ (m : QueueMode). length (due_of m c.args.port (asks_of c.accept.new.self)) ≤ 1) (mode_is g c) few in
+    let one : length (due_of (its_port g (at_issuing g c)).mode c.args.port (asks_of c.accept.new.self)) ≤ 1 = subst (λ (m : QueueMode). length (due_of m c.args.port (asks_of c.accept.new.self)) ≤ 1) (has_port g (at_issuing g c)).mode_is few in
     let same = ap (λ (v : ServerView g.row.A.Denot). g.A.Adapter.access_count v.adapter) c.self.view_is in
     omega (arith, one, same, c.issue_due.ensures.each)

@@ -1,7 +1,11 @@
-use Rattle.std.proofs.Common.{rules, sym, subst}
+use Rattle.std.proofs.Common.{rules, ℕ, ◌≡◌, List, [], map, sym, ap, ◌∙◌, subst}
+use Rattle.std.proofs.Math.ListN.{get_or-map}
+use Rattle.dma_frames.specs.Loan.{Lending}
 use Rattle.dma_frames.specs.Table.{Table}
 use Rattle.request_queue.specs.Entries.{GivesBack}
-use Rattle.server_history.specs.Server.{ServerState}
+use Rattle.server_history.specs.Server.{ServerState, kept_at}
+use Rattle.block_server.specs.Parts.{kept_by_port, no_port, without_loans}
+use Rattle.block_server.specs.declared.served_port.ServedPort.{ServedPort}
 use Rattle.server_history.specs.Kept.{MayGoBack}
 use Rattle.block_server.specs.Seen.{seen}
 use Rattle.block_server.specs.View.{server_of}
@@ -17,7 +21,7 @@ give_all_back-requires-2 g c =
     let s : ServerState = server_of g.A.Adapter.device (seen c.self.inside) in
     let kept = holds_either c.self.inside.stuck c.self.invariant (λ _ settled. c.law_a_server_is_booked.ensures.kept s settled.kept) (λ _ stalled. stalled.booked) in
     let laws = c.law_booked_loans_are_lent.ensures in
-    subst (λ (table : Table). MayGoBack table c.self.inside.kept) (sym c.deref_mut-2.ensures.value)
+    subst (λ (table : Table). MayGoBack table (seen c.self.inside).kept) (sym c.deref_mut-2.ensures.value)
     (may_go_back s c.give_all_back.new.table
     (record {
       lent = λ port. laws.lent s port kept;
@@ -26,4 +30,10 @@ give_all_back-requires-2 g c =
       answered = λ port loan e. laws.answered s port loan e kept;
     })
     (λ k d small. (kept.accepted k d small).lent)
-    (subst (λ (table : Table). GivesBack table c.give_all_back.new.table c.self.inside.book) c.deref_mut.ensures.value c.give_all_back.ensures))
+    (subst (λ (table : Table). GivesBack table c.give_all_back.new.table c.self.inside.shared.book) c.deref_mut.ensures.value c.give_all_back.ensures))
+
+pub end_all-requires : goal.end_all-requires
+end_all-requires g c =
+    let ports = c.self.inside.ports in
+    subst (λ (lists : List (List Lending)). (port : ℕ) → kept_at lists port ≡ []) (sym (c.into_loans.ensures ∙ ap kept_by_port c.give_all_back-2.ensures.ports))
+    (λ port. get_or-map (λ (p : ServedPort). p.kept) (map without_loans ports) port no_port ∙ ap (λ (p : ServedPort). p.kept) (get_or-map without_loans ports port no_port))

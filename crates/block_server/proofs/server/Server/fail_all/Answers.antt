@@ -6,35 +6,36 @@ use Rattle.server_history.specs.Resets.{SettlePorts}
 use Rattle.server_history.specs.Server.{ServerState}
 use Rattle.server_history.specs.Stalled.{StuckInvariant}
 use Rattle.block_server.specs.Calls.{ServicesBy}
-use Rattle.block_server.specs.Resetting.{with_book}
+use Rattle.block_server.specs.Parts.{with_ports}
 use Rattle.block_server.specs.Seen.{seen}
 use Rattle.block_server.specs.View.{ServerView, server_of}
 use Rattle.block_server.proofs.Standing.{now_off, still}
 use Rattle.block_server.proofs.server.Server.fail_all.Given.{Over}
 use Rattle.block_server.proofs.server.Server.fail_all.Goals as goal
-use Rattle.block_server.proofs.server.Server.fail_all.Goals.{After-self-1}
+use Rattle.block_server.proofs.server.Server.fail_all.Goals.{After-resolve_ports}
 
-pub resolve_ports-requires-clause-lends : goal.resolve_ports-requires-clause-lends
-resolve_ports-requires-clause-lends g c =
+pub resolve_ports-requires-clause-settle : goal.resolve_ports-requires-clause-settle
+resolve_ports-requires-clause-settle g c =
     let device = g.A.Adapter.device in
     let s = server_of device (seen c.self.inside) in
     let off : StuckInvariant s = now_off device refl (still true c.self.view_is c.requires.stuck) c.self.invariant in
-    (s, record { may = c.law_a_server_is_booked.ensures.settle s off.booked; table_is = sym c.deref_mut.ensures.value; book_is = refl; kept_is = refl; remembered_are = refl; ports_are = refl })
+    (s, c.law_a_server_is_booked.ensures.settle s off.booked)
 
 -- the server then
-abbrev after : (g : Over) (c : After-self-1 g) → ServerState
-after g c = with_book (server_of g.A.Adapter.device (seen c.self.inside)) c.resolve_ports.new.table c.resolve_ports.new.book c.resolve_ports.new.kept
+abbrev after : (g : Over) (c : After-resolve_ports g) → ServerState
+after g c =
+    let s = server_of g.A.Adapter.device (seen c.self.inside) in
+    with_ports s s.device c.resolve_ports.new.shared c.resolve_ports.new.ports
 
 -- all requests were told, and that adds an event
-told : (g : Over) (c : After-self-1 g) → SettlePorts 0 c.self.inside.ports c.resolve_ports.new.replies.items (server_of g.A.Adapter.device (seen c.self.inside)) (after g c)
+told : (g : Over) (c : After-resolve_ports g) → SettlePorts 0 (seen c.self.inside).ports c.resolve_ports.new.replies.items (server_of g.A.Adapter.device (seen c.self.inside)) (after g c)
     × ExtendsStuck (server_of g.A.Adapter.device (seen c.self.inside)) (after g c) Service (Served c.resolve_ports.new.replies.items)
 told g c =
     let device = g.A.Adapter.device in
     let s = server_of device (seen c.self.inside) in
     let off : StuckInvariant s = now_off device refl (still true c.self.view_is c.requires.stuck) c.self.invariant in
-    let all = c.resolve_ports.ensures.settles s
-    (record { may = c.law_a_server_is_booked.ensures.settle s off.booked; table_is = sym c.deref_mut.ensures.value; book_is = refl; kept_is = refl; remembered_are = refl; ports_are = refl }) in
-    let settles = subst (λ (replies : List Reply). SettlePorts 0 c.self.inside.ports replies s (after g c)) (sym (all.1 ∙ ap (λ (told : List Reply). told ++ all.0) c.requires.none)) all.2 in
+    let all = c.resolve_ports.ensures.settles s (c.law_a_server_is_booked.ensures.settle s off.booked) in
+    let settles = subst (λ (replies : List Reply). SettlePorts 0 s.ports replies s (after g c)) (sym (all.1 ∙ ap (λ (told : List Reply). told ++ all.0) c.requires.none)) all.2 in
     (settles, c.law_stalled_services_add.ensures s (after g c) c.resolve_ports.new.replies.items off settles)
 
 pub invariant_of-self : goal.invariant_of-self
@@ -45,7 +46,7 @@ returns-clause-services g c =
     let device = g.A.Adapter.device in
     let P : ServerView g.row.A.Denot → Type 0 = λ v. ServicesBy v.stuck v.ports c.resolve_ports.new.replies.items (server_of device v) (after g c) × (c.self.inside.stuck ≡ v.stuck) in
     subst P c.self.view_is (
-      subst (λ (b : Bool). ServicesBy b c.self.inside.ports c.resolve_ports.new.replies.items (server_of device (seen c.self.inside)) (after g c)) (sym (still true c.self.view_is c.requires.stuck)) (told g c).0,
+      subst (λ (b : Bool). ServicesBy b (seen c.self.inside).ports c.resolve_ports.new.replies.items (server_of device (seen c.self.inside)) (after g c)) (sym (still true c.self.view_is c.requires.stuck)) (told g c).0,
       refl,
     )
 

@@ -1,12 +1,19 @@
-use Rattle.std.proofs.Common.{rules, ◌*◌, ◌≤◌, List, None, refl, replicate, sym, subst, arith}
+use Rattle.std.proofs.Common.{rules, ◌∙◌, ◌*◌, ◌≤◌, List, ap, refl, sym, subst, arith}
 use Rattle.std.specs.List.{AllPairs}
 use Rattle.ata_types.specs.declared.grant.GrantRow.{GrantRow}
 use Rattle.block_machine.specs.Rules.{DifferInName}
 use Rattle.dma_frames.specs.Table.{ExtentsApart}
 use Rattle.grants.specs.Rows.{SameRows}
-use Rattle.server_history.specs.Server.{ServerState}
-use Rattle.block_server.proofs.Making.{new_fits, none_kept, none_remembered}
+use Rattle.host_boot.specs.Taken.{TakesOver, probe_result_of}
+use Rattle.host_boot.specs.declared.ProbeResult.{ProbeResult}
+use Rattle.identify.specs.declared.wanted.Wanted.{Wanted}
+use Rattle.server_history.specs.Histories.{HasBegun}
+use Rattle.server_history.specs.Server.{ServerState, SettledInvariant, mode_found}
+use Rattle.block_server.specs.Parts.{found_by_port, kept_by_port, last_disk_by_port, mode_by_port, slots_by_port, wanted_by_port}
+use Rattle.block_server.proofs.Making.{NewPorts, new_fits, new_ports}
+use Rattle.block_server.proofs.server.Server.new.Given.{Over}
 use Rattle.block_server.proofs.server.Server.new.Goals as goal
+use Rattle.block_server.proofs.server.Server.new.Goals.{After-law_a_new_server_has_begun}
 
 pub from_rows-requires-clause-names : goal.from_rows-requires-clause-names
 from_rows-requires-clause-names g c =
@@ -15,48 +22,79 @@ from_rows-requires-clause-names g c =
 pub boxed-requires-clause-apart : goal.boxed-requires-clause-apart
 boxed-requires-clause-apart g c = subst (AllPairs ExtentsApart) (sym c.owners.ensures.owners) c.owners.ensures.fits.runs.apart
 
-pub invariant_of-result : goal.invariant_of-result
-invariant_of-result g c =
+-- the server then
+abbrev new_server : (g : Over) (c : After-law_a_new_server_has_begun g) → ServerState
+new_server g c =
+    let ports = c.begin_anew.new.ports in
+    record {
+      device = g.A.Adapter.device c.take_over-host.new.adapter;
+      grants = c.in-Ok-from_rows.grants;
+      table = c.in-Ok-boxed.table.value;
+      wanted = wanted_by_port ports;
+      ports = found_by_port ports;
+      remembered = last_disk_by_port ports;
+      modes = mode_by_port ports;
+      slots = slots_by_port ports;
+      kept = kept_by_port ports;
+      book = c.in-Ok-new.book;
+      last = 0;
+    }
+
+-- what it has of its ports
+has_ports : (g : Over) (c : After-law_a_new_server_has_begun g) → NewPorts c.take_over-host.result c.wanted.result.now c.begin_anew.new.ports
+has_ports g c =
+    new_ports c.take_over-host.result c.take_over-host.ensures.four c.wanted.result.now c.in-Ok-none_kept.kept c.in-Ok-none_kept.ensures c.unserved_ports-ports.result c.begin_anew.new.ports
+    c.unserved_ports-ports.ensures.wanted c.unserved_ports-ports.ensures.kept c.unserved_ports-ports.ensures.found c.unserved_ports-ports.ensures.forgotten c.begin_anew.ensures
+
+its_rows : (g : Over) (c : After-law_a_new_server_has_begun g) → SameRows c.in-Ok.plan.grants c.in-Ok-from_rows.grants
+its_rows g c = subst (λ (rows : List GrantRow). SameRows rows c.in-Ok-from_rows.grants) c.grants.ensures.grants c.in-Ok-from_rows.ensures.rows
+
+-- it was taken over for the disks that it wants
+its_taken : (g : Over) (c : After-law_a_new_server_has_begun g) → TakesOver (new_server g c).wanted c.take_over-host.result (g.A.Adapter.device c.args.adapter) (new_server g c).device
+its_taken g c =
+    let same = c.wanted-2.ensures.wanted ∙ sym c.wanted.ensures.wanted ∙ sym (has_ports g c).wanted in
+    subst (λ (wanted : List Wanted). TakesOver wanted c.take_over-host.result (g.A.Adapter.device c.args.adapter) (new_server g c).device) same c.take_over-host.ensures.taken
+
+begun : (g : Over) (c : After-law_a_new_server_has_begun g) → SettledInvariant (new_server g c) × HasBegun (new_server g c)
+begun g c =
     let device = g.A.Adapter.device in
     let plan = c.in-Ok.plan in
-    let s : ServerState = record { device = device c.take_over-host.new.adapter; grants = c.in-Ok-from_rows.grants; table = c.in-Ok-boxed.table.value; wanted = c.wanted.result.now; ports = c.take_over-host.result.ports; remembered = replicate 4 None; modes = c.modes_of-modes.result; slots = c.unused_slots.result; kept = c.in-Ok-none_kept.kept; book = c.in-Ok-new.book; last = 0 } in
+    let s = new_server g c in
+    let host = c.take_over-host.result in
+    let has = has_ports g c in
     let room : 4096 * plan.frames ≤ s.device.size = let f = c.in-Ok.ensures.made.frames in let r = c.requires.ready.room c.in-Ok.ensures.sound in let z = c.take_over-host.ensures.taken.same.size in omega (arith, f, r, z) in
-    (c.law_a_new_server_has_begun.ensures s c.take_over-host.result (device c.args.adapter) c.requires.ready.idle (g.met.A.Adapter.tells c.args.adapter) c.take_over-host.ensures.taken
-    (new_fits s c.take_over-host.result plan c.in-Ok.ensures.fits (subst (λ (rows : List GrantRow). SameRows rows c.in-Ok-from_rows.grants) c.grants.ensures.grants c.in-Ok-from_rows.ensures.rows)
-    (rw c.owners.ensures.owners at c.in-Ok-boxed.ensures.only) room c.in-Ok-from_rows.ensures.names c.in-Ok-from_rows.ensures.few c.in-Ok-boxed.ensures.free refl c.take_over-host.ensures.four refl (none_remembered 4) (none_kept c.in-Ok-none_kept.kept c.in-Ok-none_kept.ensures).0 (none_kept c.in-Ok-none_kept.kept c.in-Ok-none_kept.ensures).1 (search rules) (search rules) c.unused_slots.ensures.places
-    (λ port low. c.modes_of-modes.ensures.found s.device.cap port c.take_over-host.ensures.taken.slots c.take_over-host.ensures.taken.queued low) c.unused_slots.ensures.usable c.unused_slots.ensures.unused c.in-Ok-new.ensures refl)).0
+    c.law_a_new_server_has_begun.ensures s host (device c.args.adapter) c.requires.ready.idle (g.met.A.Adapter.tells c.args.adapter) (its_taken g c)
+    (new_fits s host plan c.in-Ok.ensures.fits (its_rows g c)
+    (rw c.owners.ensures.owners at c.in-Ok-boxed.ensures.only) room c.in-Ok-from_rows.ensures.names c.in-Ok-from_rows.ensures.few c.in-Ok-boxed.ensures.free has.found c.take_over-host.ensures.four has.four_remembered has.forgotten has.four_kept has.unkept has.four_slots has.four_modes has.places
+    (λ port low. has.modes s.device.cap c.take_over-host.ensures.taken.slots c.take_over-host.ensures.taken.queued port low ∙ ap (λ (found : List ProbeResult). mode_found s.device.cap (probe_result_of found port)) (sym has.found)) has.usable has.unused c.in-Ok-new.ensures refl)
+
+pub invariant_of-result : goal.invariant_of-result
+invariant_of-result g c = (begun g c).0
 
 pub returns-clause-made : goal.returns-clause-made
 returns-clause-made g c =
-    let device = g.A.Adapter.device in
-    let plan = c.in-Ok.plan in
-    let s : ServerState = record { device = device c.take_over-host.new.adapter; grants = c.in-Ok-from_rows.grants; table = c.in-Ok-boxed.table.value; wanted = c.wanted.result.now; ports = c.take_over-host.result.ports; remembered = replicate 4 None; modes = c.modes_of-modes.result; slots = c.unused_slots.result; kept = c.in-Ok-none_kept.kept; book = c.in-Ok-new.book; last = 0 } in
-    let rows = subst (λ (rows : List GrantRow). SameRows rows c.in-Ok-from_rows.grants) c.grants.ensures.grants c.in-Ok-from_rows.ensures.rows in
-    let room : 4096 * plan.frames ≤ s.device.size = let f = c.in-Ok.ensures.made.frames in let r = c.requires.ready.room c.in-Ok.ensures.sound in let z = c.take_over-host.ensures.taken.same.size in omega (arith, f, r, z) in
-    let begun = c.law_a_new_server_has_begun.ensures s c.take_over-host.result (device c.args.adapter) c.requires.ready.idle (g.met.A.Adapter.tells c.args.adapter) c.take_over-host.ensures.taken
-    (new_fits s c.take_over-host.result plan c.in-Ok.ensures.fits rows
-    (rw c.owners.ensures.owners at c.in-Ok-boxed.ensures.only) room c.in-Ok-from_rows.ensures.names c.in-Ok-from_rows.ensures.few c.in-Ok-boxed.ensures.free refl c.take_over-host.ensures.four refl (none_remembered 4) (none_kept c.in-Ok-none_kept.kept c.in-Ok-none_kept.ensures).0 (none_kept c.in-Ok-none_kept.kept c.in-Ok-none_kept.ensures).1 (search rules) (search rules) c.unused_slots.ensures.places
-    (λ port low. c.modes_of-modes.ensures.found s.device.cap port c.take_over-host.ensures.taken.slots c.take_over-host.ensures.taken.queued low) c.unused_slots.ensures.usable c.unused_slots.ensures.unused c.in-Ok-new.ensures refl) in
+    let a = (goal.at.returns-clause-made g c).After-law_a_new_server_has_begun in
+    let has = has_ports g a in
     record {
-      plan = plan;
+      plan = c.in-Ok.plan;
       is_plan = c.in-Ok.ensures.fits;
       planned = c.in-Ok.ensures.made;
-      rows = rows;
+      rows = its_rows g a;
       owned = rw c.owners.ensures.owners at c.in-Ok-boxed.ensures.owned;
       only = rw c.owners.ensures.owners at c.in-Ok-boxed.ensures.only;
       free = c.in-Ok-boxed.ensures.free;
-      wanted = c.wanted.ensures.wanted;
+      wanted = has.wanted ∙ c.wanted.ensures.wanted;
       host = c.take_over-host.result;
-      ports = refl;
-      forgotten = none_remembered 4;
-      taken = rw c.wanted.ensures.wanted at c.take_over-host.ensures.taken;
-      unkept = (none_kept c.in-Ok-none_kept.kept c.in-Ok-none_kept.ensures).1;
+      ports = has.found;
+      forgotten = has.forgotten;
+      taken = subst (λ (wanted : List Wanted). TakesOver wanted c.take_over-host.result (g.A.Adapter.device c.args.adapter) (g.A.Adapter.device c.take_over-host.new.adapter)) c.wanted-2.ensures.wanted c.take_over-host.ensures.taken;
+      unkept = has.unkept;
       book = c.in-Ok-new.ensures;
       last = refl;
       stuck = refl;
-      unused = c.unused_slots.ensures.unused;
-      settled = begun.0;
-      begun = begun.1;
+      unused = has.unused;
+      settled = (begun g a).0;
+      begun = (begun g a).1;
     }
 
 pub returns-in-Err-clause-refused : goal.returns-in-Err-clause-refused

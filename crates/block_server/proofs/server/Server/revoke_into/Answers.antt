@@ -1,4 +1,4 @@
-use Rattle.std.proofs.Common.{Bool, true, false, ◌≡◌, List, None, Some, refl, sym, ap, ◌∙◌, subst, slice_index_or, slice_set, [], ⊎_elim}
+use Rattle.std.proofs.Common.{Bool, true, false, ◌≡◌, List, None, Some, refl, sym, ap, ◌∙◌, subst, arith, get_or, set, [], ⊎_elim}
 use Rattle.ata_types.specs.declared.grant.GrantRow.{GrantRow}
 use Rattle.block_machine.specs.Events.{RevokeOf, WasRevoked}
 use Rattle.dma_frames.specs.Table.{Table}
@@ -9,8 +9,12 @@ use Rattle.server_history.specs.Histories.{ExtendsSettled, ExtendsHistory, Exten
 use Rattle.server_history.specs.Revoked.{RevokesGrant}
 use Rattle.server_history.specs.Served.{IssuesAll}
 use Rattle.server_history.specs.Server.{InCallInvariant, SettledInvariant, ServerState}
-use Rattle.host_boot.specs.declared.ProbeResult.TheVariants.{Unserved}
-use Rattle.block_server.specs.Ports.{LendsFound}
+use Rattle.std.specs.Box.{with_value}
+use Rattle.block_server.specs.Parts.{found_by_port, kept_by_port, last_disk_by_port, mode_by_port, slots_by_port, wanted_by_port}
+use Rattle.block_server.specs.Ports.{HasFoundPort}
+use Rattle.block_server.specs.declared.served_port.ServedPort.{ServedPort}
+use Rattle.block_server.specs.declared.served_port.Shared.{Shared}
+use Rattle.block_server.proofs.Placing as placing
 use Rattle.server_history.specs.Stalled.{StuckInvariant, BookInvariant}
 use Rattle.block_server.specs.Dispositions.{BookIsSound}
 use Rattle.block_server.specs.Revoking.{RevokesAndIssues}
@@ -20,7 +24,7 @@ use Rattle.block_server.proofs.Revoking as revoking
 use Rattle.block_server.proofs.Standing.{holds_either}
 use Rattle.block_server.proofs.server.Server.revoke_into.Given.{Over}
 use Rattle.block_server.proofs.server.Server.revoke_into.Goals as goal
-use Rattle.block_server.proofs.server.Server.revoke_into.Goals.{After-index-self-place, After-issue_where_ready, Then-self}
+use Rattle.block_server.proofs.server.Server.revoke_into.Goals.{After-index-self-from, After-issue_where_ready, Then-self}
 
 pub returns-in_default-clause-adds : goal.returns-in_default-clause-adds
 returns-in_default-clause-adds g c =
@@ -86,54 +90,76 @@ returns-then-self-clause-adds g c =
 -- ---- while the adapter is on
 
 -- the server once those that waited are told
-abbrev mid_on : (g : Over) (c : After-index-self-place g) → ServerState
+abbrev mid_on : (g : Over) (c : After-index-self-from g) → ServerState
 mid_on g c = record (server_of g.A.Adapter.device (seen c.self.inside)) { grants = c.revoke.new.self; table = c.answer_waiting.new.table; book = c.answer_waiting.new.book }
 
-is_on : (g : Over) (c : After-index-self-place g) → SettledInvariant (server_of g.A.Adapter.device (seen c.self.inside))
+is_on : (g : Over) (c : After-index-self-from g) → SettledInvariant (server_of g.A.Adapter.device (seen c.self.inside))
 is_on g c = holds_either c.self.inside.stuck c.self.invariant (λ _ settled. settled) (λ off _. absurd (let z : true ≡ false = sym off ∙ c.if-self.false in cc))
 
-abbrev revoked_on : (g : Over) (c : After-index-self-place g) → RevokesGrant c.args.client c.args.number c.answer_waiting.new.replies.items (server_of g.A.Adapter.device (seen c.self.inside)) (mid_on g c)
+abbrev revoked_on : (g : Over) (c : After-index-self-from g) → RevokesGrant c.args.client c.args.number c.answer_waiting.new.replies.items (server_of g.A.Adapter.device (seen c.self.inside)) (mid_on g c)
 revoked_on g c =
     revoking.revokes (server_of g.A.Adapter.device (seen c.self.inside)) c.args.client c.args.number c.in-Some.row c.revoke.new.self c.in-Some.ensures.found c.revoke-2.new.self c.revoke-2.ensures
     c.deref_mut.result.now c.deref_mut.ensures.value c.clear.new.self.items c.clear.ensures c.answer_waiting.new.book c.answer_waiting.new.table c.answer_waiting.new.replies.items c.answer_waiting.ensures
 
 -- it goes on
-keeps_on : (g : Over) (c : After-index-self-place g) → InCallInvariant (mid_on g c)
+keeps_on : (g : Over) (c : After-index-self-from g) → InCallInvariant (mid_on g c)
 keeps_on g c = c.law_requests_keep.ensures.revoked (server_of g.A.Adapter.device (seen c.self.inside)) (mid_on g c) c.args.client c.args.number c.answer_waiting.new.replies.items (is_on g c).kept (revoked_on g c)
 
-lends_on : (g : Over) (c : After-index-self-place g)
-    → LendsFound (mid_on g c) (g.A.Adapter.device c.self.inside.adapter) c.answer_waiting.new.book (slice_index_or c.self.inside.slots c.from-place.result c.index-self-place.result) c.in-Some.row.port
-    (slice_index_or c.self.inside.modes c.from-place.result (record { queued = false; usable = 0 })) (slice_index_or c.self.inside.ports c.from-place.result Unserved)
+-- the grant's port
+abbrev its_port : (g : Over) (c : After-index-self-from g) → ServedPort
+its_port g c = get_or c.self.inside.ports c.from.result c.index-self-from.result
+
+lends_on : (g : Over) (c : After-index-self-from g) → HasFoundPort (mid_on g c) (g.A.Adapter.device c.self.inside.adapter) c.answer_waiting.new.book (its_port g c).slots c.in-Some.row.port (its_port g c).mode (its_port g c).found
 lends_on g c =
+    let v = c.self.inside in
+    let four = placing.four_ports v.ports (is_on g c).kept.four in
+    let small = revoking.low (server_of g.A.Adapter.device (seen c.self.inside)) c.args.client c.args.number c.in-Some.row c.revoke.new.self c.in-Some.ensures.found c.revoke-2.new.self c.revoke-2.ensures
+    c.deref_mut.result.now c.deref_mut.ensures.value c.clear.new.self.items c.clear.ensures c.answer_waiting.new.book c.answer_waiting.new.table c.answer_waiting.new.replies.items c.answer_waiting.ensures
+    (is_on g c).kept (keeps_on g c) in
+    let from = c.from.ensures in
     revoking.lends (server_of g.A.Adapter.device (seen c.self.inside)) c.args.client c.args.number c.in-Some.row c.revoke.new.self c.in-Some.ensures.found c.revoke-2.new.self c.revoke-2.ensures
     c.deref_mut.result.now c.deref_mut.ensures.value c.clear.new.self.items c.clear.ensures c.answer_waiting.new.book c.answer_waiting.new.table c.answer_waiting.new.replies.items c.answer_waiting.ensures
-    (is_on g c).kept (keeps_on g c) c.from-place.result c.from-place.ensures c.index-self-place.result (record { queued = false; usable = 0 })
+    (is_on g c).kept (keeps_on g c) (its_port g c)
+    (placing.has_at_place (server_of g.A.Adapter.device (seen v)) (g.A.Adapter.device v.adapter) v.shared v.ports c.in-Some.row.port.0 c.from.result from c.index-self-from.result (omega (arith, four, small, from)))
 
 pub issue_where_ready-requires : goal.issue_where_ready-requires
 issue_where_ready-requires g c =
-    let it = (goal.at.issue_where_ready-requires g c).After-index-self-place in
+    let it = (goal.at.issue_where_ready-requires g c).After-index-self-from in
     record { lends = (mid_on g it, lends_on g it) }
 
 -- the server then
 abbrev after_on : (g : Over) (c : After-issue_where_ready g) → ServerView g.row.A.Denot
-after_on g c = record (seen c.self.inside) {
-  adapter = c.issue_where_ready.new.adapter;
-  grants = c.revoke.new.self;
-  table = c.answer_waiting.new.table;
-  slots = slice_set c.self.inside.slots c.from-place.result c.issue_where_ready.new.slots;
-  book = c.issue_where_ready.new.book;
-}
+after_on g c =
+    let ports = set c.self.inside.ports c.from.result c.issue_where_ready.new.self in
+    record (seen c.self.inside) {
+      adapter = c.issue_where_ready.new.adapter;
+      grants = c.revoke.new.self;
+      table = c.answer_waiting.new.table;
+      wanted = wanted_by_port ports;
+      ports = found_by_port ports;
+      remembered = last_disk_by_port ports;
+      modes = mode_by_port ports;
+      slots = slots_by_port ports;
+      kept = kept_by_port ports;
+      book = c.issue_where_ready.new.book;
+    }
 
 -- the moment before that
-abbrev before : (g : Over) (c : After-issue_where_ready g) → After-index-self-place g
-before g c = (goal.at.returns-clause-revokes g c).After-index-self-place
+abbrev before : (g : Over) (c : After-issue_where_ready g) → After-index-self-from g
+before g c = (goal.at.returns-clause-revokes g c).After-index-self-from
 
 issued_on : (g : Over) (c : After-issue_where_ready g) → IssuesAll c.in-Some.row.port (mid_on g (before g c)) (server_of g.A.Adapter.device (after_on g c))
 issued_on g c =
-    revoking.issued (server_of g.A.Adapter.device (seen c.self.inside)) c.args.client c.args.number c.in-Some.row c.revoke.new.self c.in-Some.ensures.found c.revoke-2.new.self c.revoke-2.ensures
+    let v = c.self.inside in
+    let s = server_of g.A.Adapter.device (seen v) in
+    let new = g.A.Adapter.device c.issue_where_ready.new.adapter in
+    let shared : Shared = record { table = with_value v.shared.table c.answer_waiting.new.table; book = c.issue_where_ready.new.book } in
+    subst (IssuesAll c.in-Some.row.port (mid_on g (before g c)))
+    (sym (placing.slots_placed (record s { grants = c.revoke.new.self }) v.ports c.from.result c.index-self-from.result new shared c.issue_where_ready.new.self c.issue_where_ready.ensures.rest))
+    (revoking.issued (server_of g.A.Adapter.device (seen c.self.inside)) c.args.client c.args.number c.in-Some.row c.revoke.new.self c.in-Some.ensures.found c.revoke-2.new.self c.revoke-2.ensures
     c.deref_mut.result.now c.deref_mut.ensures.value c.clear.new.self.items c.clear.ensures c.answer_waiting.new.book c.answer_waiting.new.table c.answer_waiting.new.replies.items c.answer_waiting.ensures
-    (is_on g (before g c)).kept (keeps_on g (before g c)) c.from-place.result c.from-place.ensures (g.A.Adapter.device c.issue_where_ready.new.adapter) c.issue_where_ready.new.book c.issue_where_ready.new.slots
-    (c.issue_where_ready.ensures.issues (mid_on g (before g c)) (lends_on g (before g c)))
+    (is_on g (before g c)).kept (keeps_on g (before g c)) c.from.result c.from.ensures new c.issue_where_ready.new.book c.issue_where_ready.new.self.slots
+    (c.issue_where_ready.ensures.issues (mid_on g (before g c)) (lends_on g (before g c))))
 
 -- it adds an event
 added_on : (g : Over) (c : After-issue_where_ready g) → ExtendsSettled (server_of g.A.Adapter.device (seen c.self.inside)) (server_of g.A.Adapter.device (after_on g c)) (RevokeOf c.args.client c.args.number) (WasRevoked (Some c.answer_waiting.new.replies.items))

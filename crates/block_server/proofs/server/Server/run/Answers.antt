@@ -26,8 +26,8 @@ loop-at-preserved g c =
     let so_far = c.loop-at.invariant.ran in
     let below : c.loop-at.at < length c.args.calls.now = omega arith in
     let call = c.index-calls-at.result in
-    let one = with_replies c.answer-said.result c.answer-said.new.replies.items in
-    let P : List (Call DeviceStep) → Type 0 = λ calls. Simulates g.A.Adapter.device c.args.self.now c.answer-said.new.self calls (so_far.said ++ one ∷ []) in
+    let one = with_replies c.make_call-said.result c.make_call-said.new.replies.items in
+    let P : List (Call DeviceStep) → Type 0 = λ calls. Simulates g.A.Adapter.device c.args.self.now c.make_call-said.new.self calls (so_far.said ++ one ∷ []) in
     let Q : List (Call DeviceStep) → Type 0 = λ calls. length (so_far.said ++ one ∷ []) ≡ length calls in
     let calls = ap (λ (e : Call DeviceStep). take c.loop-at.at c.args.calls.now ++ e ∷ []) c.index-calls-at.is ∙ sym (take_more c.args.calls.now c.loop-at.at call below) in
     let before = c.go_on.ensures.earlier ∙ c.reserve.ensures.said ∙ so_far.told in
@@ -36,15 +36,15 @@ loop-at-preserved g c =
         said = so_far.said ++ one ∷ [];
         told = ap (λ (l : List (CallResult (ArrayVec Reply))). l ++ one ∷ []) before ∙ append_assoc (said_in c.args.out.now) so_far.said (one ∷ []);
         each = subst Q calls (length-append so_far.said (one ∷ []) ∙ ap (λ n. n + 1) so_far.each ∙ sym (length-append (take c.loop-at.at c.args.calls.now) (call ∷ [])));
-        keeps = subst P calls (c.law_runs_keep_their_promise.ensures.more _ _ _ _ _ _ _ so_far.keeps (c.law_runs_keep_their_promise.ensures.one _ _ call one c.answer-said.ensures.adds c.answer-said.ensures.wanted));
+        keeps = subst P calls (c.law_runs_keep_their_promise.ensures.more _ _ _ _ _ _ _ so_far.keeps (c.law_runs_keep_their_promise.ensures.one _ _ call one c.make_call-said.ensures.adds c.make_call-said.ensures.wanted));
       };
       length = omega (arith, c.go_on.ensures.len, c.reserve.ensures.len, c.loop-at.invariant.length);
       last = λ some. refl;
       room = omega (arith, c.loop-at.invariant.room, c.reserve.ensures.capacity, c.go_on.ensures.capacity);
       cost =
-          let M : List (Call DeviceStep) → Type 0 = λ calls. MakesAtMost (most_of_all calls) (g.A.Adapter.access_count c.args.self.now.adapter) (g.A.Adapter.access_count c.answer-said.new.self.adapter) in
+          let M : List (Call DeviceStep) → Type 0 = λ calls. MakesAtMost (most_of_all calls) (g.A.Adapter.access_count c.args.self.now.adapter) (g.A.Adapter.access_count c.make_call-said.new.self.adapter) in
           let more = most_more (take c.loop-at.at c.args.calls.now) call in
-          subst M calls (omega (arith, more, c.loop-at.invariant.cost, c.answer-said.ensures.cost));
+          subst M calls (omega (arith, more, c.loop-at.invariant.cost, c.make_call-said.ensures.cost));
     }
 
 pub returns-then-is_err-clause-ample : goal.returns-then-is_err-clause-ample

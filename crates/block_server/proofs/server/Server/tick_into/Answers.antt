@@ -1,95 +1,107 @@
-use Rattle.std.proofs.Common.{◌≡◌, ◌↔◌, ◌<◌, ◌++◌, Bool, IsTrue, List, append_assoc, arith, false, length, slice_index_or, refl, sym, ap, ◌∙◌, subst, rules}
-use Rattle.ata_types.specs.declared.Port.{Port}
+use Rattle.std.proofs.Common.{◌≡◌, ◌<◌, ◌↔◌, ◌++◌, Bool, IsTrue, false, List, append_assoc, arith, get_or, length, set, slice_index_or, refl, sym, ap, ◌∙◌, subst}
+use Rattle.std.proofs.Math.ListN.{get_or-map}
+use Rattle.std.proofs.lemmas.List.{length-map, length-set}
 use Rattle.ata_types.specs.declared.request.Reply.{Reply}
 use Rattle.refinement.specs.Relation.{port_at}
 use Rattle.host_boot.specs.Taken.{probe_result_of}
 use Rattle.host_boot.specs.declared.ProbeResult.{ProbeResult}
-use Rattle.request_queue.specs.Entries.{IsOverdue}
+use Rattle.request_queue.specs.Entries.{Held, IsOverdue, aged}
 use Rattle.block_machine.specs.Events.{Served, Tick}
 use Rattle.block_server.specs.Calls.{TicksBy}
-use Rattle.server_history.specs.Histories.{ExtendsHistory}
-use Rattle.server_history.specs.Server.{ServerState}
-use Rattle.server_history.specs.Turns.{TakeTurns, Ticks, TicksPort, a_tick_older}
+use Rattle.server_history.specs.Histories.{ExtendsHistory, InvariantBy}
+use Rattle.server_history.specs.Server.{SettledInvariant, ServerState}
+use Rattle.server_history.specs.Turns.{TakeTurns, Ticks, TicksPort, a_tick_older, is_ready}
+use Rattle.block_server.specs.Parts.{IsSettledWith, TakesTurn, TurnInTick, found_by_port, no_port, with_ports}
+use Rattle.block_server.specs.Seen.{seen}
 use Rattle.block_server.specs.View.{ServerView, server_of}
-use Rattle.block_server.proofs.Turns.{all_turns, idle_turn, one_turn}
+use Rattle.block_server.specs.declared.served_port.ServedPort.{ServedPort}
+use Rattle.block_server.proofs.Placing as placing
+use Rattle.block_server.proofs.Turns.{Rests, all_turns, tick_turn}
 use Rattle.block_server.proofs.Standing.{by_on, now_off, now_on}
 use Rattle.block_server.proofs.server.Server.tick_into.Given.{Over}
 use Rattle.block_server.proofs.server.Server.tick_into.Goals as goal
-use Rattle.block_server.proofs.server.Server.tick_into.Goals.{After-loop-place}
+use Rattle.block_server.proofs.server.Server.tick_into.Goals.{After-loop-number, After-overdue_ports-overdue}
 
--- nothing is done of a port that isn't ready
-abbrev Rests : Port → ServerState → ServerState → Type 0
-Rests port one other = other ≡ one
+-- requests are a tick older
+older : (g : Over) (c : After-overdue_ports-overdue g) → c.tick-is_one.new.self ≡ aged (λ port. is_ready (probe_result_of (found_by_port c.self.inside.ports) port.0)) c.self.inside.shared.book
+older g c =
+    c.tick-is_one.ensures.older_entry
+    ∙ (λ i. aged (λ port. (c.ready_ports.ensures port ∙ ap is_ready (sym (get_or-map (λ (p : ServedPort). p.found) c.self.inside.ports port.0 no_port))) i) c.self.inside.shared.book)
 
-pub loop-place-preserved-in_default : goal.loop-place-preserved-in_default
-loop-place-preserved-in_default g c =
+older_now : (g : Over) (c : After-overdue_ports-overdue g) → record (server_of g.A.Adapter.device (seen c.self.inside)) { book = c.tick-is_one.new.self } ≡ a_tick_older (server_of g.A.Adapter.device c.args.self.now)
+older_now g c =
+    ap (λ (book : List Held). record (server_of g.A.Adapter.device (seen c.self.inside)) { book = book }) (older g c)
+    ∙ ap (λ (v : ServerView g.row.A.Denot). a_tick_older (server_of g.A.Adapter.device v)) c.self.view_is
+
+pub tick-requires-clause-settled : goal.tick-requires-clause-settled
+tick-requires-clause-settled g c =
     let device = g.A.Adapter.device in
-    let so_far = c.loop-place.invariant in
-    let ports = c.self.inside.ports in
-    let four : length ports ≡ 4 = search rules in
-    let book = (a_tick_older (server_of device c.args.self.now)).book in
+    let so_far = c.loop-number.invariant in
+    let v = c.loop-number.self-inside in
+    let s = server_of device (seen v) in
+    (s, record { settled = so_far.settled; parts = placing.has_parts s (device v.adapter) v.shared v.ports c.loop-number.number _ (let four = so_far.four in let small = c.loop-number-test.true in omega (arith, four, small)) })
+
+pub loop-number-preserved : goal.loop-number-preserved
+loop-number-preserved g c =
+    let device = g.A.Adapter.device in
+    let so_far = c.loop-number.invariant in
+    let v = c.loop-number.self-inside in
+    let number = c.loop-number.number in
+    let four = so_far.four in
+    let small = c.loop-number-test.true in
+    let low : number < length v.ports = omega (arith, four, small) in
+    let s = server_of device (seen v) in
+    let p : ServedPort = get_or v.ports number c.index-self-number.result in
+    let has : IsSettledWith s (device v.adapter) v.shared (port_at number) p = record { settled = so_far.settled; parts = placing.has_parts s (device v.adapter) v.shared v.ports number c.index-self-number.result low } in
+    let new = c.tick.new in
+    let old = a_tick_older (server_of device c.args.self.now) in
+    let O : List Held → Type 0 = λ book. IsTrue (slice_index_or c.overdue_ports-overdue.result number false) ↔ IsOverdue (port_at number) book in
+    let at = (goal.at.loop-number-preserved g c).After-overdue_ports-overdue in
+    let exact : O old.book = subst O (ap (λ (x : ServerState). x.book) (older_now g at)) (c.overdue_ports-overdue.ensures number small) in
+    let mid : ServerState = with_ports s (device new.adapter) new.shared (set v.ports number new.self) in
+    let turn = subst (TakesTurn (TurnInTick p.found old.book (port_at number)) c.loop-number.replies.items new.replies.items s)
+    (placing.placed s (device v.adapter) v.shared v.ports number (device new.adapter) new.shared new.self) (c.tick.ensures.turn s old.book exact has) in
+    let first = so_far.first in
+    let there : probe_result_of c.args.self.now.ports number ≡ p.found = sym (so_far.ports number (omega arith)) ∙ has.parts.port_is.found_is in
     record {
-      rest = λ later new more.
-          so_far.rest later new
-          (idle_turn (TicksPort book) Rests ports c.loop-place.place (omega (arith, four, c.loop-place-test.true)) (server_of device c.loop-place.self) new later c.in_default.not-Ready so_far.settled refl more);
-      ports = λ q more. so_far.ports q (omega (arith, more));
-      room = so_far.room;
+      first = first;
+      four = length-set v.ports number new.self ∙ four;
+      rest = λ later last more.
+          let W : List Reply → Type 0 = λ told. TakeTurns (TicksPort old.book) Rests 0 c.args.self.now.ports told old last in
+          subst W (sym (ap (λ (told : List Reply). told ++ later) turn.told ∙ append_assoc c.loop-number.replies.items turn.its later))
+          (so_far.rest (turn.its ++ later) last
+          (tick_turn old.book c.args.self.now.ports number (omega (arith, first, small)) p.found there s mid last turn.its later turn.settled turn.does more));
+      ports = λ q more. placing.other_found v.ports number new.self q (λ same. omega (arith, more, same)) ∙ so_far.ports q (omega (arith, more));
+      room = c.tick.ensures.room;
       on = so_far.on;
-      settled = so_far.settled;
-      cost = omega (arith, so_far.cost);
-    }
-
-pub tick_port-requires-clause-ready : goal.tick_port-requires-clause-ready
-tick_port-requires-clause-ready g c = c.loop-place.invariant.ports c.loop-place.place (omega arith) ∙ c.in-Ready.is
-
-pub loop-place-preserved : goal.loop-place-preserved
-loop-place-preserved g c =
-    let device = g.A.Adapter.device in
-    let so_far = c.loop-place.invariant in
-    let ports = c.self.inside.ports in
-    let four : length ports ≡ 4 = search rules in
-    let s = server_of device c.loop-place.self in
-    let mid = server_of device c.tick_port.new.self in
-    let old = server_of device c.args.self.now in
-    let book = (a_tick_older old).book in
-    let low : c.loop-place.place < length ports = omega (arith, four, c.loop-place-test.true) in
-    let O : ServerState → Type 0 = λ x. IsTrue (slice_index_or c.grow_older-overdue.result c.loop-place.place false) ↔ IsOverdue (port_at c.loop-place.place) x.book in
-    let exact = subst O c.grow_older-overdue.ensures.older (c.grow_older-overdue.ensures.overdue c.loop-place.place (omega (arith, four, c.loop-place-test.true))) in
-    let ticked = c.tick_port.ensures.ticks book exact in
-    record {
-      rest = λ later new more.
-          let W : List Reply → Type 0 = λ told. TakeTurns (TicksPort book) Rests 0 c.args.self.now.ports told (a_tick_older old) new in
-          subst W (sym (ap (λ (told : List Reply). told ++ later) ticked.1 ∙ append_assoc c.loop-place.replies.items ticked.0 later))
-          (so_far.rest (ticked.0 ++ later) new
-          (one_turn (TicksPort book) Rests ports c.loop-place.place low c.in-Ready.was s mid new ticked.0 later c.in-Ready.is c.tick_port.ensures.settled ticked.2 more));
-      ports = λ q more. c.tick_port.ensures.ports q (λ same. omega (arith, more, same)) ∙ so_far.ports q (omega (arith, more));
-      room = c.tick_port.ensures.room;
-      on = c.tick_port.ensures.on;
-      settled = c.tick_port.ensures.settled;
-      cost = omega (arith, so_far.cost, c.tick_port.ensures.cost);
+      settled = turn.settled;
+      cost = omega (arith, so_far.cost, c.tick.ensures.cost);
     }
 
 -- the ports had their turns
-ticked : (g : Over) (c : After-loop-place g) → Ticks c.loop-place.replies.items (server_of g.A.Adapter.device c.args.self.now) (server_of g.A.Adapter.device c.loop-place.self)
+ticked : (g : Over) (c : After-loop-number g) → Ticks c.loop-number.replies.items (server_of g.A.Adapter.device c.args.self.now) (server_of g.A.Adapter.device (seen c.loop-number.self-inside))
 ticked g c =
     let device = g.A.Adapter.device in
     let old = server_of device c.args.self.now in
-    let ports = c.self.inside.ports in
-    let four : length ports ≡ 4 = search rules in
-    all_turns (TicksPort (a_tick_older old).book) Rests ports c.args.self.now.ports c.loop-place.place c.loop-place.replies.items (a_tick_older old) (server_of device c.loop-place.self)
-    (omega (arith, four, c.loop-place-test.false)) c.loop-place.invariant.rest
+    let first = c.loop-number.invariant.first in
+    let past = c.loop-number-test.false in
+    all_turns (TicksPort (a_tick_older old).book) Rests c.args.self.now.ports c.args.self.now.ports c.loop-number.number c.loop-number.replies.items (a_tick_older old) (server_of device (seen c.loop-number.self-inside))
+    (omega (arith, first, past)) c.loop-number.invariant.rest
+
+pub invariant_of-self : goal.invariant_of-self
+invariant_of-self g c = subst (λ (b : Bool). InvariantBy b (server_of g.A.Adapter.device (seen c.loop-number.self-inside))) (sym c.loop-number.invariant.on) c.loop-number.invariant.settled
 
 pub returns-clause-ticks : goal.returns-clause-ticks
 returns-clause-ticks g c =
     let device = g.A.Adapter.device in (
-      by_on (λ (b : Bool). TicksBy b c.loop-place.replies.items (server_of device c.args.self.now) (server_of device c.loop-place.self)) c.self.view_is c.if-self.false (ticked g c),
-      c.loop-place.invariant.on ∙ by_on (λ (b : Bool). false ≡ b) c.self.view_is c.if-self.false refl,
+      by_on (λ (b : Bool). TicksBy b c.loop-number.replies.items (server_of device c.args.self.now) (server_of device (seen c.loop-number.self-inside))) c.self.view_is c.if-self.false (ticked g c),
+      c.loop-number.invariant.on ∙ by_on (λ (b : Bool). false ≡ b) c.self.view_is c.if-self.false refl,
     )
 
 pub returns-clause-adds : goal.returns-clause-adds
 returns-clause-adds g c =
     let device = g.A.Adapter.device in
-    (c.law_ticks_add.ensures (server_of device c.args.self.now) (server_of device c.loop-place.self) c.loop-place.replies.items
+    (c.law_ticks_add.ensures (server_of device c.args.self.now) (server_of device (seen c.loop-number.self-inside)) c.loop-number.replies.items
     (now_on device c.self.view_is c.if-self.false c.self.invariant) (ticked g c)).adds
 
 -- since a reset that got stuck there is no ready port
@@ -104,23 +116,26 @@ returns-then-self-clause-adds g c =
     subst (λ (replies : List Reply). ExtendsHistory s s Tick (Served replies)) (sym c.clear.ensures)
     (c.law_stalled_ticks_add.ensures s (now_off g.A.Adapter.device c.self.view_is c.if-self.true c.self.invariant)).adds
 
-pub loop-place-init : goal.loop-place-init
-loop-place-init g c =
+pub loop-number-init : goal.loop-number-init
+loop-number-init g c =
     let device = g.A.Adapter.device in
-    let old = server_of device c.args.self.now in
-    let book = (a_tick_older old).book in
-    let older = c.grow_older-overdue.ensures.older in
-    let ports = ap (λ (v : ServerView g.row.A.Denot). v.ports) c.self.view_is in
+    let v = c.self.inside in
+    let old = a_tick_older (server_of device c.args.self.now) in
+    let at = (goal.at.loop-number-init g c).After-overdue_ports-overdue in
+    let ports = ap (λ (x : ServerView g.row.A.Denot). x.ports) c.self.view_is in
+    let settled = now_on device refl c.if-self.false c.self.invariant in
+    let now : SettledInvariant (record (server_of device (seen v)) { book = c.tick-is_one.new.self }) =
+    subst (λ (book : List Held). SettledInvariant (record (server_of device (seen v)) { book = book })) (sym (older g at)) (c.law_requests_get_older.ensures (server_of device (seen v)) settled) in
+    let four = placing.four_ports v.ports settled.kept.four in
     record {
-      rest = λ later new turns.
-          let F : List ProbeResult → ServerState → Type 0 = λ found s. TakeTurns (TicksPort book) Rests 0 found later s new in
-          let T : List Reply → Type 0 = λ told. TakeTurns (TicksPort book) Rests 0 c.args.self.now.ports (told ++ later) (a_tick_older old) new in
-          subst T (sym c.clear.ensures) (subst (F c.args.self.now.ports) older (subst (λ (found : List ProbeResult). F found (server_of device c.grow_older-overdue.new.self)) ports turns));
-      ports = λ q more. ap (λ (s : ServerState). probe_result_of s.ports q) older ∙ sym (ap (λ (found : List ProbeResult). probe_result_of found q) ports);
-      room =
-          let all = c.law_the_book_stays_in_order.ensures.all c.grow_older-overdue.new.self.book c.grow_older-overdue.ensures.settled.kept.ordered in
-          let none = ap length c.clear.ensures in omega (arith, all, none);
-      on = c.grow_older-overdue.ensures.on;
-      settled = c.grow_older-overdue.ensures.settled;
-      cost = omega (arith, c.grow_older-overdue.ensures.cost);
+      first = ap length (sym ports) ∙ length-map v.ports (λ (p : ServedPort). p.found) ∙ four;
+      four = four;
+      rest = λ later last turns.
+          let T : List Reply → Type 0 = λ told. TakeTurns (TicksPort old.book) Rests 0 c.args.self.now.ports (told ++ later) old last in
+          subst T (sym c.clear.ensures) (subst (λ (x : ServerState). TakeTurns (TicksPort old.book) Rests 0 c.args.self.now.ports later x last) (older_now g at) turns);
+      ports = λ q more. ap (λ (found : List ProbeResult). probe_result_of found q) ports;
+      room = let all = c.law_the_book_stays_in_order.ensures.all c.tick-is_one.new.self now.kept.ordered in let none = ap length c.clear.ensures in omega (arith, all, none);
+      on = c.if-self.false;
+      settled = now;
+      cost = let same = ap (λ (x : ServerView g.row.A.Denot). g.A.Adapter.access_count x.adapter) c.self.view_is in omega (arith, same);
     }

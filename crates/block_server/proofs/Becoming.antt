@@ -1,0 +1,211 @@
+-- Four ports become others, one after another: what the server then has by port.
+use Rattle.std.proofs.Common.{ℕ, ◌≡◌, ◌≢◌, ◌+◌, ◌/◌, ◌%◌, ◌<◌, ◌≤◌, List, None, length, map, set, refl, sym, ap, ◌∙◌, subst, arith, ⊎_elim}
+use Rattle.std.proofs.Math.ListN.{get_or-eq_default, get_or-map}
+use Rattle.std.proofs.lemmas.Bool.{cases_eq, cases_lt}
+use Rattle.std.proofs.lemmas.List.{ext_get_or, get_or-set_other, get_or-set_same, length-map, length-set}
+use Rattle.adapter.specs.Device.{Device}
+use Rattle.block_machine.specs.declared.due.QueueMode.{QueueMode}
+use Rattle.dma_frames.specs.Loan.{Lending}
+use Rattle.hba_regs.specs.Bits.{bit}
+use Rattle.host_boot.specs.Resets.{Resets, StaysReset}
+use Rattle.host_boot.specs.Taken.{TakesOver, probe_result_of}
+use Rattle.host_boot.specs.declared.Host.{Host}
+use Rattle.host_boot.specs.declared.ProbeResult.{ProbeResult}
+use Rattle.host_boot.specs.declared.ProbeResult.TheVariants.{Unserved}
+use Rattle.identify.specs.declared.wanted.Wanted.{Wanted}
+use Rattle.slots.specs.Uses.{PortSlots, use_at}
+use Rattle.server_history.specs.Kept.{IsKeptIn, TakesBack}
+use Rattle.server_history.specs.Resets.{IsTakenAgain}
+use Rattle.server_history.specs.Server.{ServerState, kept_at, last_disk_of, mode_at, mode_found, plain_mode, remembered_at, slots_at, used_for}
+use Rattle.server_history.specs.Stalled.{ResetGetsStuck, stuck_found}
+use Rattle.block_server.specs.Parts.{EachBecomes, IsFoundAnew, IsTakenAnew, found_by_port, kept_by_port, last_disk_by_port, mode_by_port, no_port, port_in, slots_by_port, wanted_by_port, with_ports, without_loans}
+use Rattle.block_server.specs.declared.served_port.ServedPort.{ServedPort}
+use Rattle.block_server.specs.declared.served_port.Shared.{Shared}
+
+-- ---- one after another
+
+-- those below this number have become such ones, and the others are as they were
+pub record BecomesSoFar (Such : ℕ → ServedPort → ServedPort → Type 0) (old now : List ServedPort) (count : ℕ) : Type 0 where
+  pub four : length now ≡ 4
+  pub done : (number : ℕ) → number < count → Such number (port_in old number) (port_in now number)
+  pub left : (number : ℕ) → count ≤ number → port_in now number ≡ port_in old number
+
+module _ (Such : ℕ → ServedPort → ServedPort → Type 0) (old : List ServedPort) where
+  pub none_yet : length old ≡ 4 → BecomesSoFar Such old old 0
+  none_yet four = record { four = four; done = λ number low. absurd (omega (arith, low)); left = λ number more. refl }
+
+  module _ (now : List ServedPort) (count : ℕ) (so_far : BecomesSoFar Such old now count) where
+    pub one_more : count < 4 → (p : ServedPort) → Such count (port_in old count) p → BecomesSoFar Such old (set now count p) (count + 1)
+    one_more low p such = record {
+      four = length-set now count p ∙ so_far.four;
+      done = λ number below. ⊎_elim
+          (λ (same : number ≡ count). subst (λ (n : ℕ). Such n (port_in old n) (port_in (set now count p) n)) (sym same)
+          (subst (Such count (port_in old count)) (sym (get_or-set_same now count p no_port (let four = so_far.four in omega (arith, four, low)))) such))
+          (λ (other : number ≢ count).
+          subst (Such number (port_in old number)) (sym (get_or-set_other now count number p no_port other)) (so_far.done number (omega (arith, below, other))))
+          (cases_eq number count);
+      left = λ number more. get_or-set_other now count number p no_port (λ same. omega (arith, more, same)) ∙ so_far.left number (omega (arith, more));
+    }
+
+    pub all_become : 4 ≤ count → EachBecomes Such old now
+    all_become all = record { four = so_far.four; each = λ number low. so_far.done number (omega (arith, all, low)) }
+
+-- ---- what the server has of them then
+
+-- there are four ports, and no other
+beyond : (ports : List ServedPort) → length ports ≡ 4 → (number : ℕ) → 4 ≤ number → port_in ports number ≡ no_port
+beyond ports four number more = get_or-eq_default ports no_port (omega (arith, four, more))
+
+-- what is the same of each port
+same_field : {X : Type 0} (field : ServedPort → X) (old new : List ServedPort) → length old ≡ 4 → length new ≡ 4 → ((number : ℕ) → number < 4 → field (port_in new number) ≡ field (port_in old number)) → map field new ≡ map field old
+same_field field old new four_old four each =
+    let long_new = length-map new field in
+    let long_old = length-map old field in
+    ext_get_or (field no_port) (map field new) (map field old) (omega (arith, long_new, long_old, four, four_old))
+    (λ number low. get_or-map field new number no_port ∙ each number (omega (arith, low, long_new, four)) ∙ sym (get_or-map field old number no_port))
+
+module _ (found : ℕ → ProbeResult) (mode : ℕ → QueueMode) (old new : List ServedPort) (four_old : length old ≡ 4) (four : length new ≡ 4)
+    (each : (number : ℕ) → number < 4 → IsFoundAnew (found number) (mode number) (port_in old number) (port_in new number)) where
+  pub its_found : (number : ℕ) → number < 4 → probe_result_of (found_by_port new) number ≡ found number
+  its_found number low = get_or-map (λ (p : ServedPort). p.found) new number no_port ∙ ap (λ (p : ServedPort). p.found) (each number low).fields
+
+  pub its_last_disk : (number : ℕ) → remembered_at (last_disk_by_port new) number ≡ last_disk_of (probe_result_of (found_by_port old) number) (remembered_at (last_disk_by_port old) number)
+  its_last_disk number =
+      get_or-map (λ (p : ServedPort). p.last_disk) new number no_port
+      ∙ ⊎_elim
+      (λ (low : number < 4). ap (λ (p : ServedPort). p.last_disk) (each number low).fields)
+      (λ (more : 4 ≤ number). ap (λ (p : ServedPort). p.last_disk) (beyond new four number more) ∙ sym (ap (λ (p : ServedPort). last_disk_of p.found p.last_disk) (beyond old four_old number more)))
+      (cases_lt number 4)
+      ∙ (λ i. last_disk_of (sym (get_or-map (λ (p : ServedPort). p.found) old number no_port) i) (sym (get_or-map (λ (p : ServedPort). p.last_disk) old number no_port) i))
+
+  pub its_mode : (number : ℕ) → number < 4 → mode_at (mode_by_port new) number ≡ mode number
+  its_mode number low = get_or-map (λ (p : ServedPort). p.mode) new number no_port ∙ ap (λ (p : ServedPort). p.mode) (each number low).fields
+
+  pub its_places : (number : ℕ) → number < 4 → length (slots_at (slots_by_port new) number).places ≡ 32
+  its_places number low = ap (λ (u : PortSlots). length u.places) (get_or-map (λ (p : ServedPort). p.slots) new number no_port) ∙ (each number low).unused.places
+
+  pub its_usable : (number : ℕ) → number < 4 → (slots_at (slots_by_port new) number).usable ≡ (mode_at (mode_by_port new) number).usable
+  its_usable number low =
+      ap (λ (u : PortSlots). u.usable) (get_or-map (λ (p : ServedPort). p.slots) new number no_port) ∙ (each number low).unused.usable
+      ∙ sym (ap (λ (m : QueueMode). m.usable) (its_mode number low))
+
+  pub none_used : (number slot : ℕ) → used_for (slots_by_port new) number slot ≡ None
+  none_used number slot =
+      ap (λ (u : PortSlots). use_at u slot) (get_or-map (λ (p : ServedPort). p.slots) new number no_port)
+      ∙ ⊎_elim
+      (λ (low : number < 4). (each number low).unused.free slot)
+      (λ (more : 4 ≤ number). ap (λ (p : ServedPort). use_at p.slots slot) (beyond new four number more))
+      (cases_lt number 4)
+
+  pub same_wanted : wanted_by_port new ≡ wanted_by_port old
+  same_wanted = same_field (λ (p : ServedPort). p.wanted) old new four_old four (λ number low. ap (λ (p : ServedPort). p.wanted) (each number low).fields)
+
+  pub same_kept : kept_by_port new ≡ kept_by_port old
+  same_kept = same_field (λ (p : ServedPort). p.kept) old new four_old four (λ number low. ap (λ (p : ServedPort). p.kept) (each number low).fields)
+
+-- ---- the adapter didn't end its reset
+
+module _ (s : ServerState) (before device : Device) (shared : Shared) (old new : List ServedPort) (four_old : length old ≡ 4)
+    (stuck : EachBecomes (λ number was now. IsFoundAnew (stuck_found was.found) plain_mode was now) old new) where
+  abbrev found : ℕ → ProbeResult
+  found number = stuck_found (port_in old number).found
+
+  abbrev mode : ℕ → QueueMode
+  mode number = plain_mode
+
+  pub gets_stuck : StaysReset before device → ResetGetsStuck (with_ports s before shared old) (with_ports s device shared new)
+  gets_stuck stays = record {
+    stays = stays;
+    found = λ number. ⊎_elim
+        (λ (low : number < 4). its_found found mode old new four_old stuck.four stuck.each number low ∙ sym (ap stuck_found (get_or-map (λ (p : ServedPort). p.found) old number no_port)))
+        (λ (more : 4 ≤ number).
+        get_or-map (λ (p : ServedPort). p.found) new number no_port ∙ ap (λ (p : ServedPort). p.found) (beyond new stuck.four number more)
+        ∙ sym (ap (λ (p : ServedPort). stuck_found p.found) (beyond old four_old number more)) ∙ sym (ap stuck_found (get_or-map (λ (p : ServedPort). p.found) old number no_port)))
+        (cases_lt number 4);
+    remembered = its_last_disk found mode old new four_old stuck.four stuck.each;
+    four = length-map new (λ (p : ServedPort). p.last_disk) ∙ stuck.four;
+    four_modes = length-map new (λ (p : ServedPort). p.mode) ∙ stuck.four;
+    modes = its_mode found mode old new four_old stuck.four stuck.each;
+    four_slots = length-map new (λ (p : ServedPort). p.slots) ∙ stuck.four;
+    places = its_places found mode old new four_old stuck.four stuck.each;
+    usable = its_usable found mode old new four_old stuck.four stuck.each;
+    unused = none_used found mode old new four_old stuck.four stuck.each;
+    server = λ i. record (with_ports s device shared new) { wanted = same_wanted found mode old new four_old stuck.four stuck.each i; kept = same_kept found mode old new four_old stuck.four stuck.each i };
+  }
+
+-- ---- the adapter was taken over
+
+module _ (host : Host) (four_host : length host.ports ≡ 4) (old new : List ServedPort) (four_old : length old ≡ 4) (taken : EachBecomes (IsTakenAnew host) old new) where
+  abbrev pub found_by : ℕ → ProbeResult
+  found_by number = probe_result_of host.ports number
+
+  abbrev pub mode_by : ℕ → QueueMode
+  mode_by number = (port_in new number).mode
+
+  pub each : (number : ℕ) → number < 4 → IsFoundAnew (found_by number) (mode_by number) (port_in old number) (port_in new number)
+  each number low = (taken.each number low).anew
+
+  pub found_host : found_by_port new ≡ host.ports
+  found_host =
+      let long = length-map new (λ (p : ServedPort). p.found) in
+      let four = taken.four in
+      ext_get_or Unserved (found_by_port new) host.ports (long ∙ taken.four ∙ sym four_host)
+      (λ number low. its_found found_by mode_by old new four_old taken.four each number (omega (arith, low, long, four)))
+
+  pub modes_follow : (cap : ℕ) → host.slots ≡ cap / 256 % 32 + 1 → host.queued ≡ bit cap 30 → (number : ℕ) → number < 4 → mode_at (mode_by_port new) number ≡ mode_found cap (probe_result_of host.ports number)
+  modes_follow cap slots queued number low = its_mode found_by mode_by old new four_old taken.four each number low ∙ (taken.each number low).mode cap slots queued
+
+-- again, after a reset
+module _ (s : ServerState) (before idle device : Device) (first later : Shared) (old new : List ServedPort) (four_old : length old ≡ 4) (host : Host) (four_host : length host.ports ≡ 4)
+    (taken : EachBecomes (IsTakenAnew host) (map without_loans old) new) where
+  abbrev mid : List ServedPort
+  mid = map without_loans old
+
+  four_mid : length mid ≡ 4
+  four_mid = length-map old without_loans ∙ four_old
+
+  -- a port without its loans has all else
+  mid_is : (number : ℕ) → port_in mid number ≡ without_loans (port_in old number)
+  mid_is number = get_or-map without_loans old number no_port
+
+  wanted_still : wanted_by_port mid ≡ wanted_by_port old
+  wanted_still = same_field (λ (p : ServedPort). p.wanted) old mid four_old four_mid (λ number low. ap (λ (p : ServedPort). p.wanted) (mid_is number))
+
+  found_mid : (number : ℕ) → probe_result_of (found_by_port mid) number ≡ probe_result_of (found_by_port old) number
+  found_mid number = get_or-map (λ (p : ServedPort). p.found) mid number no_port ∙ ap (λ (p : ServedPort). p.found) (mid_is number) ∙ sym (get_or-map (λ (p : ServedPort). p.found) old number no_port)
+
+  last_disk_mid : (number : ℕ) → remembered_at (last_disk_by_port mid) number ≡ remembered_at (last_disk_by_port old) number
+  last_disk_mid number = get_or-map (λ (p : ServedPort). p.last_disk) mid number no_port ∙ ap (λ (p : ServedPort). p.last_disk) (mid_is number) ∙ sym (get_or-map (λ (p : ServedPort). p.last_disk) old number no_port)
+
+  abbrev f : ℕ → ProbeResult
+  f = found_by host four_host mid new four_mid taken
+
+  abbrev m : ℕ → QueueMode
+  m = mode_by host four_host mid new four_mid taken
+
+  e : (number : ℕ) → number < 4 → IsFoundAnew (f number) (m number) (port_in mid number) (port_in new number)
+  e = each host four_host mid new four_mid taken
+
+  pub takes_again : Resets before idle → TakesBack first.table.value later.table.value (IsKeptIn (kept_by_port old)) → TakesOver (wanted_by_port mid) host idle device → later.book ≡ first.book
+      → IsTakenAgain (with_ports s before first old) (with_ports s device later new)
+  takes_again resets back takes book = record {
+    idle = idle;
+    resets = resets;
+    back = back;
+    unkept = λ number.
+        ap (λ (lists : List (List Lending)). kept_at lists number) (same_kept f m mid new four_mid taken.four e)
+        ∙ get_or-map (λ (p : ServedPort). p.kept) mid number no_port ∙ ap (λ (p : ServedPort). p.kept) (mid_is number);
+    four_kept = length-map new (λ (p : ServedPort). p.kept) ∙ taken.four;
+    host = host;
+    takes = subst (λ (wanted : List Wanted). TakesOver wanted host idle device) wanted_still takes;
+    four = four_host;
+    remembered = λ number. its_last_disk f m mid new four_mid taken.four e number ∙ (λ i. last_disk_of (found_mid number i) (last_disk_mid number i));
+    four_remembered = length-map new (λ (p : ServedPort). p.last_disk) ∙ taken.four;
+    four_modes = length-map new (λ (p : ServedPort). p.mode) ∙ taken.four;
+    modes = modes_follow host four_host mid new four_mid taken device.cap takes.slots takes.queued;
+    four_slots = length-map new (λ (p : ServedPort). p.slots) ∙ taken.four;
+    places = its_places f m mid new four_mid taken.four e;
+    usable = its_usable f m mid new four_mid taken.four e;
+    unused = none_used f m mid new four_mid taken.four e;
+    server = λ i. record (with_ports s device later new) { wanted = (same_wanted f m mid new four_mid taken.four e ∙ wanted_still) i; ports = found_host host four_host mid new four_mid taken i; book = book i };
+  }
