@@ -1,11 +1,9 @@
 -- Lists of frames as words.
-use Rattle.std.proofs.Common.{◌≡◌, ◌<◌, ◌∙◌, ℕ, zero, suc, false, List, [], ◌∷◌, ◌++◌, length, get_or, arith, ap, ap₂, sym, refl, map, append-nil, true≢false}
-use lib.Pointwise.{pointwise}
-use lib.Dec.{eqb}
-use Rattle.std.proofs.lemmas.Slice.Eq.{bytes_eq-Decides}
+use Rattle.std.proofs.Common.{◌≡◌, ◌<◌, ◌∙◌, ℕ, suc, List, [], ◌∷◌, ◌++◌, length, get_or, arith, ap, ap₂, sym, refl, map, append-nil, subst}
+use Rattle.std.proofs.lemmas.List.{map-append}
 use Rattle.std.proofs.lemmas.Fmt.{decimal_nonempty, decimal_injective}
 use Rattle.std.proofs.lemmas.List.Splits.{join_with_byte-slice_split, length-slice_split}
-use Rattle.std.proofs.lemmas.List.Elements.{All-nil, All-cons, All-head, All-tail}
+use Rattle.std.proofs.lemmas.List.Elements.{All-nil, All-cons, All-head, All-tail, All-append}
 use Rattle.std.specs.Bool.{◌==◌}
 use Rattle.std.specs.Fmt.{decimal}
 use Rattle.std.specs.List.{All, join_with_byte, slice_split}
@@ -54,22 +52,29 @@ pub none_for_dash : (frames : List Frame) → All IsFrame frames → frames_word
 none_for_dash [] h e = refl
 none_for_dash (f ∷ frames) h e = absurd (no_dash f frames h e)
 
-pub other_word : (word dash : List ℕ) → dash ≡ 45 ∷ [] → pointwise eqb word dash ≡ false → word ≡ 45 ∷ [] → ⊥
-other_word word dash is differs e = let bad = sym differs ∙ (bytes_eq-Decides word dash).1 (e ∙ sym is) in true≢false (sym bad)
-
 pub parted_word : (frames : List Frame) (word : List ℕ) → All IsFrame frames → frames_word frames ≡ word → (word ≡ 45 ∷ [] → ⊥)
     → slice_split (λ b. b == 44) word ≡ map spelled frames
 parted_word [] word h e other = absurd (other (sym e))
 parted_word (f ∷ frames) word h e other = ap (slice_split (λ b. b == 44)) (sym e) ∙ parted f frames h
 
--- each part of the word of some frames is one of them
-pub part_of : (frames : List Frame) (k : ℕ) (piece : List ℕ) → All IsFrame frames → k < length (map spelled frames)
-    → piece ≡ get_or (map spelled frames) k piece → (f : Frame) × IsFrame f × (decimal f.0 ≡ piece) × (k < length frames)
-part_of [] k piece h l e = absurd (omega arith)
-part_of (f ∷ frames) zero piece h l e = (f, All-head IsFrame f frames h, sym e, omega arith)
-part_of (f ∷ frames) (suc k) piece h l e =
-    let more = part_of frames k piece (All-tail IsFrame f frames h) (omega arith) e in
+-- what is spelled next to some of these frames is one of them
+pub next_frame : (xs : List Frame) (word : List ℕ) (rest : List (List ℕ)) (vs : List Frame) → All IsFrame vs
+    → map spelled xs ++ word ∷ rest ≡ map spelled vs → (f : Frame) × IsFrame f × (decimal f.0 ≡ word) × (length xs < length vs)
+next_frame [] word rest [] h e = let bad : suc (length rest) ≡ 0 = ap length e in absurd (omega (arith, bad))
+next_frame [] word rest (v ∷ vs) h e = let head : word ≡ decimal v.0 = cc in (v, All-head IsFrame v vs h, sym head, omega arith)
+next_frame (x ∷ xs) word rest [] h e = let bad : suc (length (map spelled xs ++ word ∷ rest)) ≡ 0 = ap length e in absurd (omega (arith, bad))
+next_frame (x ∷ xs) word rest (v ∷ vs) h e =
+    let tails : map spelled xs ++ word ∷ rest ≡ map spelled vs = cc in
+    let more = next_frame xs word rest vs (All-tail IsFrame v vs h) tails in
     (more.0, more.1, more.2, omega (arith, more.3))
+
+-- one frame more is spelled by the next part
+pub frame_pushed : (xs : List Frame) (f : Frame) (word : List ℕ) (ys : List Frame) → ys ≡ xs ++ f ∷ [] → decimal f.0 ≡ word
+    → map spelled ys ≡ map spelled xs ++ word ∷ []
+frame_pushed xs f word ys is e = ap (map spelled) is ∙ (map-append spelled xs (f ∷ []) ∙ ap (λ w. map spelled xs ++ w ∷ []) e)
+
+pub frames_small : (xs : List Frame) (f : Frame) (ys : List Frame) → ys ≡ xs ++ f ∷ [] → All IsFrame xs → f.0 < 65536 → All IsFrame ys
+frames_small xs f ys is all small = subst (All IsFrame) (sym is) (All-append IsFrame xs (f ∷ []) all (All-cons IsFrame f [] small (All-nil IsFrame)))
 
 -- frames are known by how they are spelled
 pub same_frames : (xs ys : List Frame) → All IsFrame xs → All IsFrame ys → map spelled xs ≡ map spelled ys → xs ≡ ys

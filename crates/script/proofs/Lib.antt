@@ -5,3 +5,4 @@ pub mod ScriptLemmas
 pub mod StepLemmas
 pub mod WordLemmas
 mod NumberLemmas
+mod PartLemmas

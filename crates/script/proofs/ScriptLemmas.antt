@@ -1,5 +1,5 @@
 -- Scripts line by line.
-use Rattle.std.proofs.Common.{◌≡◌, ◌<◌, ◌≤◌, ◌+◌, ◌∙◌, ℕ, suc, Bool, true, false, cond, ltb, List, [], ◌∷◌, ◌++◌, length, arith, append_assoc, length-append, ap, subst, sym, refl, take, drop, get_or, map, Option, Some, None}
+use Rattle.std.proofs.Common.{◌≡◌, ◌<◌, ◌≤◌, ◌+◌, ◌∙◌, ℕ, suc, Bool, true, false, cond, ltb, List, [], ◌∷◌, ◌++◌, length, arith, append_assoc, length-append, ap, subst, sym, refl, take, drop, Option, Some, None}
 use Rattle.std.specs.Borrow.{Bor}
 use Rattle.std.specs.Prelude.{IfSome, MatchOption}
 use Rattle.std.specs.Bool.{◌==◌}
@@ -8,9 +8,6 @@ use borrow.Author.Tests.{ltb-true, ltb-false}
 use Rattle.std.proofs.lemmas.List.Splits.{slice_split_first, slice_split_none}
 use Rattle.std.proofs.lemmas.List.Sums.{fails_before_first}
 use Rattle.script.specs.Script.{Asks, AskInTurn, IsFirstLine, done, nothing, one, IsBad, lines_after, lines_of}
-use Rattle.std.specs.Iterator.{Yields}
-use Rattle.std.proofs.lemmas.Iterator.{YieldsList}
-use Rattle.std.proofs.lemmas.Iterator.Consumers.{YieldsList-turn, YieldsList-end}
 use Rattle.adapter.specs.declared.access.DeviceStep.{DeviceStep}
 use Rattle.ata_types.specs.declared.call.Call.{Call}
 
@@ -49,17 +46,6 @@ ask_from (t ∷ before) text after (line ∷ lines) (one asks others) = ask_from
 pub not_bad : (text : List ℕ) (asked : Option (Call DeviceStep)) → Asks text asked → IsBad text → ⊥
 not_bad text None asks bad = bad.0 asks
 not_bad text (Some line) asks bad = bad.1 line asks.0 asks.1
-
--- where a `for` ends, and where it stands, with what it has yielded first
-pub end_of : {S A B : Type 0} {steps : S → Option A → S → Type 0} {v : A → B} {s : S} {all : List B} (xs : List A) (t : S)
-    → Yields steps s xs t → (r : Option A) (u : S) → r ≡ None → steps t r u → YieldsList steps v s all → map v xs ≡ all
-end_of xs t y r u e k road = (YieldsList-end road xs t y r u e k).0
-
-pub at_turn : {S A : Type 0} {steps : S → Option A → S → Type 0} {v : A → List ℕ} {s : S} {all : List (List ℕ)} (xs : List A) (t : S)
-    → Yields steps s xs t → (r : Option A) (u : S) (x : A) → r ≡ Some x → steps t r u → YieldsList steps v s all
-    → (length xs < length all) × (v x ≡ get_or all (length xs) (v x))
-at_turn xs t y r u x e k road =
-    let at = YieldsList-turn road xs t y r u x e k in (at.0, at.1)
 
 -- where a text's first line feed is
 pub record IsLineFeed (text : List ℕ) (at : ℕ) : Type 0 where

@@ -1,5 +1,5 @@
 // The fields of a line: words that spell values, each value in one way.
-ghost use Rattle.std.specs.Prelude.{◌≡◌, ◌<◌, ◌≤◌, ◌+◌, ℕ, ◌∷◌, [], Some, None, IfSome, OnSome, length, map};
+ghost use Rattle.std.specs.Prelude.{◌≡◌, ◌<◌, ◌≤◌, ◌+◌, ◌++◌, ◌↔◌, ℕ, ◌∷◌, [], Some, None, IsTrue, IfSome, OnSome, length, map};
 ghost use Rattle.std.specs.List.{All};
 ghost use Rattle.std.specs.Fmt.{decimal};
 ghost use Rattle.arrayvec.specs.ArrayVec.{ArrayVec as Items};
@@ -12,6 +12,23 @@ ghost use Rattle.adapter.specs.declared.access.FatalError.{FatalError};
 use adapter::{DiskNumber, DiskPage, FatalError};
 use arrayvec::ArrayVec;
 use ata_types::{ClientId, Frame, MOST_REQUEST_FRAMES, Port, Slot};
+
+/// Whether a word is this text. Words are short, so that a look at each byte is the least that it takes.
+#[inline(always)]
+pub(crate) fn is(word: &[u8], text: &str) -> bool
+    ensures { IsTrue result ↔ word.now ≡ text.now }
+{
+    let text = text.as_bytes();
+    if word.len() != text.len() {
+        return false;
+    }
+    for place in 0..word.len() {
+        if word[place] != text[place] {
+            return false;
+        }
+    }
+    true
+}
 
 /// The digit that a byte is.
 fn digit(byte: u8) -> Option<u64>
@@ -127,6 +144,17 @@ pub(crate) fn page(word: &[u8]) -> Option<DiskPage>
     }
 }
 
+/// One frame more, by its number, if there is room.
+fn push_frame(word: &[u8], frames: &mut ArrayVec<Frame, MOST_REQUEST_FRAMES>) -> Option<()>
+    ensures pushed { OnSome result ((f : Frame) × (f.0 < 65536) × (decimal f.0 ≡ word.now)
+        × (frames.new.items ≡ frames.old.items ++ f ∷ [])) }
+    ensures full { result ≡ None → (f : Frame) → f.0 < 65536 → decimal f.0 ≡ word.now
+        → length frames.old.items ≡ MOST_REQUEST_FRAMES }
+    ensures few { OnSome result (length frames.new.items ≤ MOST_REQUEST_FRAMES) }
+{
+    frames.try_push(frame(word)?).ok()
+}
+
 /// Reads frames by their numbers, at most 128, parted by commas, in place of those that are there; `-` is none.
 pub(crate) fn frames(word: &[u8], frames: &mut ArrayVec<Frame, MOST_REQUEST_FRAMES>) -> Option<()>
     ensures spelled { OnSome result (All (λ f. f.0 < 65536) frames.new.items
@@ -136,12 +164,17 @@ pub(crate) fn frames(word: &[u8], frames: &mut ArrayVec<Frame, MOST_REQUEST_FRAM
         → frames_word v.items ≡ word.now → (result ≡ Some tt) × (frames.new ≡ v) }
 {
     frames.clear();
-    if word == b"-".as_slice() {
+    if is(word, "-") {
         return Some(());
     }
-    for piece in word.split(|byte| *byte == b',') {
-        frames.try_push(frame(piece)?).ok()?;
+    let mut begin = 0;
+    for place in 0..word.len() {
+        if word[place] == b',' {
+            push_frame(&word[begin..place], frames)?;
+            begin = place + 1;
+        }
     }
+    push_frame(&word[begin..], frames)?;
     Some(())
 }
 

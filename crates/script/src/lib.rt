@@ -7,8 +7,10 @@
 mod answer;
 mod fields;
 mod line;
+mod place;
 mod script;
 
 pub use answer::Answer;
 pub use line::read_line;
+pub use place::CallPlace;
 pub use script::{BadLine, Misspelled, check_script, first_line, read_asked};

@@ -1,13 +1,16 @@
 // One line of a script: the call that it asks for.
-ghost use Rattle.std.specs.Prelude.{◌≡◌, ◌<◌, ◌==◌, ◌↔◌, IsTrue, ◌∷◌, [], codes, Some, None, IfSome, OnSome, length, map};
+ghost use Rattle.std.specs.Prelude.{◌≡◌, ◌<◌, ◌≤◌, ◌==◌, ◌↔◌, IsTrue, ◌++◌, ◌∷◌, [], codes, Some, None, IfSome, OnSome, length, map};
 ghost use Rattle.std.specs.List.{slice_split};
 ghost use Rattle.script.specs.Line.{IsLine, IsRequest, IsSpelled, IsStep, line_text, line_words, op_word, request_words, step_words, transfer_words};
 ghost use Rattle.ata_types.specs.declared.call.Call.{Call};
+ghost use Rattle.ata_types.specs.declared.call.Call.TheVariants.{Submit};
 ghost use Rattle.ata_types.specs.declared.request.Op.{Op};
 ghost use Rattle.ata_types.specs.declared.request.Request.{Request};
 ghost use Rattle.adapter.specs.declared.access.DeviceStep.{DeviceStep};
 
 use crate::fields;
+use crate::fields::is;
+use crate::place::CallPlace;
 use adapter::DeviceStep;
 use arrayvec::ArrayVec;
 use ata_types::{Call, ClientId, Op, Request, Sector};
@@ -15,23 +18,30 @@ use ata_types::{Call, ClientId, Op, Request, Sector};
 /// The words of the longest line.
 const MOST_WORDS: usize = 6;
 
+/// One word more, if there is room.
+#[inline(always)]
+fn push_word<'a>(words: &mut ArrayVec<&'a [u8], MOST_WORDS>, word: &'a [u8]) -> Option<()>
+    ensures pushed { OnSome result
+        (map (λ w. w.now) words.new.items ≡ map (λ w. w.now) words.old.items ++ word.now ∷ []) }
+    ensures full { result ≡ None → length words.old.items ≡ 6 }
+{
+    words.try_push(word).ok()
+}
+
 /// Puts the words of a line, which one space parts, in place of others, if there are no more than a line has.
 fn part<'a>(text: &'a [u8], words: &mut ArrayVec<&'a [u8], MOST_WORDS>) -> Option<()>
     ensures parted { OnSome result (map (λ w. w.now) words.new.items ≡ slice_split (λ b. b == 32) text.now) }
     ensures many { result ≡ None → 6 < length (slice_split (λ b. b == 32) text.now) }
 {
     words.clear();
-    for word in text.split(|byte| *byte == b' ') {
-        words.try_push(word).ok()?;
+    let mut begin = 0;
+    for place in 0..text.len() {
+        if text[place] == b' ' {
+            push_word(words, &text[begin..place])?;
+            begin = place + 1;
+        }
     }
-    Some(())
-}
-
-/// Whether a word is this text.
-fn is(word: &[u8], text: &str) -> bool
-    ensures { IsTrue result ↔ word.now ≡ text.now }
-{
-    word == text.as_bytes()
+    push_word(words, &text[begin..])
 }
 
 /// Reads the read or write that is asked, from the words after the first, in place of a request.
@@ -358,58 +368,44 @@ fn of_device(words: &[&[u8]], call: &mut Call<DeviceStep>) -> Option<()>
     Some(())
 }
 
-/// A service: no word stands after `service`.
+/// A line that is one word.
 #[inline(never)]
-fn of_service(words: &[&[u8]], call: &mut Call<DeviceStep>) -> Option<()>
-    ensures found { OnSome result (IsLine call.new
-        × (line_words call.new ≡ codes "service" ∷ map (λ w. w.now) words.now)) }
-    ensures only { (c : Call DeviceStep) → IsLine c → line_words c ≡ codes "service" ∷ map (λ w. w.now) words.now
+fn of_word(name: &[u8], call: &mut Call<DeviceStep>) -> Option<()>
+    ensures found { OnSome result (IsLine call.new × (line_words call.new ≡ name.now ∷ [])) }
+    ensures only { (c : Call DeviceStep) → IsLine c → line_words c ≡ name.now ∷ []
         → (result ≡ Some tt) × (call.new ≡ c) }
 {
-    match words {
-        [] => {
-            *call = Call::Service;
-            Some(())
-        }
-        _ => None,
+    if is(name, "service") {
+        *call = Call::Service;
+        return Some(());
     }
+    if is(name, "tick") {
+        *call = Call::Tick;
+        return Some(());
+    }
+    if is(name, "reset") {
+        *call = Call::Reset;
+        return Some(());
+    }
+    None
 }
 
-/// A tick: no word stands after `tick`.
+/// Puts a request in place of a call.
 #[inline(never)]
-fn of_tick(words: &[&[u8]], call: &mut Call<DeviceStep>) -> Option<()>
-    ensures found { OnSome result (IsLine call.new
-        × (line_words call.new ≡ codes "tick" ∷ map (λ w. w.now) words.now)) }
-    ensures only { (c : Call DeviceStep) → IsLine c → line_words c ≡ codes "tick" ∷ map (λ w. w.now) words.now
-        → (result ≡ Some tt) × (call.new ≡ c) }
+fn make_request(call: &mut Call<DeviceStep>)
+    ensures { (r : Request) × (call.new ≡ Submit r) }
 {
-    match words {
-        [] => {
-            *call = Call::Tick;
-            Some(())
-        }
-        _ => None,
-    }
+    *call = Call::Submit(Request {
+        client: ClientId(0),
+        grant: 0,
+        op: Op::Read,
+        first: Sector::default(),
+        count: 0,
+        frames: ArrayVec::new(),
+    });
 }
 
-/// A reset: no word stands after `reset`.
-#[inline(never)]
-fn of_reset(words: &[&[u8]], call: &mut Call<DeviceStep>) -> Option<()>
-    ensures found { OnSome result (IsLine call.new
-        × (line_words call.new ≡ codes "reset" ∷ map (λ w. w.now) words.now)) }
-    ensures only { (c : Call DeviceStep) → IsLine c → line_words c ≡ codes "reset" ∷ map (λ w. w.now) words.now
-        → (result ≡ Some tt) × (call.new ≡ c) }
-{
-    match words {
-        [] => {
-            *call = Call::Reset;
-            Some(())
-        }
-        _ => None,
-    }
-}
-
-/// A read or a write, from the words after its own.
+/// A read or a write, from the words after its own. A request that is in the place already keeps its room for frames.
 #[inline(never)]
 fn of_transfer(op: Op, words: &[&[u8]], call: &mut Call<DeviceStep>) -> Option<()>
     requires { (r : Request) → IsSpelled op r × (request_words op r ≡ transfer_words r) }
@@ -417,14 +413,9 @@ fn of_transfer(op: Op, words: &[&[u8]], call: &mut Call<DeviceStep>) -> Option<(
     ensures only { (c : Call DeviceStep) → IsLine c → line_words c ≡ op_word op ∷ map (λ w. w.now) words.now
         → (result ≡ Some tt) × (call.new ≡ c) }
 {
-    *call = Call::Submit(Request {
-        client: ClientId(0),
-        grant: 0,
-        op,
-        first: Sector::default(),
-        count: 0,
-        frames: ArrayVec::new(),
-    });
+    if !matches!(call, Call::Submit(_)) {
+        make_request(call);
+    }
     match call {
         Call::Submit(request) => transfer(op, words, request),
         _ => None,
@@ -518,19 +509,17 @@ fn of_state(words: &[&[u8]], call: &mut Call<DeviceStep>) -> Option<()>
     }
 }
 
-/// Reads what the first word of a line of a rarer kind and those after it ask, in place of a call.
+/// Reads what the first word of a line of more words asks, and those after it, in place of a call. It is no read and no
+/// write.
 fn asked_else(name: &[u8], words: &[&[u8]], call: &mut Call<DeviceStep>) -> Option<()>
-    requires { (name.now ≡ codes "dev" → ⊥) × (name.now ≡ codes "service" → ⊥) × (name.now ≡ codes "read" → ⊥)
-        × (name.now ≡ codes "write" → ⊥) }
+    requires name { (name.now ≡ codes "read" → ⊥) × (name.now ≡ codes "write" → ⊥) }
+    requires more { 1 ≤ length words.now }
     ensures found { OnSome result (IsLine call.new × (line_words call.new ≡ name.now ∷ map (λ w. w.now) words.now)) }
     ensures only { (c : Call DeviceStep) → IsLine c → line_words c ≡ name.now ∷ map (λ w. w.now) words.now
         → (result ≡ Some tt) × (call.new ≡ c) }
 {
-    if is(name, "tick") {
-        return of_tick(words, call);
-    }
-    if is(name, "reset") {
-        return of_reset(words, call);
+    if is(name, "dev") {
+        return of_device(words, call);
     }
     if is(name, "trim") {
         return of_trim(words, call);
@@ -553,32 +542,32 @@ fn asked_else(name: &[u8], words: &[&[u8]], call: &mut Call<DeviceStep>) -> Opti
     None
 }
 
-/// Reads what a line's first word and those after it ask, in place of a call. Each kind of line has a function of its
-/// own, so that what one kind has room for is cleared for that kind alone.
-fn asked(name: &[u8], words: &[&[u8]], call: &mut Call<DeviceStep>) -> Option<()>
+/// Reads what a line's first word and those after it ask. Each kind of line has a function of its own, so that what one
+/// kind has room for is cleared for that kind alone.
+fn asked(name: &[u8], words: &[&[u8]], call: &mut CallPlace) -> Option<()>
     ensures found { OnSome result (IsLine call.new × (line_words call.new ≡ name.now ∷ map (λ w. w.now) words.now)) }
     ensures only { (c : Call DeviceStep) → IsLine c → line_words c ≡ name.now ∷ map (λ w. w.now) words.now
         → (result ≡ Some tt) × (call.new ≡ c) }
 {
-    if is(name, "dev") {
-        return of_device(words, call);
-    }
-    if is(name, "service") {
-        return of_service(words, call);
+    call.is_transfer = false;
+    if words.is_empty() {
+        return of_word(name, &mut call.other);
     }
     if is(name, "read") {
-        return of_transfer(Op::Read, words, call);
+        call.is_transfer = true;
+        return of_transfer(Op::Read, words, &mut call.transfer);
     }
     if is(name, "write") {
-        return of_transfer(Op::Write, words, call);
+        call.is_transfer = true;
+        return of_transfer(Op::Write, words, &mut call.transfer);
     }
-    asked_else(name, words, call)
+    asked_else(name, words, &mut call.other)
 }
 
-/// Reads the call that a line asks for, without its line feed, in place of another one. `None` says that no line is
-/// spelled so; what stands in the place then is any call.
+/// Reads the call that a line asks for, without its line feed. `None` says that no line is spelled so; what stands in
+/// the place then is any call.
 #[inline(never)]
-pub fn read_line_into(text: &[u8], call: &mut Call<DeviceStep>) -> Option<()>
+pub fn read_line_into(text: &[u8], call: &mut CallPlace) -> Option<()>
     ensures found { OnSome result (IsLine call.new × (line_text call.new ≡ text.now)) }
     ensures only { (c : Call DeviceStep) → IsLine c → line_text c ≡ text.now → (result ≡ Some tt) × (call.new ≡ c) }
 {
@@ -593,7 +582,7 @@ pub fn read_line(text: &[u8]) -> Option<Call<DeviceStep>>
     ensures found { IfSome result (λ call. IsLine call × (line_text call ≡ text.now)) }
     ensures only { (c : Call DeviceStep) → IsLine c → line_text c ≡ text.now → result ≡ Some c }
 {
-    let mut call = Call::Service;
+    let mut call = CallPlace::new();
     read_line_into(text, &mut call)?;
-    Some(call)
+    Some(call.into_call())
 }

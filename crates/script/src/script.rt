@@ -6,8 +6,7 @@ ghost use Rattle.adapter.specs.declared.access.DeviceStep.{DeviceStep};
 ghost use Rattle.ata_types.specs.declared.call.Call.{Call};
 
 use crate::line::read_line_into;
-use adapter::DeviceStep;
-use ata_types::Call;
+use crate::place::CallPlace;
 use thiserror::Error;
 
 /// A line is spelled as none.
@@ -27,10 +26,10 @@ fn asks_nothing(text: &[u8]) -> bool
     matches!(text, [] | [b'#', ..])
 }
 
-/// Reads the call that a line of a script asks for, without its line feed, in place of another one, and says whether it
-/// asks for any: an empty line does not, nor one that begins with `#`. What stands in the place is any call then, and
-/// so it is where the line is bad.
-pub fn read_asked(text: &[u8], call: &mut Call<DeviceStep>) -> Result<bool, Misspelled>
+/// Reads the call that a line of a script asks for, without its line feed, and says whether it asks for any: an empty
+/// line does not, nor one that begins with `#`. What stands in the place is any call then, and so it is where the line
+/// is bad.
+pub fn read_asked(text: &[u8], call: &mut CallPlace) -> Result<bool, Misspelled>
     ensures ok { IfOk result (λ some. Asks text.now (asked_of some call.new)) }
     ensures bad { OnErr result (IsBad text.now) }
 {
@@ -51,7 +50,7 @@ pub fn check_script(text: &[u8]) -> Result<(), BadLine>
     ensures bad { IfErr result (λ bad. IsFirstBad text.now bad.0) }
 {
     let mut number = 0;
-    let mut asked = Call::Service;
+    let mut asked = CallPlace::new();
     let mut rest = Some(text);
     while let Some(left) = rest {
         let (line, after) = first_line(left);
@@ -69,7 +68,12 @@ pub fn check_script(text: &[u8]) -> Result<(), BadLine>
 fn line_feed(text: &[u8]) -> Option<usize>
     ensures { result ≡ position (λ b. b == 10) text.now }
 {
-    text.iter().position(|byte| *byte == b'\n')
+    for place in 0..text.len() {
+        if text[place] == b'\n' {
+            return Some(place);
+        }
+    }
+    None
 }
 
 /// The first line of a text, without its line feed, and what stands after it; `None` where no line feed ends it, so

@@ -2,7 +2,7 @@
 use arrayvec::ArrayVec;
 use ata_types::{Op, Port, Range, RequestId, Sector};
 use block_machine::{QueueMode, Unanswered};
-use machine_rules::{HistoryRequest, DiskEvent, due_list, left};
+use machine_rules::{DiskEvent, HistoryRequest, due_list, left};
 use std::process::Abort;
 
 /// A request in a book: its id, port, operation, first sector and sectors, and whether it is issued.

@@ -1,6 +1,8 @@
-use Rattle.std.proofs.Common.{refl, rules, ap, ◌∙◌, sym, subst, Bool, Option, List, ℕ, Err}
+use Rattle.std.proofs.Common.{refl, rules, ap, ◌∙◌, sym, subst, Bool, Option, List, ℕ, Err, Some}
 use Rattle.std.proofs.lemmas.Result.{err_from_is_err_and}
 use Rattle.std.specs.Borrow.{Bor}
+use Rattle.adapter.specs.declared.access.DeviceStep.{DeviceStep}
+use Rattle.ata_types.specs.declared.call.Call.{Call}
 use Rattle.script.specs.Script.{Asks, asked_of, lines_of, lines_after}
 use Rattle.play.specs.Played.{IsWhy}
 use Rattle.play.proofs.Printing.{PlayedSoFar, played_none, played_nothing, played_line, ran_none, ran_part, ran_all, cut_more, left_ask, none_bad, if_error, on_error}
@@ -61,10 +63,11 @@ returns-in_err-shown-in-Ok-true g c =
     let so_far = subst (λ (rest : Option (Bor (List ℕ))). PlayedSoFar device g.A.Watched.ended c.args.trace c.args.server.now all c.loop-rest.server c.loop-rest.shown rest before here) c.in-Some.is c.loop-rest.invariant.played in
     let cut = cut_more all so_far.texts c.in-Some.text.now c.first_line.result.0.now c.first_line.result.1 so_far.cut c.first_line.ensures.first in
     let from = left_ask all so_far.texts c.first_line.result.0.now (lines_after c.first_line.result.1) c.requires.good.0 cut c.requires.good.1 in
-    let asks = subst (λ (some : Bool). Asks c.first_line.result.0.now (asked_of some c.read_asked.new.call)) c.in-Ok-true.field-0-test c.in-Ok-true.ensures.ok in
+    let reads = subst (λ (some : Bool). Asks c.first_line.result.0.now (asked_of some c.read_asked.new.call)) c.in-Ok-true.field-0-test c.in-Ok-true.ensures.ok in
+    let asks = subst (λ (call : Call DeviceStep). Asks c.first_line.result.0.now (Some call)) (sym c.call.ensures) reads in
     let printed = c.in_err-shown-in-Ok-true.ensures.printed in
     let ran = ran_part device g.A.Watched.ended c.args.trace c.args.server.now c.args.script.now c.loop-rest.server c.play_line.new.server c.loop-rest.shown c.first_line.result.0.now
-    c.read_asked.new.call c.in-Some.text c.first_line.result.1 before here after so_far c.first_line.ensures.first asks from
+    c.call.result.now c.in-Some.text c.first_line.result.1 before here after so_far c.first_line.ensures.first asks from
     printed.0 c.loop-rest.invariant.fed in
     let told = err_from_is_err_and c.from_residual.result c.from_residual.ensures.1 in (
       ran.0,
@@ -91,12 +94,13 @@ loop-rest-preserved-in_ok-shown-in-Ok-true g c =
     let after = g.W.Write.contents c.play_line.new.out in
     let all = lines_of c.args.script.now in
     let so_far = subst (λ (rest : Option (Bor (List ℕ))). PlayedSoFar device g.A.Watched.ended c.args.trace c.args.server.now all c.loop-rest.server c.loop-rest.shown rest before here) c.in-Some.is c.loop-rest.invariant.played in
-    let asks = subst (λ (some : Bool). Asks c.first_line.result.0.now (asked_of some c.read_asked.new.call)) c.in-Ok-true.field-0-test c.in-Ok-true.ensures.ok in
+    let reads = subst (λ (some : Bool). Asks c.first_line.result.0.now (asked_of some c.read_asked.new.call)) c.in-Ok-true.field-0-test c.in-Ok-true.ensures.ok in
+    let asks = subst (λ (call : Call DeviceStep). Asks c.first_line.result.0.now (Some call)) (sym c.call.ensures) reads in
     let printed = c.in_ok-shown-in-Ok-true.ensures.printed in
     record {
       fed = c.in_ok-shown-in-Ok-true.ensures.fed;
       room = c.play_line.ensures.room;
       played = subst (λ (shown : ℕ). PlayedSoFar device g.A.Watched.ended c.args.trace c.args.server.now all c.play_line.new.server shown c.first_line.result.1 before after) (sym c.in_ok-shown-in-Ok-true.ensures.shown)
           (played_line device g.A.Watched.ended c.args.trace c.args.server.now all c.loop-rest.server c.play_line.new.server c.loop-rest.shown c.first_line.result.0.now
-          c.read_asked.new.call c.in-Some.text c.first_line.result.1 before here after so_far c.first_line.ensures.first asks printed.0 printed.1 c.loop-rest.invariant.fed);
+          c.call.result.now c.in-Some.text c.first_line.result.1 before here after so_far c.first_line.ensures.first asks printed.0 printed.1 c.loop-rest.invariant.fed);
     }

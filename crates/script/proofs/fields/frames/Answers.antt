@@ -1,75 +1,103 @@
-use Rattle.std.proofs.Common.{rules, tests, refl, ◌≡◌, ◌<◌, ◌∙◌, ◌∷◌, [], length, map, get_or, sym, ap, arith, subst, ap₂, ◌++◌}
-use Rattle.std.proofs.lemmas.List.{map-append, length-map}
-use Rattle.std.proofs.lemmas.Iterator.Splits.{YieldsList-from_slice_split}
-use Rattle.std.proofs.lemmas.Iterator.Consumers.{YieldsList-at}
-use Rattle.std.proofs.lemmas.List.Elements.{All-nil, All-cons, All-append}
-use Rattle.std.proofs.lemmas.Slice.Eq.{bytes_eq-Decides}
+use Rattle.std.proofs.Common.{refl, ◌≡◌, ◌≤◌, ◌∙◌, ◌+◌, ◌-◌, ◌++◌, ◌∷◌, [], ℕ, List, append_assoc, ap, arith, drop, length, map, subst, sym, take, true≢false}
 use Rattle.std.specs.Bool.{◌==◌}
-use Rattle.ata_types.specs.declared.limits.TheConstants.{MOST_REQUEST_FRAMES}
 use Rattle.std.specs.List.{All, slice_split}
-use Rattle.script.proofs.FrameLemmas.{IsFrame, spelled, parted_word, part_of, same_frames, none_for_dash, other_word, whole_word}
-use Rattle.script.proofs.ScriptLemmas.{at_turn, end_of}
+use Rattle.script.proofs.FrameLemmas.{IsFrame, frame_pushed, frames_small, next_frame, none_for_dash, parted_word, same_frames, spelled, whole_word}
+use Rattle.script.proofs.PartLemmas.{lacks_more, part_first, part_last}
 use Rattle.script.proofs.fields.frames.Goals as goal
+use Rattle.script.proofs.fields.frames.Goals.{then-word-place-eq44+in_ok-push_frame, else-word-place-eq44}
 
-pub returns-then-eq-clause-only : goal.returns-then-eq-clause-only
-returns-then-eq-clause-only c = λ v all most e.
-    let dash : c.as_slice.result.now ≡ 45 ∷ [] = search rules in
-    let none : v.items ≡ [] = none_for_dash v.items all (e ∙ (bytes_eq-Decides c.args.word.now c.as_slice.result.now).0 (sym c.eq.ensures ∙ c.if-eq.true) ∙ dash) in
+pub returns-then-is-clause-only : goal.returns-then-is-clause-only
+returns-then-is-clause-only c = λ v all most e.
+    let none : v.items ≡ [] = none_for_dash v.items all (e ∙ c.is.ensures.0 c.if-is.true) in
     (refl, ap (λ items. record { items = items }) (c.clear.ensures ∙ sym none))
 
-pub returns-in_err-frame-clause-only : goal.returns-in_err-frame-clause-only
-returns-in_err-frame-clause-only c = λ v all most e.
-    let other : slice_split (λ b. b == 44) c.args.word.now ≡ map spelled v.items =
-    parted_word v.items c.args.word.now all e (other_word c.args.word.now c.as_slice.result.now (search rules) (sym c.eq.ensures ∙ c.if-eq.false)) in
-    let turn = at_turn c.loop-piece.yielded c.loop-piece.piece-iterator c.loop-piece.yielded_by c.next.result c.next.new.self c.in-Some.piece c.in-Some.is c.next.ensures.steps
-    (YieldsList-at {s = c.into_iter-piece-iterator.result} {t = c.split-piece-items.result} (search rules)
-    (YieldsList-from_slice_split _ (λ b. b == 44) c.args.word.now c.split-piece-items.ensures.rest c.split-piece-items.ensures.done c.split-piece-items.ensures.closure (λ x r q k. search (rules, tests)))) in
-    let part = part_of v.items (length c.loop-piece.yielded) c.in-Some.piece.now all (subst (λ parts. length c.loop-piece.yielded < length parts) other turn.0)
-    (subst (λ parts. c.in-Some.piece.now ≡ get_or parts (length c.loop-piece.yielded) c.in-Some.piece.now) other turn.1) in
-    let read = c.frame.ensures.only part.0 part.1 part.2 in
-    let bad = sym c.in_err-frame.was ∙ read in
-    cc
+pub returns-in_err-push_frame-clause-only : goal.returns-in_err-push_frame-clause-only
+returns-in_err-push_frame-clause-only c = λ v all most e.
+    let word : List ℕ = c.args.word.now in
+    let is = c.loop-place.invariant in
+    let other = parted_word v.items word all e (λ dash. true≢false (sym (c.is.ensures.1 dash) ∙ c.if-is.false)) in
+    let next = part_first 44 word c.loop-place.begin c.loop-place.place is.order c.loop-place-test.true is.lacks c.if-word-place-eq44.true in
+    let frame = next_frame c.loop-place.frames.items _ _ v.items all (ap (λ ws. map spelled c.loop-place.frames.items ++ ws) (sym next) ∙ (is.parted ∙ other)) in
+    let full = c.in_err-push_frame.ensures.full refl frame.0 frame.1 frame.2 in
+    let less = frame.3 in
+    absurd (omega (arith, full, less, most))
 
-pub loop-piece-preserved : goal.loop-piece-preserved
-loop-piece-preserved c =
-    let items : c.try_push.new.self.items ≡ c.loop-piece.frames.items ++ c.in_ok-frame.field-0 ∷ [] = search rules in
-    let frame = c.in_ok-frame.ensures.spelled in (
-      map-append (λ w. w.now) c.loop-piece.yielded (c.in-Some.piece ∷ [])
-          ∙ ap₂ ◌++◌ c.loop-piece.invariant.0 (ap (λ word. word ∷ []) (sym frame.1))
-          ∙ sym (map-append spelled c.loop-piece.frames.items (c.in_ok-frame.field-0 ∷ []))
-          ∙ ap (map spelled) (sym items),
-      subst (All IsFrame) (sym items)
-          (All-append IsFrame c.loop-piece.frames.items (c.in_ok-frame.field-0 ∷ []) c.loop-piece.invariant.1
-          (All-cons IsFrame c.in_ok-frame.field-0 [] frame.0 (All-nil IsFrame))),
-      search rules,
-    )
+pub loop-place-preserved : goal.loop-place-preserved
+loop-place-preserved c = elim c.if-word-place-eq44.branch [
+  | then-word-place-eq44+in_ok-push_frame w ↦
+      let p : List ℕ → List (List ℕ) = slice_split (λ b. b == 44) in
+      let word : List ℕ = c.args.word.now in
+      let at = c.loop-place.place in
+      let is = c.loop-place.invariant in
+      let part : List ℕ = take (at - c.loop-place.begin) (drop c.loop-place.begin word) in
+      let before : List (List ℕ) = map spelled c.loop-place.frames.items in
+      let pushed = w.in_ok-push_frame.ensures.pushed in
+      let all = frame_pushed c.loop-place.frames.items pushed.0 part w.push_frame.new.frames.items pushed.3 pushed.2 in
+      let begin = w.begin-is in
+      record {
+        order = omega (arith, begin);
+        parted = (λ i. map spelled (w.frames-is i).items ++ p (drop (w.begin-is i) word))
+            ∙ (ap (λ ws. ws ++ p (drop (at + 1) word)) all
+            ∙ (append_assoc before (part ∷ []) (p (drop (at + 1) word))
+            ∙ (ap (λ ws. before ++ ws)
+            (sym (part_first 44 word c.loop-place.begin at is.order c.loop-place-test.true is.lacks w.if-word-place-eq44.true)) ∙ is.parted)));
+        lacks = λ k above below. absurd (omega (arith, above, below, begin));
+        small = subst (λ frames. All IsFrame frames.items) (sym w.frames-is)
+            (frames_small c.loop-place.frames.items pushed.0 w.push_frame.new.frames.items pushed.3 is.small pushed.1);
+        most = subst (λ frames. length frames.items ≤ 128) (sym w.frames-is) w.in_ok-push_frame.ensures.few;
+      }
+  | else-word-place-eq44 w ↦
+      let begin = w.begin-is in
+      let is = c.loop-place.invariant in
+      record {
+        order = let order = is.order in omega (arith, begin, order);
+        parted = (λ i. map spelled (w.frames-is i).items ++ slice_split (λ b. b == 44) (drop (w.begin-is i) c.args.word.now)) ∙ is.parted;
+        lacks = λ k above below.
+            lacks_more 44 c.args.word.now c.loop-place.begin c.loop-place.place is.lacks w.if-word-place-eq44.false k (omega (arith, above, begin)) below;
+        small = subst (λ frames. All IsFrame frames.items) (sym w.frames-is) is.small;
+        most = subst (λ frames. length frames.items ≤ 128) (sym w.frames-is) is.most;
+      }
+]
 
-pub returns-in_err-ok-clause-only : goal.returns-in_err-ok-clause-only
-returns-in_err-ok-clause-only c = λ v all most e.
-    let other : slice_split (λ b. b == 44) c.args.word.now ≡ map spelled v.items =
-    parted_word v.items c.args.word.now all e (other_word c.args.word.now c.as_slice.result.now (search rules) (sym c.eq.ensures ∙ c.if-eq.false)) in
-    let turn = at_turn c.loop-piece.yielded c.loop-piece.piece-iterator c.loop-piece.yielded_by c.next.result c.next.new.self c.in-Some.piece c.in-Some.is c.next.ensures.steps
-    (YieldsList-at {s = c.into_iter-piece-iterator.result} {t = c.split-piece-items.result} (search rules)
-    (YieldsList-from_slice_split _ (λ b. b == 44) c.args.word.now c.split-piece-items.ensures.rest c.split-piece-items.ensures.done c.split-piece-items.ensures.closure (λ x r q k. search (rules, tests)))) in
-    let below : length c.loop-piece.yielded < length (map spelled v.items) = subst (λ parts. length c.loop-piece.yielded < length parts) other turn.0 in
-    let full : length c.loop-piece.frames.items ≡ MOST_REQUEST_FRAMES = search rules in
-    let yielded : length c.loop-piece.yielded ≡ length c.loop-piece.frames.items =
-    sym (length-map c.loop-piece.yielded (λ w. w.now)) ∙ ap length c.loop-piece.invariant.0 ∙ length-map c.loop-piece.frames.items spelled in
-    absurd (omega (arith, below, full, yielded, most, length-map v.items spelled))
-
-pub returns-clause-only : goal.returns-clause-only
-returns-clause-only c = λ v all most e.
-    let other : slice_split (λ b. b == 44) c.args.word.now ≡ map spelled v.items =
-    parted_word v.items c.args.word.now all e (other_word c.args.word.now c.as_slice.result.now (search rules) (sym c.eq.ensures ∙ c.if-eq.false)) in
-    let end = end_of c.loop-piece.yielded c.loop-piece.piece-iterator c.loop-piece.yielded_by c.next.result c.next.new.self c.in-None.is c.next.ensures.steps
-    (YieldsList-at {s = c.into_iter-piece-iterator.result} {t = c.split-piece-items.result} (search rules)
-    (YieldsList-from_slice_split _ (λ b. b == 44) c.args.word.now c.split-piece-items.ensures.rest c.split-piece-items.ensures.done c.split-piece-items.ensures.closure (λ x r q k. search (rules, tests)))) in
-    let same : c.loop-piece.frames.items ≡ v.items = same_frames c.loop-piece.frames.items v.items c.loop-piece.invariant.1 all (sym c.loop-piece.invariant.0 ∙ end ∙ other) in
-    (refl, ap (λ items. record { items = items }) same)
+pub returns-in_err-push_frame-2-clause-only : goal.returns-in_err-push_frame-2-clause-only
+returns-in_err-push_frame-2-clause-only c = λ v all most e.
+    let word : List ℕ = c.args.word.now in
+    let is = c.loop-place.invariant in
+    let within = c.loop-place-test.false in
+    let other = parted_word v.items word all e (λ dash. true≢false (sym (c.is.ensures.1 dash) ∙ c.if-is.false)) in
+    let last = part_last 44 word c.loop-place.begin (λ k above below. is.lacks k above (omega (arith, below, within))) in
+    let frame = next_frame c.loop-place.frames.items _ [] v.items all (ap (λ ws. map spelled c.loop-place.frames.items ++ ws) (sym last) ∙ (is.parted ∙ other)) in
+    let full = c.in_err-push_frame-2.ensures.full refl frame.0 frame.1 frame.2 in
+    let less = frame.3 in
+    absurd (omega (arith, full, less, most))
 
 pub returns-clause-spelled : goal.returns-clause-spelled
 returns-clause-spelled c =
-    let end = end_of c.loop-piece.yielded c.loop-piece.piece-iterator c.loop-piece.yielded_by c.next.result c.next.new.self c.in-None.is c.next.ensures.steps
-    (YieldsList-at {s = c.into_iter-piece-iterator.result} {t = c.split-piece-items.result} (search rules)
-    (YieldsList-from_slice_split _ (λ b. b == 44) c.args.word.now c.split-piece-items.ensures.rest c.split-piece-items.ensures.done c.split-piece-items.ensures.closure (λ x r q k. search (rules, tests)))) in
-    (c.loop-piece.invariant.1, whole_word c.loop-piece.frames.items c.args.word.now (sym c.loop-piece.invariant.0 ∙ end))
+    let word : List ℕ = c.args.word.now in
+    let is = c.loop-place.invariant in
+    let within = c.loop-place-test.false in
+    let items = c.push_frame-2.new.frames.items in
+    let pushed = c.in_ok-push_frame-2.ensures.pushed in
+    let last = part_last 44 word c.loop-place.begin (λ k above below. is.lacks k above (omega (arith, below, within))) in
+    let all = frame_pushed c.loop-place.frames.items pushed.0 _ items pushed.3 pushed.2 in (
+      frames_small c.loop-place.frames.items pushed.0 items pushed.3 is.small pushed.1,
+      whole_word items word (all ∙ (ap (λ ws. map spelled c.loop-place.frames.items ++ ws) (sym last) ∙ is.parted)),
+    )
+
+pub returns-clause-most : goal.returns-clause-most
+returns-clause-most c = c.in_ok-push_frame-2.ensures.few
+
+pub returns-clause-only : goal.returns-clause-only
+returns-clause-only c = λ v given most e.
+    let word : List ℕ = c.args.word.now in
+    let is = c.loop-place.invariant in
+    let within = c.loop-place-test.false in
+    let items = c.push_frame-2.new.frames.items in
+    let pushed = c.in_ok-push_frame-2.ensures.pushed in
+    let other = parted_word v.items word given e (λ dash. true≢false (sym (c.is.ensures.1 dash) ∙ c.if-is.false)) in
+    let last = part_last 44 word c.loop-place.begin (λ k above below. is.lacks k above (omega (arith, below, within))) in
+    let all = frame_pushed c.loop-place.frames.items pushed.0 _ items pushed.3 pushed.2 in
+    let small = frames_small c.loop-place.frames.items pushed.0 items pushed.3 is.small pushed.1 in
+    let same : items ≡ v.items = same_frames items v.items small given
+    (all ∙ (ap (λ ws. map spelled c.loop-place.frames.items ++ ws) (sym last) ∙ (is.parted ∙ other))) in
+    (refl, ap (λ items. record { items = items }) same)

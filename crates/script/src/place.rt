@@ -1,0 +1,64 @@
+// Where the call that a line asks for is read into.
+ghost use Rattle.std.specs.Prelude.{◌≡◌};
+ghost use Rattle.ata_types.specs.declared.call.Call.TheVariants.{Service};
+
+use adapter::DeviceStep;
+use ata_types::Call;
+use std::marker::Model;
+
+/// The place of a call, which is any one until one was read into it. Reads and writes have a part of their own, so that
+/// their room for frames is kept from line to line: to clear it for each costs more than to read the line.
+#[derive(Debug, Drop)]
+pub struct CallPlace {
+    /// The last read or write, or any other call.
+    pub(crate) transfer: Call<DeviceStep>,
+    /// The last call of another kind.
+    pub(crate) other: Call<DeviceStep>,
+    /// Which of the two was read last.
+    pub(crate) is_transfer: bool,
+}
+
+impl Model for CallPlace {
+    ghost use Rattle.std.specs.Prelude.{if◌then◌else◌};
+    ghost use Rattle.adapter.specs.declared.access.DeviceStep.{DeviceStep};
+    ghost use Rattle.ata_types.specs.declared.call.Call.{Call};
+
+    ghost Value = { Call DeviceStep };
+
+    ghost view = { λ p. if p.is_transfer then p.transfer else p.other };
+}
+
+impl CallPlace {
+    /// A place with a service.
+    pub fn new() -> CallPlace
+        ensures { result ≡ Service }
+    {
+        CallPlace {
+            transfer: Call::Service,
+            other: Call::Service,
+            is_transfer: false,
+        }
+    }
+
+    /// The call that was read last.
+    pub fn call(&self) -> &Call<DeviceStep>
+        ensures { result.now ≡ self.now }
+    {
+        if self.is_transfer {
+            &self.transfer
+        } else {
+            &self.other
+        }
+    }
+
+    /// That call itself.
+    pub fn into_call(self) -> Call<DeviceStep>
+        ensures { result ≡ self }
+    {
+        if self.is_transfer {
+            self.transfer
+        } else {
+            self.other
+        }
+    }
+}
