@@ -25,7 +25,7 @@ pub record IsReadyFor (config : Config) (d : Device) : Type 0 where
   pub room : MeetsAll config → FRAME_BYTES * config.frames ≤ d.size
 
 -- The server has what the configuration's plan says: its grants, its owners, and the disks that it asks for. The
--- adapter was taken over. No disk is remembered but those that were found, nothing is asked, nothing lent, no loan
+-- adapter was taken over. No disk is remembered, nothing is asked, nothing lent, no loan
 -- kept, no slot used, no id handed out, and no reset got stuck. It keeps what a server keeps, and a history without
 -- calls leads to it.
 pub record IsInitialServer {A : Type 0} (device : A → Device) (config : Config) (adapter : A)

@@ -77,7 +77,7 @@ impl ServedPort {
         }
     }
 
-    /// Notes what it was found to be once its adapter was taken over again, and how it takes commands then. Its disk
+    /// Notes what it was found to be once its adapter was taken over, and how it takes commands then. Its disk
     /// is remembered, and no slot of it is used.
     pub(crate) fn begin_anew(&mut self, found: ProbeResult, mode: QueueMode)
         requires { mode.usable ≤ 32 }

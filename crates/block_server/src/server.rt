@@ -263,8 +263,8 @@ impl<A: Adapter> Server<A> {
         id
     }
 
-    /// Asks for a request. It is accepted exactly where no refusal applies, and then answered by a later `service`; its
-    /// frames are lent until then. Where refusals apply, the first of them is told, and nothing changes.
+    /// Asks for a request. It is accepted exactly where no refusal applies, and then perhaps answered by a later call;
+    /// its frames are lent until then. Where refusals apply, the first of them is told, and nothing changes.
     pub fn submit(&mut self, r: &Request) -> Result<RequestId, Refusal>
         ensures submits { Submits A.device self.old self.new r.now result }
         ensures adds { ExtendsHistory (server_of A.device self.old) (server_of A.device self.new) (Submit r.now)
@@ -294,7 +294,7 @@ impl<A: Adapter> Server<A> {
     /// and else `Aborted` after the fourth issue; where the disk isn't the same, or the port isn't ready, they and
     /// those that wait are `Unplugged`; and where the engine doesn't stop all are `PortDead`, and frames of those that
     /// had been issued stay lent until a reset ends. A recovery waits for the disk at most so often as its parts tell,
-    /// and meanwhile for all ports. The replies stand port by port, each port's in order of acceptance.
+    /// and all ports wait meanwhile. The replies stand port by port, each port's in order of acceptance.
     pub fn service(&mut self) -> Replies
         ensures services { Services A.device self.old self.new result.items }
         ensures adds { ExtendsHistory (server_of A.device self.old) (server_of A.device self.new) Service
@@ -406,7 +406,7 @@ impl<A: Adapter> Server<A> {
     /// | a port with the disk that it was last ready with | Its requests fare as after a boot in `service`. |
     /// | a port with another disk, or that isn't ready | All its requests are `Unplugged`. |
     /// | a port whose engine doesn't stop | All are `PortDead`. Frames of those issued stay lent. |
-    /// | a request that was done, but isn't answered | It goes again. |
+    /// | a request that was done, but isn't answered | It fares as one that isn't done. |
     ///
     /// A disk is the same by its serial and size: nobody is told of one that was out and in again. The replies stand as
     /// those of `service`. `AdapterStuck` is told where HR of GHC is read 1 in 64 readings (that many are this

@@ -37,7 +37,7 @@ use Rattle.error_recovery.specs.declared.Recovered.{Recovered}
 
 -- ---- what is asked
 
--- where the outstanding commands aren't queued, there is one alone, in slot 0
+-- where the outstanding commands aren't queued, there is one at most, in slot 0
 abbrev pub FitsFor : Bool → ℕ → SlotStates → Type 0
 FitsFor queued port uses = queued ≡ false → (slot : ℕ) → slot ≢ 0 → uses port slot ≡ Free
 
@@ -45,8 +45,8 @@ FitsFor queued port uses = queued ≡ false → (slot : ℕ) → slot ≢ 0 → 
 abbrev pub IsAloneIn : Bool → ℕ → Type 0
 IsAloneIn queued outstanding = queued ≡ false → (slot : ℕ) → slot < 32 → bit outstanding slot ≡ true → slot ≡ 0
 
--- An error of the port may be handled while these commands are outstanding, queued ones or plain ones: the adapter is
--- on, and has the port and the driver's memory; and what its slots are used for is known.
+-- An error of the port may be handled while these commands are outstanding, queued ones or a plain one in slot 0: the
+-- adapter is on, and has the port and the driver's memory; and what its slots are used for is known.
 pub record MayHandleError (port : Port) (outstanding : ℕ) (queued : Bool) (d : Device) : Type 0 where
   pub on : IsOn d
   pub there : HasPort d port.0
@@ -246,7 +246,7 @@ pub record Recovers (port : Port) (outstanding : ℕ) (queued : Bool) (result : 
   pub handling : RecoversOrStops port outstanding queued result old new
   pub tells : TellsRecovery port outstanding queued result handling.accesses old new
 
--- All that is promised of a port that is stopped for a reset: PxCMD alone was accessed, nobody is named, and it doesn't
+-- All that is promised of a port that is stopped for a reset: PxCMD alone was written, nobody is named, and it doesn't
 -- run.
 pub record StopsForReset (port : Port) (outstanding : ℕ) (queued : Bool) (result : Recovered)
     (old new : Device) : Type 0 where

@@ -20,13 +20,15 @@ pub record ClearsFre (old new : DevicePort) : Type 0 where
   pub bases : new.bases ≡ old.bases
   pub same : SameBeside old new
 
--- The command list and the received FIS area are in their places, and nothing else has changed.
+-- The command list and the received FIS area are in their places; PxSCTL.DET and what readings noted, but of PxCMD, are
+-- as they were.
 pub record PlacesAreas (port : ℕ) (old new : DevicePort) : Type 0 where
   pub quiet : IsAfterReset new
   pub bases : new.bases ≡ programmed port
   pub same : SameBeside old new
 
--- COMRESET was sent and ended: the port receives FISes still, and awaits its link, which comes up where no disk came.
+-- COMRESET was sent and ended: the port receives FISes still, and awaits its link, which is coming up where no disk
+-- came.
 pub record SendsComreset (port : Port) (old new : Device) : Type 0 where
   pub reset : WasReset port (λ ended now. now ≡ ended) old new
   pub receives : ReceivesFises port.0 (new.port port.0)
@@ -44,14 +46,15 @@ pub record MissesDevice (port : Port) (old new : Device) : Type 0 where
   pub misses : ReadsWithout port Ssts HasLink MOST_READINGS old new
   pub fault : BacksFault NoDevice (new.port port.0).notes
 
--- No cause is told of before, and no error where no link was due.
+-- PxSERR and PxIS were cleared. No cause is told of then; nor an error, where no link was due, but of disks that went
+-- or came since.
 pub record LeavesNoError (port : Port) (old new : Device) : Type 0 where
   pub clears : ClearsErrors port old new
   pub calm : (place : ℕ) → place < 32 → (new.port port.0).is place ≡ false
   pub clear : (old.port port.0).link_due ≡ false → HasClearErrors port.0 old new
 
--- A device was awaited that is neither busy nor asks for a transfer, and this was found. Where the link was awaited,
--- and PxTFD shows no DRQ by now, nothing is due.
+-- A device was awaited that is neither busy nor asks for a transfer: whether one was found. Where the link was awaited,
+-- the engine stood and TFES was clear, and PxTFD shows no DRQ by now, nothing is due.
 pub record AwaitsIdle (port : Port) (found : Bool) (old new : Device) : Type 0 where
   pub saw : SawDevice (new.port port.0).notes
   pub idle : found ≡ true → SawIdle (new.port port.0).notes × ReadsUntil port Tfd ShowsIdle old new

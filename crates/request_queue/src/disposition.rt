@@ -23,7 +23,7 @@ pub struct FailedRequest {
 pub enum Revalidation {
     /// It is ready, with the disk that it had.
     SameDisk,
-    /// It is ready with another disk, or it isn't ready, and isn't dead.
+    /// Its disk was lost, or it is ready with another, or it isn't ready, and isn't dead.
     DiskLost,
     /// It is dead.
     Dead,
