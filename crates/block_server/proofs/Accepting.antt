@@ -1,7 +1,8 @@
 -- An accepted request: what is asked of the calls that accept it, and what the server then is.
-use Rattle.std.proofs.Common.{◌≡◌, ◌+◌, ◌^◌, ◌<◌, ◌++◌, ◌∷◌, [], List, Some, inl, inr, refl, sym, ◌∙◌, ap, subst}
+use Rattle.std.proofs.Common.{◌≡◌, ◌+◌, ◌^◌, ◌<◌, ◌++◌, ◌∷◌, [], List, Some, inl, inr, refl, sym, ◌∙◌, ap, subst, arith}
 use Rattle.std.specs.Prelude.{slice_index_or}
 use Rattle.std.proofs.lemmas.Bool.{cases_lt}
+use Rattle.std.proofs.lemmas.List.Elements.{All-contains}
 use Rattle.ata_types.specs.declared.Port.{Port}
 use Rattle.ata_types.specs.declared.PortState.TheVariants.{Ready as ReadyState}
 use Rattle.ata_types.specs.declared.grant.GrantRow.{GrantRow}
@@ -9,7 +10,7 @@ use Rattle.ata_types.specs.declared.refusal.Refusal.TheVariants.{Rule, IdsSpent}
 use Rattle.ata_types.specs.declared.request.Frame.{Frame}
 use Rattle.ata_types.specs.declared.request.Request.{Request}
 use Rattle.ata_types.specs.declared.request.RequestId.{RequestId}
-use Rattle.adapter.specs.Rules.{HasPort}
+use Rattle.block_machine.specs.Left.{IsRow}
 use Rattle.block_machine.specs.Refusals.{IsAcceptable}
 use Rattle.block_machine.specs.declared.due.QueueMode.{QueueMode}
 use Rattle.block_machine.specs.Rules.{BreaksNone, HasNoFault, IsNamed}
@@ -20,9 +21,8 @@ use Rattle.server_history.specs.Served.{Accepts, IssuesAll, accepted_as, accepti
 use Rattle.server_history.specs.Server.{ServerState, InCallInvariant, mode_in, no_slots, server_situation, state_of}
 use Rattle.server_history.proofs.plain_calls.AcceptableRequests.{has_room, on_ready}
 use Rattle.slots.specs.Uses.{PortSlots}
-use Rattle.block_server.proofs.Sending.{served_ready}
 use Rattle.block_server.specs.Calls.{IsFor}
-use Rattle.block_server.specs.Ports.{HasReadyPort}
+use Rattle.port_driver.specs.Ports.{HasReadyPort}
 
 -- ---- what is asked of the calls
 
@@ -43,11 +43,8 @@ module _ (s : ServerState) (r : Request) (acc : IsAcceptable (server_situation s
     ready : state_of (probe_result_of s.ports port.0) ≡ ReadyState
     ready = on_ready s r acc is.0 is.1 port is.2
 
-    there : HasPort s.device port.0
-    there = k.there port.0 (served_ready (probe_result_of s.ports port.0) ready)
-
     pub low : port.0 < 4
-    low = there.0
+    low = let its = (All-contains IsRow s.grants is.0 k.rows is.1.0).port in let same = ap (λ (p : Port). p.0) is.2 in omega (arith, its, same)
 
     -- ---- what the server then is
 

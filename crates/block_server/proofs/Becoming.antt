@@ -18,9 +18,10 @@ use Rattle.server_history.specs.Kept.{IsKeptIn, TakesBack}
 use Rattle.server_history.specs.Resets.{IsTakenAgain}
 use Rattle.server_history.specs.Server.{ServerState, kept_at, last_disk_of, mode_at, mode_found, plain_mode, remembered_at, slots_at, used_for}
 use Rattle.server_history.specs.Stalled.{ResetGetsStuck, stuck_found}
-use Rattle.block_server.specs.Parts.{EachBecomes, IsFoundAnew, IsTakenAnew, found_by_port, kept_by_port, last_disk_by_port, mode_by_port, no_port, port_in, slots_by_port, wanted_by_port, with_ports, without_loans}
-use Rattle.block_server.specs.declared.served_port.ServedPort.{ServedPort}
-use Rattle.block_server.specs.declared.served_port.Shared.{Shared}
+use Rattle.block_server.specs.FourPorts.{EachBecomes, IsTakenAnew, found_by_port, kept_by_port, last_disk_by_port, mode_by_port, port_in, slots_by_port, wanted_by_port, with_ports, without_loans}
+use Rattle.port_driver.specs.Parts.{IsFoundAnew, no_port}
+use Rattle.port_driver.specs.declared.served_port.ServedPort.{ServedPort}
+use Rattle.port_driver.specs.declared.served_port.Shared.{Shared}
 
 -- ---- one after another
 

@@ -22,8 +22,9 @@ use Rattle.host_boot.specs.declared.ProbeResult.TheVariants.{Unserved}
 use Rattle.identify.specs.declared.wanted.Wanted.{Wanted}
 use Rattle.configuration.specs.Plan.{HasClientFrames, IsClient, IsPlan, IsServedGrant, PlanView}
 use Rattle.server_history.specs.Server.{IsNewServer, ServerState, kept_at, last_disk_of, mode_at, mode_found, no_slots, remembered_at, used_for}
-use Rattle.block_server.specs.Parts.{EachBecomes, IsFoundAnew, IsTakenAnew, found_by_port, kept_by_port, last_disk_by_port, mode_by_port, port_in, slots_by_port, wanted_by_port}
-use Rattle.block_server.specs.declared.served_port.ServedPort.{ServedPort}
+use Rattle.block_server.specs.FourPorts.{EachBecomes, IsTakenAnew, found_by_port, kept_by_port, last_disk_by_port, mode_by_port, port_in, slots_by_port, wanted_by_port}
+use Rattle.port_driver.specs.Parts.{IsFoundAnew}
+use Rattle.port_driver.specs.declared.served_port.ServedPort.{ServedPort}
 use Rattle.block_server.proofs.Becoming as becoming
 
 -- a row of a plan is one that a configuration may give

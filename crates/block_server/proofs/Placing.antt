@@ -1,140 +1,18 @@
--- A port of a server: what the server has of it, and what the server is with another in its place.
-use Rattle.std.proofs.Common.{ℕ, ◌≡◌, ◌≢◌, ◌<◌, List, [], length, get_or, set, None, refl, sym, ap, ◌∙◌, subst}
+-- The ports of a server: what it has of each, and what it is with another in its place.
+use Rattle.std.proofs.Common.{ℕ, ◌≡◌, ◌≢◌, ◌<◌, List, length, get_or, set, refl, sym, ap, ◌∙◌, subst}
 use Rattle.std.proofs.Math.ListN.{get_or-map}
 use Rattle.std.proofs.Math.Seq.{map-set_same}
-use Rattle.std.proofs.lemmas.List.{get_or-set_other, get_or_default, length-map, map-set, set-get_or}
-use Rattle.ata_types.specs.declared.Port.{Port}
+use Rattle.std.proofs.lemmas.List.{get_or-set_other, get_or_default, length-map, map-set}
 use Rattle.adapter.specs.Device.{Device}
 use Rattle.refinement.specs.Relation.{port_at}
-use Rattle.block_machine.specs.declared.due.QueueMode.{QueueMode}
-use Rattle.dma_frames.specs.Loan.{Lending}
 use Rattle.host_boot.specs.Taken.{probe_result_of}
 use Rattle.host_boot.specs.declared.ProbeResult.{ProbeResult}
 use Rattle.host_boot.specs.declared.ProbeResult.TheVariants.{Unserved}
-use Rattle.identify.specs.declared.wanted.Wanted.{Wanted}
-use Rattle.identify.specs.declared.wanted.Wanted.TheVariants.{Nothing}
-use Rattle.server_history.specs.Server.{ServerState, no_slots, plain_mode}
-use Rattle.slots.specs.Uses.{PortSlots}
-use Rattle.block_server.specs.Parts.{HasParts, HasServedPort, found_by_port, no_port, port_in, slots_by_port, with_parts, with_ports}
-use Rattle.block_server.specs.declared.served_port.ServedPort.{ServedPort}
-use Rattle.block_server.specs.declared.served_port.Shared.{Shared}
-
--- what is put where it stood changes nothing
-put_back : {X : Type 0} (xs : List X) (place : ℕ) (default x : X) → get_or xs place default ≡ x → set xs place x ≡ xs
-put_back xs place default x is = ap (set xs place) (sym is) ∙ set-get_or xs place default
-
--- ---- one port of a server
-
-module _ (s : ServerState) (port : Port) (p : ServedPort) (has : HasServedPort s port.0 p) where
-  same_wanted : set s.wanted port.0 p.wanted ≡ s.wanted
-  same_wanted = put_back s.wanted port.0 Nothing p.wanted has.wanted_is
-
-  same_found : set s.ports port.0 p.found ≡ s.ports
-  same_found = put_back s.ports port.0 Unserved p.found has.found_is
-
-  same_last_disk : set s.remembered port.0 p.last_disk ≡ s.remembered
-  same_last_disk = put_back s.remembered port.0 None p.last_disk has.last_disk_is
-
-  same_mode : set s.modes port.0 p.mode ≡ s.modes
-  same_mode = put_back s.modes port.0 plain_mode p.mode has.mode_is
-
-  same_slots : set s.slots port.0 p.slots ≡ s.slots
-  same_slots = put_back s.slots port.0 no_slots p.slots has.slots_are
-
-  same_kept : set s.kept port.0 p.kept ≡ s.kept
-  same_kept = put_back s.kept port.0 [] p.kept has.kept_is
-
-  module _ (device : Device) (shared : Shared) where
-    -- nothing of the port changed
-    pub with_same : with_parts s device shared port p ≡ record s { device = device; table = shared.table.value; book = shared.book }
-    with_same = λ i. record s {
-      device = device;
-      table = shared.table.value;
-      wanted = same_wanted i;
-      ports = same_found i;
-      remembered = same_last_disk i;
-      modes = same_mode i;
-      slots = same_slots i;
-      kept = same_kept i;
-      book = shared.book;
-    }
-
-    -- its slots are others
-    pub with_slots : (slots : PortSlots) → with_parts s device shared port (record p { slots = slots })
-        ≡ record s { device = device; table = shared.table.value; slots = set s.slots port.0 slots; book = shared.book }
-    with_slots slots = λ i. record s {
-      device = device;
-      table = shared.table.value;
-      wanted = same_wanted i;
-      ports = same_found i;
-      remembered = same_last_disk i;
-      modes = same_mode i;
-      slots = set s.slots port.0 slots;
-      kept = same_kept i;
-      book = shared.book;
-    }
-
-    -- other loans are kept of it
-    pub with_kept : (kept : List Lending) → with_parts s device shared port (record p { kept = kept })
-        ≡ record s { device = device; table = shared.table.value; kept = set s.kept port.0 kept; book = shared.book }
-    with_kept kept = λ i. record s {
-      device = device;
-      table = shared.table.value;
-      wanted = same_wanted i;
-      ports = same_found i;
-      remembered = same_last_disk i;
-      modes = same_mode i;
-      slots = same_slots i;
-      kept = set s.kept port.0 kept;
-      book = shared.book;
-    }
-
-    -- it was found anew
-    pub with_found : (found : ProbeResult) (mode : QueueMode) (slots : PortSlots) → with_parts s device shared port (record p { found = found; mode = mode; slots = slots }) ≡ record s {
-      device = device;
-      table = shared.table.value;
-      ports = set s.ports port.0 found;
-      modes = set s.modes port.0 mode;
-      slots = set s.slots port.0 slots;
-      book = shared.book;
-    }
-    with_found found mode slots = λ i. record s {
-      device = device;
-      table = shared.table.value;
-      wanted = same_wanted i;
-      ports = set s.ports port.0 found;
-      remembered = same_last_disk i;
-      modes = set s.modes port.0 mode;
-      slots = set s.slots port.0 slots;
-      kept = same_kept i;
-      book = shared.book;
-    }
-
-    -- only the disk that is wanted is the same
-    pub with_other : (q : ServedPort) → q.wanted ≡ p.wanted → with_parts s device shared port q ≡ record s {
-      device = device;
-      table = shared.table.value;
-      ports = set s.ports port.0 q.found;
-      remembered = set s.remembered port.0 q.last_disk;
-      modes = set s.modes port.0 q.mode;
-      slots = set s.slots port.0 q.slots;
-      kept = set s.kept port.0 q.kept;
-      book = shared.book;
-    }
-    with_other q is = ap (λ (list : List Wanted). record (with_parts s device shared port q) { wanted = list }) (ap (set s.wanted port.0) is ∙ same_wanted)
-
--- it has the port on another device
-pub on_device : (s : ServerState) (device : Device) (number : ℕ) (p : ServedPort) → HasServedPort s number p → HasServedPort (record s { device = device }) number p
-on_device s device number p has = record {
-  wanted_is = has.wanted_is;
-  found_is = has.found_is;
-  last_disk_is = has.last_disk_is;
-  mode_is = has.mode_is;
-  slots_are = has.slots_are;
-  kept_is = has.kept_is;
-}
-
--- ---- all ports
+use Rattle.server_history.specs.Server.{ServerState}
+use Rattle.port_driver.specs.Parts.{HasParts, HasServedPort, no_port, with_parts}
+use Rattle.block_server.specs.FourPorts.{found_by_port, port_in, slots_by_port, with_ports}
+use Rattle.port_driver.specs.declared.served_port.ServedPort.{ServedPort}
+use Rattle.port_driver.specs.declared.served_port.Shared.{Shared}
 
 -- there are as many as there are slots
 pub four_ports : (ports : List ServedPort) → length (slots_by_port ports) ≡ 4 → length ports ≡ 4

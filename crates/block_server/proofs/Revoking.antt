@@ -17,10 +17,10 @@ use Rattle.server_history.specs.Revoked.{RevokesGrant}
 use Rattle.server_history.specs.Served.{IssuesAll}
 use Rattle.server_history.specs.Server.{InCallInvariant, ServerState, kept_at}
 use Rattle.slots.specs.Uses.{PortSlots}
-use Rattle.block_server.specs.Dispositions.{holding}
-use Rattle.block_server.specs.Parts.{HasServedPort}
-use Rattle.block_server.specs.Ports.{HasFoundPort, with_part}
-use Rattle.block_server.specs.declared.served_port.ServedPort.{ServedPort}
+use Rattle.port_driver.specs.Dispositions.{holding}
+use Rattle.port_driver.specs.Parts.{HasServedPort}
+use Rattle.port_driver.specs.Ports.{HasFoundPort, with_part}
+use Rattle.port_driver.specs.declared.served_port.ServedPort.{ServedPort}
 
 -- the row was there, and these are left
 abbrev pub TakesRow : List GrantRow → ClientId → ℕ → GrantRow → List GrantRow → Type 0

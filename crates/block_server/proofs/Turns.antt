@@ -11,7 +11,7 @@ use Rattle.host_boot.specs.declared.ProbeResult.TheVariants.{Ready, Unready, Uns
 use Rattle.identify.specs.declared.DiskInfo.{DiskInfo}
 use Rattle.request_queue.specs.Entries.{Held}
 use Rattle.server_history.specs.Turns.{ProbesUnready, ServePorts, ServesPort, TakeTurns, TicksPort}
-use Rattle.block_server.specs.Parts.{TurnInService, TurnInTick}
+use Rattle.port_driver.specs.Parts.{TurnInService, TurnInTick}
 use Rattle.server_history.specs.Server.{ServerState, SettledInvariant}
 
 module _ (Such : Port → List Reply → ServerState → ServerState → Type 0) (Other : Port → ServerState → ServerState → Type 0) (ports : List ProbeResult) (number : ℕ) (low : number < length ports) where

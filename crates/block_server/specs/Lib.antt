@@ -1,15 +1,12 @@
 pub mod Clients
 pub mod View
-pub mod Parts
+pub mod FourPorts
 pub mod Seen
 pub mod Made
 pub mod Calls
 pub mod Sayings
 pub mod Running
-pub mod Ports
 pub mod Promise
-pub mod Dispositions
-pub mod Recovery
 pub mod Resetting
 pub mod Revoking
 pub mod Costs

@@ -1,5 +1,5 @@
 -- What contracts see of a server's fields.
-use Rattle.block_server.specs.Parts.{found_by_port, kept_by_port, last_disk_by_port, mode_by_port, slots_by_port, wanted_by_port}
+use Rattle.block_server.specs.FourPorts.{found_by_port, kept_by_port, last_disk_by_port, mode_by_port, slots_by_port, wanted_by_port}
 use Rattle.block_server.specs.declared.server.Server.TheInside.{Inside}
 use Rattle.block_server.specs.View.{ServerView}
 

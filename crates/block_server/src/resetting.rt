@@ -1,72 +1,23 @@
 // What becomes of ports and requests where the adapter is reset.
-ghost use Rattle.std.specs.Prelude.{◌≡◌, ◌<◌, ◌≤◌, ◌+◌, ◌*◌, ◌++◌, List, None, length, map, replicate};
+ghost use Rattle.std.specs.Prelude.{◌≡◌, ◌<◌, ◌≤◌, ◌+◌, ◌*◌, ◌++◌, List, length, map};
 ghost use Rattle.adapter.specs.Counted.{MakesAtMost};
 ghost use Rattle.ata_types.specs.declared.request.Reply.{Reply};
-ghost use Rattle.block_server.specs.Costs.{ISSUES_ACCESSES};
-ghost use Rattle.block_server.specs.Parts.{EachBecomes, HasParts, IsFoundAnew, IsTakenAnew, found_by_port, kept_by_port, last_disk_by_port, wanted_by_port, with_parts, with_ports, without_loans};
-ghost use Rattle.host_boot.specs.declared.ProbeResult.TheVariants.{Unserved};
+ghost use Rattle.port_driver.specs.Costs.{ISSUES_ACCESSES};
+ghost use Rattle.block_server.specs.FourPorts.{EachBecomes, IsTakenAnew, found_by_port, kept_by_port, with_ports, without_loans};
+ghost use Rattle.port_driver.specs.Parts.{IsFoundAnew};
 ghost use Rattle.server_history.specs.Kept.{IsKeptIn, MayGoBack, TakesBack};
-ghost use Rattle.server_history.specs.Resets.{IsResetRevalidation, IssuePorts, MaySettle, SettlePorts, SettlesPort};
+ghost use Rattle.server_history.specs.Resets.{IssuePorts, MaySettle, SettlePorts};
 ghost use Rattle.server_history.specs.Server.{InCallInvariant, ServerState, plain_mode};
 ghost use Rattle.server_history.specs.Stalled.{stuck_found};
 
-use super::dispositions::resolve;
-use super::kept::Quarantine;
-use super::modes::mode_of;
-use super::recovery::is_same_disk;
-use super::served_port::{ServedPort, Shared};
 use adapter::Adapter;
-use ata_types::{MOST_UNANSWERED, PORTS, Port, PortState, Replies};
+use ata_types::{MOST_UNANSWERED, PORTS, Port, Replies};
 use dma_frames::FrameTable;
 use host_boot::{Host, ProbeResult};
-use identify::{DiskInfo, Wanted};
-use request_queue::Revalidation;
+use port_driver::laws::law_loans_end_in_turn;
+use port_driver::{ServedPort, Shared, mode_of};
 use server_history::laws::law_requests_keep;
 use server_history::stalled::law_settling_goes_on;
-
-/// Ports of which these disks are wanted, and that keep these loans. None is served yet.
-pub(crate) fn unserved_ports(
-    wanted: &[Wanted; PORTS],
-    kept: [Quarantine; PORTS],
-) -> [ServedPort; PORTS]
-    ensures wanted { wanted_by_port result ≡ wanted.now }
-    ensures kept { kept_by_port result ≡ kept }
-    ensures found { found_by_port result ≡ replicate 4 Unserved }
-    ensures forgotten { last_disk_by_port result ≡ replicate 4 None }
-{
-    let [first, second, third, fourth] = kept;
-    [
-        ServedPort::new(wanted[0], first),
-        ServedPort::new(wanted[1], second),
-        ServedPort::new(wanted[2], third),
-        ServedPort::new(wanted[3], fourth),
-    ]
-}
-
-/// By port, which disk is wanted.
-pub(crate) fn wanted_disks(ports: &[ServedPort; PORTS]) -> [Wanted; PORTS]
-    ensures { result ≡ wanted_by_port ports.now }
-{
-    [
-        ports[0].wanted,
-        ports[1].wanted,
-        ports[2].wanted,
-        ports[3].wanted,
-    ]
-}
-
-/// The loans of the ports, by port.
-pub(crate) fn into_loans(ports: [ServedPort; PORTS]) -> [Quarantine; PORTS]
-    ensures { result ≡ kept_by_port ports }
-{
-    let [first, second, third, fourth] = ports;
-    [
-        first.into_kept(),
-        second.into_kept(),
-        third.into_kept(),
-        fourth.into_kept(),
-    ]
-}
 
 /// Gives back the loans that are kept of all ports: their frames are lent to none.
 pub(crate) fn give_all_back(ports: &mut [ServedPort; PORTS], table: &mut FrameTable)
@@ -74,6 +25,7 @@ pub(crate) fn give_all_back(ports: &mut [ServedPort; PORTS], table: &mut FrameTa
     ensures ports { ports.new ≡ map without_loans ports.old }
     ensures back { TakesBack table.old table.new (IsKeptIn (kept_by_port ports.old)) }
 {
+    law_loans_end_in_turn();
     for number in 0..PORTS {
         ports[number].kept.give_back(table);
     }
@@ -98,44 +50,6 @@ pub(crate) fn begin_anew(ports: &mut [ServedPort; PORTS], host: &Host)
         let found = host.ports[number];
         let mode = mode_of(host.slots, host.queued, &found);
         ports[number].begin_anew(found, mode);
-    }
-}
-
-/// What the requests of a port may expect after a reset, by the disk that it was last ready with, if it ever was.
-fn reset_revalidation(was: &Option<DiskInfo>, found: &ProbeResult) -> Revalidation
-    ensures { IsResetRevalidation was.now found.now result }
-{
-    match found {
-        ProbeResult::Unready(PortState::Dead) => Revalidation::Dead,
-        ProbeResult::Ready(info) => match was {
-            Some(was) if is_same_disk(was, info) => Revalidation::SameDisk,
-            _ => Revalidation::DiskLost,
-        },
-        _ => Revalidation::DiskLost,
-    }
-}
-
-impl ServedPort {
-    /// Resolves the unanswered requests of the port after a reset, in order of acceptance.
-    fn resolve_after_reset(&mut self, shared: &mut Shared, port: Port, replies: &mut Replies)
-        requires settle { (s : ServerState) × MaySettle s × HasParts s s.device shared.old port self.old }
-        requires room { length replies.old.items + length shared.old.book ≤ MOST_UNANSWERED }
-        ensures settles { (s : ServerState) → MaySettle s → HasParts s s.device shared.old port self.old
-            → (its : List Reply) × (replies.new.items ≡ replies.old.items ++ its)
-            × SettlesPort port its s (with_parts s s.device shared.new port self.new) }
-        ensures rest { self.new ≡ record self.old { kept = self.new.kept } }
-        ensures room { length replies.new.items + length shared.new.book ≤ MOST_UNANSWERED }
-    {
-        let revalidation = reset_revalidation(&self.last_disk, &self.found);
-        resolve(
-            &mut shared.book,
-            &mut shared.table,
-            &mut self.kept,
-            port,
-            &None,
-            revalidation,
-            replies,
-        );
     }
 }
 

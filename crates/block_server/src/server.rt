@@ -5,14 +5,11 @@ mod client_bytes;
 mod revoking;
 
 use crate::ServerError;
-use crate::kept::{end_all, none_kept};
-use crate::limits::{CLIENT_PLACES, leaves_disk};
-use crate::modes::{overdue_ports, ready_ports};
-use crate::resetting::{
-    begin_anew, get_stuck, give_all_back, into_loans, issue_ports, resolve_ports, unserved_ports,
-    wanted_disks,
+use crate::by_port::{
+    end_all, into_loans, none_kept, overdue_ports, ready_ports, unserved_ports, wanted_disks,
 };
-use crate::served_port::{ServedPort, Shared};
+use crate::limits::{CLIENT_PLACES, leaves_disk};
+use crate::resetting::{begin_anew, get_stuck, give_all_back, issue_ports, resolve_ports};
 use adapter::{Adapter, DeviceStep, Stepped};
 use ata_types::{
     AdapterStuck, MOST_UNANSWERED, Op, PORTS, Port, PortState, Range, Refusal, Replies, Request,
@@ -24,6 +21,7 @@ use dma_frames::FrameTable;
 use grants::{Grants, decide};
 use host_boot::{ProbeResult, reset, take_over};
 use identify::DiskInfo;
+use port_driver::{ServedPort, Shared};
 use request_queue::laws::law_the_book_stays_in_order;
 use request_queue::{Book, PendingRequest};
 use server_history::laws::{

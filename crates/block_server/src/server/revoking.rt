@@ -2,9 +2,9 @@
 ghost use Rattle.std.specs.Prelude.{[], IfErr, IfOk, None, Ok, Err, Some};
 
 use super::Server;
-use crate::dispositions::answer_waiting;
 use adapter::Adapter;
 use ata_types::{ClientId, NoSuchGrant, Replies};
+use port_driver::answer_waiting;
 use request_queue::laws::{law_accepted_requests_stay, law_the_book_stays_in_order};
 use server_history::laws::{law_refusals_add, law_requests_keep, law_revocations_add};
 use server_history::stalled::{law_a_server_is_booked, law_stalled_revocations_add};

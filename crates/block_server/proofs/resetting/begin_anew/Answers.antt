@@ -5,8 +5,9 @@ use Rattle.hba_regs.specs.Bits.{bit}
 use Rattle.host_boot.specs.Taken.{probe_result_of}
 use Rattle.host_boot.specs.declared.Host.{Host}
 use Rattle.server_history.specs.Server.{mode_found}
-use Rattle.block_server.specs.Parts.{IsFoundAnew, IsTakenAnew, no_port, port_in}
-use Rattle.block_server.specs.declared.served_port.ServedPort.{ServedPort}
+use Rattle.port_driver.specs.Parts.{IsFoundAnew, no_port}
+use Rattle.block_server.specs.FourPorts.{IsTakenAnew, port_in}
+use Rattle.port_driver.specs.declared.served_port.ServedPort.{ServedPort}
 use Rattle.block_server.proofs.Becoming.{all_become, none_yet, one_more}
 use Rattle.block_server.proofs.resetting.begin_anew.Goals as goal
 

@@ -1,4 +1,4 @@
-use Rattle.block_server.specs.Parts.{IsTakenAnew}
+use Rattle.block_server.specs.FourPorts.{IsTakenAnew}
 use Rattle.block_server.proofs.Becoming.{BecomesSoFar}
 use Rattle.block_server.proofs.resetting.begin_anew.Given as goal
 

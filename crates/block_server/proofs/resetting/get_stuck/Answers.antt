@@ -2,8 +2,9 @@ use Rattle.std.proofs.Common.{◌≡◌, ◌∙◌, get_or, subst, arith}
 use Rattle.std.proofs.lemmas.List.{get_or_default}
 use Rattle.server_history.specs.Server.{plain_mode}
 use Rattle.server_history.specs.Stalled.{stuck_found}
-use Rattle.block_server.specs.Parts.{IsFoundAnew, no_port, port_in}
-use Rattle.block_server.specs.declared.served_port.ServedPort.{ServedPort}
+use Rattle.port_driver.specs.Parts.{IsFoundAnew, no_port}
+use Rattle.block_server.specs.FourPorts.{port_in}
+use Rattle.port_driver.specs.declared.served_port.ServedPort.{ServedPort}
 use Rattle.block_server.proofs.Becoming.{all_become, none_yet, one_more}
 use Rattle.block_server.proofs.resetting.get_stuck.Goals as goal
 

@@ -1,4 +1,4 @@
-use Rattle.block_server.specs.Parts.{IsFoundAnew}
+use Rattle.port_driver.specs.Parts.{IsFoundAnew}
 use Rattle.server_history.specs.Server.{plain_mode}
 use Rattle.server_history.specs.Stalled.{stuck_found}
 use Rattle.block_server.proofs.Becoming.{BecomesSoFar}

@@ -6,8 +6,9 @@ use Rattle.std.proofs.lemmas.List.Edits.{map_over_more}
 use Rattle.dma_frames.specs.Loan.{Lending}
 use Rattle.server_history.specs.Kept.{TakesBack}
 use Rattle.server_history.specs.Server.{AreOfTwo, IsLentOut, kept_at}
-use Rattle.block_server.specs.Parts.{kept_by_port, no_port, without_loans}
-use Rattle.block_server.specs.declared.served_port.ServedPort.{ServedPort}
+use Rattle.block_server.specs.FourPorts.{kept_by_port, without_loans}
+use Rattle.port_driver.specs.Parts.{no_port}
+use Rattle.port_driver.specs.declared.served_port.ServedPort.{ServedPort}
 use Rattle.block_server.proofs.Keeping.{BackSoFar, all_taken, next_out, next_so_far, next_two, none_so_far}
 use Rattle.block_server.proofs.resetting.give_all_back.Goals as goal
 
@@ -27,7 +28,7 @@ give_back-requires-clause-lent c =
     let ports = c.loop-number.ports in
     let number = c.loop-number.number in
     subst (All (IsLentOut c.loop-number.table)) (kept_there ports number _ (let long = four ports so_far.four in let low = c.loop-number-test.true in omega (arith, long, low)))
-    (next_out (kept_by_port c.args.ports.now) (kept_by_port ports) c.args.table.now c.loop-number.table number c.requires so_far.back (so_far.left number (omega arith)))
+    (next_out c.law_loans_end_in_turn.ensures.stays (kept_by_port c.args.ports.now) (kept_by_port ports) c.args.table.now c.loop-number.table number c.requires so_far.back (so_far.left number (omega arith)))
 
 pub give_back-requires-clause-apart : goal.give_back-requires-clause-apart
 give_back-requires-clause-apart c =
@@ -35,7 +36,7 @@ give_back-requires-clause-apart c =
     let ports = c.loop-number.ports in
     let number = c.loop-number.number in
     subst (AllPairs AreOfTwo) (kept_there ports number _ (let long = four ports so_far.four in let low = c.loop-number-test.true in omega (arith, long, low)))
-    (next_two (kept_by_port c.args.ports.now) (kept_by_port ports) c.args.table.now c.loop-number.table number c.requires so_far.back (so_far.left number (omega arith)))
+    (next_two c.law_loans_end_in_turn.ensures.stays (kept_by_port c.args.ports.now) (kept_by_port ports) c.args.table.now c.loop-number.table number c.requires so_far.back (so_far.left number (omega arith)))
 
 -- one more has none
 next : (old now : List ServedPort) (number : ℕ) (default : ServedPort) (kept : List Lending) → number < length old → number < length now → kept ≡ [] → now ≡ map without_loans (take number old) ++ drop number old
@@ -59,7 +60,7 @@ loop-number-preserved c =
     record {
       back = subst B (sym (map-set (λ (p : ServedPort). p.kept) ports number (record (get_or ports number c.index-ports-number.result) { kept = c.give_back.new.self })
           ∙ ap (set (kept_by_port ports) number) c.give_back.ensures.empty))
-          (next_so_far first (kept_by_port ports) c.args.table.now c.loop-number.table c.give_back.new.table number c.requires so_far low
+          (next_so_far c.law_loans_end_in_turn.ensures.stays c.law_loans_end_in_turn.ensures.both first (kept_by_port ports) c.args.table.now c.loop-number.table c.give_back.new.table number c.requires so_far low
           (subst (λ (loans : List Lending). TakesBack c.loop-number.table c.give_back.new.table (Contains loans)) here c.give_back.ensures.back));
       ports = next c.args.ports.now ports number c.index-ports-number.result c.give_back.new.self (omega (arith, told, low)) small c.give_back.ensures.empty c.loop-number.invariant.ports;
     }

@@ -1,5 +1,5 @@
 use Rattle.std.proofs.Common.{◌≡◌, ◌++◌, drop, map, take}
-use Rattle.block_server.specs.Parts.{kept_by_port, without_loans}
+use Rattle.block_server.specs.FourPorts.{kept_by_port, without_loans}
 use Rattle.block_server.proofs.Keeping.{BackSoFar}
 use Rattle.block_server.proofs.resetting.give_all_back.Given as goal
 

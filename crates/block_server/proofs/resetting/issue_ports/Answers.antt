@@ -5,10 +5,11 @@ use Rattle.std.proofs.Math.Seq.{map-set_same}
 use Rattle.refinement.specs.Relation.{port_at}
 use Rattle.host_boot.specs.Taken.{probe_result_of}
 use Rattle.host_boot.specs.declared.ProbeResult.{ProbeResult}
-use Rattle.block_server.specs.Parts.{HasParts, found_by_port, no_port, with_parts, with_ports}
-use Rattle.block_server.specs.Ports.{with_part}
-use Rattle.block_server.specs.declared.served_port.ServedPort.{ServedPort}
-use Rattle.block_server.specs.declared.served_port.Shared.{Shared}
+use Rattle.port_driver.specs.Parts.{HasParts, no_port, with_parts}
+use Rattle.block_server.specs.FourPorts.{found_by_port, with_ports}
+use Rattle.port_driver.specs.Ports.{with_part}
+use Rattle.port_driver.specs.declared.served_port.ServedPort.{ServedPort}
+use Rattle.port_driver.specs.declared.served_port.Shared.{Shared}
 use Rattle.server_history.specs.Served.{IssuesAll}
 use Rattle.server_history.specs.Server.{InCallInvariant, ServerState, mode_in}
 use Rattle.request_queue.specs.Entries.{asks_of, due_ids}
@@ -69,9 +70,7 @@ loop-number-preserved g c =
           let there : probe_result_of found number ≡ p.found = ap (λ (list : List ProbeResult). probe_result_of list number) (sym so_far.found) ∙ get_or-map (λ (q : ServedPort). q.found) ports number no_port
           ∙ ap (λ (q : ServedPort). q.found) (get_or_default ports number no_port w.index-ports-number.result low) in
           let back : (s : ServerState) → with_part (now s) new w.issue_due.new.book u (port_at number) ≡ later s = λ s.
-          sym (placing.with_slots (now s) (port_at number) p (has s).port_is new shared u)
-          ∙ ap (with_parts (now s) new shared (port_at number)) (sym w.issue_due.ensures.rest)
-          ∙ placing.placed s (device c.loop-number.adapter) c.loop-number.shared ports number new shared w.issue_due.new.self in
+          sym (placing.slots_placed s ports number w.index-ports-number.result new shared w.issue_due.new.self w.issue_due.ensures.rest) in
           let all : (s : ServerState) → InCallInvariant (now s) → IssuesAll (port_at number) (now s) (later s) = λ s kept.
           subst (IssuesAll (port_at number) (now s)) (back s)
           (w.issue_due.ensures.issues (now s) (reviving.ready_one (now s) (device c.loop-number.adapter) c.loop-number.shared (port_at number) p kept (has s) w.in-Ready.field-0 is)) in

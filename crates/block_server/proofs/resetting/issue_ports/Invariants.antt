@@ -1,7 +1,7 @@
 use Rattle.std.proofs.Common.{◌≡◌, ◌*◌, drop, length}
 use Rattle.adapter.specs.Counted.{MakesAtMost}
-use Rattle.block_server.specs.Costs.{ISSUES_ACCESSES}
-use Rattle.block_server.specs.Parts.{found_by_port, with_ports}
+use Rattle.port_driver.specs.Costs.{ISSUES_ACCESSES}
+use Rattle.block_server.specs.FourPorts.{found_by_port, with_ports}
 use Rattle.server_history.specs.Resets.{IssuePorts}
 use Rattle.server_history.specs.Server.{InCallInvariant, ServerState}
 use Rattle.block_server.proofs.resetting.issue_ports.Given as goal

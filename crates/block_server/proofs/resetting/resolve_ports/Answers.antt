@@ -3,8 +3,8 @@ use Rattle.std.proofs.lemmas.List.{length-map, length-set}
 use Rattle.std.proofs.Math.Seq.{map-set_same}
 use Rattle.ata_types.specs.declared.request.Reply.{Reply}
 use Rattle.refinement.specs.Relation.{port_at}
-use Rattle.block_server.specs.Parts.{found_by_port, with_ports}
-use Rattle.block_server.specs.declared.served_port.ServedPort.{ServedPort}
+use Rattle.block_server.specs.FourPorts.{found_by_port, with_ports}
+use Rattle.port_driver.specs.declared.served_port.ServedPort.{ServedPort}
 use Rattle.server_history.specs.Resets.{MaySettle, SettlesPort}
 use Rattle.server_history.specs.Server.{ServerState}
 use Rattle.block_server.proofs.Placing as placing

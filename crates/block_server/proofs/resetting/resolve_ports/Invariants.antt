@@ -1,7 +1,7 @@
 use Rattle.std.proofs.Common.{◌≡◌, ◌≤◌, ◌+◌, ◌++◌, List, drop, length}
 use Rattle.ata_types.specs.declared.request.Reply.{Reply}
 use Rattle.ata_types.specs.declared.limits.TheConstants.{MOST_UNANSWERED}
-use Rattle.block_server.specs.Parts.{found_by_port, with_ports}
+use Rattle.block_server.specs.FourPorts.{found_by_port, with_ports}
 use Rattle.server_history.specs.Resets.{MaySettle, SettlePorts}
 use Rattle.server_history.specs.Server.{ServerState}
 use Rattle.block_server.proofs.resetting.resolve_ports.Given as goal

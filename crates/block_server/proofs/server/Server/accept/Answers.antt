@@ -10,10 +10,11 @@ use Rattle.block_machine.specs.Rules.{HasNoFault}
 use Rattle.dma_frames.specs.Table.{owner_of, lent_to}
 use Rattle.block_server.specs.Calls.{AcceptsRequest, IsFor}
 use Rattle.std.specs.Box.{with_value}
-use Rattle.block_server.specs.Parts.{HasServedPort, found_by_port, kept_by_port, last_disk_by_port, mode_by_port, slots_by_port, wanted_by_port}
-use Rattle.block_server.specs.Ports.{HasReadyPort, with_part}
-use Rattle.block_server.specs.declared.served_port.ServedPort.{ServedPort}
-use Rattle.block_server.specs.declared.served_port.Shared.{Shared}
+use Rattle.port_driver.specs.Parts.{HasServedPort}
+use Rattle.block_server.specs.FourPorts.{found_by_port, kept_by_port, last_disk_by_port, mode_by_port, slots_by_port, wanted_by_port}
+use Rattle.port_driver.specs.Ports.{HasReadyPort, with_part}
+use Rattle.port_driver.specs.declared.served_port.ServedPort.{ServedPort}
+use Rattle.port_driver.specs.declared.served_port.Shared.{Shared}
 use Rattle.block_server.proofs.Placing as placing
 use Rattle.block_server.specs.Seen.{seen}
 use Rattle.block_server.specs.View.{ServerView, server_of}

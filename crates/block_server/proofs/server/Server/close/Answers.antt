@@ -4,8 +4,9 @@ use Rattle.dma_frames.specs.Loan.{Lending}
 use Rattle.dma_frames.specs.Table.{Table}
 use Rattle.request_queue.specs.Entries.{GivesBack}
 use Rattle.server_history.specs.Server.{ServerState, kept_at}
-use Rattle.block_server.specs.Parts.{kept_by_port, no_port, without_loans}
-use Rattle.block_server.specs.declared.served_port.ServedPort.{ServedPort}
+use Rattle.block_server.specs.FourPorts.{kept_by_port, without_loans}
+use Rattle.port_driver.specs.Parts.{no_port}
+use Rattle.port_driver.specs.declared.served_port.ServedPort.{ServedPort}
 use Rattle.server_history.specs.Kept.{MayGoBack}
 use Rattle.block_server.specs.Seen.{seen}
 use Rattle.block_server.specs.View.{server_of}

@@ -11,11 +11,11 @@ use Rattle.server_history.specs.Kept.{IsKeptIn, MayGoBack, TakesBack}
 use Rattle.server_history.specs.Resets.{IsTakenAgain, IssuePorts, ResetsServer, SettlePorts}
 use Rattle.server_history.specs.Server.{InCallInvariant, ServerState}
 use Rattle.server_history.specs.Stalled.{ResetGetsStuck, BookInvariant}
-use Rattle.block_server.specs.Parts.{EachBecomes, IsTakenAnew, kept_by_port, wanted_by_port, with_ports}
+use Rattle.block_server.specs.FourPorts.{EachBecomes, IsTakenAnew, kept_by_port, wanted_by_port, with_ports}
 use Rattle.block_server.specs.Seen.{seen}
 use Rattle.block_server.specs.View.{ServerView, server_of}
-use Rattle.block_server.specs.declared.served_port.ServedPort.{ServedPort}
-use Rattle.block_server.specs.declared.served_port.Shared.{Shared}
+use Rattle.port_driver.specs.declared.served_port.ServedPort.{ServedPort}
+use Rattle.port_driver.specs.declared.served_port.Shared.{Shared}
 use Rattle.block_server.proofs.Becoming as becoming
 use Rattle.block_server.proofs.Placing as placing
 use Rattle.block_server.proofs.Reviving as reviving

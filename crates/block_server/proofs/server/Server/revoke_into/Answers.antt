@@ -10,13 +10,13 @@ use Rattle.server_history.specs.Revoked.{RevokesGrant}
 use Rattle.server_history.specs.Served.{IssuesAll}
 use Rattle.server_history.specs.Server.{InCallInvariant, SettledInvariant, ServerState}
 use Rattle.std.specs.Box.{with_value}
-use Rattle.block_server.specs.Parts.{found_by_port, kept_by_port, last_disk_by_port, mode_by_port, slots_by_port, wanted_by_port}
-use Rattle.block_server.specs.Ports.{HasFoundPort}
-use Rattle.block_server.specs.declared.served_port.ServedPort.{ServedPort}
-use Rattle.block_server.specs.declared.served_port.Shared.{Shared}
+use Rattle.block_server.specs.FourPorts.{found_by_port, kept_by_port, last_disk_by_port, mode_by_port, slots_by_port, wanted_by_port}
+use Rattle.port_driver.specs.Ports.{HasFoundPort}
+use Rattle.port_driver.specs.declared.served_port.ServedPort.{ServedPort}
+use Rattle.port_driver.specs.declared.served_port.Shared.{Shared}
 use Rattle.block_server.proofs.Placing as placing
 use Rattle.server_history.specs.Stalled.{StuckInvariant, BookInvariant}
-use Rattle.block_server.specs.Dispositions.{BookIsSound}
+use Rattle.port_driver.specs.Dispositions.{BookIsSound}
 use Rattle.block_server.specs.Revoking.{RevokesAndIssues}
 use Rattle.block_server.specs.Seen.{seen}
 use Rattle.block_server.specs.View.{ServerView, server_of}

@@ -2,10 +2,11 @@ use Rattle.std.proofs.Common.{◌≡◌, ◌<◌, ◌++◌, Bool, false, List, a
 use Rattle.std.proofs.lemmas.List.{length-map, length-set}
 use Rattle.ata_types.specs.declared.request.Reply.{Reply}
 use Rattle.refinement.specs.Relation.{port_at}
-use Rattle.block_server.specs.Parts.{IsSettledWith, TakesTurn, TurnInService, with_ports}
+use Rattle.port_driver.specs.Parts.{IsSettledWith, TakesTurn, TurnInService}
+use Rattle.block_server.specs.FourPorts.{with_ports}
 use Rattle.block_server.specs.Seen.{seen}
 use Rattle.block_server.specs.View.{ServerView, server_of}
-use Rattle.block_server.specs.declared.served_port.ServedPort.{ServedPort}
+use Rattle.port_driver.specs.declared.served_port.ServedPort.{ServedPort}
 use Rattle.host_boot.specs.Taken.{probe_result_of}
 use Rattle.host_boot.specs.declared.ProbeResult.{ProbeResult}
 use Rattle.server_history.specs.Histories.{InvariantBy}

@@ -11,10 +11,11 @@ use Rattle.block_server.specs.Calls.{TicksBy}
 use Rattle.server_history.specs.Histories.{ExtendsHistory, InvariantBy}
 use Rattle.server_history.specs.Server.{SettledInvariant, ServerState}
 use Rattle.server_history.specs.Turns.{TakeTurns, Ticks, TicksPort, a_tick_older, is_ready}
-use Rattle.block_server.specs.Parts.{IsSettledWith, TakesTurn, TurnInTick, found_by_port, no_port, with_ports}
+use Rattle.port_driver.specs.Parts.{IsSettledWith, TakesTurn, TurnInTick, no_port}
+use Rattle.block_server.specs.FourPorts.{found_by_port, with_ports}
 use Rattle.block_server.specs.Seen.{seen}
 use Rattle.block_server.specs.View.{ServerView, server_of}
-use Rattle.block_server.specs.declared.served_port.ServedPort.{ServedPort}
+use Rattle.port_driver.specs.declared.served_port.ServedPort.{ServedPort}
 use Rattle.block_server.proofs.Placing as placing
 use Rattle.block_server.proofs.Turns.{Rests, all_turns, tick_turn}
 use Rattle.block_server.proofs.Standing.{by_on, now_off, now_on}

@@ -1,7 +1,0 @@
-use Rattle.block_server.proofs.probing.needs_probe.Goals as goal
-
-pub returns-in-Ready-clause-followed : goal.returns-in-Ready-clause-followed
-returns-in-Ready-clause-followed g c = c.law_looks_keep.ensures.none c.args.port (g.A.Adapter.device c.args.adapter.now)
-
-pub returns-in-Dead-clause-followed : goal.returns-in-Dead-clause-followed
-returns-in-Dead-clause-followed g c = c.law_looks_keep.ensures.none c.args.port (g.A.Adapter.device c.args.adapter.now)

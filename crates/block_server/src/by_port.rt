@@ -1,0 +1,129 @@
+// What there is of each of four ports, by port.
+ghost use Rattle.std.specs.Prelude.{ℕ, ◌≡◌, ◌<◌, ◌↔◌, ◌∷◌, [], IfOk, IsTrue, None, false, replicate, slice_index_or};
+ghost use Rattle.ata_types.specs.declared.Port.{Port};
+ghost use Rattle.block_server.specs.FourPorts.{found_by_port, kept_by_port, last_disk_by_port, port_in, wanted_by_port};
+ghost use Rattle.host_boot.specs.declared.ProbeResult.TheVariants.{Unserved};
+ghost use Rattle.refinement.specs.Relation.{port_at};
+ghost use Rattle.request_queue.specs.Entries.{IsAnyOverdue, IsOverdue, is_among};
+ghost use Rattle.server_history.specs.Server.{kept_at};
+ghost use Rattle.server_history.specs.Turns.{is_ready};
+
+use ata_types::{PORTS, Port};
+use identify::Wanted;
+use port_driver::{Quarantine, ServedPort};
+use request_queue::Book;
+use std::alloc::{AllocError, Global};
+
+/// No loans of two ports.
+fn none_of_two(alloc: Global) -> Result<(Quarantine, Quarantine), AllocError>
+    ensures { IfOk result (λ two. (two.0 ≡ []) × (two.1 ≡ [])) }
+{
+    let first = Quarantine::new(alloc)?;
+    match Quarantine::new(alloc) {
+        Ok(second) => Ok((first, second)),
+        Err(error) => {
+            first.end();
+            Err(error)
+        }
+    }
+}
+
+/// No loans of any port. The only error is want of memory.
+pub(crate) fn none_kept(alloc: Global) -> Result<[Quarantine; PORTS], AllocError>
+    ensures { IfOk result (λ kept. kept ≡ [] ∷ [] ∷ [] ∷ [] ∷ []) }
+{
+    let (first, second) = none_of_two(alloc)?;
+    match none_of_two(alloc) {
+        Ok((third, fourth)) => Ok([first, second, third, fourth]),
+        Err(error) => {
+            first.end();
+            second.end();
+            Err(error)
+        }
+    }
+}
+
+/// Ends the lists, which have no loans.
+pub(crate) fn end_all(kept: [Quarantine; PORTS])
+    requires { (port : ℕ) → kept_at kept port ≡ [] }
+{
+    let [first, second, third, fourth] = kept;
+    first.end();
+    second.end();
+    third.end();
+    fourth.end();
+}
+
+/// Ports of which these disks are wanted, and that keep these loans. None is served yet.
+pub(crate) fn unserved_ports(
+    wanted: &[Wanted; PORTS],
+    kept: [Quarantine; PORTS],
+) -> [ServedPort; PORTS]
+    ensures wanted { wanted_by_port result ≡ wanted.now }
+    ensures kept { kept_by_port result ≡ kept }
+    ensures found { found_by_port result ≡ replicate 4 Unserved }
+    ensures forgotten { last_disk_by_port result ≡ replicate 4 None }
+{
+    let [first, second, third, fourth] = kept;
+    [
+        ServedPort::new(wanted[0], first),
+        ServedPort::new(wanted[1], second),
+        ServedPort::new(wanted[2], third),
+        ServedPort::new(wanted[3], fourth),
+    ]
+}
+
+/// By port, which disk is wanted.
+pub(crate) fn wanted_disks(ports: &[ServedPort; PORTS]) -> [Wanted; PORTS]
+    ensures { result ≡ wanted_by_port ports.now }
+{
+    [
+        ports[0].wanted,
+        ports[1].wanted,
+        ports[2].wanted,
+        ports[3].wanted,
+    ]
+}
+
+/// The loans of the ports, by port.
+pub(crate) fn into_loans(ports: [ServedPort; PORTS]) -> [Quarantine; PORTS]
+    ensures { result ≡ kept_by_port ports }
+{
+    let [first, second, third, fourth] = ports;
+    [
+        first.into_kept(),
+        second.into_kept(),
+        third.into_kept(),
+        fourth.into_kept(),
+    ]
+}
+
+/// By port, whether it is ready.
+pub(crate) fn ready_ports(ports: &[ServedPort; PORTS]) -> [bool; PORTS]
+    ensures { (port : Port) → is_among result port ≡ is_ready (port_in ports.now port.0).found }
+{
+    [
+        ports[0].is_ready(),
+        ports[1].is_ready(),
+        ports[2].is_ready(),
+        ports[3].is_ready(),
+    ]
+}
+
+/// By port, whether a request of it is overdue, where it is known whether one of any port is. Mostly none is, and then
+/// no request is looked at.
+pub(crate) fn overdue_ports(book: &Book, is_one: bool) -> [bool; PORTS]
+    requires { IsTrue is_one ↔ IsAnyOverdue book.now }
+    ensures { (number : ℕ) → number < 4 → IsTrue (slice_index_or result number false)
+        ↔ IsOverdue (port_at number) book.now }
+{
+    if !is_one {
+        return [false; PORTS];
+    }
+    [
+        book.overdue(Port(0)),
+        book.overdue(Port(1)),
+        book.overdue(Port(2)),
+        book.overdue(Port(3)),
+    ]
+}

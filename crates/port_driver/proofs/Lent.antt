@@ -1,0 +1,195 @@
+-- What is done on a port in trouble is answered, and the port is mended: what is asked of the calls, and what came of them.
+use Rattle.std.proofs.Common.{ℕ, Bool, true, false, ◌≡◌, ◌<◌, ◌↔◌, List, length, Option, Some, None, refl, sym, ap, ◌∙◌, subst, arith}
+use Rattle.std.specs.Int.{bit_at}
+use Rattle.std.proofs.lemmas.Bool.{false≢true}
+use Rattle.ata_types.specs.declared.Port.{Port}
+use Rattle.ata_types.specs.declared.PortState.TheVariants.{Ready as ReadyState}
+use Rattle.ata_types.specs.declared.request.Reply.{Reply}
+use Rattle.hba_regs.specs.Bits.{bit}
+use Rattle.adapter.specs.Access.{Access}
+use Rattle.adapter.specs.Device.{Device}
+use Rattle.adapter.specs.Rules.{HasPort}
+use Rattle.refinement.specs.Driven.{RelatesWith, AnyUse, IsSimulated}
+use Rattle.refinement.specs.Slots.{IsOver}
+use Rattle.dma_frames.specs.Table.{Table}
+use Rattle.identify.specs.declared.error_log.FailedSlot.{FailedSlot}
+use Rattle.error_recovery.specs.Recovery.{FitsFor, IsAloneIn, MayRecover, RecoversOrStops, Rests}
+use Rattle.error_recovery.specs.declared.Recovered.{Recovered}
+use Rattle.host_boot.specs.Taken.{probe_result_of}
+use Rattle.commands.specs.Masks.{ReadsDone}
+use Rattle.port_control.specs.Looks.{IsLooking, LooksAt}
+use Rattle.port_control.specs.declared.events.PortEvent.TheVariants.{TaskFileError}
+use Rattle.request_queue.specs.Entries.{Held}
+use Rattle.request_queue.specs.declared.disposition.FailedRequest.{FailedRequest}
+use Rattle.server_history.specs.ErrorHandling.{AreQueued, IsFailed, IsFoundOut, TellsErrorHandling}
+use Rattle.server_history.specs.Served.{IsMaskOf, is_used}
+use Rattle.server_history.specs.Server.{ServerState, InCallInvariant, slots_at, state_of, used_for}
+use Rattle.port_control.specs.declared.events.PortError.{PortError}
+use Rattle.port_control.specs.declared.events.PortError.TheVariants.{TaskFileError}
+use Rattle.slots.specs.Uses.{PortSlots, IsTaken, use_at}
+use Rattle.slots.specs.declared.SlotUse.{SlotUse}
+use Rattle.port_driver.specs.Ports.{AnswersDoneSlots, HasDonePort, with_answers}
+use Rattle.port_driver.specs.Recovery.{HasPortInError, CompletesAndRecovers}
+use Rattle.port_driver.proofs.Serving.{mask_of, ready_there}
+
+-- what laws say of a server of which a port failed
+pub record FailureLaws : Type 0 where
+  pub looking : (s : ServerState) (new : Device) (port : Port) → InCallInvariant s → state_of (probe_result_of s.ports port.0) ≡ ReadyState → IsSimulated (IsLooking port) AnyUse s.device new → InCallInvariant (record s { device = new })
+  pub finding : (s : ServerState) (new : Device) (port : Port) (mask done : ℕ) → InCallInvariant s → state_of (probe_result_of s.ports port.0) ≡ ReadyState → ReadsDone port mask done s.device new → InCallInvariant (record s { device = new })
+  pub over : (s : ServerState) (new : Device) (port : Port) (mask done slot : ℕ) → InCallInvariant s → state_of (probe_result_of s.ports port.0) ≡ ReadyState → IsMaskOf (slots_at s.slots port.0) mask → slot < 32
+      → ReadsDone port mask done s.device new → bit done slot ≡ true → IsOver (new.port port.0) slot
+  pub may : (s : ServerState) (seen found : Device) (port : Port) (mask done : ℕ) → InCallInvariant s → state_of (probe_result_of s.ports port.0) ≡ ReadyState → LooksAt port TaskFileError s.device seen
+      → IsSimulated (IsLooking port) AnyUse s.device seen → ReadsDone port mask done seen found → MayRecover port.0 found
+  pub agreed : (s : ServerState) (port : Port) (queued : Bool) → InCallInvariant s → state_of (probe_result_of s.ports port.0) ≡ ReadyState → AreQueued queued (slots_at s.slots port.0) → RelatesWith (FitsFor queued port.0) s.device
+  pub alike : (s : ServerState) (port : Port) (slot : ℕ) (used : SlotUse) → InCallInvariant s → used_for s.slots port.0 slot ≡ Some used → AreQueued used.queued (slots_at s.slots port.0)
+  pub alone : (s : ServerState) (port : Port) (queued : Bool) (outstanding : ℕ) → InCallInvariant s → IsMaskOf (slots_at s.slots port.0) outstanding → AreQueued queued (slots_at s.slots port.0) → IsAloneIn queued outstanding
+
+-- a slot that is used is used for something
+its_use : (o : Option SlotUse) → is_used o ≡ true → (used : SlotUse) × (o ≡ Some used)
+its_use None is = absurd (false≢true is)
+its_use (Some used) is = (used, refl)
+
+-- whoever is named had its bit among those that were outstanding
+named_among : (queued : Bool) (port : Port) (outstanding : ℕ) (accesses : List Access) (old new : Device) (its : FailedSlot) → Rests queued port outstanding accesses old new (Some its)
+    → (its.slot.0 < 32) × (bit outstanding its.slot.0 ≡ true)
+named_among false port outstanding accesses old new its rests =
+    (subst (λ (n : ℕ). n < 32) (sym rests.slot_is) (omega arith), subst (λ (n : ℕ). bit outstanding n ≡ true) (sym rests.slot_is) rests.among)
+named_among true port outstanding accesses old new its rests = (rests.small, rests.among)
+
+-- a port in trouble, and what is lent of its server
+pub record Troubled : Type 0 where
+  pub laws : FailureLaws
+  pub s : ServerState
+  pub device : Device
+  pub table : Table
+  pub book : List Held
+  pub slots : PortSlots
+  pub port : Port
+  pub port_error : PortError
+  pub lends : HasPortInError s device table book slots port port_error
+
+-- what was found done of it
+pub record FoundDone (x : Troubled) : Type 0 where
+  pub mask : ℕ
+  pub exact : (slot : ℕ) → slot < 32 → (bit_at mask slot ≡ 1) ↔ IsTaken x.slots slot
+  pub done : ℕ
+  pub found : Device
+  pub reads : ReadsDone x.port mask done x.device found
+
+abbrev from : (x : Troubled) → FoundDone x → ServerState
+from x f = record x.s { device = f.found }
+
+-- what was answered then
+pub record Answered (x : Troubled) (f : FoundDone x) : Type 0 where
+  pub before : List Reply
+  pub after : List Reply
+  pub t : Table
+  pub b : List Held
+  pub u : PortSlots
+  pub answers : AnswersDoneSlots x.port f.done before after (from x f) (with_answers (from x f) t b u x.port)
+  pub lent : HasDonePort (with_answers (from x f) t b u x.port) t b u x.port f.done
+
+abbrev mid : (x : Troubled) (f : FoundDone x) → Answered x f → ServerState
+mid x f a = with_answers (from x f) a.t a.b a.u x.port
+
+-- which commands are outstanding
+pub record Waiting (x : Troubled) (f : FoundDone x) (a : Answered x f) : Type 0 where
+  pub outstanding : ℕ
+  pub left : (slot : ℕ) → slot < 32 → (bit_at outstanding slot ≡ 1) ↔ IsTaken a.u slot
+  pub queued : Bool
+  pub kinds : AreQueued queued a.u
+
+module _ (x : Troubled) where
+  abbrev seen : ServerState
+  seen = record x.s { device = x.device }
+
+  pub seen_kept : InCallInvariant seen
+  seen_kept = x.laws.looking x.s x.device x.port x.lends.sees.kept x.lends.sees.ready x.lends.sees.followed
+
+  pub seen_there : HasPort x.device x.port.0
+  seen_there = ready_there seen x.port seen_kept x.lends.sees.ready
+
+  module _ (f : FoundDone x) where
+    its_mask : IsMaskOf (slots_at x.s.slots x.port.0) f.mask
+    its_mask = subst (λ (u : PortSlots). IsMaskOf u f.mask) (sym x.lends.slots_are) (mask_of x.slots f.mask f.exact)
+
+    pub lends_done : HasDonePort (from x f) x.table x.book x.slots x.port f.done
+    lends_done = record {
+      kept = x.laws.finding seen f.found x.port f.mask f.done seen_kept x.lends.sees.ready f.reads;
+      ready = x.lends.sees.ready;
+      table_is = x.lends.table_is;
+      book_is = x.lends.book_is;
+      slots_are = x.lends.slots_are;
+      over = λ slot small its. x.laws.over seen f.found x.port f.mask f.done slot seen_kept x.lends.sees.ready its_mask small f.reads its;
+    }
+
+    pub may : x.port_error ≡ TaskFileError → MayRecover x.port.0 f.found
+    may fails = x.laws.may x.s x.device f.found x.port f.mask f.done x.lends.sees.kept x.lends.sees.ready (subst (λ (its : PortError). IsFoundOut x.port its x.s.device x.device) fails x.lends.sees.finds) x.lends.sees.followed f.reads
+
+    module _ (a : Answered x f) where
+      pub mid_kept : InCallInvariant (mid x f a)
+      mid_kept = a.lent.kept
+
+      pub mid_there : HasPort f.found x.port.0
+      mid_there = ready_there (mid x f a) x.port a.lent.kept a.lent.ready
+
+      pub alike : (slot : ℕ) (used : SlotUse) → use_at a.u slot ≡ Some used → AreQueued used.queued a.u
+      alike slot used taken = subst (AreQueued used.queued) a.lent.slots_are (x.laws.alike (mid x f a) x.port slot used a.lent.kept (ap (λ (p : PortSlots). use_at p slot) a.lent.slots_are ∙ taken))
+
+      pub places : length a.u.places ≡ 32
+      places = ap (λ (p : PortSlots). length p.places) (sym a.lent.slots_are) ∙ (a.lent.kept.slots x.port.0 mid_there.0).places
+
+      module _ (w : Waiting x f a) where
+        mid_mask : IsMaskOf (slots_at (mid x f a).slots x.port.0) w.outstanding
+        mid_mask = subst (λ (p : PortSlots). IsMaskOf p w.outstanding) (sym a.lent.slots_are) (mask_of a.u w.outstanding w.left)
+
+        mid_kinds : AreQueued w.queued (slots_at (mid x f a).slots x.port.0)
+        mid_kinds = subst (AreQueued w.queued) (sym a.lent.slots_are) w.kinds
+
+        pub agreed : RelatesWith (FitsFor w.queued x.port.0) f.found
+        agreed = x.laws.agreed (mid x f a) x.port w.queued a.lent.kept a.lent.ready mid_kinds
+
+        pub alone : IsAloneIn w.queued w.outstanding
+        alone = x.laws.alone (mid x f a) x.port w.queued w.outstanding a.lent.kept mid_mask mid_kinds
+
+        module _ (result : Recovered) (new : Device) (its_end : (m : RecoversOrStops x.port w.outstanding w.queued result f.found new) × TellsErrorHandling x.port_error x.port w.outstanding w.queued result m.accesses f.found new) where
+          abbrev handling : RecoversOrStops x.port w.outstanding w.queued result f.found new
+          handling = its_end.0
+
+          pub named : (its : FailedSlot) → result.failed ≡ Some its → (used : SlotUse) × (use_at a.u its.slot.0 ≡ Some used)
+          named its is =
+              let among = named_among w.queued x.port w.outstanding handling.accesses f.found new its (subst (Rests w.queued x.port w.outstanding handling.accesses f.found new) is handling.tells.rests) in
+              its_use (use_at a.u its.slot.0) (sym (mask_of a.u w.outstanding w.left its.slot.0 among.0) ∙ among.1)
+
+          pub mends_rest : (failed : Option FailedRequest) → IsFailed a.u result.failed failed → CompletesAndRecovers x.port x.port_error a.before a.after failed result.next x.s a.t a.b a.u new
+          mends_rest failed names = record {
+            mid = mid x f a;
+            kept = a.lent.kept;
+            error_handled = record {
+              port_error = x.port_error;
+              seen = x.device;
+              finds = x.lends.sees.finds;
+              mask = f.mask;
+              its = its_mask;
+              done = f.done;
+              found = f.found;
+              reads = f.reads;
+              requests = a.answers.requests;
+              ordered = a.answers.ordered;
+              each = a.answers.each;
+              free = a.answers.free;
+              outstanding = w.outstanding;
+              left = mid_mask;
+              queued = w.queued;
+              alike = mid_kinds;
+              result = result;
+              handling = its_end.0;
+              tells = its_end.1;
+            };
+            trouble_is = refl;
+            followed = x.lends.sees.followed;
+            mid_is = refl;
+            next_is = refl;
+            names = names;
+            told = a.answers.told;
+          }

@@ -1,0 +1,13 @@
+pub mod Serving
+pub mod Anew
+pub mod Finishing
+pub mod Keeping
+pub mod Settling
+pub mod Mending
+pub mod Lent
+pub mod Restoring
+pub mod Resolving
+pub mod Placing
+pub mod Sending
+pub mod Counting
+pub mod Usable

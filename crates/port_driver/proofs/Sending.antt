@@ -1,0 +1,240 @@
+-- A due request of a port is issued: what is asked of the calls, and what the server then is.
+use Rattle.std.proofs.Common.{ℕ, ◌≡◌, ◌≢◌, ◌+◌, ◌/◌, ◌%◌, ◌^◌, ◌<◌, ◌≤◌, Bool, not, true, inl, inr, List, [], ◌∷◌, drop, length, map, get_or, set, Some, refl, sym, ◌∙◌, ap, subst, arith}
+use Rattle.std.specs.List.{Contains}
+use Rattle.std.proofs.lemmas.List.{drop_more, get_or_default, get_or-set_same, set-get_or, set-set}
+use Rattle.std.proofs.lemmas.List.Elements.{All-contains}
+use Rattle.ata_types.specs.declared.Port.{Port}
+use Rattle.ata_types.specs.declared.PortState.TheVariants.{Absent, Ready}
+use Rattle.ata_types.specs.declared.request.Frame.{Frame}
+use Rattle.ata_types.specs.declared.request.Op.{Op}
+use Rattle.ata_types.specs.declared.request.Op.TheVariants.{Read, Write, Trim, Flush}
+use Rattle.ata_types.specs.declared.request.RequestId.{RequestId}
+use Rattle.adapter.specs.Device.{Device}
+use Rattle.refinement.specs.Readying.{IsStored}
+use Rattle.block_machine.specs.Due.{AreAllDueInOrder, IsDue, is_plain}
+use Rattle.block_machine.proofs.Members.{map_in}
+use Rattle.block_machine.specs.Rules.{IsAllowedCount, frames_for}
+use Rattle.block_machine.specs.declared.due.QueueMode.{QueueMode}
+use Rattle.block_machine.specs.declared.due.Unanswered.{Unanswered}
+use Rattle.port_driver.specs.Ports.{HasReadyPort, HasFoundPort, MayGoIn, with_part}
+use Rattle.dma_frames.specs.Table.{Table}
+use Rattle.adapter.specs.Rules.{HasPort}
+use Rattle.refinement.specs.Driven.{RelatesWith}
+use Rattle.command_table.specs.Written.{IsUnused}
+use Rattle.host_boot.specs.Taken.{probe_result_of}
+use Rattle.host_boot.specs.declared.ProbeResult.{ProbeResult}
+use Rattle.host_boot.specs.declared.ProbeResult.TheVariants.{Unserved, Ready as FoundReady, Unready}
+use Rattle.identify.specs.declared.DiskInfo.{DiskInfo}
+use Rattle.request_queue.specs.Entries.{Held, IsAccepted, BookIsInOrder, asks, asks_of, at_entry, due_ids, issue}
+use Rattle.request_queue.specs.declared.PendingRequest.{PendingRequest}
+use Rattle.server_history.specs.Served.{IssuesAll, IssuesEach, IssuesOne, task_of, use_for}
+use Rattle.server_history.specs.Server.{ServerState, InCallInvariant, is_served, mode_in, no_slots, slots_at, state_of, with_slot}
+use Rattle.slots.specs.Uses.{PortSlots, IsLowestFree, IsTaken, with_use}
+use Rattle.commands.specs.Issuing.{MayIssueTask}
+use Rattle.commands.specs.Tasks.{HasBlockOf, IssuesTask, addresses_of, meaning_of}
+
+-- ---- what a request of the book is
+
+module _ (table : Table) (e : Held) (is : IsAccepted table e) (mode : QueueMode) (slot : ℕ)
+    (head : is_plain mode e.entry.op ≡ true → slot ≡ 0) where
+  counted : (op : Op) → e.entry.op ≡ op → IsAllowedCount op e.entry.range.count
+  counted op same = subst (λ (o : Op). IsAllowedCount o e.entry.range.count) same is.sectors
+
+  enough : (op : Op) → e.entry.op ≡ op → length e.frames ≡ frames_for op e.entry.range.count
+  enough op same = is.frames ∙ ap (λ (o : Op). frames_for o e.entry.range.count) same
+
+  not_flush : (op : Op) → op ≢ Flush → e.entry.op ≡ op → e.entry.op ≢ Flush
+  not_flush op other same flush = other (sym same ∙ flush)
+
+  -- and so is the first of some
+  first : e.entry.op ≢ Flush → 1 ≤ e.entry.range.count → e.entry.range.first.0 < 2 ^ 48
+  first other some = let below = is.below other in omega (arith, some, below)
+
+  goes : (queued : Bool) → queued ≡ not (is_plain mode e.entry.op) → (op : Op) → e.entry.op ≡ op → MayGoIn op (record { op = e.entry.op; range = e.entry.range; queued = queued }) e.frames slot
+  goes queued kind Read same = record { transfers = inl same; some = (counted Read same).0; few = (counted Read same).1; first = first (not_flush Read (λ e. cc) same) (counted Read same).0; number = enough Read same }
+  goes queued kind Write same = record { transfers = inr same; some = (counted Write same).0; few = (counted Write same).1; first = first (not_flush Write (λ e. cc) same) (counted Write same).0; number = enough Write same }
+  goes queued kind Trim same = (head (ap (is_plain mode) same), kind ∙ ap (λ (o : Op). not (is_plain mode o)) same, (counted Trim same).0, (counted Trim same).1, is.below (not_flush Trim (λ e. cc) same))
+  goes queued kind Flush same = (head (ap (is_plain mode) same), kind ∙ ap (λ (o : Op). not (is_plain mode o)) same)
+
+  -- it may go in the slot, wherever its entry and its frames are told
+  pub may_go : (queued : Bool) → queued ≡ not (is_plain mode e.entry.op) → (entry : PendingRequest) → entry ≡ e.entry → (frames : List Frame) → frames ≡ e.frames
+      → MayGoIn entry.op (record { op = entry.op; range = entry.range; queued = queued }) frames slot
+  may_go queued kind entry entry_is frames frames_are =
+      subst (λ (x : PendingRequest). MayGoIn x.op (record { op = x.op; range = x.range; queued = queued }) frames slot) (sym entry_is)
+      (subst (λ (fs : List Frame). MayGoIn e.entry.op (record { op = e.entry.op; range = e.entry.range; queued = queued }) fs slot) (sym frames_are) (goes queued kind e.entry.op refl))
+
+-- ---- what is lent
+
+-- a due request of the port, with this id
+abbrev pub IsTurn : List Held → Port → QueueMode → RequestId → Type 0
+IsTurn book port mode id = (request : Held) × Contains book request × (request.entry.id ≡ id) × (request.entry.port ≡ port) × IsDue mode (asks_of book) (asks request.entry)
+
+-- the slots of a port, wherever that is said to be
+pub slots_said : (s : ServerState) (port : ℕ) → InCallInvariant s → port < 4 → (number : ℕ) → number ≡ port → (default : PortSlots) → get_or s.slots port no_slots ≡ get_or s.slots number default
+slots_said s port k low number is default =
+    let f = k.four in
+    get_or_default s.slots port no_slots default (omega (arith, f, low)) ∙ ap (λ (n : ℕ). get_or s.slots n default) (sym is)
+
+-- a port that is ready is served, so it is there
+pub served_ready : (f : ProbeResult) → state_of f ≡ Ready → is_served f ≡ true
+served_ready Unserved ready = let z : Absent ≡ Ready = ready in absurd cc
+served_ready (FoundReady info) ready = refl
+served_ready (Unready state) ready = refl
+
+module _ (s : ServerState) (device : Device) (book : List Held) (slots : PortSlots) (port : Port) (mode : QueueMode) (l : HasReadyPort s device book slots port mode) where
+  there : HasPort s.device port.0
+  there = l.kept.there port.0 (served_ready (probe_result_of s.ports port.0) l.ready)
+
+  in_list : port.0 < length s.slots
+  in_list = let f = l.kept.four in let p = there.0 in omega (arith, f, p)
+
+  -- what is lent is where it was
+  pub lent_same : with_part s device book slots port ≡ s
+  lent_same =
+      (λ i. record s { device = sym l.device_is i; slots = set s.slots port.0 (sym l.slots_are i); book = sym l.book_is i })
+      ∙ ap (λ (list : List PortSlots). record s { slots = list }) (set-get_or s.slots port.0 no_slots)
+
+  -- other parts in its place
+  module _ (new : Device) (later : List Held) (used : PortSlots) where
+    pub lent_on_from : InCallInvariant (with_part s new later used port) → HasReadyPort (with_part s new later used port) new later used port mode
+    lent_on_from kept = record { kept = kept; ready = l.ready; device_is = refl; book_is = refl; slots_are = get_or-set_same s.slots port.0 used no_slots in_list; mode_is = l.mode_is }
+
+    pub lent_again : (d : Device) (b : List Held) (u : PortSlots) → with_part (with_part s new later used port) d b u port ≡ with_part s d b u port
+    lent_again d b u = ap (λ (list : List PortSlots). record s { device = d; slots = list; book = b }) (set-set s.slots port.0 used u)
+
+  module _ (id : RequestId) (turn : IsTurn book port mode id) where
+    abbrev e : Held
+    e = turn.0
+
+    here : Contains s.book e
+    here = subst (λ (b : List Held). Contains b e) (sym l.book_is) turn.1
+
+    due : IsDue (mode_in s port) (asks_of s.book) (asks e.entry)
+    due = subst (λ (m : QueueMode). IsDue m (asks_of s.book) (asks e.entry)) (sym l.mode_is) (subst (λ (b : List Held). IsDue mode (asks_of b) (asks e.entry)) (sym l.book_is) turn.4)
+
+    its_due : IsDue (mode_in s e.entry.port) (asks_of s.book) (asks e.entry)
+    its_due = subst (λ (p : Port). IsDue (mode_in s p) (asks_of s.book) (asks e.entry)) (sym turn.3) due
+
+    its_slots : slots ≡ slots_at s.slots e.entry.port.0
+    its_slots = sym l.slots_are ∙ ap (λ (p : Port). slots_at s.slots p.0) (sym turn.3)
+
+    pub its : IsAccepted s.table e
+    its = All-contains (IsAccepted s.table) s.book e l.kept.accepted here
+
+    -- what was found in the book by its id
+    module _ (one : (entries : List Held) (a b : Held) → BookIsInOrder entries → Contains entries a → Contains entries b → a.entry.id ≡ b.entry.id → a ≡ b) where
+      pub found_is : (found : Held) → Contains book found → found.entry.id ≡ id → found ≡ e
+      found_is found there_too same = one book found e (subst BookIsInOrder l.book_is l.kept.ordered) there_too turn.1 (same ∙ sym turn.2)
+
+      pub entry_is : (r : PendingRequest) → (found : Held) × Contains book found × (found.entry ≡ r) × (r.id ≡ id) → r ≡ e.entry
+      entry_is r f = sym f.2 ∙ ap (λ (x : Held). x.entry) (found_is f.0 f.1 (ap (λ (x : PendingRequest). x.id) f.2 ∙ f.3))
+
+      pub frames_are : (fs : List Frame) → (found : Held) × Contains book found × (found.entry.id ≡ id) × (found.frames ≡ fs) → fs ≡ e.frames
+      frames_are fs f = sym f.3 ∙ ap (λ (x : Held). x.frames) (found_is f.0 f.1 f.2)
+
+    -- as its port's mode has it, wherever its entry is told
+    pub task_is : (plain : Bool) (r : PendingRequest) → plain ≡ is_plain mode r.op → r ≡ e.entry → record { op = r.op; range = r.range; queued = not plain } ≡ task_of mode e
+    task_is plain r plain_is r_is =
+        ap (λ (b : Bool). record { op = r.op; range = r.range; queued = not b }) plain_is
+        ∙ ap (λ (x : PendingRequest). record { op = x.op; range = x.range; queued = not (is_plain mode x.op) }) r_is
+
+    -- a slot that it may be issued in
+    pub may_issue : ((s : ServerState) (request : Held) → InCallInvariant s → Contains s.book request → IsDue (mode_in s request.entry.port) (asks_of s.book) (asks request.entry)
+        → (slot : ℕ) → IsLowestFree (slots_at s.slots request.entry.port.0) slot
+        → (slot < (mode_in s request.entry.port).usable) × (slot < 32) × (slot ≤ s.device.cap / 256 % 32)
+        × (is_plain (mode_in s request.entry.port) request.entry.op ≡ true → slot ≡ 0) × RelatesWith (IsUnused request.entry.port.0 slot) s.device)
+        → (slot : ℕ) → IsLowestFree slots slot → (slot < 32) × (slot ≤ device.cap / 256 % 32) × (is_plain mode e.entry.op ≡ true → slot ≡ 0) × RelatesWith (IsUnused port.0 slot) device
+    may_issue may slot lowest =
+        let m = may s e l.kept here its_due slot (subst (λ (u : PortSlots). IsLowestFree u slot) its_slots lowest) in (
+          m.1,
+          subst (λ (d : Device). slot ≤ d.cap / 256 % 32) l.device_is m.2,
+          subst (λ (x : QueueMode). is_plain x e.entry.op ≡ true → slot ≡ 0) l.mode_is (subst (λ (p : Port). is_plain (mode_in s p) e.entry.op ≡ true → slot ≡ 0) turn.3 m.3),
+          subst (RelatesWith (IsUnused port.0 slot)) l.device_is (subst (λ (p : Port). RelatesWith (IsUnused p.0 slot) s.device) turn.3 m.4),
+        )
+
+    pub may_issue_task : ((s : ServerState) (request : Held) → InCallInvariant s → Contains s.book request → IsDue (mode_in s request.entry.port) (asks_of s.book) (asks request.entry)
+        → (slot : ℕ) → IsLowestFree (slots_at s.slots request.entry.port.0) slot
+        → (slot < (mode_in s request.entry.port).usable) × (slot < 32) × (slot ≤ s.device.cap / 256 % 32)
+        × (is_plain (mode_in s request.entry.port) request.entry.op ≡ true → slot ≡ 0) × RelatesWith (IsUnused request.entry.port.0 slot) s.device)
+        → (slot : ℕ) → IsLowestFree slots slot → MayIssueTask port slot device
+    may_issue_task may slot lowest =
+        let runs = (l.kept.behind port.0 there.0).runs l.ready in
+        subst (MayIssueTask port slot) l.device_is (record {
+          on = l.kept.on;
+          there = there;
+          room = l.kept.room;
+          agreed = subst (RelatesWith (IsUnused port.0 slot)) (sym l.device_is) (may_issue may slot lowest).3;
+          may = record { started = runs.st; list = ap (λ b. b.clb) runs.bases };
+        })
+
+    -- and there is one
+    pub is_free : ((s : ServerState) (request : Held) → InCallInvariant s → Contains s.book request → IsDue (mode_in s request.entry.port) (asks_of s.book) (asks request.entry)
+        → ((slot : ℕ) → slot < (slots_at s.slots request.entry.port.0).usable → IsTaken (slots_at s.slots request.entry.port.0) slot) → ⊥)
+        → ((slot : ℕ) → slot < slots.usable → IsTaken slots slot) → ⊥
+    is_free full all = full s e l.kept here its_due (subst (λ (u : PortSlots). (slot : ℕ) → slot < u.usable → IsTaken u slot) its_slots all)
+
+    -- it was issued
+    pub sent : (slot : ℕ) → slot < 32 → IsLowestFree slots slot → (new : Device) → IssuesTask port slot (task_of mode e) e.frames device new
+        → IsStored new port.0 slot (meaning_of (task_of mode e)) (addresses_of port.0 e.entry.op e.entry.range.count e.frames) → HasBlockOf e.entry.op e.entry.range port.0 new.memory → (later : List Held) → later ≡ map (at_entry id issue) book
+        → (used : PortSlots) → used ≡ with_use slots slot (Some (record { id = id; queued = not (is_plain mode e.entry.op) })) → IssuesOne port id s (with_part s new later used port)
+    sent slot small lowest new issues stored block later later_is used used_is = record {
+      request = e;
+      here = here;
+      id_is = turn.2;
+      port_is = turn.3;
+      due = due;
+      slot = slot;
+      small = small;
+      lowest = subst (λ (u : PortSlots). IsLowestFree u slot) (sym l.slots_are) lowest;
+      issues = subst (λ (m : QueueMode). IssuesTask port slot (task_of m e) e.frames s.device new) (sym l.mode_is)
+          (subst (λ (d : Device). IssuesTask port slot (task_of mode e) e.frames d new) (sym l.device_is) issues);
+      stored = subst (λ (m : QueueMode). IsStored new port.0 slot (meaning_of (task_of m e)) (addresses_of port.0 e.entry.op e.entry.range.count e.frames)) (sym l.mode_is) stored;
+      block = block;
+      server = λ i. record s { device = new; slots = set_to i; book = (later_is ∙ ap (map (at_entry id issue)) (sym l.book_is)) i };
+    }
+      where
+        use_is : with_use slots slot (Some (record { id = id; queued = not (is_plain mode e.entry.op) })) ≡ with_use (slots_at s.slots port.0) slot (Some (use_for (mode_in s port) e))
+        use_is = λ i. with_use (sym l.slots_are i) slot (Some (record { id = sym turn.2 i; queued = not (is_plain (sym l.mode_is i) e.entry.op) }))
+
+        set_to : set s.slots port.0 used ≡ with_slot s.slots port.0 slot (Some (use_for (mode_in s port) e))
+        set_to = ap (set s.slots port.0) (used_is ∙ use_is)
+
+-- ---- one after another
+
+-- at a place, one is next
+pub next_there : (ids : List RequestId) (place : ℕ) (d : RequestId) → place < length ids → drop place ids ≡ get_or ids place d ∷ drop (place + 1) ids
+next_there ids place d low = drop_more ids place d low
+
+-- the next one is due
+pub next_due : (book : List Held) (port : Port) (mode : QueueMode) (ids : List RequestId) (place : ℕ) (d : RequestId) → place < length ids → AreAllDueInOrder mode port (drop place ids) (asks_of book) → IsTurn book port mode (get_or ids place d)
+next_due book port mode ids place d low turns =
+    let t : AreAllDueInOrder mode port (get_or ids place d ∷ drop (place + 1) ids) (asks_of book) = subst (λ (xs : List RequestId). AreAllDueInOrder mode port xs (asks_of book)) (next_there ids place d low) turns in
+    let r = t.0 in
+    let x = map_in (λ (e : Held). asks e.entry) book r.0 r.3.here in
+    (x.0, x.1, ap (λ (u : Unanswered). u.id) (sym x.2) ∙ r.1, ap (λ (u : Unanswered). u.port) (sym x.2) ∙ r.2, subst (IsDue mode (asks_of book)) x.2 r.3)
+
+-- ---- a port that was found so
+
+module _ (s : ServerState) (device : Device) (book : List Held) (slots : PortSlots) (port : Port) (mode : QueueMode) (found : ProbeResult) (l : HasFoundPort s device book slots port mode found) where
+  -- a ready one lends what issuing asks
+  pub lends_ready : (info : DiskInfo) → found ≡ FoundReady info → HasReadyPort s device book slots port mode
+  lends_ready info is = record {
+    kept = l.kept;
+    ready = ap state_of (l.found_is ∙ is);
+    device_is = l.device_is;
+    book_is = l.book_is;
+    slots_are = l.slots_are;
+    mode_is = l.mode_is;
+  }
+
+-- on another nothing is due, and so nothing issued
+pub none_issued : ((s : ServerState) (port : Port) → InCallInvariant s → ((info : DiskInfo) → probe_result_of s.ports port.0 ≡ FoundReady info → ⊥) → due_ids (mode_in s port) port (asks_of s.book) ≡ [])
+    → (s : ServerState) (device : Device) (book : List Held) (slots : PortSlots) (port : Port) (mode : QueueMode) (found : ProbeResult) → HasFoundPort s device book slots port mode found → ((info : DiskInfo) → found ≡ FoundReady info → ⊥)
+    → IssuesAll port s (with_part s device book slots port)
+none_issued undue s device book slots port mode found l unready =
+    subst (λ (ids : List RequestId). IssuesEach port ids s (with_part s device book slots port)) (sym (undue s port l.kept (λ info is. unready info (sym l.found_is ∙ is)))) same
+  where
+    same : with_part s device book slots port ≡ s
+    same =
+        (λ i. record s { device = sym l.device_is i; slots = set s.slots port.0 (sym l.slots_are i); book = sym l.book_is i })
+        ∙ ap (λ (list : List PortSlots). record s { slots = list }) (set-get_or s.slots port.0 no_slots)

@@ -1,0 +1,187 @@
+-- Requests meet their fates.
+use Rattle.std.proofs.Common.{◌≡◌, ◌≢◌, ◌==◌, ◌+◌, ◌≤◌, ◌++◌, ◌<◌, arith, Option, Some, Bool, true, false, cond, List, [], ◌∷◌, length, filter, map, refl, sym, ap, ◌∙◌, subst, None, append_assoc, append-nil, suc, zero, ℕ, drop, get_or}
+use Rattle.std.proofs.lemmas.Bool.{eqb-false, false≢true}
+use Rattle.ata_types.specs.declared.request.Outcome.{Outcome}
+use Rattle.ata_types.specs.declared.request.Outcome.TheVariants.{Aborted, DeviceError, Ok, PortDead, Revoked, Unplugged}
+use Rattle.std.proofs.lemmas.List.{length-map, length_push}
+use Rattle.std.proofs.lemmas.List.Kept.{AllPairs-filter}
+use Rattle.std.proofs.lemmas.List.Sums.{sum_by-cons}
+use Rattle.std.proofs.lemmas.List.Elements.{All-contains, All-contains_itself, All-filter, All-weaker, Contains-append_right}
+use Rattle.std.specs.Prelude.{◌↔◌, if◌then◌else◌, count_by}
+use Rattle.ata_types.specs.declared.request.Reply.{Reply}
+use Rattle.dma_frames.specs.Loan.{Lending}
+use Rattle.dma_frames.specs.Table.{Table, LendsOnly}
+use Rattle.ata_types.specs.declared.request.RequestId.{RequestId}
+use Rattle.ata_types.specs.declared.limits.TheConstants.{MOST_UNANSWERED}
+use Rattle.std.specs.List.{All, AllPairs, Contains}
+use Rattle.port_driver.proofs.Finishing as finishing
+use Rattle.request_queue.specs.Entries.{HasFewIssues, Held, IsAccepted, IsEarlier, BookIsInOrder, at_entry, ids_where, requeued_entry, without_entry}
+use Rattle.request_queue.specs.Dispositions.{EndsLoan, Holdings, AreResolved, IsResolved, disposition_of, disposition_on, keeps_loan, reply_to}
+use Rattle.request_queue.specs.declared.PendingRequest.{PendingRequest}
+use Rattle.request_queue.specs.declared.disposition.Disposition.{Disposition}
+use Rattle.request_queue.specs.declared.disposition.Disposition.TheVariants.{Complete, Requeue, Wait}
+use Rattle.request_queue.specs.declared.disposition.FailedRequest.{FailedRequest}
+use Rattle.request_queue.specs.declared.disposition.Revalidation.{Revalidation}
+use Rattle.request_queue.specs.declared.disposition.Revalidation.TheVariants.{Dead, DiskLost, SameDisk}
+use Rattle.port_driver.specs.Dispositions.{HasPlaces, HavePlaces, BookIsSound, holding}
+
+-- a loan is kept of an issued request alone
+pub kept_issued : (outcome : Outcome) (e : PendingRequest) → keeps_loan outcome e ≡ true → e.issued ≡ true
+kept_issued PortDead e is = is
+kept_issued Ok e is = absurd (false≢true is)
+kept_issued (DeviceError status error) e is = absurd (false≢true is)
+kept_issued Aborted e is = absurd (false≢true is)
+kept_issued Unplugged e is = absurd (false≢true is)
+kept_issued Revoked e is = absurd (false≢true is)
+
+-- one that goes again is issued, and was fewer than four times
+again_on : (revalidation : Revalidation) (e : PendingRequest) → disposition_on revalidation e ≡ Requeue → (e.issued ≡ true) × ((e.issues == 4) ≡ false)
+again_on SameDisk e is = by e.issued e.revoked (e.issues == 4) is
+  where
+    by : (a b c : Bool) → (if a then (if b then Complete Revoked else (if c then Complete Aborted else Requeue)) else Wait) ≡ Requeue → (a ≡ true) × (c ≡ false)
+    by true true c same = let z : Complete Revoked ≡ Requeue = same in absurd cc
+    by true false true same = let z : Complete Aborted ≡ Requeue = same in absurd cc
+    by true false false same = (refl, refl)
+    by false b c same = let z : Wait ≡ Requeue = same in absurd cc
+again_on DiskLost e is = let z : Complete Unplugged ≡ Requeue = is in absurd cc
+again_on Dead e is = let z : Complete PortDead ≡ Requeue = is in absurd cc
+
+again_of : (failed : Option FailedRequest) (revalidation : Revalidation) (e : PendingRequest) → disposition_of failed revalidation e ≡ Requeue → (e.issued ≡ true) × ((e.issues == 4) ≡ false)
+again_of None revalidation e is = again_on revalidation e is
+again_of (Some failed) revalidation e is = by (failed.id.0 == e.id.0) is
+  where
+    by : (b : Bool) → (if b then Complete (DeviceError failed.status failed.error) else disposition_on revalidation e) ≡ Requeue → (e.issued ≡ true) × ((e.issues == 4) ≡ false)
+    by true same = let z : Complete (DeviceError failed.status failed.error) ≡ Requeue = same in absurd cc
+    by false same = again_on revalidation e same
+
+pub may_go_again : (failed : Option FailedRequest) (revalidation : Revalidation) (e : Held) (book : List Held) → BookIsInOrder book → Contains book e → disposition_of failed revalidation e.entry ≡ Requeue → (e.entry.issued ≡ true) × (e.entry.issues < 4)
+may_go_again failed revalidation e book order here is =
+    let a = again_of failed revalidation e.entry is in
+    let few = (All-contains (λ (x : Held). HasFewIssues x.entry) book e order.issues here).0 in
+    let other = eqb-false e.entry.issues 4 a.1 in
+    (a.0, omega (arith, few, other))
+
+-- what holds of each that is left
+pub left_each : (id : RequestId) (book : List Held) → ((e : Held) → Contains (without_entry id book) e ↔ (Contains book e × (e.entry.id ≢ id))) → (P : Held → Type 0) → All P book → All P (without_entry id book)
+left_each id book left P all = All-weaker (Contains book) P (λ e here. All-contains P book e all here) (without_entry id book)
+    (All-weaker (Contains (without_entry id book)) (Contains book) (λ e here. ((left e).0 here).0) (without_entry id book) (All-contains_itself (without_entry id book)))
+
+-- places for the loans of those that are left
+issued_cons : (request : Held) (rest : List Held) → count_by (λ (e : Held). e.entry.issued) (request ∷ rest) ≡ cond request.entry.issued 1 0 + count_by (λ (e : Held). e.entry.issued) rest
+issued_cons request rest = sum_by-cons (λ (e : Held). cond e.entry.issued 1 0) request rest
+
+pub places_kept : (request : Held) (rest : List Held) (kept : List Lending) (loan : Lending) → request.entry.issued ≡ true → HavePlaces (request ∷ rest) kept → HavePlaces rest (kept ++ loan ∷ [])
+places_kept request rest kept loan issued places =
+    let n = length_push kept loan in
+    let c = issued_cons request rest ∙ ap (λ (b : Bool). cond b 1 0 + count_by (λ (e : Held). e.entry.issued) rest) issued in
+    omega (arith, n, places, c)
+
+pub places_left : (request : Held) (rest : List Held) (kept : List Lending) → HavePlaces (request ∷ rest) kept → HavePlaces rest kept
+places_left request rest kept places = let c = issued_cons request rest in omega (arith, places, c)
+
+-- the request waits again
+pub again : (named id : RequestId) (book later : List Held) (table : Table) (kept : List Lending) → id ≡ named → later ≡ map (at_entry named requeued_entry) book
+    → holding later table kept ≡ record (holding book table kept) { book = map (at_entry id requeued_entry) book }
+again named id book later table kept same is = λ i. holding ((is ∙ ap (λ (x : RequestId). map (at_entry x requeued_entry) book) (sym same)) i) table kept
+
+-- a book is shorter once one has left it
+pub shorter : (id : RequestId) (book later : List Held) (taken : Held) → Contains book taken → taken.entry.id ≡ id → later ≡ without_entry id book → length later < length book
+shorter id book later taken here its is = subst (λ (b : List Held). length b < length book) (sym is) (finishing.shorter id book taken here its)
+
+-- the request that left the book is this one, and its loan was kept, or its frames were given back
+module _ (request : Held) (outcome : Outcome) (book later : List Held) (old new : Table) (kept more : List Lending) (loan : Lending)
+    (its : record { entry = request.entry; frames = loan.frames } ≡ request) (whose : loan.request ≡ request.entry.id) (rest : later ≡ without_entry request.entry.id book) where
+  frames_are : loan.frames ≡ request.frames
+  frames_are = ap (λ (e : Held). e.frames) its
+
+  pub ends_kept : (disposition : Disposition) → disposition ≡ Complete outcome → keeps_loan outcome request.entry ≡ true → more ≡ kept ++ loan ∷ [] → new ≡ old
+      → IsResolved request disposition (reply_to request outcome ∷ []) (holding book old kept) (holding later new more)
+  ends_kept disposition is keeps more_is same = subst (λ (f : Disposition). IsResolved request f (reply_to request outcome ∷ []) (holding book old kept) (holding later new more)) (sym is) (
+    refl,
+    rest,
+    subst (λ (b : Bool). EndsLoan b request (holding book old kept) (holding later new more)) (sym keeps)
+        (more_is ∙ (λ i. kept ++ record { frames = frames_are i; request = whose i } ∷ []), same),
+  )
+
+  pub ends_back : (disposition : Disposition) → disposition ≡ Complete outcome → keeps_loan outcome request.entry ≡ false → more ≡ kept → LendsOnly old new loan.frames None
+      → IsResolved request disposition (reply_to request outcome ∷ []) (holding book old kept) (holding later new more)
+  ends_back disposition is keeps same lends = subst (λ (f : Disposition). IsResolved request f (reply_to request outcome ∷ []) (holding book old kept) (holding later new more)) (sym is) (
+    refl,
+    rest,
+    subst (λ (b : Bool). EndsLoan b request (holding book old kept) (holding later new more)) (sym keeps)
+        (same, subst (λ frames. LendsOnly old new frames None) frames_are lends),
+  )
+
+-- and what is left is sound, once its frames were given back
+pub sound_back : (id : RequestId) (book later : List Held) (taken : Held) (old new : Table) → ((old new : Table) (entries : List Held) (e : Held) → Contains entries e → LendsOnly old new e.frames None
+    → All (IsAccepted old) entries → All (IsAccepted new) (without_entry e.entry.id entries)) → BookIsInOrder (without_entry id book) → All (IsAccepted old) book → Contains book taken → taken.entry.id ≡ id → LendsOnly old new taken.frames None → later ≡ without_entry id book
+    → BookIsSound new later
+sound_back id book later taken old new still ordered accepted here its lends rest = subst (BookIsSound new) (sym rest) (record {
+  ordered = ordered;
+  accepted = subst (λ (i : RequestId). All (IsAccepted new) (without_entry i book)) its (still old new book taken here lends accepted);
+})
+
+-- ---- one after another
+
+-- the requests that pass are the book's, in its order
+pub of_book : (passes : PendingRequest → Bool) (book : List Held) (e : Held) → Contains (filter (λ (x : Held). passes x.entry) book) e → Contains book e
+of_book passes book e here = All-contains (Contains book) (filter (λ (x : Held). passes x.entry) book) e (All-filter (λ (x : Held). passes x.entry) (Contains book) book (All-contains_itself book)) here
+
+pub passing_ordered : (passes : PendingRequest → Bool) (book : List Held) → BookIsInOrder book → AllPairs IsEarlier (filter (λ (x : Held). passes x.entry) book)
+passing_ordered passes book order = AllPairs-filter IsEarlier (λ (x : Held). passes x.entry) book order.ordered
+
+-- the one at a place is next
+pub next_of : (all : List Held) (place : ℕ) → place < length all → (r : Held) × (drop place all ≡ r ∷ drop (place + 1) all) × ((d : RequestId) → get_or (map (λ (e : Held). e.entry.id) all) place d ≡ r.entry.id)
+next_of [] place low = absurd (omega (arith, low))
+next_of (x ∷ all) zero low = (x, refl, λ d. refl)
+next_of (x ∷ all) (suc place) low =
+    let n = next_of all place (omega (arith, low)) in
+    let more : suc (place + 1) ≡ suc place + 1 = omega arith in
+    (n.0, subst (λ (k : ℕ). drop place all ≡ n.0 ∷ drop k (x ∷ all)) more n.1, n.2)
+
+-- so many have an id
+pub as_many : (passes : PendingRequest → Bool) (book : List Held) (ids : List RequestId) (place n : ℕ) → ids ≡ ids_where passes book → n ≡ length ids → place < n → place < length (filter (λ (e : Held). passes e.entry) book)
+as_many passes book ids place n are value low =
+    let m = ap length are ∙ length-map (filter (λ (e : Held). passes e.entry) book) (λ (e : Held). e.entry.id) in omega (arith, value, low, m)
+
+pub no_more : (passes : PendingRequest → Bool) (book : List Held) (ids : List RequestId) (place n : ℕ) → ids ≡ ids_where passes book → n ≡ length ids → n ≤ place → length (filter (λ (e : Held). passes e.entry) book) ≤ place
+no_more passes book ids place n are value most =
+    let m = ap length are ∙ length-map (filter (λ (e : Held). passes e.entry) book) (λ (e : Held). e.entry.id) in omega (arith, value, most, m)
+
+-- and there is a place for the next one's loan, if it is issued
+pub next_place : (request : Held) (rest : List Held) (kept : List Lending) → HavePlaces (request ∷ rest) kept → HasPlaces request kept
+next_place request rest kept places issued = let c = issued_cons request rest ∙ ap (λ (b : Bool). cond b 1 0 + count_by (λ (e : Held). e.entry.issued) rest) issued in omega (arith, places, c)
+
+-- These are left of the requests; and what they come to yet, the whole comes to.
+pub record SoFar (disposition : PendingRequest → Disposition) (all : List Held) (start : Holdings) (before : List Reply) (left : List Held) (now : Holdings) (replies : List Reply) : Type 0 where
+  pub here : (e : Held) → Contains left e → Contains now.book e
+  pub ordered : AllPairs IsEarlier left
+  pub rest : (later : List Reply) (end : Holdings) → AreResolved disposition left later now end → (its : List Reply) × (replies ++ later ≡ before ++ its) × AreResolved disposition all its start end
+  pub sound : BookIsSound now.table now.book
+  pub room : length replies + length now.book ≤ MOST_UNANSWERED
+
+module _ (disposition : PendingRequest → Disposition) (all : List Held) (start : Holdings) (before : List Reply) where
+  pub begins : ((e : Held) → Contains all e → Contains start.book e) → AllPairs IsEarlier all → BookIsSound start.table start.book → length before + length start.book ≤ MOST_UNANSWERED
+      → SoFar disposition all start before all start before
+  begins here ordered sound room = record { here = here; ordered = ordered; rest = λ later end meet. (later, refl, meet); sound = sound; room = room }
+
+  -- the next one met its fate
+  pub goes_on : (request : Held) (left : List Held) (now new : Holdings) (replies more its : List Reply) → SoFar disposition all start before (request ∷ left) now replies
+      → more ≡ replies ++ its → IsResolved request (disposition request.entry) its now new → ((e : Held) → Contains now.book e → e.entry.id ≢ request.entry.id → Contains new.book e)
+      → BookIsSound new.table new.book → length more + length new.book ≤ MOST_UNANSWERED → SoFar disposition all start before left new more
+  goes_on request left now new replies more its f same meets others sound room = record {
+    here = λ e there. others e (f.here e (Contains-append_right (request ∷ []) left e there))
+        (λ is. let lt = All-contains (IsEarlier request) left e earlier there in let id = ap (λ (i : RequestId). i.0) is in omega (arith, lt, id));
+    ordered = λ i j d lt below. f.ordered (suc i) (suc j) d (omega (arith, lt)) (omega (arith, below));
+    rest = λ later end meet.
+        let whole = f.rest (its ++ later) end (new, its, later, refl, meets, meet) in
+        (whole.0, ap (λ (x : List Reply). x ++ later) same ∙ append_assoc replies its later ∙ whole.1, whole.2);
+    sound = sound;
+    room = room;
+  }
+    where
+      earlier : All (IsEarlier request) left
+      earlier i d small = f.ordered 0 (suc i) d (omega arith) (omega (arith, small))
+
+  pub ends : (now : Holdings) (replies : List Reply) → SoFar disposition all start before [] now replies → (its : List Reply) × (replies ≡ before ++ its) × AreResolved disposition all its start now
+  ends now replies f = let whole = f.rest [] now (refl, refl) in (whole.0, sym (append-nil replies) ∙ whole.1, whole.2)

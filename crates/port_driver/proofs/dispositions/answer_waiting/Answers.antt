@@ -1,0 +1,61 @@
+use Rattle.std.proofs.Common.{◌+◌, List, [], ◌∷◌, filter, refl, sym, ap, ◌∙◌, subst, arith, drop, get_or}
+use Rattle.std.specs.List.{Contains}
+use Rattle.std.proofs.lemmas.List.{drop_all}
+use Rattle.std.proofs.lemmas.List.Elements.{Contains-get_or}
+use Rattle.ata_types.specs.declared.request.Outcome.TheVariants.{Revoked}
+use Rattle.ata_types.specs.declared.request.RequestId.{RequestId}
+use Rattle.request_queue.specs.Entries.{Held, waits_under}
+use Rattle.request_queue.specs.declared.disposition.Disposition.TheVariants.{Complete}
+use Rattle.port_driver.specs.Dispositions.{holding}
+use Rattle.port_driver.proofs.Settling as settling
+use Rattle.port_driver.proofs.dispositions.answer_waiting.Goals as goal
+
+pub loop-place-init : goal.loop-place-init
+loop-place-init c kept =
+    settling.begins (λ e. Complete Revoked) (filter (λ (e : Held). waits_under c.args.client c.args.number e.entry) c.args.book.now) (holding c.args.book.now c.args.table.now kept) c.args.replies.now.items
+    (settling.of_book (waits_under c.args.client c.args.number) c.args.book.now) (settling.passing_ordered (waits_under c.args.client c.args.number) c.args.book.now c.requires.sound.ordered) c.requires.sound c.requires.room
+
+pub answer_revoked-requires-clause-sound : goal.answer_revoked-requires-clause-sound
+answer_revoked-requires-clause-sound c = (c.loop-place.invariant []).sound
+
+pub answer_revoked-requires-clause-here : goal.answer_revoked-requires-clause-here
+answer_revoked-requires-clause-here c =
+    let all = filter (λ (e : Held). waits_under c.args.client c.args.number e.entry) c.args.book.now in
+    let n = settling.next_of all c.loop-place.place
+    (settling.as_many (waits_under c.args.client c.args.number) c.args.book.now c.waiting_of-waiting.result.items c.loop-place.place c.len-place-end.result c.waiting_of-waiting.ensures c.len-place-end.ensures.value c.loop-place-test.true) in (
+      n.0,
+      (c.loop-place.invariant []).here n.0 (subst (λ (list : List Held). Contains list n.0) (sym n.1) (Contains-get_or (n.0 ∷ drop (c.loop-place.place + 1) all) 0 n.0 (omega arith))),
+      sym (ap (λ (ids : List RequestId). get_or ids c.loop-place.place (record { 0 = 0 })) (c.deref.ensures.0 ∙ c.waiting_of-waiting.ensures) ∙ n.2 (record { 0 = 0 })),
+    )
+
+pub answer_revoked-requires-clause-room : goal.answer_revoked-requires-clause-room
+answer_revoked-requires-clause-room c = (c.loop-place.invariant []).room
+
+pub loop-place-preserved : goal.loop-place-preserved
+loop-place-preserved c kept =
+    let all = filter (λ (e : Held). waits_under c.args.client c.args.number e.entry) c.args.book.now in
+    let start = holding c.args.book.now c.args.table.now kept in
+    let now = holding c.loop-place.book c.loop-place.table kept in
+    let new = holding c.answer_revoked.new.book c.answer_revoked.new.table kept in
+    let left = drop (c.loop-place.place + 1) all in
+    let n = settling.next_of all c.loop-place.place
+    (settling.as_many (waits_under c.args.client c.args.number) c.args.book.now c.waiting_of-waiting.result.items c.loop-place.place c.len-place-end.result c.waiting_of-waiting.ensures c.len-place-end.ensures.value c.loop-place-test.true) in
+    let f : settling.SoFar (λ e. Complete Revoked) all start c.args.replies.now.items (n.0 ∷ left) now c.loop-place.replies.items =
+    subst (λ (list : List Held). settling.SoFar (λ e. Complete Revoked) all start c.args.replies.now.items list now c.loop-place.replies.items) n.1 (c.loop-place.invariant kept) in
+    let here = f.here n.0 (Contains-get_or (n.0 ∷ left) 0 n.0 (omega arith)) in
+    let its_id = sym (ap (λ (ids : List RequestId). get_or ids c.loop-place.place (record { 0 = 0 })) (c.deref.ensures.0 ∙ c.waiting_of-waiting.ensures) ∙ n.2 (record { 0 = 0 })) in
+    let m = c.answer_revoked.ensures.meets n.0 kept here its_id in
+    settling.goes_on (λ e. Complete Revoked) all start c.args.replies.now.items n.0 left now new c.loop-place.replies.items c.answer_revoked.new.replies.items m.0 f m.1 m.2
+    (λ e there ne. c.answer_revoked.ensures.others e there (λ same. ne (same ∙ sym its_id))) c.answer_revoked.ensures.sound c.answer_revoked.ensures.room
+
+pub returns : goal.returns
+returns c = λ kept.
+    let all = filter (λ (e : Held). waits_under c.args.client c.args.number e.entry) c.args.book.now in
+    let start = holding c.args.book.now c.args.table.now kept in
+    let now = holding c.loop-place.book c.loop-place.table kept in
+    let met = settling.ends (λ e. Complete Revoked) all start c.args.replies.now.items now c.loop-place.replies.items
+    (subst (λ (list : List Held). settling.SoFar (λ e. Complete Revoked) all start c.args.replies.now.items list now c.loop-place.replies.items)
+    (drop_all c.loop-place.place all
+    (settling.no_more (waits_under c.args.client c.args.number) c.args.book.now c.waiting_of-waiting.result.items c.loop-place.place c.len-place-end.result c.waiting_of-waiting.ensures c.len-place-end.ensures.value c.loop-place-test.false))
+    (c.loop-place.invariant kept)) in
+    (met.0, met.1, c.law_answers_of_one_outcome_are_one_change.ensures.at_once (waits_under c.args.client c.args.number) Revoked (λ e. refl) start c.requires.sound.ordered c.requires.sound.accepted met.0 now met.2)

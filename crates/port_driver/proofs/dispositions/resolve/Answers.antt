@@ -1,0 +1,70 @@
+use Rattle.std.proofs.Common.{◌+◌, List, ◌∷◌, sym, ap, ◌∙◌, subst, arith, filter, drop, get_or}
+use Rattle.std.specs.List.{Contains}
+use Rattle.std.proofs.lemmas.List.{drop_all}
+use Rattle.std.proofs.lemmas.List.Elements.{Contains-get_or}
+use Rattle.ata_types.specs.declared.request.RequestId.{RequestId}
+use Rattle.request_queue.specs.Entries.{Held, is_of}
+use Rattle.request_queue.specs.Dispositions.{disposition_of}
+use Rattle.port_driver.specs.Dispositions.{HavePlaces, holding}
+use Rattle.port_driver.proofs.Settling as settling
+use Rattle.port_driver.proofs.dispositions.resolve.Goals as goal
+
+pub loop-place-init : goal.loop-place-init
+loop-place-init c = (
+  settling.begins (disposition_of c.args.failed.now c.args.revalidation) (filter (λ (e : Held). is_of c.args.port e.entry) c.args.book.now) (holding c.args.book.now c.args.table.now c.args.kept.now) c.args.replies.now.items
+      (settling.of_book (is_of c.args.port) c.args.book.now) (settling.passing_ordered (is_of c.args.port) c.args.book.now c.requires.sound.ordered) c.requires.sound c.requires.room,
+  c.requires.places,
+)
+
+pub resolve_one-requires-clause-sound : goal.resolve_one-requires-clause-sound
+resolve_one-requires-clause-sound c = c.loop-place.invariant.0.sound
+
+pub resolve_one-requires-clause-here : goal.resolve_one-requires-clause-here
+resolve_one-requires-clause-here c =
+    let all = filter (λ (e : Held). is_of c.args.port e.entry) c.args.book.now in
+    let n = settling.next_of all c.loop-place.place (settling.as_many (is_of c.args.port) c.args.book.now c.ids_of-ids.result.items c.loop-place.place c.len-place-end.result c.ids_of-ids.ensures c.len-place-end.ensures.value c.loop-place-test.true) in
+    let f = c.loop-place.invariant.0 in (
+      n.0,
+      f.here n.0 (subst (λ (list : List Held). Contains list n.0) (sym n.1) (Contains-get_or (n.0 ∷ drop (c.loop-place.place + 1) all) 0 n.0 (omega arith))),
+      sym (ap (λ (ids : List RequestId). get_or ids c.loop-place.place (record { 0 = 0 })) (c.deref.ensures.0 ∙ c.ids_of-ids.ensures) ∙ n.2 (record { 0 = 0 })),
+      settling.next_place n.0 (drop (c.loop-place.place + 1) all) c.loop-place.kept (subst (λ (list : List Held). HavePlaces list c.loop-place.kept) n.1 c.loop-place.invariant.1),
+    )
+
+pub resolve_one-requires-clause-room : goal.resolve_one-requires-clause-room
+resolve_one-requires-clause-room c = c.loop-place.invariant.0.room
+
+pub loop-place-preserved : goal.loop-place-preserved
+loop-place-preserved c =
+    let port = c.args.port in
+    let all = filter (λ (e : Held). is_of port e.entry) c.args.book.now in
+    let start = holding c.args.book.now c.args.table.now c.args.kept.now in
+    let now = holding c.loop-place.book c.loop-place.table c.loop-place.kept in
+    let new = holding c.resolve_one.new.book c.resolve_one.new.table c.resolve_one.new.kept in
+    let disposition = disposition_of c.args.failed.now c.args.revalidation in
+    let left = drop (c.loop-place.place + 1) all in
+    let n = settling.next_of all c.loop-place.place (settling.as_many (is_of port) c.args.book.now c.ids_of-ids.result.items c.loop-place.place c.len-place-end.result c.ids_of-ids.ensures c.len-place-end.ensures.value c.loop-place-test.true) in
+    let f : settling.SoFar disposition all start c.args.replies.now.items (n.0 ∷ left) now c.loop-place.replies.items =
+    subst (λ (list : List Held). settling.SoFar disposition all start c.args.replies.now.items list now c.loop-place.replies.items) n.1 c.loop-place.invariant.0 in
+    let here = f.here n.0 (Contains-get_or (n.0 ∷ left) 0 n.0 (omega arith)) in
+    let its_id = sym (ap (λ (ids : List RequestId). get_or ids c.loop-place.place (record { 0 = 0 })) (c.deref.ensures.0 ∙ c.ids_of-ids.ensures) ∙ n.2 (record { 0 = 0 })) in
+    let m = c.resolve_one.ensures.meets n.0 here its_id in (
+      settling.goes_on disposition all start c.args.replies.now.items n.0 left now new c.loop-place.replies.items c.resolve_one.new.replies.items m.0 f m.1 m.2
+          (λ e there ne. c.resolve_one.ensures.others e there (λ same. ne (same ∙ sym its_id))) c.resolve_one.ensures.sound c.resolve_one.ensures.room,
+      c.resolve_one.ensures.places n.0 left here its_id (subst (λ (list : List Held). HavePlaces list c.loop-place.kept) n.1 c.loop-place.invariant.1),
+    )
+
+pub returns-clause-meet : goal.returns-clause-meet
+returns-clause-meet c =
+    let all = filter (λ (e : Held). is_of c.args.port e.entry) c.args.book.now in
+    let disposition = disposition_of c.args.failed.now c.args.revalidation in
+    let start = holding c.args.book.now c.args.table.now c.args.kept.now in
+    let now = holding c.loop-place.book c.loop-place.table c.loop-place.kept in
+    settling.ends disposition all start c.args.replies.now.items now c.loop-place.replies.items
+    (subst (λ (list : List Held). settling.SoFar disposition all start c.args.replies.now.items list now c.loop-place.replies.items)
+    (drop_all c.loop-place.place all (settling.no_more (is_of c.args.port) c.args.book.now c.ids_of-ids.result.items c.loop-place.place c.len-place-end.result c.ids_of-ids.ensures c.len-place-end.ensures.value c.loop-place-test.false)) c.loop-place.invariant.0)
+
+pub returns-clause-sound : goal.returns-clause-sound
+returns-clause-sound c = c.loop-place.invariant.0.sound
+
+pub returns-clause-room : goal.returns-clause-room
+returns-clause-room c = c.loop-place.invariant.0.room

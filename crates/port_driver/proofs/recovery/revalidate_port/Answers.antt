@@ -1,0 +1,15 @@
+use Rattle.std.proofs.Common.{◌≡◌, sym, ◌∙◌, ⊎_elim}
+use Rattle.ata_types.specs.declared.PortState.TheVariants.{Absent}
+use Rattle.host_boot.specs.declared.ProbeResult.TheVariants.{Ready, Unready}
+use Rattle.port_driver.proofs.Restoring.{boots_or_absent}
+use Rattle.port_driver.proofs.recovery.revalidate_port.Goals as goal
+
+pub boot_after-booted-requires-clause-bootable : goal.boot_after-booted-requires-clause-bootable
+boot_after-booted-requires-clause-bootable g c = (c.requires.bootable c.in-Restart.stopped c.in-Restart.is).0
+
+pub returns-in-Restart-clause-mode : goal.returns-in-Restart-clause-mode
+returns-in-Restart-clause-mode g c =
+    let device = g.A.Adapter.device in ⊎_elim
+    (λ boots. c.mode_of-mode.ensures.found _ boots.slots boots.queued)
+    (λ absent. c.mode_of-mode.ensures.plain _ (λ info is. let z : Unready Absent ≡ Ready info = sym absent ∙ is in cc))
+    (boots_or_absent c.args.port_error c.args.wanted.now c.in-Restart.stopped.port c.boot_after-booted.result (device c.args.adapter.now) (device c.boot_after-booted.new.adapter) c.boot_after-booted.ensures.boots)

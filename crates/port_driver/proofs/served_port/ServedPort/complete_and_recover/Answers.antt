@@ -1,0 +1,132 @@
+use Rattle.std.proofs.Common.{sym, subst}
+use Rattle.dma_frames.specs.Table.{Table}
+use Rattle.server_history.specs.Server.{ServerState}
+use Rattle.port_driver.specs.Ports.{HasDonePort}
+use Rattle.port_driver.specs.Recovery.{HasPortInError}
+use Rattle.port_driver.proofs.Lent.{Answered, FoundDone, Troubled, Waiting, agreed, alike, alone, lends_done, may, mid_kept, mends_rest, mid_there, named, places, seen_kept, seen_there}
+use Rattle.port_driver.proofs.served_port.ServedPort.complete_and_recover.Given.{Over}
+use Rattle.port_driver.proofs.served_port.ServedPort.complete_and_recover.Goals as goal
+use Rattle.port_driver.proofs.served_port.ServedPort.complete_and_recover.Goals.{After-answer_done-arg-3-1, After-done-arg-1, After-recover_or_stop-arg-1, After-are_queued-arg-1}
+
+-- a server of which so much is lent
+abbrev Has : (g : Over) (c : After-done-arg-1 g) → Type 0
+Has g c = (s : ServerState) × HasPortInError s (g.A.Adapter.device c.args.adapter.now) c.args.shared.now.table.value c.args.shared.now.book c.args.self.now.slots c.args.port c.args.port_error
+
+abbrev troubled : (g : Over) (c : After-done-arg-1 g) → Has g c → Troubled
+troubled g c l = record {
+  laws = record {
+    looking = c.law_looks_keep.ensures.looking;
+    finding = c.law_looks_keep.ensures.finding;
+    over = c.law_looks_keep.ensures.found;
+    may = c.law_port_errors_may_be_handled.ensures.may;
+    agreed = c.law_port_errors_may_be_handled.ensures.agreed;
+    alike = c.law_port_errors_may_be_handled.ensures.alike;
+    alone = c.law_port_errors_may_be_handled.ensures.alone;
+  };
+  s = l.0;
+  device = g.A.Adapter.device c.args.adapter.now;
+  table = c.args.shared.now.table.value;
+  book = c.args.shared.now.book;
+  slots = c.args.self.now.slots;
+  port = c.args.port;
+  port_error = c.args.port_error;
+  lends = l.1;
+}
+
+abbrev at_taking : (g : Over) (c : After-answer_done-arg-3-1 g) → After-done-arg-1 g
+at_taking g c = (goal.at.answer_done-requires-clause-lends g c).After-done-arg-1
+
+abbrev found_done : (g : Over) (c : After-answer_done-arg-3-1 g) (l : Has g (at_taking g c)) → FoundDone (troubled g (at_taking g c) l)
+found_done g c l = record {
+  mask = c.taken-used.result;
+  exact = c.taken-used.ensures;
+  done = c.done-finished.result;
+  found = g.A.Adapter.device c.done-finished.new.adapter;
+  reads = c.done-finished.ensures.finds;
+}
+
+abbrev at_done : (g : Over) (c : After-are_queued-arg-1 g) → After-answer_done-arg-3-1 g
+at_done g c = (goal.at.are_queued-queued-requires g c).After-answer_done-arg-3-1
+
+-- both, once what is done was answered
+abbrev its_trouble : (g : Over) (c : After-are_queued-arg-1 g) → Has g (at_taking g (at_done g c)) → Troubled
+its_trouble g c l = troubled g (at_taking g (at_done g c)) l
+
+abbrev its_done : (g : Over) (c : After-are_queued-arg-1 g) (l : Has g (at_taking g (at_done g c))) → FoundDone (its_trouble g c l)
+its_done g c l = found_done g (at_done g c) l
+
+abbrev answered : (g : Over) (c : After-are_queued-arg-1 g) (l : Has g (at_taking g (at_done g c))) → Answered (its_trouble g c l) (its_done g c l)
+answered g c l =
+    let f = its_done g c l in
+    let from = record l.0 { device = f.found } in
+    let done = lends_done (its_trouble g c l) f in
+    record {
+      before = c.args.replies.now.items;
+      after = c.answer_done.new.replies.items;
+      t = c.answer_done.new.table;
+      b = c.answer_done.new.book;
+      u = c.answer_done.new.slots;
+      answers = (rw c.deref_mut.ensures.value at c.answer_done.ensures.answers) from c.args.port done;
+      lent = (rw c.deref_mut.ensures.value at c.answer_done.ensures.lends) from c.args.port done;
+    }
+
+abbrev at_answer : (g : Over) (c : After-recover_or_stop-arg-1 g) → After-are_queued-arg-1 g
+at_answer g c = (goal.at.recover_or_stop-recovered-requires-clause-ready g c).After-are_queued-arg-1
+
+abbrev waiting : (g : Over) (c : After-recover_or_stop-arg-1 g) (l : Has g (at_taking g (at_done g (at_answer g c)))) → Waiting (its_trouble g (at_answer g c) l) (its_done g (at_answer g c) l) (answered g (at_answer g c) l)
+waiting g c l = record {
+  outstanding = c.taken-outstanding.result;
+  left = c.taken-outstanding.ensures;
+  queued = c.are_queued-queued.result;
+  kinds = c.are_queued-queued.ensures;
+}
+
+pub done-finished-requires-clause-on : goal.done-finished-requires-clause-on
+done-finished-requires-clause-on g c = (seen_kept (troubled g c c.requires.lends)).on
+
+pub done-finished-requires-clause-there : goal.done-finished-requires-clause-there
+done-finished-requires-clause-there g c = seen_there (troubled g c c.requires.lends)
+
+pub answer_done-requires-clause-lends : goal.answer_done-requires-clause-lends
+answer_done-requires-clause-lends g c =
+    let f = found_done g c c.requires.lends in
+    let s = record c.requires.lends.0 { device = f.found } in
+    let D : Table → Type 0 = λ table. HasDonePort s table c.args.shared.now.book c.args.self.now.slots c.args.port f.done in
+    (s, c.args.port, subst D (sym c.deref_mut.ensures.value) (lends_done (troubled g (at_taking g c) c.requires.lends) f))
+
+pub are_queued-queued-requires : goal.are_queued-queued-requires
+are_queued-queued-requires g c =
+    let l = c.requires.lends in
+    record { alike = alike (its_trouble g c l) (its_done g c l) (answered g c l); places = places (its_trouble g c l) (its_done g c l) (answered g c l) }
+
+pub recover_or_stop-recovered-requires-clause-ready : goal.recover_or_stop-recovered-requires-clause-ready
+recover_or_stop-recovered-requires-clause-ready g c =
+    let l = c.requires.lends in
+    let a = at_answer g c in
+    record {
+      on = (mid_kept (its_trouble g a l) (its_done g a l) (answered g a l)).on;
+      there = mid_there (its_trouble g a l) (its_done g a l) (answered g a l);
+      room = (mid_kept (its_trouble g a l) (its_done g a l) (answered g a l)).room;
+      agreed = agreed (its_trouble g a l) (its_done g a l) (answered g a l) (waiting g c l);
+      alone = alone (its_trouble g a l) (its_done g a l) (answered g a l) (waiting g c l);
+    }
+
+pub recover_or_stop-recovered-requires-clause-may : goal.recover_or_stop-recovered-requires-clause-may
+recover_or_stop-recovered-requires-clause-may g c =
+    let l = c.requires.lends in
+    let a = at_answer g c in
+    may (its_trouble g a l) (its_done g a l)
+
+pub failed_in-failed-requires : goal.failed_in-failed-requires
+failed_in-failed-requires g c =
+    let l = c.requires.lends in
+    let q = (goal.at.failed_in-failed-requires g c).After-recover_or_stop-arg-1 in
+    let a = at_answer g q in
+    named (its_trouble g a l) (its_done g a l) (answered g a l) (waiting g q l) c.recover_or_stop-recovered.result (g.A.Adapter.device c.recover_or_stop-recovered.new.adapter) c.recover_or_stop-recovered.ensures.handling
+
+pub returns-clause-handling : goal.returns-clause-handling
+returns-clause-handling g c = λ s lends.
+    let q = (goal.at.returns-clause-handling g c).After-recover_or_stop-arg-1 in
+    let a = at_answer g q in
+    let l : Has g (at_taking g (at_done g a)) = (s, lends) in
+    mends_rest (its_trouble g a l) (its_done g a l) (answered g a l) (waiting g q l) c.recover_or_stop-recovered.result (g.A.Adapter.device c.recover_or_stop-recovered.new.adapter) c.recover_or_stop-recovered.ensures.handling c.failed_in-failed.result c.failed_in-failed.ensures

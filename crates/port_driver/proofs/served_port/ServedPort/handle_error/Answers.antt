@@ -1,0 +1,222 @@
+use Rattle.std.proofs.Common.{rules, ℕ, ◌≡◌, ◌≤◌, ◌++◌, List, [], map, take, drop, length, refl, set, sym, ap, ◌∙◌, subst, arith}
+use Rattle.std.specs.List.Sorted.{IsPermutation}
+use Rattle.std.specs.Box.{with_value}
+use Rattle.std.proofs.lemmas.List.{length-append, set-set}
+use Rattle.port_driver.specs.Parts.{TakesTurn, with_parts}
+use Rattle.port_driver.specs.Recovery.{HasPortInError, HandlesPortErrorOf, IsInError}
+use Rattle.port_driver.specs.Dispositions.{BookIsSound, HavePlaces, holding}
+use Rattle.port_driver.specs.Ports.{with_part}
+use Rattle.block_machine.specs.declared.due.QueueMode.{QueueMode}
+use Rattle.identify.specs.declared.wanted.Wanted.{Wanted}
+use Rattle.server_history.specs.ErrorHandling.{IsRevalidated, requests_of}
+use Rattle.server_history.specs.Served.{done_reply}
+use Rattle.server_history.specs.Server.{ServerState, kept_at}
+use Rattle.slots.specs.Uses.{PortSlots}
+use Rattle.port_driver.specs.declared.served_port.ServedPort.{ServedPort}
+use Rattle.port_driver.specs.declared.served_port.Shared.{Shared}
+use Rattle.dma_frames.specs.Loan.{Lending}
+use Rattle.dma_frames.specs.Table.{Table}
+use Rattle.request_queue.specs.Dispositions.{AreResolved, disposition_of}
+use Rattle.port_driver.proofs.Placing as placing
+use Rattle.port_driver.proofs.Usable.{few_usable}
+use Rattle.port_driver.proofs.Restoring as restoring
+use Rattle.port_driver.proofs.Restoring.{Ordered, Recovery, Restoration}
+use Rattle.port_driver.proofs.served_port.ServedPort.handle_error.Given.{Over}
+use Rattle.port_driver.proofs.served_port.ServedPort.handle_error.Goals as goal
+use Rattle.port_driver.proofs.served_port.ServedPort.handle_error.Goals.{After-complete_and_recover-failed, After-order_from-arg-1, After-issue_where_ready}
+
+-- a server whose port, which is this one, told of the error
+abbrev Has : (g : Over) (c : After-complete_and_recover-failed g) → ServerState → Type 0
+Has g c s = IsInError s (g.A.Adapter.device c.args.adapter.now) c.args.shared.now c.args.port c.args.self.now c.args.port_error
+
+has_port : (g : Over) (c : After-complete_and_recover-failed g) (s : ServerState) → Has g c s
+    → HasPortInError s (g.A.Adapter.device c.args.adapter.now) c.args.shared.now.table.value c.args.shared.now.book c.args.self.now.slots c.args.port c.args.port_error
+has_port g c s h = record { sees = h.sees; table_is = h.table_is; book_is = h.book_is; slots_are = h.port_is.slots_are }
+
+-- what was seen of the port, and what recovery left
+abbrev recovered : (g : Over) (c : After-complete_and_recover-failed g) (s : ServerState) → Has g c s → Recovery
+recovered g c s h =
+    let then = c.complete_and_recover-failed.new in
+    record {
+      laws = record {
+        bootable = c.law_a_port_goes_on_after_its_errors.ensures.bootable;
+        mode = c.law_a_port_goes_on_after_its_errors.ensures.mode;
+        places = c.law_a_port_goes_on_after_its_errors.ensures.places;
+        settled = c.law_a_port_goes_on_after_its_errors.ensures.settled;
+        error_handled = c.law_a_port_is_served.ensures.error_handled;
+        restarted = c.law_a_timed_out_port_is_restarted.ensures;
+      };
+      s = s;
+      port = c.args.port;
+      port_error = c.args.port_error;
+      first = g.A.Adapter.device c.args.adapter.now;
+      sees = h.sees;
+      was = c.in-Ready.was;
+      is_ready = h.port_is.found_is ∙ c.in-Ready.is;
+      before = c.args.replies.now.items;
+      told = then.replies.items;
+      failed = c.complete_and_recover-failed.result.0;
+      next = c.complete_and_recover-failed.result.1;
+      t = then.shared.table.value;
+      b = then.shared.book;
+      u = then.self.slots;
+      one = g.A.Adapter.device then.adapter;
+      rest = c.complete_and_recover-failed.ensures.handling s (has_port g c s h);
+    }
+
+-- what the server kept of the port is kept still
+same_kept : (g : Over) (c : After-complete_and_recover-failed g) (s : ServerState) → Has g c s → c.complete_and_recover-failed.new.self.kept ≡ kept_at s.kept c.args.port.0
+same_kept g c s h = ap (λ (p : ServedPort). p.kept) c.complete_and_recover-failed.ensures.rest ∙ sym h.port_is.kept_is
+
+pub revalidate_port-found-requires-clause-mode : goal.revalidate_port-found-requires-clause-mode
+revalidate_port-found-requires-clause-mode g c =
+    let a = (goal.at.revalidate_port-found-requires-clause-mode g c).After-complete_and_recover-failed in
+    let h = c.requires.sees in
+    restoring.mode_then (recovered g a h.0 h.1) c.complete_and_recover-failed.new.self.mode (ap (λ (p : ServedPort). p.mode) c.complete_and_recover-failed.ensures.rest ∙ sym h.1.port_is.mode_is)
+
+pub revalidate_port-found-requires-clause-bootable : goal.revalidate_port-found-requires-clause-bootable
+revalidate_port-found-requires-clause-bootable g c =
+    restoring.bootable (recovered g (goal.at.revalidate_port-found-requires-clause-bootable g c).After-complete_and_recover-failed c.requires.sees.0 c.requires.sees.1)
+
+pub new-self-requires : goal.new-self-requires
+new-self-requires g c =
+    let few = few_usable (g.A.Adapter.device c.revalidate_port-found.new.adapter).cap c.revalidate_port-found.result.0 in
+    subst (λ (mode : QueueMode). mode.usable ≤ 32) (sym c.revalidate_port-found.ensures.mode) few
+
+pub resolve-requires-clause-sound : goal.resolve-requires-clause-sound
+resolve-requires-clause-sound g c =
+    let sound = restoring.sound (recovered g (goal.at.resolve-requires-clause-sound g c).After-complete_and_recover-failed c.requires.sees.0 c.requires.sees.1) in
+    subst (λ (table : Table). BookIsSound table c.complete_and_recover-failed.new.shared.book) (sym c.deref_mut.ensures.value) sound
+
+pub resolve-requires-clause-places : goal.resolve-requires-clause-places
+resolve-requires-clause-places g c =
+    let a = (goal.at.resolve-requires-clause-places g c).After-complete_and_recover-failed in
+    let x = recovered g a c.requires.sees.0 c.requires.sees.1 in
+    subst (HavePlaces (requests_of c.args.port x.b)) (sym (same_kept g a c.requires.sees.0 c.requires.sees.1)) (restoring.have_places x c.args.port.0 refl [])
+
+pub order_from-requires : goal.order_from-requires
+order_from-requires g c =
+    let r = (recovered g (goal.at.order_from-requires g c).After-complete_and_recover-failed c.requires.sees.0 c.requires.sees.1).rest in
+    let all = ap length c.resolve.ensures.meet.1 ∙ length-append c.complete_and_recover-failed.new.replies.items c.resolve.ensures.meet.0 in
+    let told = ap length r.told ∙ length-append c.args.replies.now.items (map done_reply r.error_handled.requests) in
+    let first = c.len-first.ensures.value in
+    omega (arith, all, told, first)
+
+-- so many slots a port has
+fresh_places : (g : Over) (c : After-order_from-arg-1 g) → length c.new-self.result.places ≡ 32
+fresh_places g c = search rules
+
+abbrev at_mending : (g : Over) (c : After-order_from-arg-1 g) → After-complete_and_recover-failed g
+at_mending g c = (goal.at.order_from-requires g c).After-complete_and_recover-failed
+
+-- what the port was found to be then, and how its requests met their fates
+abbrev restored : (g : Over) (c : After-order_from-arg-1 g) (s : ServerState) (h : Has g (at_mending g c) s) → Restoration (recovered g (at_mending g c) s h)
+restored g c s h =
+    let device = g.A.Adapter.device in
+    let x = recovered g (at_mending g c) s h in
+    let met = c.resolve.ensures.meet in
+    let now = holding c.resolve.new.book c.resolve.new.table c.resolve.new.kept in
+    let K : List Lending → Table → Type 0 = λ loans table. AreResolved (disposition_of c.complete_and_recover-failed.result.0 c.revalidation_of-revalidation.result) (requests_of c.args.port x.b) met.0 (holding x.b table loans) now in
+    let W : Wanted → Type 0 = λ wanted. IsRevalidated wanted c.args.port c.args.port_error c.in-Ready.was x.next x.one (device c.revalidate_port-found.new.adapter) c.revalidate_port-found.result.0 in
+    let wanted_is = (ap (λ (p : ServedPort). p.wanted) c.complete_and_recover-failed.ensures.rest ∙ sym h.port_is.wanted_is) in
+    record {
+      two = device c.revalidate_port-found.new.adapter;
+      found = c.revalidate_port-found.result.0;
+      is_found = subst W wanted_is (c.revalidate_port-found.ensures.found c.args.port (restoring.token_of x));
+      mode = c.revalidate_port-found.result.1;
+      mode_is = c.revalidate_port-found.ensures.mode;
+      fresh = c.new-self.result;
+      usable = c.new-self.ensures.usable;
+      as_many = fresh_places g c;
+      free = c.new-self.ensures.free;
+      revalidation = c.revalidation_of-revalidation.result;
+      expects = c.revalidation_of-revalidation.ensures;
+      now = now;
+      later = met.0;
+      meets = subst (λ (loans : List Lending). K loans x.t) (same_kept g (at_mending g c) s h)
+          (subst (K c.complete_and_recover-failed.new.self.kept) c.deref_mut.ensures.value met.2);
+    }
+
+pub issue_where_ready-requires : goal.issue_where_ready-requires
+issue_where_ready-requires g c =
+    let a = (goal.at.issue_where_ready-requires g c).After-order_from-arg-1 in
+    let s = c.requires.sees.0 in
+    let x = recovered g (at_mending g a) s c.requires.sees.1 in
+    let y = restored g a s c.requires.sees.1 in
+    record { lends = (restoring.then x y, restoring.lends_found x y) }
+
+-- the port's error was handled, with as many replies as there were before they were put in order
+abbrev at_order : (g : Over) (c : After-issue_where_ready g) → After-order_from-arg-1 g
+at_order g c = (goal.at.returns-clause-room g c).After-order_from-arg-1
+
+module _ (g : Over) (c : After-issue_where_ready g) (s : ServerState) (h : IsInError s (g.A.Adapter.device c.args.adapter.now) c.args.shared.now c.args.port c.args.self.now c.args.port_error) where
+  abbrev x : Recovery
+  x = recovered g (at_mending g (at_order g c)) s h
+
+  abbrev y : Restoration x
+  y = restored g (at_order g c) s h
+
+  o : Ordered x y
+  o =
+      let sorted = c.order_from.ensures in
+      let X : ℕ → Type 0 = λ n. (c.order_from.new.replies.items ≡ take n c.resolve.new.replies.items ++ sorted.0) × IsPermutation sorted.0 (drop n c.resolve.new.replies.items) in
+      let moved = subst X c.len-first.ensures.value (sorted.1, sorted.2) in
+      record {
+        settled = h.settled;
+        three = g.A.Adapter.device c.issue_where_ready.new.adapter;
+        book = c.issue_where_ready.new.book;
+        slots = c.issue_where_ready.new.self.slots;
+        issues = c.issue_where_ready.ensures.issues (restoring.then x y) (restoring.lends_found x y);
+        all = c.resolve.new.replies.items;
+        its = sorted.0;
+        after = c.order_from.new.replies.items;
+        all_is = c.resolve.ensures.meet.1;
+        sorted = moved.0;
+        moved = moved.1;
+        ordered = sorted.3;
+      }
+
+  abbrev shared : Shared
+  shared = record { table = with_value c.complete_and_recover-failed.new.shared.table c.resolve.new.table; book = c.issue_where_ready.new.book }
+
+  -- so it is with the port in its place
+  placed : with_parts s (g.A.Adapter.device c.issue_where_ready.new.adapter) shared c.args.port c.issue_where_ready.new.self
+      ≡ with_part (restoring.then x y) (g.A.Adapter.device c.issue_where_ready.new.adapter) c.issue_where_ready.new.book c.issue_where_ready.new.self.slots c.args.port
+  placed =
+      let three = g.A.Adapter.device c.issue_where_ready.new.adapter in
+      let wanted_is = ap (λ (p : ServedPort). p.wanted) c.issue_where_ready.ensures.rest ∙ ap (λ (p : ServedPort). p.wanted) c.complete_and_recover-failed.ensures.rest in
+      placing.with_other s c.args.port c.args.self.now h.port_is three shared c.issue_where_ready.new.self wanted_is
+      ∙ ap (λ (p : ServedPort). record s {
+        device = three;
+        table = c.resolve.new.table;
+        ports = set s.ports c.args.port.0 p.found;
+        remembered = set s.remembered c.args.port.0 p.last_disk;
+        modes = set s.modes c.args.port.0 p.mode;
+        slots = set s.slots c.args.port.0 p.slots;
+        kept = set s.kept c.args.port.0 p.kept;
+        book = c.issue_where_ready.new.book;
+      }) c.issue_where_ready.ensures.rest
+      ∙ ap (λ (list : List PortSlots). record (restoring.then x y) { device = three; slots = list; book = c.issue_where_ready.new.book })
+      (sym (set-set s.slots c.args.port.0 c.new-self.result c.issue_where_ready.new.self.slots))
+
+  handled : TakesTurn (HandlesPortErrorOf c.args.port c.args.port_error) c.args.replies.now.items c.order_from.new.replies.items s
+      (with_parts s (g.A.Adapter.device c.issue_where_ready.new.adapter) shared c.args.port c.issue_where_ready.new.self)
+  unfolding o
+  handled =
+      let done = restoring.error_handled x y o in
+      subst (TakesTurn (HandlesPortErrorOf c.args.port c.args.port_error) c.args.replies.now.items c.order_from.new.replies.items s) (sym placed)
+      (record { its = c.order_from.ensures.0; told = restoring.replies_are x y o; does = done.0; settled = done.1 })
+
+  as_many : length c.order_from.new.replies.items ≡ length c.resolve.new.replies.items
+  unfolding o
+  as_many = restoring.as_many_replies x y o
+
+pub returns-clause-handles : goal.returns-clause-handles
+returns-clause-handles g c = λ s h. handled g (goal.at.returns-clause-handles g c).After-issue_where_ready s h
+
+pub returns-clause-room : goal.returns-clause-room
+returns-clause-room g c =
+    let same = as_many g (goal.at.returns-clause-room g c).After-issue_where_ready c.requires.sees.0 c.requires.sees.1 in
+    let room = c.resolve.ensures.room in
+    let as_many = c.issue_where_ready.ensures.as_many in
+    omega (arith, same, room, as_many)

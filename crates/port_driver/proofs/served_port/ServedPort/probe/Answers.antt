@@ -1,0 +1,80 @@
+use Rattle.std.proofs.Common.{Bool, true, false, ◌≡◌, length, refl, rules, sym, ◌∙◌, subst}
+use Rattle.adapter.specs.Device.{Device}
+use Rattle.host_boot.specs.Taken.{probe_result_of}
+use Rattle.host_boot.specs.declared.ProbeResult.TheVariants.{Unready}
+use Rattle.identify.specs.declared.wanted.Wanted.{Wanted}
+use Rattle.refinement.specs.Driven.{AnyUse, IsSimulated}
+use Rattle.port_control.specs.Looks.{IsLooking}
+use Rattle.server_history.specs.Probing.{IsLookedAt, ProbesAnew}
+use Rattle.server_history.specs.Server.{ServerState, SettledInvariant}
+use Rattle.server_history.specs.Turns.{ProbesUnready}
+use Rattle.port_driver.specs.Parts.{IsSettledWith, with_parts}
+use Rattle.port_driver.specs.declared.served_port.Shared.{Shared}
+use Rattle.port_driver.proofs.Anew as anew
+use Rattle.port_driver.proofs.Placing as placing
+use Rattle.port_driver.proofs.served_port.ServedPort.probe.Given.{Over}
+use Rattle.port_driver.proofs.served_port.ServedPort.probe.Goals as goal
+use Rattle.port_driver.proofs.served_port.ServedPort.probe.Goals.{After-needs_probe}
+
+-- a settled server that has the port
+module _ (g : Over) (c : After-needs_probe g) (s : ServerState) (shared : Shared) (h : IsSettledWith s (g.A.Adapter.device c.args.adapter.now) shared c.args.port c.args.self.now) where
+  abbrev seen : Device
+  seen = g.A.Adapter.device c.needs_probe.new.adapter
+
+  unready : probe_result_of s.ports c.args.port.0 ≡ Unready c.args.state
+  unready = h.parts.port_is.found_is ∙ c.requires.unready
+
+  looks : (shows : Bool) → IsLookedAt c.args.state c.args.port shows (g.A.Adapter.device c.args.adapter.now) seen → IsLookedAt c.args.state c.args.port shows s.device seen
+  looks shows looked = subst (λ (d : Device). IsLookedAt c.args.state c.args.port shows d seen) (sym h.parts.device_is) looked
+
+  followed : IsSimulated (IsLooking c.args.port) AnyUse s.device seen
+  followed = subst (λ (d : Device). IsSimulated (IsLooking c.args.port) AnyUse d seen) (sym h.parts.device_is) c.needs_probe.ensures.followed
+
+pub returns-then-not-needs_probe-clause-probes : goal.returns-then-not-needs_probe-clause-probes
+returns-then-not-needs_probe-clause-probes g c = λ s shared h.
+    let a = (goal.at.returns-then-not-needs_probe-clause-probes g c).After-needs_probe in
+    let new = seen g a s shared h in
+    subst (λ (x : ServerState). ProbesUnready c.args.port s x × SettledInvariant x)
+    (sym (placing.with_same s c.args.port c.args.self.now h.parts.port_is new shared ∙ (λ i. record s { device = new; table = sym h.parts.table_is i; book = sym h.parts.book_is i })))
+    (anew.left_settles c.law_an_unready_port_is_probed.ensures.tried s c.args.port c.args.state (unready g a s shared h) h.settled new (looks g a s shared h false c.if-not-needs_probe.ensures.looks) (followed g a s shared h))
+
+pub probe_anew-found-requires-clause-there : goal.probe_anew-found-requires-clause-there
+probe_anew-found-requires-clause-there g c =
+    let a = (goal.at.probe_anew-found-requires-clause-there g c).After-needs_probe in
+    let h = c.requires.settled in
+    let its = looks g a h.0 h.1 h.2 true c.if-not-needs_probe.ensures.looks in
+    (c.law_an_unready_port_is_probed.ensures.looked h.0 (seen g a h.0 h.1 h.2) c.args.port c.args.state h.2.settled.kept (unready g a h.0 h.1 h.2)
+    (anew.booted_alive c.args.state c.args.port h.0.device (seen g a h.0 h.1 h.2) its) (followed g a h.0 h.1 h.2)).1
+
+pub probe_anew-found-requires-clause-agreed : goal.probe_anew-found-requires-clause-agreed
+probe_anew-found-requires-clause-agreed g c =
+    let a = (goal.at.probe_anew-found-requires-clause-agreed g c).After-needs_probe in
+    let h = c.requires.settled in
+    let its = looks g a h.0 h.1 h.2 true c.if-not-needs_probe.ensures.looks in
+    (c.law_an_unready_port_is_probed.ensures.looked h.0 (seen g a h.0 h.1 h.2) c.args.port c.args.state h.2.settled.kept (unready g a h.0 h.1 h.2)
+    (anew.booted_alive c.args.state c.args.port h.0.device (seen g a h.0 h.1 h.2) its) (followed g a h.0 h.1 h.2)).2
+
+pub probe_anew-found-requires-clause-bootable : goal.probe_anew-found-requires-clause-bootable
+probe_anew-found-requires-clause-bootable g c = λ stopped result token gives restarts.
+    let a = (goal.at.probe_anew-found-requires-clause-bootable g c).After-needs_probe in
+    let h = c.requires.settled in
+    let its = looks g a h.0 h.1 h.2 true c.if-not-needs_probe.ensures.looks in
+    c.law_an_unready_port_is_probed.ensures.bootable h.0 (seen g a h.0 h.1 h.2) stopped c.args.port c.args.state result token h.2.settled.kept (unready g a h.0 h.1 h.2)
+    (anew.booted_alive c.args.state c.args.port h.0.device (seen g a h.0 h.1 h.2) its) (followed g a h.0 h.1 h.2) gives restarts
+
+pub returns-clause-probes : goal.returns-clause-probes
+returns-clause-probes g c = λ s shared h.
+    let a = (goal.at.returns-clause-probes g c).After-needs_probe in
+    let new = g.A.Adapter.device c.probe_anew-found.new.adapter in
+    let found = c.probe_anew-found.result.0 in
+    let mode = c.probe_anew-found.result.1 in
+    let slots = c.new-self.result in
+    let F : Wanted → Type 0 = λ wanted. ProbesAnew wanted c.args.port found mode (seen g a s shared h) new in
+    let places : length c.new-self.result.places ≡ 32 = search rules in
+    let back : with_parts s new shared c.args.port (record c.args.self.now { found = found; mode = mode; slots = slots }) ≡ anew.found_anew s new found mode slots c.args.port.0 =
+    placing.with_found s c.args.port c.args.self.now h.parts.port_is new shared found mode slots
+    ∙ (λ i. record (anew.found_anew s new found mode slots c.args.port.0) { table = sym h.parts.table_is i; book = sym h.parts.book_is i }) in
+    subst (λ (x : ServerState). ProbesUnready c.args.port s x × SettledInvariant x) (sym back)
+    (anew.booted_settles c.law_an_unready_port_is_probed.ensures.tried s c.args.port c.args.state (unready g a s shared h) h.settled (seen g a s shared h)
+    (looks g a s shared h true c.if-not-needs_probe.ensures.looks) (followed g a s shared h) new found mode slots
+    (subst F (sym h.parts.port_is.wanted_is) c.probe_anew-found.ensures.finds) (record { usable = c.new-self.ensures.usable; places = places; free = c.new-self.ensures.free }) c.args.port.0 refl)

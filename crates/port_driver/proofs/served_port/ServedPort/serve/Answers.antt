@@ -1,0 +1,177 @@
+use Rattle.std.proofs.Common.{◌≡◌, ◌≢◌, [], Some, append-nil, refl, sym, ap, ◌∙◌, subst}
+use Rattle.ata_types.specs.declared.PortState.TheVariants.{Ready as ReadyState}
+use Rattle.adapter.specs.Device.{Device}
+use Rattle.host_boot.specs.Taken.{probe_result_of}
+use Rattle.refinement.specs.Driven.{AnyUse, IsSimulated}
+use Rattle.server_history.specs.ErrorHandling.{IsFoundOut}
+use Rattle.server_history.specs.Served.{IsMaskOf}
+use Rattle.server_history.specs.Server.{InCallInvariant, SettledInvariant, ServerState, slots_at, state_of}
+use Rattle.server_history.specs.Turns.{ServesPort}
+use Rattle.slots.specs.Uses.{PortSlots}
+use Rattle.port_control.specs.Looks.{IsLooking, LooksAt}
+use Rattle.port_control.specs.declared.events.PortError.{PortError}
+use Rattle.port_control.specs.declared.events.PortError.TheVariants.{TimedOut}
+use Rattle.port_control.specs.declared.events.PortEvent.TheVariants.{NoEvent}
+use Rattle.port_driver.specs.Parts.{IsSettledWith, TakesTurn, with_parts}
+use Rattle.port_driver.specs.Recovery.{IsInError, error_of}
+use Rattle.port_driver.proofs.Placing as placing
+use Rattle.port_driver.proofs.Serving as serving
+use Rattle.port_driver.proofs.served_port.ServedPort.serve.Given.{Over}
+use Rattle.port_driver.proofs.served_port.ServedPort.serve.Goals as goal
+use Rattle.port_driver.proofs.served_port.ServedPort.serve.Goals.{After-done-finished, After-take_event-look, After-taken-used}
+
+-- ---- what the port was looked at with
+
+-- a settled server that has the port
+abbrev Has : (g : Over) (c : After-take_event-look g) → ServerState → Type 0
+Has g c s = IsSettledWith s (g.A.Adapter.device c.args.adapter.now) c.args.shared.now c.args.port c.args.self.now
+
+module _ (g : Over) (c : After-take_event-look g) (s : ServerState) (h : Has g c s) where
+  abbrev seen : Device
+  seen = g.A.Adapter.device c.take_event-look.new.adapter
+
+  abbrev looked : ServerState
+  looked = record s { device = seen }
+
+  ready : state_of (probe_result_of s.ports c.args.port.0) ≡ ReadyState
+  ready = ap state_of h.parts.port_is.found_is ∙ c.requires.ready
+
+  looks : LooksAt c.args.port c.take_event-look.result s.device seen
+  looks = subst (λ (d : Device). LooksAt c.args.port c.take_event-look.result d seen) (sym h.parts.device_is) c.take_event-look.ensures.looks
+
+  followed : IsSimulated (IsLooking c.args.port) AnyUse s.device seen
+  followed = subst (λ (d : Device). IsSimulated (IsLooking c.args.port) AnyUse d seen) (sym h.parts.device_is) c.take_event-look.ensures.followed
+
+  looked_settled : SettledInvariant looked
+  looked_settled = record {
+    kept = c.law_looks_keep.ensures.looking s seen c.args.port h.settled.kept ready followed;
+    issued = h.settled.issued;
+  }
+
+  -- the port is as it was; only the device is another
+  same : (device : Device) → with_parts s device c.args.shared.now c.args.port c.args.self.now ≡ record s { device = device }
+  same device =
+      placing.with_same s c.args.port c.args.self.now h.parts.port_is device c.args.shared.now
+      ∙ (λ i. record s { device = device; table = sym h.parts.table_is i; book = sym h.parts.book_is i })
+
+  -- an error that the look tells
+  found : (port_error : PortError) → error_of c.take_event-look.result ≡ Some port_error → IsFoundOut c.args.port port_error s.device seen × (port_error ≢ TimedOut)
+  found port_error is = serving.found_out c.take_event-look.result port_error c.args.port s.device seen is looks
+
+  in_error : (port_error : PortError) → error_of c.take_event-look.result ≡ Some port_error → IsInError s seen c.args.shared.now c.args.port c.args.self.now port_error
+  in_error port_error is = record {
+    settled = h.settled;
+    sees = record { kept = h.settled.kept; ready = ready; finds = (found port_error is).0; followed = followed };
+    table_is = h.parts.table_is;
+    book_is = h.parts.book_is;
+    port_is = h.parts.port_is;
+  }
+
+-- ---- it shows trouble
+
+pub handle_error-requires-clause-sees : goal.handle_error-requires-clause-sees
+handle_error-requires-clause-sees g c =
+    let l = (goal.at.handle_error-requires-clause-sees g c).After-take_event-look in
+    (c.requires.settled.0, in_error g l c.requires.settled.0 c.requires.settled.1 c.in-Some.port_error (sym c.error_of.ensures ∙ c.in-Some.is))
+
+pub returns-in-Some-clause-serves : goal.returns-in-Some-clause-serves
+returns-in-Some-clause-serves g c = λ s h.
+    let l = (goal.at.returns-in-Some-clause-serves g c).After-take_event-look in
+    let is = sym c.error_of.ensures ∙ c.in-Some.is in
+    let turn = c.handle_error.ensures.handles s (in_error g l s h c.in-Some.port_error is) in
+    let r = turn.does in
+    let served = c.law_a_port_is_served.ensures.error_handled s _ c.args.port turn.its h.settled (ready g l s h) r.handling (λ hung. (found g l s h c.in-Some.port_error is).1 (sym r.trouble_is ∙ hung)) r.followed in
+    record { its = turn.its; told = turn.told; does = served.0; settled = served.1 }
+
+-- ---- it shows none
+
+-- the mask has the port's slots, and the look told of nothing
+its_mask : (g : Over) (c : After-taken-used g) (s : ServerState) → IsSettledWith s (g.A.Adapter.device c.args.adapter.now) c.args.shared.now c.args.port c.args.self.now → IsMaskOf (slots_at s.slots c.args.port.0) c.taken-used.result
+its_mask g c s h = subst (λ (slots : PortSlots). IsMaskOf slots c.taken-used.result) (sym h.parts.port_is.slots_are) (serving.mask_of c.args.self.now.slots c.taken-used.result c.taken-used.ensures)
+
+calm : (g : Over) (c : After-taken-used g) (s : ServerState) → LooksAt c.args.port c.take_event-look.result s.device (g.A.Adapter.device c.take_event-look.new.adapter) → LooksAt c.args.port NoEvent s.device (g.A.Adapter.device c.take_event-look.new.adapter)
+calm g c s seen = serving.undisturbed c.take_event-look.result c.error_of.result c.args.port s.device (g.A.Adapter.device c.take_event-look.new.adapter) c.error_of.ensures c.in_default.not-Some seen
+
+pub returns-then-used-eq0-clause-serves : goal.returns-then-used-eq0-clause-serves
+returns-then-used-eq0-clause-serves g c = λ s h.
+    let u = (goal.at.returns-then-used-eq0-clause-serves g c).After-taken-used in
+    let l = (goal.at.returns-then-used-eq0-clause-serves g c).After-take_event-look in
+    let d = g.A.Adapter.device c.take_event-look.new.adapter in
+    subst (TakesTurn (ServesPort c.args.port) c.args.replies.now.items c.args.replies.now.items s) (sym (same g l s h d)) (record {
+      its = [];
+      told = sym (append-nil c.args.replies.now.items);
+      does = c.law_a_port_is_served.ensures.idle s d c.args.port h.settled (ready g l s h) (calm g u s (looks g l s h)) (followed g l s h)
+          (subst (IsMaskOf (slots_at s.slots c.args.port.0)) c.if-used-eq0.true (its_mask g u s h));
+      settled = looked_settled g l s h;
+    })
+
+pub done-finished-requires-clause-there : goal.done-finished-requires-clause-there
+done-finished-requires-clause-there g c =
+    let l = (goal.at.done-finished-requires-clause-there g c).After-take_event-look in
+    let h = c.requires.settled in
+    serving.ready_there (looked g l h.0 h.1) c.args.port (looked_settled g l h.0 h.1).kept (ready g l h.0 h.1)
+
+-- the server once it was looked for what is done
+module _ (g : Over) (c : After-done-finished g) (s : ServerState) (h : IsSettledWith s (g.A.Adapter.device c.args.adapter.now) c.args.shared.now c.args.port c.args.self.now)
+    (kept : InCallInvariant (record s { device = g.A.Adapter.device c.take_event-look.new.adapter })) where
+  abbrev found_device : Device
+  found_device = g.A.Adapter.device c.done-finished.new.adapter
+
+  found_settled : SettledInvariant (record s { device = found_device })
+  found_settled = record {
+    kept = c.law_looks_keep.ensures.finding (record s { device = g.A.Adapter.device c.take_event-look.new.adapter }) found_device c.args.port c.taken-used.result c.done-finished.result kept
+        (ap state_of h.parts.port_is.found_is ∙ c.requires.ready) c.done-finished.ensures.finds;
+    issued = h.settled.issued;
+  }
+
+  -- it has the same parts
+  found_has : IsSettledWith (record s { device = found_device }) found_device c.args.shared.now c.args.port c.args.self.now
+  found_has = record { settled = found_settled; parts = record { device_is = refl; table_is = h.parts.table_is; book_is = h.parts.book_is; port_is = placing.on_device s found_device c.args.port.0 c.args.self.now h.parts.port_is } }
+
+pub finish-requires-clause-settled : goal.finish-requires-clause-settled
+finish-requires-clause-settled g c =
+    let d = (goal.at.finish-requires-clause-settled g c).After-done-finished in
+    let l = (goal.at.finish-requires-clause-settled g c).After-take_event-look in
+    let h = c.requires.settled in
+    (record h.0 { device = g.A.Adapter.device c.done-finished.new.adapter }, found_has g d h.0 h.1 (looked_settled g l h.0 h.1).kept)
+
+pub finish-requires-clause-over : goal.finish-requires-clause-over
+finish-requires-clause-over g c =
+    let u = (goal.at.finish-requires-clause-over g c).After-taken-used in
+    let l = (goal.at.finish-requires-clause-over g c).After-take_event-look in
+    let h = c.requires.settled in
+    λ slot small its. c.law_looks_keep.ensures.found (looked g l h.0 h.1) (g.A.Adapter.device c.done-finished.new.adapter) c.args.port c.taken-used.result c.done-finished.result slot
+    (looked_settled g l h.0 h.1).kept (ready g l h.0 h.1) (its_mask g u h.0 h.1) small c.done-finished.ensures.finds its
+
+pub returns-then-finished-ne0-clause-serves : goal.returns-then-finished-ne0-clause-serves
+returns-then-finished-ne0-clause-serves g c = λ s h.
+    let d = (goal.at.returns-then-finished-ne0-clause-serves g c).After-done-finished in
+    let u = (goal.at.returns-then-finished-ne0-clause-serves g c).After-taken-used in
+    let l = (goal.at.returns-then-finished-ne0-clause-serves g c).After-take_event-look in
+    let device = g.A.Adapter.device in
+    let turn = c.finish.ensures.finishes (record s { device = device c.done-finished.new.adapter }) (found_has g d s h (looked_settled g l s h).kept) in
+    record {
+      its = turn.its;
+      told = turn.told;
+      does = c.law_a_port_is_served.ensures.finished s _ (device c.take_event-look.new.adapter) (device c.done-finished.new.adapter) c.args.port c.taken-used.result c.done-finished.result turn.its
+          h.settled (ready g l s h) (calm g u s (looks g l s h)) (followed g l s h) (its_mask g u s h)
+          (λ none. c.if-used-eq0.false (serving.zero_of_none c.taken-used.result c.taken-used.type_inv none)) c.done-finished.ensures.finds c.done-finished.ensures.seen
+          (λ none. c.if-finished-ne0.true (serving.zero_of_none c.done-finished.result c.done-finished.type_inv none)) turn.does;
+      settled = turn.settled;
+    }
+
+pub returns-else-finished-ne0-clause-serves : goal.returns-else-finished-ne0-clause-serves
+returns-else-finished-ne0-clause-serves g c = λ s h.
+    let d = (goal.at.returns-else-finished-ne0-clause-serves g c).After-done-finished in
+    let u = (goal.at.returns-else-finished-ne0-clause-serves g c).After-taken-used in
+    let l = (goal.at.returns-else-finished-ne0-clause-serves g c).After-take_event-look in
+    let device = g.A.Adapter.device in
+    subst (TakesTurn (ServesPort c.args.port) c.args.replies.now.items c.args.replies.now.items s) (sym (same g l s h (device c.done-finished.new.adapter))) (record {
+      its = [];
+      told = sym (append-nil c.args.replies.now.items);
+      does = c.law_a_port_is_served.ensures.unfinished s (device c.take_event-look.new.adapter) (device c.done-finished.new.adapter) c.args.port c.taken-used.result
+          h.settled (ready g l s h) (calm g u s (looks g l s h)) (followed g l s h) (its_mask g u s h)
+          (λ none. c.if-used-eq0.false (serving.zero_of_none c.taken-used.result c.taken-used.type_inv none)) c.done-finished.result c.done-finished.ensures.finds c.done-finished.ensures.seen
+          (serving.none_of_zero c.done-finished.result c.if-finished-ne0.false);
+      settled = found_settled g d s h (looked_settled g l s h).kept;
+    })

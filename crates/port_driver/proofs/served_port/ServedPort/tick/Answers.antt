@@ -1,0 +1,70 @@
+use Rattle.std.proofs.Common.{◌≡◌, List, [], append-nil, inl, inr, refl, sym, ap, ◌∙◌, subst}
+use Rattle.std.proofs.lemmas.Bool.{false≢true}
+use Rattle.ata_types.specs.declared.Port.{Port}
+use Rattle.adapter.specs.Device.{Device}
+use Rattle.refinement.specs.Driven.{AnyUse, IsSimulated}
+use Rattle.port_control.specs.Looks.{IsLooking}
+use Rattle.identify.specs.declared.DiskInfo.{DiskInfo}
+use Rattle.host_boot.specs.declared.ProbeResult.{ProbeResult}
+use Rattle.host_boot.specs.declared.ProbeResult.TheVariants.{Ready, Unready, Unserved}
+use Rattle.request_queue.specs.Entries.{Held}
+use Rattle.port_control.specs.declared.events.PortError.TheVariants.{TimedOut}
+use Rattle.server_history.specs.Server.{ServerState, state_of}
+use Rattle.port_driver.specs.Parts.{IsSettledWith, TakesTurn, TurnInTick, with_parts}
+use Rattle.port_driver.specs.Recovery.{IsInError}
+use Rattle.port_driver.specs.declared.served_port.ServedPort.{ServedPort}
+use Rattle.port_driver.specs.declared.served_port.Shared.{Shared}
+use Rattle.port_driver.proofs.Placing as placing
+use Rattle.port_driver.proofs.served_port.ServedPort.tick.Given.{Over}
+use Rattle.port_driver.proofs.served_port.ServedPort.tick.Goals as goal
+use Rattle.port_driver.proofs.served_port.ServedPort.tick.Goals.{In-Ready}
+
+-- nothing was done
+same : (s : ServerState) (device : Device) (shared : Shared) (port : Port) (p : ServedPort) → IsSettledWith s device shared port p → with_parts s device shared port p ≡ s
+same s device shared port p h =
+    placing.with_same s port p h.parts.port_is device shared ∙ (λ i. record s { device = sym h.parts.device_is i; table = sym h.parts.table_is i; book = sym h.parts.book_is i })
+
+-- a port that isn't ready rests
+rests : (found : ProbeResult) → ((info : DiskInfo) → found ≡ Ready info → ⊥) → (book : List Held) (port : Port) (s : ServerState) → TurnInTick found book port [] s s
+rests (Ready info) unready book port s = absurd (unready info refl)
+rests (Unready state) unready book port s = (refl, refl)
+rests Unserved unready book port s = (refl, refl)
+
+-- a request of it hangs
+in_error : (g : Over) (c : In-Ready g) (s : ServerState) → IsSettledWith s (g.A.Adapter.device c.args.adapter.now) c.args.shared.now c.args.port c.args.self.now
+    → IsInError s (g.A.Adapter.device c.args.adapter.now) c.args.shared.now c.args.port c.args.self.now TimedOut
+in_error g c s h = record {
+  settled = h.settled;
+  sees =
+      record {
+        kept = h.settled.kept;
+        ready = ap state_of (h.parts.port_is.found_is ∙ c.in-Ready.is);
+        finds = sym h.parts.device_is;
+        followed = subst (IsSimulated (IsLooking c.args.port) AnyUse s.device) h.parts.device_is (c.law_looks_keep.ensures.none c.args.port s.device);
+      };
+  table_is = h.parts.table_is;
+  book_is = h.parts.book_is;
+  port_is = h.parts.port_is;
+}
+
+pub returns-in_default-clause-turn : goal.returns-in_default-clause-turn
+returns-in_default-clause-turn g c = λ s book exact h.
+    subst (TakesTurn (TurnInTick c.args.self.now.found book c.args.port) c.args.replies.now.items c.args.replies.now.items s) (sym (same s _ c.args.shared.now c.args.port c.args.self.now h))
+    (record { its = []; told = sym (append-nil c.args.replies.now.items); does = rests c.args.self.now.found c.in_default.not-Ready book c.args.port s; settled = h.settled })
+
+pub handle_error-requires-clause-sees : goal.handle_error-requires-clause-sees
+handle_error-requires-clause-sees g c = (c.requires.settled.0, in_error g (goal.at.handle_error-requires-clause-sees g c).In-Ready c.requires.settled.0 c.requires.settled.1)
+
+pub returns-then-is_overdue-clause-turn : goal.returns-then-is_overdue-clause-turn
+returns-then-is_overdue-clause-turn g c = λ s book exact h.
+    let turn = c.handle_error.ensures.handles s (in_error g (goal.at.returns-then-is_overdue-clause-turn g c).In-Ready s h) in
+    let r = turn.does in
+    let part = c.law_a_timed_out_port_is_restarted.ensures s _ c.args.port turn.its h.settled (ap state_of (h.parts.port_is.found_is ∙ c.in-Ready.is)) r.handling r.trouble_is in
+    subst (λ (found : ProbeResult). TakesTurn (TurnInTick found book c.args.port) c.args.replies.now.items c.handle_error.new.replies.items s (with_parts s (g.A.Adapter.device c.handle_error.new.adapter) c.handle_error.new.shared c.args.port c.handle_error.new.self)) (sym c.in-Ready.is)
+    (record { its = turn.its; told = turn.told; does = inl (exact.0 c.if-is_overdue.true, r.handling, r.trouble_is, part.0); settled = turn.settled })
+
+pub returns-else-is_overdue-clause-turn : goal.returns-else-is_overdue-clause-turn
+returns-else-is_overdue-clause-turn g c = λ s book exact h.
+    subst (TakesTurn (TurnInTick c.args.self.now.found book c.args.port) c.args.replies.now.items c.args.replies.now.items s) (sym (same s _ c.args.shared.now c.args.port c.args.self.now h))
+    (subst (λ (found : ProbeResult). TakesTurn (TurnInTick found book c.args.port) c.args.replies.now.items c.args.replies.now.items s s) (sym c.in-Ready.is)
+    (record { its = []; told = sym (append-nil c.args.replies.now.items); does = inr (λ due. false≢true (sym c.if-is_overdue.false ∙ exact.1 due), refl, refl); settled = h.settled }))

@@ -1,0 +1,33 @@
+-- How many accesses of its adapter what is done on a port makes, at most, whatever the device does.
+use Rattle.ata_types.specs.declared.limits.TheConstants.{SLOTS}
+use Rattle.std.specs.Prelude.{ℕ, ◌+◌, ◌*◌}
+use Rattle.error_recovery.specs.Costs.{RECOVER_ACCESSES}
+use Rattle.host_boot.specs.Costs.{BOOT_AGAIN_ACCESSES, BOOT_IF_THERE_ACCESSES}
+use Rattle.commands.specs.Costs.{DONE_ACCESSES, ISSUE_ACCESSES}
+use Rattle.port_control.specs.Costs.{STOP_ACCESSES}
+use Rattle.port_control.specs.LookCosts.{LOOK_ACCESSES}
+use Rattle.port_control.specs.declared.events.PortError.{PortError}
+use Rattle.port_control.specs.declared.events.PortError.TheVariants.{TaskFileError, LinkChanged}
+
+-- what is due on a port is issued: a request in each of its slots, at most
+abbrev pub ISSUES_ACCESSES : ℕ
+ISSUES_ACCESSES = SLOTS * ISSUE_ACCESSES
+
+-- a port in such trouble is recovered where a command failed, and else stopped
+abbrev pub handling_accesses : PortError → ℕ
+handling_accesses TaskFileError = RECOVER_ACCESSES
+handling_accesses _ = STOP_ACCESSES
+
+-- and then it is booted: one whose disk was lost only where a device shows
+abbrev pub booting_accesses : PortError → ℕ
+booting_accesses LinkChanged = BOOT_IF_THERE_ACCESSES
+booting_accesses _ = BOOT_AGAIN_ACCESSES
+
+-- what is done is found out, its error is handled, it is booted, and what is due is issued
+abbrev pub port_error_accesses : PortError → ℕ
+port_error_accesses port_error =
+    DONE_ACCESSES + handling_accesses port_error + booting_accesses port_error + ISSUES_ACCESSES
+
+-- a port is looked at, and its trouble is a command that failed: no other turn of a port in a service has as many
+abbrev pub TURN_ACCESSES : ℕ
+TURN_ACCESSES = LOOK_ACCESSES + port_error_accesses TaskFileError

@@ -1,0 +1,82 @@
+-- A port's part of a server, as it is lent to what handles its error (this project's own).
+use Rattle.std.specs.Prelude.{ℕ, Bool, ◌≡◌, ◌≤◌, ◌++◌, List, Option, None, Some, map}
+use Rattle.ata_types.specs.declared.Port.{Port}
+use Rattle.ata_types.specs.declared.PortState.TheVariants.{Ready}
+use Rattle.ata_types.specs.declared.request.Reply.{Reply}
+use Rattle.adapter.specs.Device.{Device}
+use Rattle.refinement.specs.Driven.{AnyUse, IsSimulated}
+use Rattle.dma_frames.specs.Table.{Table}
+use Rattle.error_recovery.specs.declared.Next.{Next}
+use Rattle.host_boot.specs.Taken.{probe_result_of}
+use Rattle.port_control.specs.Looks.{IsLooking}
+use Rattle.port_control.specs.declared.events.PortEvent.{PortEvent}
+use Rattle.port_control.specs.declared.events.PortEvent.TheVariants as look
+use Rattle.request_queue.specs.Entries.{Held}
+use Rattle.request_queue.specs.declared.disposition.FailedRequest.{FailedRequest}
+use Rattle.server_history.specs.ErrorHandling.{IsFailed, IsFoundOut, IsErrorHandled, HandlesPortError}
+use Rattle.server_history.specs.Served.{done_reply}
+use Rattle.server_history.specs.Server.{ServerState, InCallInvariant, SettledInvariant, slots_at, state_of}
+use Rattle.port_control.specs.declared.events.PortError.{PortError}
+use Rattle.port_control.specs.declared.events.PortError.TheVariants.{FatalError, TaskFileError, LinkChanged}
+use Rattle.slots.specs.Uses.{PortSlots}
+use Rattle.port_driver.specs.Parts.{HasServedPort}
+use Rattle.port_driver.specs.Ports.{with_answers}
+use Rattle.port_driver.specs.declared.served_port.ServedPort.{ServedPort}
+use Rattle.port_driver.specs.declared.served_port.Shared.{Shared}
+
+-- the trouble that a look tells
+abbrev pub error_of : PortEvent → Option PortError
+error_of look.TaskFileError = Some TaskFileError
+error_of look.FatalError = Some FatalError
+error_of look.LinkChanged = Some LinkChanged
+error_of look.NoEvent = None
+
+-- the server keeps what it keeps, and this trouble of its port, which is ready, was found out; so it came to this
+-- device
+pub record SeesPortError (s : ServerState) (port : Port) (port_error : PortError) (device : Device) : Type 0 where
+  pub kept : InCallInvariant s
+  pub ready : state_of (probe_result_of s.ports port.0) ≡ Ready
+  pub finds : IsFoundOut port port_error s.device device
+  pub followed : IsSimulated (IsLooking port) AnyUse s.device device
+
+-- so it was, and it has these loans, this book, and these slots of the port
+pub record HasPortInError (s : ServerState) (device : Device) (table : Table) (book : List Held) (slots : PortSlots)
+    (port : Port) (port_error : PortError) : Type 0 where
+  pub sees : SeesPortError s port port_error device
+  pub table_is : s.table ≡ table
+  pub book_is : s.book ≡ book
+  pub slots_are : slots_at s.slots port.0 ≡ slots
+
+-- The server was settled when this error of its port was found out, and has these loans and requests; its port is this
+-- one.
+pub record IsInError (s : ServerState) (device : Device) (shared : Shared) (port : Port) (p : ServedPort)
+    (port_error : PortError) : Type 0 where
+  pub settled : SettledInvariant s
+  pub sees : SeesPortError s port port_error device
+  pub table_is : s.table ≡ shared.table.value
+  pub book_is : s.book ≡ shared.book
+  pub port_is : HasServedPort s port.0 p
+
+-- What was done was answered by replies that came after others, and the port's error was handled; the server keeps what
+-- it keeps until then. So it came to these loans, this book and these slots, and to this device; to the request whose
+-- command failed, and to what the port has to go through.
+pub record CompletesAndRecovers (port : Port) (port_error : PortError) (before after : List Reply)
+    (failed : Option FailedRequest)
+    (next : Next) (s : ServerState) (table : Table) (book : List Held)
+    (slots : PortSlots) (new : Device) : Type 0 where
+  pub mid : ServerState
+  pub kept : InCallInvariant mid
+  pub error_handled : IsErrorHandled port s mid new
+  pub trouble_is : error_handled.port_error ≡ port_error
+  pub followed : IsSimulated (IsLooking port) AnyUse s.device error_handled.seen
+  pub mid_is : mid ≡ with_answers (record s { device = error_handled.found }) table book slots port
+  pub next_is : error_handled.result.next ≡ next
+  pub names : IsFailed slots error_handled.result.failed failed
+  pub told : after ≡ before ++ map done_reply error_handled.requests
+
+-- This error of the port was handled, which was found out by accesses of a look alone.
+pub record HandlesPortErrorOf (port : Port) (port_error : PortError) (replies : List Reply)
+    (old new : ServerState) : Type 0 where
+  pub handling : HandlesPortError port replies old new
+  pub trouble_is : handling.settled.error_handled.port_error ≡ port_error
+  pub followed : IsSimulated (IsLooking port) AnyUse old.device handling.settled.error_handled.seen

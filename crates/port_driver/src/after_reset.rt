@@ -1,0 +1,52 @@
+// What becomes of a port's requests where its adapter is reset.
+ghost use Rattle.std.specs.Prelude.{◌≡◌, ◌≤◌, ◌+◌, ◌++◌, List, length};
+ghost use Rattle.ata_types.specs.declared.request.Reply.{Reply};
+ghost use Rattle.port_driver.specs.Parts.{HasParts, with_parts};
+ghost use Rattle.server_history.specs.Resets.{IsResetRevalidation, MaySettle, SettlesPort};
+ghost use Rattle.server_history.specs.Server.{ServerState};
+
+use crate::dispositions::resolve;
+use crate::recovery::is_same_disk;
+use crate::served_port::{ServedPort, Shared};
+use ata_types::{MOST_UNANSWERED, Port, PortState, Replies};
+use host_boot::ProbeResult;
+use identify::DiskInfo;
+use request_queue::Revalidation;
+
+/// What the requests of a port may expect after a reset, by the disk that it was last ready with, if it ever was.
+fn reset_revalidation(was: &Option<DiskInfo>, found: &ProbeResult) -> Revalidation
+    ensures { IsResetRevalidation was.now found.now result }
+{
+    match found {
+        ProbeResult::Unready(PortState::Dead) => Revalidation::Dead,
+        ProbeResult::Ready(info) => match was {
+            Some(was) if is_same_disk(was, info) => Revalidation::SameDisk,
+            _ => Revalidation::DiskLost,
+        },
+        _ => Revalidation::DiskLost,
+    }
+}
+
+impl ServedPort {
+    /// Resolves the unanswered requests of the port after a reset, in order of acceptance.
+    pub fn resolve_after_reset(&mut self, shared: &mut Shared, port: Port, replies: &mut Replies)
+        requires settle { (s : ServerState) × MaySettle s × HasParts s s.device shared.old port self.old }
+        requires room { length replies.old.items + length shared.old.book ≤ MOST_UNANSWERED }
+        ensures settles { (s : ServerState) → MaySettle s → HasParts s s.device shared.old port self.old
+            → (its : List Reply) × (replies.new.items ≡ replies.old.items ++ its)
+            × SettlesPort port its s (with_parts s s.device shared.new port self.new) }
+        ensures rest { self.new ≡ record self.old { kept = self.new.kept } }
+        ensures room { length replies.new.items + length shared.new.book ≤ MOST_UNANSWERED }
+    {
+        let revalidation = reset_revalidation(&self.last_disk, &self.found);
+        resolve(
+            &mut shared.book,
+            &mut shared.table,
+            &mut self.kept,
+            port,
+            &None,
+            revalidation,
+            replies,
+        );
+    }
+}

@@ -1,0 +1,66 @@
+// What is done on a port is answered.
+ghost use Rattle.std.specs.Prelude.{ℕ, ◌≡◌, ◌≤◌, ◌<◌, ◌+◌, length, None, Some, true};
+ghost use Rattle.ata_types.specs.declared.Port.{Port};
+ghost use Rattle.port_driver.specs.Ports.{AnswersDoneSlots, AnswersSlot, HasDonePort, with_answers};
+ghost use Rattle.hba_regs.specs.Bits.{bit};
+ghost use Rattle.server_history.specs.Server.{ServerState};
+ghost use Rattle.slots.specs.Uses.{use_at, with_use};
+ghost use Rattle.slots.specs.declared.SlotUse.{SlotUse};
+
+use ata_types::{MOST_UNANSWERED, Outcome, Replies, Reply, Slot};
+use dma_frames::FrameTable;
+use request_queue::Book;
+use request_queue::laws::{law_an_id_is_one_request, law_operations_change_one_request};
+use server_history::laws::{law_a_used_slot_has_its_request, law_requests_keep};
+use slots::Slots;
+
+/// Answers the request of a used slot, whose command is over: its slot is free then, it leaves the book, and its frames
+/// are given back.
+fn answer_one(book: &mut Book, table: &mut FrameTable, slots: &mut Slots, slot: Slot) -> Reply
+    requires lends { (s : ServerState) × (port : Port) × (done : ℕ)
+        × HasDonePort s table.old book.old slots.old port done × (bit done slot.0 ≡ true) }
+    requires small { slot.0 < 32 }
+    requires used { (used : SlotUse) × (use_at slots.old slot.0 ≡ Some used) }
+    ensures answers { (s : ServerState) (port : Port) (done : ℕ) → HasDonePort s table.old book.old slots.old port done
+        → AnswersSlot port slot.0 result s (with_answers s table.new book.new slots.new port) }
+    ensures freed { slots.new ≡ with_use slots.old slot.0 None }
+    ensures fewer { length book.new < length book.old }
+{
+    law_a_used_slot_has_its_request();
+    law_an_id_is_one_request();
+    let Some(used) = slots.free(slot) else {
+        unreachable!()
+    };
+    let entry = book.release(used.id, table);
+    Reply {
+        id: used.id,
+        client: entry.client,
+        outcome: Outcome::Ok,
+    }
+}
+
+/// Answers the requests of those slots of a ready port that are used and were found done (bit k is slot k), in order of
+/// acceptance. The replies come after those that there are.
+pub(crate) fn answer_done(
+    book: &mut Book,
+    table: &mut FrameTable,
+    slots: &mut Slots,
+    done: u32,
+    replies: &mut Replies,
+)
+    requires lends { (s : ServerState) × (port : Port) × HasDonePort s table.old book.old slots.old port done }
+    requires room { length replies.old.items + length book.old ≤ MOST_UNANSWERED }
+    ensures answers { (s : ServerState) (port : Port) → HasDonePort s table.old book.old slots.old port done
+        → AnswersDoneSlots port done replies.old.items replies.new.items s
+        (with_answers s table.new book.new slots.new port) }
+    ensures lends { (s : ServerState) (port : Port) → HasDonePort s table.old book.old slots.old port done
+        → HasDonePort (with_answers s table.new book.new slots.new port) table.new book.new slots.new port done }
+    ensures room { length replies.new.items + length book.new ≤ MOST_UNANSWERED }
+{
+    law_a_used_slot_has_its_request();
+    law_requests_keep();
+    law_operations_change_one_request();
+    while let Some(slot) = slots.earliest(done) {
+        replies.push(answer_one(book, table, slots, slot));
+    }
+}

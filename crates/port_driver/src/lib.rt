@@ -1,0 +1,33 @@
+//! Drives one port of a server: its turns in a service and in a tick, and what a reset makes of it.
+//!
+//! `ServedPort` is a port, and `Shared` what all ports of a server share: the table of frames and the book of requests.
+//! A call of a port is lent the adapter and `Shared`. What it makes of a server is told of each server that the port
+//! may be a part of: `with_parts` is the server with the port, and what is shared, in their place.
+//!
+//! A caller has each port begin anew once its adapter was taken over (`begin_anew`), and calls it by one number from
+//! then on. It calls `take_turn` in a service and `tick` in a tick. After a reset it calls `resolve_after_reset`, and
+//! then issues what is due (`issue_due`). It must not expect that a request is ever answered, nor that a port which is
+//! ready still has its disk. What may hold loans can't be dropped.
+//!
+//! `port` issues what is due, `answering` answers what is done, and `turn` has the turns. `recovery` handles an error,
+//! `probing` probes a port that isn't ready, and `dispositions` resolves requests, as `after_reset` does where the
+//! adapter was reset. `modes` tells how a port takes commands, and `kept` keeps loans of a dead one. A function that is
+//! a law is called for its clause, and does nothing.
+#![tactic(auto)]
+
+mod after_reset;
+mod answering;
+mod dispositions;
+mod kept;
+pub mod laws;
+mod modes;
+mod port;
+mod probing;
+mod recovery;
+mod served_port;
+mod turn;
+
+pub use dispositions::answer_waiting;
+pub use kept::Quarantine;
+pub use modes::mode_of;
+pub use served_port::{ServedPort, Shared};

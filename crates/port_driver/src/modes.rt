@@ -1,0 +1,32 @@
+// How a port takes commands.
+ghost use Rattle.std.specs.Prelude.{ℕ, ◌≡◌, ◌≤◌, ◌+◌, ◌/◌, ◌%◌, false};
+ghost use Rattle.hba_regs.specs.Bits.{bit};
+ghost use Rattle.host_boot.specs.declared.ProbeResult.TheVariants.{Ready};
+ghost use Rattle.identify.specs.declared.DiskInfo.{DiskInfo};
+ghost use Rattle.server_history.specs.Server.{mode_found};
+
+use ata_types::SLOTS;
+use block_machine::QueueMode;
+use host_boot::ProbeResult;
+
+/// One plain command at a time.
+pub(crate) const PLAIN: QueueMode = QueueMode {
+    queued: false,
+    usable: 1,
+};
+
+/// How a port that was found so takes commands, by an adapter with so many slots a port, which queues or doesn't:
+/// queued where adapter and disk both can, in as many slots as both have; else one at a time.
+pub fn mode_of(slots: u8, queued: bool, found: &ProbeResult) -> QueueMode
+    ensures found { (cap : ℕ) → slots ≡ cap / 256 % 32 + 1 → queued ≡ bit cap 30 → result ≡ mode_found cap found.now }
+    ensures plain { (cap : ℕ) → ((info : DiskInfo) → found.now ≡ Ready info → ⊥) → result ≡ mode_found cap found.now }
+    ensures few { result.usable ≤ 32 }
+{
+    match found {
+        ProbeResult::Ready(info) if queued && info.ncq => QueueMode {
+            queued: true,
+            usable: slots.min(info.depth).min(SLOTS as u8),
+        },
+        _ => PLAIN,
+    }
+}

@@ -1,0 +1,118 @@
+// A port that a server drives, and what all its ports share.
+ghost use Rattle.std.specs.Prelude.{◌≡◌, ◌≤◌};
+ghost use Rattle.port_driver.specs.Parts.{IsFoundAnew, no_port};
+ghost use Rattle.server_history.specs.ErrorHandling.{AreUnused};
+ghost use Rattle.server_history.specs.Server.{last_disk_of, plain_mode};
+ghost use Rattle.server_history.specs.Stalled.{stuck_found};
+ghost use Rattle.server_history.specs.Turns.{is_ready};
+
+use crate::kept::Quarantine;
+use crate::modes::PLAIN;
+use ata_types::PortState;
+use block_machine::QueueMode;
+use dma_frames::FrameTable;
+use host_boot::ProbeResult;
+use identify::{DiskInfo, Wanted};
+use request_queue::Book;
+use slots::Slots;
+
+/// A port of the adapter, ready or not. It can't be dropped, since it may keep loans.
+pub struct ServedPort {
+    /// Which disk is to be served here, if any: it stays so.
+    pub wanted: Wanted,
+    /// What the port was found to be.
+    pub found: ProbeResult,
+    /// The disk that it was last ready with, once it isn't ready, or its error was handled, or its adapter was reset.
+    pub last_disk: Option<DiskInfo>,
+    /// How it takes commands.
+    pub mode: QueueMode,
+    /// Which request each of its command slots serves.
+    pub slots: Slots,
+    /// Of a dead port, the loans of requests that were issued, and then answered: until a reset ends, since the device
+    /// may still move their sectors.
+    pub kept: Quarantine,
+}
+
+/// What the ports of a server share: whose each frame is, and what it is lent to; and the unanswered requests of all
+/// ports. It can't be dropped, since it holds loans.
+pub struct Shared {
+    /// On the heap, since it is large and a server is moved.
+    pub table: Box<FrameTable>,
+    pub book: Book,
+}
+
+impl ServedPort {
+    /// A port that isn't served yet, of which this disk is wanted. No slot of it is used, and no disk remembered.
+    pub fn new(wanted: Wanted, kept: Quarantine) -> Self
+        ensures fields { result ≡ record no_port { wanted = wanted; slots = result.slots; kept = kept } }
+        ensures unused { AreUnused plain_mode result.slots }
+    {
+        ServedPort {
+            wanted,
+            found: ProbeResult::Unserved,
+            last_disk: None,
+            mode: PLAIN,
+            slots: Slots::new(PLAIN.usable),
+            kept,
+        }
+    }
+
+    /// The disk that it is ready with, or was last ready with, if it ever was.
+    pub fn disk(&self) -> Option<DiskInfo>
+        ensures { result ≡ last_disk_of self.now.found self.now.last_disk }
+    {
+        match &self.found {
+            ProbeResult::Ready(info) => Some(*info),
+            _ => self.last_disk,
+        }
+    }
+
+    /// Whether it is ready.
+    pub fn is_ready(&self) -> bool
+        ensures { result ≡ is_ready self.now.found }
+    {
+        match self.found {
+            ProbeResult::Ready(_) => true,
+            _ => false,
+        }
+    }
+
+    /// Notes what it was found to be once its adapter was taken over, and how it takes commands then. Its disk
+    /// is remembered, and no slot of it is used.
+    pub fn begin_anew(&mut self, found: ProbeResult, mode: QueueMode)
+        requires { mode.usable ≤ 32 }
+        ensures { IsFoundAnew found mode self.old self.new }
+    {
+        self.last_disk = self.disk();
+        self.found = found;
+        self.mode = mode;
+        self.slots = Slots::new(mode.usable);
+    }
+
+    /// Notes that a reset of its adapter got stuck: it is dead, if it is served, its disk is remembered, it takes
+    /// plain commands, and no slot of it is used.
+    pub fn get_stuck(&mut self)
+        ensures { IsFoundAnew (stuck_found self.old.found) plain_mode self.old self.new }
+    {
+        let found = match self.found {
+            ProbeResult::Unserved => ProbeResult::Unserved,
+            _ => ProbeResult::Unready(PortState::Dead),
+        };
+        self.begin_anew(found, PLAIN);
+    }
+
+    /// Its loans.
+    pub fn into_kept(self) -> Quarantine
+        ensures { result ≡ self.kept }
+    {
+        let ServedPort {
+            wanted: _,
+            found: _,
+            last_disk: _,
+            mode: _,
+            slots: _,
+            kept,
+        } = self;
+        kept
+    }
+}

@@ -1,0 +1,231 @@
+// A port's turn in a service, or in a tick.
+ghost use Rattle.std.specs.Prelude.{ℕ, ◌≡◌, ◌<◌, ◌≤◌, ◌+◌, ◌↔◌, IsTrue, List, length, true};
+ghost use Rattle.adapter.specs.Counted.{MakesAtMost};
+ghost use Rattle.ata_types.specs.declared.PortState.TheVariants.{Ready};
+ghost use Rattle.port_driver.specs.Costs.{ISSUES_ACCESSES, TURN_ACCESSES, port_error_accesses};
+ghost use Rattle.port_driver.specs.Parts.{IsSettledWith, TakesTurn, TurnInService, TurnInTick, with_parts};
+ghost use Rattle.port_driver.specs.Recovery.{HandlesPortErrorOf, IsInError};
+ghost use Rattle.hba_regs.specs.Bits.{bit};
+ghost use Rattle.refinement.specs.Slots.{IsOver};
+ghost use Rattle.request_queue.specs.Entries.{Held, IsOverdue};
+ghost use Rattle.server_history.specs.Served.{AnswersDone};
+ghost use Rattle.server_history.specs.Server.{ServerState, SettledInvariant, state_of};
+ghost use Rattle.server_history.specs.Turns.{ProbesUnready, ServesPort};
+
+use crate::answering::answer_done;
+use crate::dispositions::resolve;
+use crate::probing::{needs_probe, probe_anew};
+use crate::recovery::{error_of, order_from, revalidate_port, revalidation_of};
+use crate::served_port::{ServedPort, Shared};
+use adapter::Adapter;
+use ata_types::{MOST_UNANSWERED, Port, PortState, Replies};
+use commands::done;
+use host_boot::ProbeResult;
+use port_control::events::{PortError, take_event};
+use server_history::laws::{
+    law_a_finished_port_settles, law_a_port_goes_on_after_its_errors, law_a_port_is_served,
+    law_a_timed_out_port_is_restarted, law_an_unready_port_is_probed, law_looks_keep,
+};
+use slots::Slots;
+
+impl ServedPort {
+    /// Answers the requests of a ready port whose slots were found done (bit k is slot k), in order of acceptance:
+    /// their frames are given back. Then what is due on the port is issued.
+    fn finish<A: Adapter>(
+        &mut self,
+        adapter: &mut A,
+        shared: &mut Shared,
+        port: Port,
+        finished: u32,
+        replies: &mut Replies,
+    )
+        requires ready { state_of self.old.found ≡ Ready }
+        requires settled { (s : ServerState) × IsSettledWith s (A.device adapter.old) shared.old port self.old }
+        requires over { (slot : ℕ) → slot < 32 → bit finished slot ≡ true
+            → IsOver ((A.device adapter.old).port port.0) slot }
+        requires room { length replies.old.items + length shared.old.book ≤ MOST_UNANSWERED }
+        ensures finishes { (s : ServerState) → IsSettledWith s (A.device adapter.old) shared.old port self.old
+            → TakesTurn (AnswersDone port finished) replies.old.items replies.new.items s
+            (with_parts s (A.device adapter.new) shared.new port self.new) }
+        ensures room { length replies.new.items + length shared.new.book ≤ MOST_UNANSWERED }
+        ensures cost { MakesAtMost ISSUES_ACCESSES (A.access_count adapter.old) (A.access_count adapter.new) }
+    {
+        law_a_finished_port_settles();
+        answer_done(
+            &mut shared.book,
+            &mut shared.table,
+            &mut self.slots,
+            finished,
+            replies,
+        );
+        self.issue_due(adapter, &mut shared.book, port);
+    }
+
+    /// Handles the error of a ready port. What is done is answered. Where a command had failed, it is found out which
+    /// one, and the port is had to run again, by a boot where that is needed; where its link or the host's bus had, or
+    /// a request is hung, it is booted anew; where its disk was lost, if a device shows. The request whose command
+    /// failed is told so. The others wait again where their disk is there still, but are `Revoked` where their grant
+    /// was, and `Aborted` after the fourth issue; where it isn't they are `Unplugged`, and where the port is dead
+    /// `PortDead`. Then what is due is issued.
+    fn handle_error<A: Adapter>(
+        &mut self,
+        adapter: &mut A,
+        shared: &mut Shared,
+        port: Port,
+        port_error: PortError,
+        replies: &mut Replies,
+    )
+        requires sees { (s : ServerState)
+            × IsInError s (A.device adapter.old) shared.old port self.old port_error }
+        requires room { length replies.old.items + length shared.old.book ≤ MOST_UNANSWERED }
+        ensures handles { (s : ServerState) → IsInError s (A.device adapter.old) shared.old port self.old port_error
+            → TakesTurn (HandlesPortErrorOf port port_error) replies.old.items replies.new.items s
+            (with_parts s (A.device adapter.new) shared.new port self.new) }
+        ensures room { length replies.new.items + length shared.new.book ≤ MOST_UNANSWERED }
+        ensures cost { MakesAtMost (port_error_accesses port_error)
+            (A.access_count adapter.old) (A.access_count adapter.new) }
+    {
+        law_a_port_goes_on_after_its_errors();
+        law_a_port_is_served();
+        law_a_timed_out_port_is_restarted();
+        let ProbeResult::Ready(was) = self.found else {
+            unreachable!()
+        };
+        let first = replies.len();
+        let (failed, next) = self.complete_and_recover(adapter, shared, port, port_error, replies);
+        let (found, mode) = revalidate_port(
+            adapter,
+            port_error,
+            next,
+            &was,
+            self.mode,
+            &self.wanted,
+        );
+        self.found = found;
+        self.last_disk = Some(was);
+        self.mode = mode;
+        self.slots = Slots::new(mode.usable);
+        let revalidation = revalidation_of(port_error, &was, &found);
+        resolve(
+            &mut shared.book,
+            &mut shared.table,
+            &mut self.kept,
+            port,
+            &failed,
+            revalidation,
+            replies,
+        );
+        order_from(replies, first);
+        self.issue_where_ready(adapter, &mut shared.book, port);
+    }
+
+    /// Looks at a ready port. Where commands of what it has issued are done, those requests are answered, and then what
+    /// is due is issued. Where the look tells an error, it is handled.
+    fn serve<A: Adapter>(
+        &mut self,
+        adapter: &mut A,
+        shared: &mut Shared,
+        port: Port,
+        replies: &mut Replies,
+    )
+        requires ready { state_of self.old.found ≡ Ready }
+        requires settled { (s : ServerState) × IsSettledWith s (A.device adapter.old) shared.old port self.old }
+        requires room { length replies.old.items + length shared.old.book ≤ MOST_UNANSWERED }
+        ensures serves { (s : ServerState) → IsSettledWith s (A.device adapter.old) shared.old port self.old
+            → TakesTurn (ServesPort port) replies.old.items replies.new.items s
+            (with_parts s (A.device adapter.new) shared.new port self.new) }
+        ensures room { length replies.new.items + length shared.new.book ≤ MOST_UNANSWERED }
+        ensures cost { MakesAtMost TURN_ACCESSES (A.access_count adapter.old) (A.access_count adapter.new) }
+    {
+        law_looks_keep();
+        law_a_port_is_served();
+        let look = take_event(adapter, port);
+        if let Some(port_error) = error_of(look) {
+            return self.handle_error(adapter, shared, port, port_error, replies);
+        }
+        let used = self.slots.taken();
+        if used == 0 {
+            return;
+        }
+        let finished = done(adapter, port, used);
+        if finished != 0 {
+            self.finish(adapter, shared, port, finished, replies);
+        }
+    }
+
+    /// Looks at a port that isn't ready. Where an absent one shows a device, or one whose disk isn't served shows that
+    /// it is another by now, or gone, the port is stopped and booted. Nobody waits for it, so that nobody is answered.
+    /// A dead port isn't looked at.
+    fn probe<A: Adapter>(&mut self, adapter: &mut A, port: Port, state: PortState)
+        requires unready { self.old.found ≡ ProbeResult.Unready state }
+        requires settled { (s : ServerState) × (shared : Shared)
+            × IsSettledWith s (A.device adapter.old) shared port self.old }
+        ensures probes { (s : ServerState) (shared : Shared)
+            → IsSettledWith s (A.device adapter.old) shared port self.old
+            → ProbesUnready port s (with_parts s (A.device adapter.new) shared port self.new)
+            × SettledInvariant (with_parts s (A.device adapter.new) shared port self.new) }
+        ensures cost { MakesAtMost TURN_ACCESSES (A.access_count adapter.old) (A.access_count adapter.new) }
+    {
+        law_an_unready_port_is_probed();
+        if !needs_probe(adapter, port, state) {
+            return;
+        }
+        let (found, mode) = probe_anew(adapter, port, &self.wanted);
+        self.found = found;
+        self.mode = mode;
+        self.slots = Slots::new(mode.usable);
+    }
+
+    /// The port's turn in a service: a ready one is served, and another one that is served is probed.
+    pub fn take_turn<A: Adapter>(
+        &mut self,
+        adapter: &mut A,
+        shared: &mut Shared,
+        port: Port,
+        replies: &mut Replies,
+    )
+        requires settled { (s : ServerState) × IsSettledWith s (A.device adapter.old) shared.old port self.old }
+        requires room { length replies.old.items + length shared.old.book ≤ MOST_UNANSWERED }
+        ensures turn { (s : ServerState) → IsSettledWith s (A.device adapter.old) shared.old port self.old
+            → TakesTurn (TurnInService self.old.found port) replies.old.items replies.new.items s
+            (with_parts s (A.device adapter.new) shared.new port self.new) }
+        ensures room { length replies.new.items + length shared.new.book ≤ MOST_UNANSWERED }
+        ensures cost { MakesAtMost TURN_ACCESSES (A.access_count adapter.old) (A.access_count adapter.new) }
+    {
+        match self.found {
+            ProbeResult::Ready(_) => self.serve(adapter, shared, port, replies),
+            ProbeResult::Unready(state) => self.probe(adapter, port, state),
+            ProbeResult::Unserved => {}
+        }
+    }
+
+    /// The port's turn in a tick: a ready one of which a request is overdue is restarted. It isn't looked at, and its
+    /// error is a timeout. Another rests.
+    pub fn tick<A: Adapter>(
+        &mut self,
+        adapter: &mut A,
+        shared: &mut Shared,
+        port: Port,
+        is_overdue: bool,
+        replies: &mut Replies,
+    )
+        requires settled { (s : ServerState) × IsSettledWith s (A.device adapter.old) shared.old port self.old }
+        requires room { length replies.old.items + length shared.old.book ≤ MOST_UNANSWERED }
+        ensures turn { (s : ServerState) (book : List Held) → IsTrue is_overdue ↔ IsOverdue port book
+            → IsSettledWith s (A.device adapter.old) shared.old port self.old
+            → TakesTurn (TurnInTick self.old.found book port) replies.old.items replies.new.items s
+            (with_parts s (A.device adapter.new) shared.new port self.new) }
+        ensures room { length replies.new.items + length shared.new.book ≤ MOST_UNANSWERED }
+        ensures cost { MakesAtMost (port_error_accesses PortError.TimedOut)
+            (A.access_count adapter.old) (A.access_count adapter.new) }
+    {
+        law_looks_keep();
+        law_a_timed_out_port_is_restarted();
+        let ProbeResult::Ready(_) = self.found else {
+            return;
+        };
+        if is_overdue {
+            self.handle_error(adapter, shared, port, PortError::TimedOut, replies);
+        }
+    }
+}
