@@ -1,69 +1,78 @@
 -- Ports take their turns in rising number.
-use Rattle.std.proofs.Common.{ℕ, ◌≡◌, ◌+◌, ◌<◌, ◌≤◌, ◌++◌, List, [], ◌∷◌, drop, length, refl, sym, ap, ◌∙◌, subst}
-use Rattle.std.proofs.lemmas.List.{append-nil, drop_all, drop_more}
+use Rattle.std.proofs.Common.{ℕ, ◌≡◌, ◌+◌, ◌<◌, ◌≤◌, ◌++◌, List, [], ◌∷◌, append_assoc, arith, drop, get_or, length, set, refl, sym, ap, ◌∙◌, subst}
+use Rattle.std.proofs.lemmas.List.{append-nil, drop_all, drop_more, length-set}
 use Rattle.ata_types.specs.declared.Port.{Port}
-use Rattle.ata_types.specs.declared.PortState.{PortState}
 use Rattle.ata_types.specs.declared.request.Reply.{Reply}
+use Rattle.adapter.specs.Device.{Device}
 use Rattle.refinement.specs.Relation.{port_at}
 use Rattle.host_boot.specs.Taken.{probe_result_of}
 use Rattle.host_boot.specs.declared.ProbeResult.{ProbeResult}
 use Rattle.host_boot.specs.declared.ProbeResult.TheVariants.{Ready, Unready, Unserved}
-use Rattle.identify.specs.declared.DiskInfo.{DiskInfo}
-use Rattle.request_queue.specs.Entries.{Held}
-use Rattle.server_history.specs.Turns.{ProbesUnready, ServePorts, ServesPort, TakeTurns, TicksPort}
-use Rattle.port_driver.specs.Parts.{TurnInService, TurnInTick}
 use Rattle.server_history.specs.Server.{ServerState, SettledInvariant}
+use Rattle.server_history.specs.Turns.{TakeTurns}
+use Rattle.port_driver.specs.Parts.{IsSettledWith, TakesTurn, TurnBy, with_parts}
+use Rattle.port_driver.specs.declared.served_port.ServedPort.{ServedPort}
+use Rattle.port_driver.specs.declared.served_port.Shared.{Shared}
+use Rattle.block_server.specs.FourPorts.{found_by_port, with_ports}
+use Rattle.block_server.proofs.Placing as placing
 
-module _ (Such : Port → List Reply → ServerState → ServerState → Type 0) (Other : Port → ServerState → ServerState → Type 0) (ports : List ProbeResult) (number : ℕ) (low : number < length ports) where
-  from_it : (found : ProbeResult) → probe_result_of ports number ≡ found → found ∷ drop (number + 1) ports ≡ drop number ports
-  from_it found is = sym (drop_more ports number Unserved low ∙ ap (λ (f : ProbeResult). f ∷ drop (number + 1) ports) is)
+module _ (Such : Port → List Reply → ServerState → ServerState → Type 0) (Other : Port → ServerState → ServerState → Type 0) (found : List ProbeResult) (first : ServerState) where
+  -- The ports below this number have had their turns, with these replies, and the others are as they were found. With
+  -- the turns of those all have had theirs.
+  pub record TurnsSoFar (ports : List ServedPort) (told : List Reply) (now : ServerState) (number : ℕ) : Type 0 where
+    pub four : length ports ≡ 4
+    pub left : (q : ℕ) → number ≤ q → probe_result_of (found_by_port ports) q ≡ probe_result_of found q
+    pub settled : SettledInvariant now
+    pub rest : (later : List Reply) (last : ServerState) → TakeTurns Such Other number (drop number found) later now last → TakeTurns Such Other 0 found (told ++ later) first last
 
-  -- a ready port has its turn, and then those after it
-  pub one_turn : (info : DiskInfo) (s mid new : ServerState) (told later : List Reply) → probe_result_of ports number ≡ Ready info → SettledInvariant mid → Such (port_at number) told s mid
-      → TakeTurns Such Other (number + 1) (drop (number + 1) ports) later mid new → TakeTurns Such Other number (drop number ports) (told ++ later) s new
-  one_turn info s mid new told later found kept takes rest =
-      subst (λ (left : List ProbeResult). TakeTurns Such Other number left (told ++ later) s new) (from_it (Ready info) found) (mid, told, later, refl, kept, takes, rest)
+  -- at first none has had its turn
+  pub none_yet : (ports : List ServedPort) (now : ServerState) → length ports ≡ 4 → found_by_port ports ≡ found → SettledInvariant now → now ≡ first → TurnsSoFar ports [] now 0
+  none_yet ports now four is settled same = record {
+    four = four;
+    left = λ q more. ap (λ (list : List ProbeResult). probe_result_of list q) is;
+    settled = settled;
+    rest = λ later last turns. subst (λ (x : ServerState). TakeTurns Such Other 0 found later x last) same turns;
+  }
 
-  -- another that is served has its own
-  pub other_turn : (state : PortState) (s mid new : ServerState) (later : List Reply) → probe_result_of ports number ≡ Unready state → SettledInvariant mid → Other (port_at number) s mid
-      → TakeTurns Such Other (number + 1) (drop (number + 1) ports) later mid new → TakeTurns Such Other number (drop number ports) later s new
-  other_turn state s mid new later found kept takes rest =
-      subst (λ (left : List ProbeResult). TakeTurns Such Other number left later s new) (from_it (Unready state) found) (mid, kept, takes, rest)
+  -- the port of this number has its turn, and then those after it
+  one_turn : (number : ℕ) → number < length found → (s mid new : ServerState) (its later : List Reply) → SettledInvariant mid → TurnBy Such Other (probe_result_of found number) (port_at number) its s mid
+      → TakeTurns Such Other (number + 1) (drop (number + 1) found) later mid new → TakeTurns Such Other number (drop number found) (its ++ later) s new
+  one_turn number low s mid new its later kept turn rest =
+      subst (λ (left : List ProbeResult). TakeTurns Such Other number left (its ++ later) s new) (sym (drop_more found number Unserved low)) (by (probe_result_of found number) turn)
+    where
+      by : (one : ProbeResult) → TurnBy Such Other one (port_at number) its s mid → TakeTurns Such Other number (one ∷ drop (number + 1) found) (its ++ later) s new
+      by (Ready info) had = (mid, its, later, refl, kept, had, rest)
+      by (Unready state) had = subst (λ (told : List Reply). TakeTurns Such Other number (Unready state ∷ drop (number + 1) found) (told ++ later) s new) (sym had.0) (mid, kept, had.1, rest)
+      by Unserved had = subst (λ (told : List Reply). TakeTurns Such Other number (Unserved ∷ drop (number + 1) found) (told ++ later) s new) (sym had.0)
+          (subst (λ (x : ServerState). TakeTurns Such Other (number + 1) (drop (number + 1) found) later x new) had.1 rest)
 
-  -- one that isn't has none
-  pub no_turn : (s new : ServerState) (later : List Reply) → probe_result_of ports number ≡ Unserved
-      → TakeTurns Such Other (number + 1) (drop (number + 1) ports) later s new → TakeTurns Such Other number (drop number ports) later s new
-  no_turn s new later found rest = subst (λ (left : List ProbeResult). TakeTurns Such Other number left later s new) (from_it Unserved found) rest
+  module _ (s : ServerState) (device : Device) (shared : Shared) (ports : List ServedPort) (told : List Reply) (number : ℕ) (so_far : TurnsSoFar ports told (with_ports s device shared ports) number) where
+    -- the port of this number has its part
+    pub its_part : number < 4 → (default : ServedPort) → IsSettledWith (with_ports s device shared ports) device shared (port_at number) (get_or ports number default)
+    its_part low default = record { settled = so_far.settled; parts = placing.has_parts s device shared ports number default (let four = so_far.four in omega (arith, four, low)) }
 
--- after the last there is none, so the turns of the others are all
-pub all_turns : (Such : Port → List Reply → ServerState → ServerState → Type 0) (Other : Port → ServerState → ServerState → Type 0) (ports found : List ProbeResult) (number : ℕ) (replies : List Reply) (old new : ServerState) → length ports ≤ number
-    → ((later : List Reply) (last : ServerState) → TakeTurns Such Other number (drop number ports) later new last → TakeTurns Such Other 0 found (replies ++ later) old last)
-    → TakeTurns Such Other 0 found replies old new
-all_turns Such Other ports found number replies old new all rest =
-    subst (λ (told : List Reply). TakeTurns Such Other 0 found told old new) (append-nil replies)
-    (rest [] new (subst (λ (left : List ProbeResult). TakeTurns Such Other number left [] new new) (sym (drop_all number ports all)) (refl, refl)))
+    -- and now it has had its turn
+    pub one_more : (low : number < 4) → length found ≡ 4 → (default : ServedPort) (d : Device) (other : Shared) (p : ServedPort) (after : List Reply)
+        → TakesTurn (TurnBy Such Other (get_or ports number default).found (port_at number)) told after (with_ports s device shared ports) (with_parts (with_ports s device shared ports) d other (port_at number) p)
+        → TurnsSoFar (set ports number p) after (with_ports s d other (set ports number p)) (number + 1)
+    one_more low many default d other p after takes =
+        let mid : ServerState = with_ports s d other (set ports number p) in
+        let there : (get_or ports number default).found ≡ probe_result_of found number = sym (its_part low default).parts.port_is.found_is ∙ so_far.left number (omega arith) in
+        let turn = subst (λ (one : ProbeResult). TakesTurn (TurnBy Such Other one (port_at number)) told after (with_ports s device shared ports) mid) there
+        (subst (TakesTurn (TurnBy Such Other (get_or ports number default).found (port_at number)) told after (with_ports s device shared ports)) (placing.placed s device shared ports number d other p) takes) in
+        record {
+          four = length-set ports number p ∙ so_far.four;
+          left = λ q more. placing.other_found ports number p q (λ same. omega (arith, more, same)) ∙ so_far.left q (omega (arith, more));
+          settled = turn.settled;
+          rest = λ later last more.
+              let W : List Reply → Type 0 = λ all. TakeTurns Such Other 0 found all first last in
+              subst W (sym (ap (λ (all : List Reply). all ++ later) turn.told ∙ append_assoc told turn.its later))
+              (so_far.rest (turn.its ++ later) last (one_turn number (omega (arith, many, low)) (with_ports s device shared ports) mid last turn.its later turn.settled turn.does more));
+        }
 
--- a port has its turn in a service, and then those after it
-pub service_turn : (ports : List ProbeResult) (number : ℕ) → number < length ports → (found : ProbeResult) → probe_result_of ports number ≡ found → (s mid new : ServerState) (its later : List Reply) → SettledInvariant mid
-    → TurnInService found (port_at number) its s mid → ServePorts (number + 1) (drop (number + 1) ports) later mid new → ServePorts number (drop number ports) (its ++ later) s new
-service_turn ports number low (Ready info) is s mid new its later kept turn rest = one_turn ServesPort ProbesUnready ports number low info s mid new its later is kept turn rest
-service_turn ports number low (Unready state) is s mid new its later kept turn rest =
-    subst (λ (told : List Reply). ServePorts number (drop number ports) (told ++ later) s new) (sym turn.0) (other_turn ServesPort ProbesUnready ports number low state s mid new later is kept turn.1 rest)
-service_turn ports number low Unserved is s mid new its later kept turn rest =
-    subst (λ (told : List Reply). ServePorts number (drop number ports) (told ++ later) s new) (sym turn.0)
-    (no_turn ServesPort ProbesUnready ports number low s new later is (subst (λ (x : ServerState). ServePorts (number + 1) (drop (number + 1) ports) later x new) turn.1 rest))
-
--- nothing is done in a tick of a port that isn't ready
-abbrev pub Rests : Port → ServerState → ServerState → Type 0
-Rests port one other = other ≡ one
-
--- a port has its turn in a tick, and then those after it
-pub tick_turn : (book : List Held) (ports : List ProbeResult) (number : ℕ) → number < length ports → (found : ProbeResult) → probe_result_of ports number ≡ found → (s mid new : ServerState) (its later : List Reply)
-    → SettledInvariant mid → TurnInTick found book (port_at number) its s mid → TakeTurns (TicksPort book) Rests (number + 1) (drop (number + 1) ports) later mid new
-    → TakeTurns (TicksPort book) Rests number (drop number ports) (its ++ later) s new
-tick_turn book ports number low (Ready info) is s mid new its later kept turn rest = one_turn (TicksPort book) Rests ports number low info s mid new its later is kept turn rest
-tick_turn book ports number low (Unready state) is s mid new its later kept turn rest =
-    subst (λ (told : List Reply). TakeTurns (TicksPort book) Rests number (drop number ports) (told ++ later) s new) (sym turn.0) (other_turn (TicksPort book) Rests ports number low state s mid new later is kept turn.1 rest)
-tick_turn book ports number low Unserved is s mid new its later kept turn rest =
-    subst (λ (told : List Reply). TakeTurns (TicksPort book) Rests number (drop number ports) (told ++ later) s new) (sym turn.0)
-    (no_turn (TicksPort book) Rests ports number low s new later is (subst (λ (x : ServerState). TakeTurns (TicksPort book) Rests (number + 1) (drop (number + 1) ports) later x new) turn.1 rest))
+    -- after the last there is none, so the turns of the others are all
+    pub all_turns : length found ≤ number → TakeTurns Such Other 0 found told first (with_ports s device shared ports)
+    all_turns all =
+        let now = with_ports s device shared ports in
+        subst (λ (replies : List Reply). TakeTurns Such Other 0 found replies first now) (append-nil told)
+        (so_far.rest [] now (subst (λ (left : List ProbeResult). TakeTurns Such Other number left [] now now) (sym (drop_all number found all)) (refl, refl)))

@@ -59,16 +59,25 @@ pub record TakesTurn (Such : List Reply → ServerState → ServerState → Type
   pub does : Such its old new
   pub settled : SettledInvariant new
 
--- the turn in a service of a port that was found so: a ready one is served, and another one that is served is probed
-abbrev pub TurnInService : ProbeResult → Port → List Reply → ServerState → ServerState → Type 0
-TurnInService (Ready info) port replies old new = ServesPort port replies old new
-TurnInService (Unready state) port replies old new = (replies ≡ []) × ProbesUnready port old new
-TurnInService Unserved port replies old new = (replies ≡ []) × (new ≡ old)
+-- A port's turn, by what it was found to be: a ready one has such a turn, and another one that is served such a one.
+abbrev pub TurnBy : (Port → List Reply → ServerState → ServerState → Type 0)
+    → (Port → ServerState → ServerState → Type 0) → ProbeResult → Port → List Reply → ServerState → ServerState
+    → Type 0
+TurnBy Such Other (Ready info) port replies old new = Such port replies old new
+TurnBy Such Other (Unready state) port replies old new = (replies ≡ []) × Other port old new
+TurnBy Such Other Unserved port replies old new = (replies ≡ []) × (new ≡ old)
 
--- and its turn in a tick, where the book was this when requests had got older
+-- the turn in a service: a ready port is served, and another one that is served is probed
+abbrev pub TurnInService : ProbeResult → Port → List Reply → ServerState → ServerState → Type 0
+TurnInService found port replies old new = TurnBy ServesPort ProbesUnready found port replies old new
+
+-- nothing is done of the port
+abbrev pub Rests : Port → ServerState → ServerState → Type 0
+Rests port old new = new ≡ old
+
+-- and the turn in a tick, where the book was this when requests had got older
 abbrev pub TurnInTick : ProbeResult → List Held → Port → List Reply → ServerState → ServerState → Type 0
-TurnInTick (Ready info) book port replies old new = TicksPort book port replies old new
-TurnInTick found book port replies old new = (replies ≡ []) × (new ≡ old)
+TurnInTick found book port replies old new = TurnBy (TicksPort book) Rests found port replies old new
 
 -- a port that there isn't
 abbrev pub no_port : ServedPort

@@ -4,7 +4,8 @@ use Rattle.port_driver.specs.Costs.{TURN_ACCESSES}
 use Rattle.host_boot.specs.Taken.{probe_result_of}
 use Rattle.ata_types.specs.declared.request.Reply.{Reply}
 use Rattle.ata_types.specs.declared.limits.TheConstants.{MOST_UNANSWERED}
-use Rattle.server_history.specs.Turns.{ServePorts}
+use Rattle.server_history.specs.Turns.{ProbesUnready, ServesPort}
+use Rattle.block_server.proofs.Turns.{TurnsSoFar}
 use Rattle.server_history.specs.Server.{ServerState, SettledInvariant}
 use Rattle.block_server.specs.FourPorts.{found_by_port}
 use Rattle.block_server.specs.Seen.{seen}
@@ -14,12 +15,8 @@ use Rattle.block_server.proofs.server.Server.service_into.Given as goal
 abbrev pub invariant-loop-number : goal.invariant-loop-number
 invariant-loop-number g l = record {
   first : length l.fn.self.ports ≡ 4;
-  four : length l.self-inside.ports ≡ 4;
-  rest : (later : List Reply) (new : ServerState) → ServePorts l.number (drop l.number l.fn.self.ports) later (server_of g.A.Adapter.device (seen l.self-inside)) new
-      → ServePorts 0 l.fn.self.ports (l.replies.items ++ later) (server_of g.A.Adapter.device l.fn.self) new;
-  ports : (q : ℕ) → l.number ≤ q → probe_result_of (found_by_port l.self-inside.ports) q ≡ probe_result_of l.fn.self.ports q;
+  turns : TurnsSoFar ServesPort ProbesUnready l.fn.self.ports (server_of g.A.Adapter.device l.fn.self) l.self-inside.ports l.replies.items (server_of g.A.Adapter.device (seen l.self-inside)) l.number;
   room : length l.replies.items + length l.self-inside.shared.book ≤ MOST_UNANSWERED;
   on : l.self-inside.stuck ≡ false;
-  settled : SettledInvariant (server_of g.A.Adapter.device (seen l.self-inside));
   cost : MakesAtMost (TURN_ACCESSES * l.number) (g.A.Adapter.access_count l.fn.self.adapter) (g.A.Adapter.access_count l.self-inside.adapter);
 }

@@ -11,13 +11,13 @@ use Rattle.block_server.specs.Calls.{TicksBy}
 use Rattle.server_history.specs.Histories.{ExtendsHistory, InvariantBy}
 use Rattle.server_history.specs.Server.{SettledInvariant, ServerState}
 use Rattle.server_history.specs.Turns.{TakeTurns, Ticks, TicksPort, a_tick_older, is_ready}
-use Rattle.port_driver.specs.Parts.{IsSettledWith, TakesTurn, TurnInTick, no_port}
+use Rattle.port_driver.specs.Parts.{Rests, no_port}
 use Rattle.block_server.specs.FourPorts.{found_by_port, with_ports}
 use Rattle.block_server.specs.Seen.{seen}
 use Rattle.block_server.specs.View.{ServerView, server_of}
 use Rattle.port_driver.specs.declared.served_port.ServedPort.{ServedPort}
 use Rattle.block_server.proofs.Placing as placing
-use Rattle.block_server.proofs.Turns.{Rests, all_turns, tick_turn}
+use Rattle.block_server.proofs.Turns.{TurnsSoFar, all_turns, its_part, none_yet, one_more}
 use Rattle.block_server.proofs.Standing.{by_on, now_off, now_on}
 use Rattle.block_server.proofs.server.Server.tick_into.Given.{Over}
 use Rattle.block_server.proofs.server.Server.tick_into.Goals as goal
@@ -37,10 +37,10 @@ older_now g c =
 pub tick-requires-clause-settled : goal.tick-requires-clause-settled
 tick-requires-clause-settled g c =
     let device = g.A.Adapter.device in
-    let so_far = c.loop-number.invariant in
     let v = c.loop-number.self-inside in
     let s = server_of device (seen v) in
-    (s, record { settled = so_far.settled; parts = placing.has_parts s (device v.adapter) v.shared v.ports c.loop-number.number _ (let four = so_far.four in let small = c.loop-number-test.true in omega (arith, four, small)) })
+    let old = a_tick_older (server_of device c.args.self.now) in
+    (s, its_part (TicksPort old.book) Rests c.args.self.now.ports old s (device v.adapter) v.shared v.ports c.loop-number.replies.items c.loop-number.number c.loop-number.invariant.turns c.loop-number-test.true _)
 
 pub loop-number-preserved : goal.loop-number-preserved
 loop-number-preserved g c =
@@ -48,34 +48,21 @@ loop-number-preserved g c =
     let so_far = c.loop-number.invariant in
     let v = c.loop-number.self-inside in
     let number = c.loop-number.number in
-    let four = so_far.four in
     let small = c.loop-number-test.true in
-    let low : number < length v.ports = omega (arith, four, small) in
-    let s = server_of device (seen v) in
-    let p : ServedPort = get_or v.ports number c.index-self-number.result in
-    let has : IsSettledWith s (device v.adapter) v.shared (port_at number) p = record { settled = so_far.settled; parts = placing.has_parts s (device v.adapter) v.shared v.ports number c.index-self-number.result low } in
-    let new = c.tick.new in
+    let told = c.loop-number.replies.items in
     let old = a_tick_older (server_of device c.args.self.now) in
+    let s = server_of device (seen v) in
+    let default = c.index-self-number.result in
+    let new = c.tick.new in
     let O : List Held → Type 0 = λ book. IsTrue (slice_index_or c.overdue_ports-overdue.result number false) ↔ IsOverdue (port_at number) book in
     let at = (goal.at.loop-number-preserved g c).After-overdue_ports-overdue in
     let exact : O old.book = subst O (ap (λ (x : ServerState). x.book) (older_now g at)) (c.overdue_ports-overdue.ensures number small) in
-    let mid : ServerState = with_ports s (device new.adapter) new.shared (set v.ports number new.self) in
-    let turn = subst (TakesTurn (TurnInTick p.found old.book (port_at number)) c.loop-number.replies.items new.replies.items s)
-    (placing.placed s (device v.adapter) v.shared v.ports number (device new.adapter) new.shared new.self) (c.tick.ensures.turn s old.book exact has) in
-    let first = so_far.first in
-    let there : probe_result_of c.args.self.now.ports number ≡ p.found = sym (so_far.ports number (omega arith)) ∙ has.parts.port_is.found_is in
     record {
-      first = first;
-      four = length-set v.ports number new.self ∙ four;
-      rest = λ later last more.
-          let W : List Reply → Type 0 = λ told. TakeTurns (TicksPort old.book) Rests 0 c.args.self.now.ports told old last in
-          subst W (sym (ap (λ (told : List Reply). told ++ later) turn.told ∙ append_assoc c.loop-number.replies.items turn.its later))
-          (so_far.rest (turn.its ++ later) last
-          (tick_turn old.book c.args.self.now.ports number (omega (arith, first, small)) p.found there s mid last turn.its later turn.settled turn.does more));
-      ports = λ q more. placing.other_found v.ports number new.self q (λ same. omega (arith, more, same)) ∙ so_far.ports q (omega (arith, more));
+      first = so_far.first;
+      turns = one_more (TicksPort old.book) Rests c.args.self.now.ports old s (device v.adapter) v.shared v.ports told number so_far.turns small so_far.first default (device new.adapter) new.shared new.self new.replies.items
+          (c.tick.ensures.turn s old.book exact (its_part (TicksPort old.book) Rests c.args.self.now.ports old s (device v.adapter) v.shared v.ports told number so_far.turns small default));
       room = c.tick.ensures.room;
       on = so_far.on;
-      settled = turn.settled;
       cost = omega (arith, so_far.cost, c.tick.ensures.cost);
     }
 
@@ -86,11 +73,12 @@ ticked g c =
     let old = server_of device c.args.self.now in
     let first = c.loop-number.invariant.first in
     let past = c.loop-number-test.false in
-    all_turns (TicksPort (a_tick_older old).book) Rests c.args.self.now.ports c.args.self.now.ports c.loop-number.number c.loop-number.replies.items (a_tick_older old) (server_of device (seen c.loop-number.self-inside))
-    (omega (arith, first, past)) c.loop-number.invariant.rest
+    let v = c.loop-number.self-inside in
+    all_turns (TicksPort (a_tick_older old).book) Rests c.args.self.now.ports (a_tick_older old) (server_of device (seen v)) (device v.adapter) v.shared v.ports c.loop-number.replies.items c.loop-number.number c.loop-number.invariant.turns
+    (omega (arith, first, past))
 
 pub invariant_of-self : goal.invariant_of-self
-invariant_of-self g c = subst (λ (b : Bool). InvariantBy b (server_of g.A.Adapter.device (seen c.loop-number.self-inside))) (sym c.loop-number.invariant.on) c.loop-number.invariant.settled
+invariant_of-self g c = subst (λ (b : Bool). InvariantBy b (server_of g.A.Adapter.device (seen c.loop-number.self-inside))) (sym c.loop-number.invariant.on) c.loop-number.invariant.turns.settled
 
 pub returns-clause-ticks : goal.returns-clause-ticks
 returns-clause-ticks g c =
@@ -130,13 +118,9 @@ loop-number-init g c =
     let four = placing.four_ports v.ports settled.kept.four in
     record {
       first = ap length (sym ports) ∙ length-map v.ports (λ (p : ServedPort). p.found) ∙ four;
-      four = four;
-      rest = λ later last turns.
-          let T : List Reply → Type 0 = λ told. TakeTurns (TicksPort old.book) Rests 0 c.args.self.now.ports (told ++ later) old last in
-          subst T (sym c.clear.ensures) (subst (λ (x : ServerState). TakeTurns (TicksPort old.book) Rests 0 c.args.self.now.ports later x last) (older_now g at) turns);
-      ports = λ q more. ap (λ (found : List ProbeResult). probe_result_of found q) ports;
+      turns = subst (λ (told : List Reply). TurnsSoFar (TicksPort old.book) Rests c.args.self.now.ports old v.ports told (record (server_of device (seen v)) { book = c.tick-is_one.new.self }) 0) (sym c.clear.ensures)
+          (none_yet (TicksPort old.book) Rests c.args.self.now.ports old v.ports (record (server_of device (seen v)) { book = c.tick-is_one.new.self }) four ports now (older_now g at));
       room = let all = c.law_the_book_stays_in_order.ensures.all c.tick-is_one.new.self now.kept.ordered in let none = ap length c.clear.ensures in omega (arith, all, none);
       on = c.if-self.false;
-      settled = now;
       cost = let same = ap (λ (x : ServerView g.row.A.Denot). g.A.Adapter.access_count x.adapter) c.self.view_is in omega (arith, same);
     }

@@ -5,7 +5,9 @@ use Rattle.port_control.specs.declared.events.PortError.TheVariants.{TimedOut}
 use Rattle.host_boot.specs.Taken.{probe_result_of}
 use Rattle.ata_types.specs.declared.request.Reply.{Reply}
 use Rattle.ata_types.specs.declared.limits.TheConstants.{MOST_UNANSWERED}
-use Rattle.server_history.specs.Turns.{TakeTurns, TicksPort, a_tick_older}
+use Rattle.server_history.specs.Turns.{TicksPort, a_tick_older}
+use Rattle.port_driver.specs.Parts.{Rests}
+use Rattle.block_server.proofs.Turns.{TurnsSoFar}
 use Rattle.server_history.specs.Server.{ServerState, SettledInvariant}
 use Rattle.block_server.specs.FourPorts.{found_by_port}
 use Rattle.block_server.specs.Seen.{seen}
@@ -15,13 +17,8 @@ use Rattle.block_server.proofs.server.Server.tick_into.Given as goal
 abbrev pub invariant-loop-number : goal.invariant-loop-number
 invariant-loop-number g l = record {
   first : length l.fn.self.ports ≡ 4;
-  four : length l.self-inside.ports ≡ 4;
-  rest : (later : List Reply) (new : ServerState)
-      → TakeTurns (TicksPort (a_tick_older (server_of g.A.Adapter.device l.fn.self)).book) (λ port one other. other ≡ one) l.number (drop l.number l.fn.self.ports) later (server_of g.A.Adapter.device (seen l.self-inside)) new
-      → TakeTurns (TicksPort (a_tick_older (server_of g.A.Adapter.device l.fn.self)).book) (λ port one other. other ≡ one) 0 l.fn.self.ports (l.replies.items ++ later) (a_tick_older (server_of g.A.Adapter.device l.fn.self)) new;
-  ports : (q : ℕ) → l.number ≤ q → probe_result_of (found_by_port l.self-inside.ports) q ≡ probe_result_of l.fn.self.ports q;
+  turns : TurnsSoFar (TicksPort (a_tick_older (server_of g.A.Adapter.device l.fn.self)).book) Rests l.fn.self.ports (a_tick_older (server_of g.A.Adapter.device l.fn.self)) l.self-inside.ports l.replies.items (server_of g.A.Adapter.device (seen l.self-inside)) l.number;
   room : length l.replies.items + length l.self-inside.shared.book ≤ MOST_UNANSWERED;
   on : l.self-inside.stuck ≡ false;
-  settled : SettledInvariant (server_of g.A.Adapter.device (seen l.self-inside));
   cost : MakesAtMost (port_error_accesses TimedOut * l.number) (g.A.Adapter.access_count l.fn.self.adapter) (g.A.Adapter.access_count l.self-inside.adapter);
 }
