@@ -5,7 +5,6 @@ ghost use Rattle.port_driver.specs.Parts.{HasParts, with_parts};
 ghost use Rattle.server_history.specs.Resets.{IsResetRevalidation, MaySettle, SettlesPort};
 ghost use Rattle.server_history.specs.Server.{ServerState};
 
-use crate::dispositions::resolve;
 use crate::recovery::is_same_disk;
 use crate::served_port::{ServedPort, Shared};
 use ata_types::{MOST_UNANSWERED, Port, PortState, Replies};
@@ -39,14 +38,6 @@ impl ServedPort {
         ensures room { length replies.new.items + length shared.new.book ≤ MOST_UNANSWERED }
     {
         let revalidation = reset_revalidation(&self.last_disk, &self.found);
-        resolve(
-            &mut shared.book,
-            &mut shared.table,
-            &mut self.kept,
-            port,
-            &None,
-            revalidation,
-            replies,
-        );
+        shared.resolve(&mut self.kept, port, &None, revalidation, replies);
     }
 }

@@ -9,136 +9,132 @@ ghost use Rattle.request_queue.specs.Entries.{Held, IsUnanswered, is_of, waits_u
 ghost use Rattle.request_queue.specs.Dispositions.{AnswersAlike, AreResolved, IsResolved, disposition_of};
 ghost use Rattle.request_queue.specs.declared.disposition.Disposition.TheVariants.{Complete};
 
-use super::kept::Quarantine;
+use crate::kept::Quarantine;
+use crate::served_port::Shared;
 use ata_types::{ClientId, MOST_UNANSWERED, Outcome, Port, Replies, Reply, RequestId};
-use dma_frames::FrameTable;
 use request_queue::laws::{
     law_accepted_requests_stay, law_an_id_is_one_request,
     law_answers_of_one_outcome_are_one_change, law_operations_change_one_request,
     law_the_book_stays_in_order,
 };
-use request_queue::{Book, Disposition, FailedRequest, Revalidation};
+use request_queue::{Disposition, FailedRequest, Revalidation};
 
-/// Resolves one request.
-fn resolve_one(
-    book: &mut Book,
-    table: &mut FrameTable,
-    kept: &mut Quarantine,
-    id: RequestId,
-    failed: &Option<FailedRequest>,
-    revalidation: Revalidation,
-    replies: &mut Replies,
-)
-    requires sound { BookIsSound table.old book.old }
-    requires here { (request : Held) × Contains book.old request × (request.entry.id ≡ id)
-        × HasPlaces request kept.old }
-    requires room { length replies.old.items + length book.old ≤ MOST_UNANSWERED }
-    ensures meets { (request : Held) → Contains book.old request → request.entry.id ≡ id
-        → (its : List Reply) × (replies.new.items ≡ replies.old.items ++ its)
-        × IsResolved request (disposition_of failed.now revalidation request.entry) its
-        (holding book.old table.old kept.old)
-        (holding book.new table.new kept.new) }
-    ensures others { (e : Held) → Contains book.old e → e.entry.id ≢ id → Contains book.new e }
-    ensures places { (request : Held) (rest : List Held) → Contains book.old request → request.entry.id ≡ id
-        → HavePlaces (request ∷ rest) kept.old → HavePlaces rest kept.new }
-    ensures sound { BookIsSound table.new book.new }
-    ensures room { length replies.new.items + length book.new ≤ MOST_UNANSWERED }
-{
-    law_an_id_is_one_request();
-    law_accepted_requests_stay();
-    law_operations_change_one_request();
-    law_the_book_stays_in_order();
-    let entry = book.request(id);
-    match entry.disposition(failed, revalidation) {
-        Disposition::Wait => {}
-        Disposition::Requeue => book.requeue(id),
-        Disposition::Complete(outcome) => {
-            if entry.keeps_loan(outcome) {
-                let (_, loan) = book.answer(id);
-                kept.keep(loan);
-            } else {
-                book.release(id, table);
+impl Shared {
+    /// Resolves one request.
+    fn resolve_one(
+        &mut self,
+        kept: &mut Quarantine,
+        id: RequestId,
+        failed: &Option<FailedRequest>,
+        revalidation: Revalidation,
+        replies: &mut Replies,
+    )
+        requires sound { BookIsSound self.old.table.value self.old.book }
+        requires here { (request : Held) × Contains self.old.book request × (request.entry.id ≡ id)
+            × HasPlaces request kept.old }
+        requires room { length replies.old.items + length self.old.book ≤ MOST_UNANSWERED }
+        ensures meets { (request : Held) → Contains self.old.book request → request.entry.id ≡ id
+            → (its : List Reply) × (replies.new.items ≡ replies.old.items ++ its)
+            × IsResolved request (disposition_of failed.now revalidation request.entry) its
+            (holding self.old.book self.old.table.value kept.old)
+            (holding self.new.book self.new.table.value kept.new) }
+        ensures others { (e : Held) → Contains self.old.book e → e.entry.id ≢ id → Contains self.new.book e }
+        ensures places { (request : Held) (rest : List Held) → Contains self.old.book request
+            → request.entry.id ≡ id → HavePlaces (request ∷ rest) kept.old → HavePlaces rest kept.new }
+        ensures sound { BookIsSound self.new.table.value self.new.book }
+        ensures room { length replies.new.items + length self.new.book ≤ MOST_UNANSWERED }
+    {
+        law_an_id_is_one_request();
+        law_accepted_requests_stay();
+        law_operations_change_one_request();
+        law_the_book_stays_in_order();
+        let entry = self.book.request(id);
+        match entry.disposition(failed, revalidation) {
+            Disposition::Wait => {}
+            Disposition::Requeue => self.book.requeue(id),
+            Disposition::Complete(outcome) => {
+                if entry.keeps_loan(outcome) {
+                    let (_, loan) = self.book.answer(id);
+                    kept.keep(loan);
+                } else {
+                    self.book.release(id, &mut self.table);
+                }
+                replies.push(Reply {
+                    id,
+                    client: entry.client,
+                    outcome,
+                });
             }
-            replies.push(Reply {
-                id,
-                client: entry.client,
-                outcome,
-            });
         }
     }
-}
 
-/// Answers a request that waits under a grant that is revoked: it is told so, and its frames are given back.
-fn answer_revoked(book: &mut Book, table: &mut FrameTable, id: RequestId, replies: &mut Replies)
-    requires sound { BookIsSound table.old book.old }
-    requires here { IsUnanswered id book.old }
-    requires room { length replies.old.items + length book.old ≤ MOST_UNANSWERED }
-    ensures meets { (request : Held) (kept : List Lending) → Contains book.old request → request.entry.id ≡ id
-        → (its : List Reply) × (replies.new.items ≡ replies.old.items ++ its)
-        × IsResolved request (Complete Revoked) its (holding book.old table.old kept)
-        (holding book.new table.new kept) }
-    ensures others { (e : Held) → Contains book.old e → e.entry.id ≢ id → Contains book.new e }
-    ensures sound { BookIsSound table.new book.new }
-    ensures room { length replies.new.items + length book.new ≤ MOST_UNANSWERED }
-{
-    law_an_id_is_one_request();
-    law_accepted_requests_stay();
-    law_operations_change_one_request();
-    law_the_book_stays_in_order();
-    let entry = book.release(id, table);
-    replies.push(Reply {
-        id,
-        client: entry.client,
-        outcome: Outcome::Revoked,
-    });
-}
-
-/// Answers the requests that wait under a client's grant, which is revoked, in order of acceptance: each is told so,
-/// and its frames are given back. The replies come after those that there are. A function of its own, since its
-/// caller's frame would have room for their ids else.
-#[inline(never)]
-pub fn answer_waiting(
-    book: &mut Book,
-    table: &mut FrameTable,
-    client: ClientId,
-    number: u8,
-    replies: &mut Replies,
-)
-    requires sound { BookIsSound table.old book.old }
-    requires room { length replies.old.items + length book.old ≤ MOST_UNANSWERED }
-    ensures { (kept : List Lending) → (its : List Reply) × (replies.new.items ≡ replies.old.items ++ its)
-        × AnswersAlike (waits_under client number) Revoked its (holding book.old table.old kept)
-        (holding book.new table.new kept) }
-{
-    law_answers_of_one_outcome_are_one_change();
-    let waiting = book.waiting_of(client, number);
-    for place in 0..waiting.len() {
-        answer_revoked(book, table, waiting[place], replies);
+    /// Answers a request that waits under a grant that is revoked: it is told so, and its frames are given back.
+    fn answer_revoked(&mut self, id: RequestId, replies: &mut Replies)
+        requires sound { BookIsSound self.old.table.value self.old.book }
+        requires here { IsUnanswered id self.old.book }
+        requires room { length replies.old.items + length self.old.book ≤ MOST_UNANSWERED }
+        ensures meets { (request : Held) (kept : List Lending) → Contains self.old.book request
+            → request.entry.id ≡ id → (its : List Reply) × (replies.new.items ≡ replies.old.items ++ its)
+            × IsResolved request (Complete Revoked) its (holding self.old.book self.old.table.value kept)
+            (holding self.new.book self.new.table.value kept) }
+        ensures others { (e : Held) → Contains self.old.book e → e.entry.id ≢ id → Contains self.new.book e }
+        ensures sound { BookIsSound self.new.table.value self.new.book }
+        ensures room { length replies.new.items + length self.new.book ≤ MOST_UNANSWERED }
+    {
+        law_an_id_is_one_request();
+        law_accepted_requests_stay();
+        law_operations_change_one_request();
+        law_the_book_stays_in_order();
+        let entry = self.book.release(id, &mut self.table);
+        replies.push(Reply {
+            id,
+            client: entry.client,
+            outcome: Outcome::Revoked,
+        });
     }
-}
 
-/// Resolves the unanswered requests of a port, in order of acceptance. The replies come after those that
-/// there are.
-pub(crate) fn resolve(
-    book: &mut Book,
-    table: &mut FrameTable,
-    kept: &mut Quarantine,
-    port: Port,
-    failed: &Option<FailedRequest>,
-    revalidation: Revalidation,
-    replies: &mut Replies,
-)
-    requires sound { BookIsSound table.old book.old }
-    requires places { HavePlaces (filter (λ (e : Held). is_of port e.entry) book.old) kept.old }
-    requires room { length replies.old.items + length book.old ≤ MOST_UNANSWERED }
-    ensures meet { (its : List Reply) × (replies.new.items ≡ replies.old.items ++ its)
-        × AreResolved (disposition_of failed.now revalidation) (filter (λ (e : Held). is_of port e.entry) book.old) its
-        (holding book.old table.old kept.old) (holding book.new table.new kept.new) }
-    ensures sound { BookIsSound table.new book.new }
-    ensures room { length replies.new.items + length book.new ≤ MOST_UNANSWERED }
-{
-    let ids = book.ids_of(port);
-    for place in 0..ids.len() {
-        resolve_one(book, table, kept, ids[place], failed, revalidation, replies);
+    /// Answers the requests that wait under a client's grant, which is revoked, in order of acceptance: each is told
+    /// so, and its frames are given back. The replies come after those that there are. A function of its own, since
+    /// its caller's frame would have room for their ids else.
+    #[inline(never)]
+    pub fn answer_waiting(&mut self, client: ClientId, number: u8, replies: &mut Replies)
+        requires sound { BookIsSound self.old.table.value self.old.book }
+        requires room { length replies.old.items + length self.old.book ≤ MOST_UNANSWERED }
+        ensures { (kept : List Lending) → (its : List Reply) × (replies.new.items ≡ replies.old.items ++ its)
+            × AnswersAlike (waits_under client number) Revoked its (holding self.old.book self.old.table.value kept)
+            (holding self.new.book self.new.table.value kept) }
+    {
+        law_answers_of_one_outcome_are_one_change();
+        let waiting = self.book.waiting_of(client, number);
+        for place in 0..waiting.len() {
+            self.answer_revoked(waiting[place], replies);
+        }
+    }
+
+    /// Resolves the unanswered requests of a port, in order of acceptance. The replies come after those that
+    /// there are.
+    pub(crate) fn resolve(
+        &mut self,
+        kept: &mut Quarantine,
+        port: Port,
+        failed: &Option<FailedRequest>,
+        revalidation: Revalidation,
+        replies: &mut Replies,
+    )
+        requires sound { BookIsSound self.old.table.value self.old.book }
+        requires places { HavePlaces (filter (λ (e : Held). is_of port e.entry) self.old.book) kept.old }
+        requires room { length replies.old.items + length self.old.book ≤ MOST_UNANSWERED }
+        ensures meet { (its : List Reply) × (replies.new.items ≡ replies.old.items ++ its)
+            × AreResolved (disposition_of failed.now revalidation)
+            (filter (λ (e : Held). is_of port e.entry) self.old.book) its
+            (holding self.old.book self.old.table.value kept.old)
+            (holding self.new.book self.new.table.value kept.new) }
+        ensures sound { BookIsSound self.new.table.value self.new.book }
+        ensures room { length replies.new.items + length self.new.book ≤ MOST_UNANSWERED }
+    {
+        let ids = self.book.ids_of(port);
+        for place in 0..ids.len() {
+            self.resolve_one(kept, ids[place], failed, revalidation, replies);
+        }
     }
 }

@@ -27,7 +27,6 @@ mod recovery;
 mod served_port;
 mod turn;
 
-pub use dispositions::answer_waiting;
 pub use kept::Quarantine;
 pub use modes::mode_of;
 pub use served_port::{ServedPort, Shared};

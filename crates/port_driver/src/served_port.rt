@@ -77,8 +77,8 @@ impl ServedPort {
         }
     }
 
-    /// Notes what it was found to be once its adapter was taken over, and how it takes commands then. Its disk
-    /// is remembered, and no slot of it is used.
+    /// Notes what it was found to be by a boot, or once its error was handled, and how it takes commands then. The disk
+    /// that it was last ready with is remembered, and no slot of it is used.
     pub fn begin_anew(&mut self, found: ProbeResult, mode: QueueMode)
         requires { mode.usable ≤ 32 }
         ensures { IsFoundAnew found mode self.old self.new }

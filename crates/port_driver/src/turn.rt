@@ -13,7 +13,6 @@ ghost use Rattle.server_history.specs.Server.{ServerState, SettledInvariant, sta
 ghost use Rattle.server_history.specs.Turns.{ProbesUnready, ServesPort};
 
 use crate::answering::answer_done;
-use crate::dispositions::resolve;
 use crate::probing::{needs_probe, probe_anew};
 use crate::recovery::{error_of, order_from, revalidate_port, revalidation_of};
 use crate::served_port::{ServedPort, Shared};
@@ -26,7 +25,6 @@ use server_history::laws::{
     law_a_finished_port_settles, law_a_port_goes_on_after_its_errors, law_a_port_is_served,
     law_a_timed_out_port_is_restarted, law_an_unready_port_is_probed, law_looks_keep,
 };
-use slots::Slots;
 
 impl ServedPort {
     /// Answers the requests of a ready port whose slots were found done (bit k is slot k), in order of acceptance:
@@ -101,20 +99,9 @@ impl ServedPort {
             self.mode,
             &self.wanted,
         );
-        self.found = found;
-        self.last_disk = Some(was);
-        self.mode = mode;
-        self.slots = Slots::new(mode.usable);
+        self.begin_anew(found, mode);
         let revalidation = revalidation_of(port_error, &was, &found);
-        resolve(
-            &mut shared.book,
-            &mut shared.table,
-            &mut self.kept,
-            port,
-            &failed,
-            revalidation,
-            replies,
-        );
+        shared.resolve(&mut self.kept, port, &failed, revalidation, replies);
         order_from(replies, first);
         self.issue_where_ready(adapter, &mut shared.book, port);
     }
@@ -171,9 +158,7 @@ impl ServedPort {
             return;
         }
         let (found, mode) = probe_anew(adapter, port, &self.wanted);
-        self.found = found;
-        self.mode = mode;
-        self.slots = Slots::new(mode.usable);
+        self.begin_anew(found, mode);
     }
 
     /// The port's turn in a service: a ready one is served, and another one that is served is probed.

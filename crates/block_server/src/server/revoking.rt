@@ -4,7 +4,6 @@ ghost use Rattle.std.specs.Prelude.{[], IfErr, IfOk, None, Ok, Err, Some};
 use super::Server;
 use adapter::Adapter;
 use ata_types::{ClientId, NoSuchGrant, Replies};
-use port_driver::answer_waiting;
 use request_queue::laws::{law_accepted_requests_stay, law_the_book_stays_in_order};
 use server_history::laws::{law_refusals_add, law_requests_keep, law_revocations_add};
 use server_history::stalled::{law_a_server_is_booked, law_stalled_revocations_add};
@@ -70,13 +69,7 @@ impl<A: Adapter> Server<A> {
             return Err(NoSuchGrant);
         };
         self.shared.book.revoke(client, number);
-        answer_waiting(
-            &mut self.shared.book,
-            &mut self.shared.table,
-            client,
-            number,
-            replies,
-        );
+        self.shared.answer_waiting(client, number, replies);
         if self.stuck {
             // No port is ready.
             return Ok(());

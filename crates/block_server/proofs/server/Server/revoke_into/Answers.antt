@@ -9,7 +9,6 @@ use Rattle.server_history.specs.Histories.{ExtendsSettled, ExtendsHistory, Exten
 use Rattle.server_history.specs.Revoked.{RevokesGrant}
 use Rattle.server_history.specs.Served.{IssuesAll}
 use Rattle.server_history.specs.Server.{InCallInvariant, SettledInvariant, ServerState}
-use Rattle.std.specs.Box.{with_value}
 use Rattle.block_server.specs.FourPorts.{found_by_port, kept_by_port, last_disk_by_port, mode_by_port, slots_by_port, wanted_by_port}
 use Rattle.port_driver.specs.Ports.{HasFoundPort}
 use Rattle.port_driver.specs.declared.served_port.ServedPort.{ServedPort}
@@ -43,19 +42,18 @@ answer_waiting-requires-clause-sound g c =
       ordered = c.law_the_book_stays_in_order.ensures.revoked s.book c.args.client c.args.number b.ordered;
       accepted = c.law_accepted_requests_stay.ensures.revoked s.table s.book c.args.client c.args.number b.accepted;
     } in
-    subst (λ (book : List Held). BookIsSound c.deref_mut.result.now book) (sym c.revoke-2.ensures)
-    (subst (λ (table : Table). BookIsSound table (all_marked_under c.args.client c.args.number s.book)) (sym c.deref_mut.ensures.value) sound)
+    subst (BookIsSound s.table) (sym c.revoke-2.ensures) sound
 
 -- ---- since a reset that got stuck
 
 -- the server then
 abbrev after_off : (g : Over) (c : Then-self g) → ServerView g.row.A.Denot
-after_off g c = record (seen c.self.inside) { grants = c.revoke.new.self; table = c.answer_waiting.new.table; book = c.answer_waiting.new.book }
+after_off g c = record (seen c.self.inside) { grants = c.revoke.new.self; table = c.answer_waiting.new.self.table.value; book = c.answer_waiting.new.self.book }
 
 abbrev revoked_off : (g : Over) (c : Then-self g) → RevokesGrant c.args.client c.args.number c.answer_waiting.new.replies.items (server_of g.A.Adapter.device (seen c.self.inside)) (server_of g.A.Adapter.device (after_off g c))
 revoked_off g c =
     revoking.revokes (server_of g.A.Adapter.device (seen c.self.inside)) c.args.client c.args.number c.in-Some.row c.revoke.new.self c.in-Some.ensures.found c.revoke-2.new.self c.revoke-2.ensures
-    c.deref_mut.result.now c.deref_mut.ensures.value c.clear.new.self.items c.clear.ensures c.answer_waiting.new.book c.answer_waiting.new.table c.answer_waiting.new.replies.items c.answer_waiting.ensures
+    c.self.inside.shared.table.value refl c.clear.new.self.items c.clear.ensures c.answer_waiting.new.self.book c.answer_waiting.new.self.table.value c.answer_waiting.new.replies.items c.answer_waiting.ensures
 
 -- it adds an event
 added_off : (g : Over) (c : Then-self g) → ExtendsStuck (server_of g.A.Adapter.device (seen c.self.inside)) (server_of g.A.Adapter.device (after_off g c)) (RevokeOf c.args.client c.args.number) (WasRevoked (Some c.answer_waiting.new.replies.items))
@@ -91,7 +89,7 @@ returns-then-self-clause-adds g c =
 
 -- the server once those that waited are told
 abbrev mid_on : (g : Over) (c : After-index-self-from g) → ServerState
-mid_on g c = record (server_of g.A.Adapter.device (seen c.self.inside)) { grants = c.revoke.new.self; table = c.answer_waiting.new.table; book = c.answer_waiting.new.book }
+mid_on g c = record (server_of g.A.Adapter.device (seen c.self.inside)) { grants = c.revoke.new.self; table = c.answer_waiting.new.self.table.value; book = c.answer_waiting.new.self.book }
 
 is_on : (g : Over) (c : After-index-self-from g) → SettledInvariant (server_of g.A.Adapter.device (seen c.self.inside))
 is_on g c = holds_either c.self.inside.stuck c.self.invariant (λ _ settled. settled) (λ off _. absurd (let z : true ≡ false = sym off ∙ c.if-self.false in cc))
@@ -99,7 +97,7 @@ is_on g c = holds_either c.self.inside.stuck c.self.invariant (λ _ settled. set
 abbrev revoked_on : (g : Over) (c : After-index-self-from g) → RevokesGrant c.args.client c.args.number c.answer_waiting.new.replies.items (server_of g.A.Adapter.device (seen c.self.inside)) (mid_on g c)
 revoked_on g c =
     revoking.revokes (server_of g.A.Adapter.device (seen c.self.inside)) c.args.client c.args.number c.in-Some.row c.revoke.new.self c.in-Some.ensures.found c.revoke-2.new.self c.revoke-2.ensures
-    c.deref_mut.result.now c.deref_mut.ensures.value c.clear.new.self.items c.clear.ensures c.answer_waiting.new.book c.answer_waiting.new.table c.answer_waiting.new.replies.items c.answer_waiting.ensures
+    c.self.inside.shared.table.value refl c.clear.new.self.items c.clear.ensures c.answer_waiting.new.self.book c.answer_waiting.new.self.table.value c.answer_waiting.new.replies.items c.answer_waiting.ensures
 
 -- it goes on
 keeps_on : (g : Over) (c : After-index-self-from g) → InCallInvariant (mid_on g c)
@@ -109,16 +107,16 @@ keeps_on g c = c.law_requests_keep.ensures.revoked (server_of g.A.Adapter.device
 abbrev its_port : (g : Over) (c : After-index-self-from g) → ServedPort
 its_port g c = get_or c.self.inside.ports c.from.result c.index-self-from.result
 
-lends_on : (g : Over) (c : After-index-self-from g) → HasFoundPort (mid_on g c) (g.A.Adapter.device c.self.inside.adapter) c.answer_waiting.new.book (its_port g c).slots c.in-Some.row.port (its_port g c).mode (its_port g c).found
+lends_on : (g : Over) (c : After-index-self-from g) → HasFoundPort (mid_on g c) (g.A.Adapter.device c.self.inside.adapter) c.answer_waiting.new.self.book (its_port g c).slots c.in-Some.row.port (its_port g c).mode (its_port g c).found
 lends_on g c =
     let v = c.self.inside in
     let four = placing.four_ports v.ports (is_on g c).kept.four in
     let small = revoking.low (server_of g.A.Adapter.device (seen c.self.inside)) c.args.client c.args.number c.in-Some.row c.revoke.new.self c.in-Some.ensures.found c.revoke-2.new.self c.revoke-2.ensures
-    c.deref_mut.result.now c.deref_mut.ensures.value c.clear.new.self.items c.clear.ensures c.answer_waiting.new.book c.answer_waiting.new.table c.answer_waiting.new.replies.items c.answer_waiting.ensures
+    c.self.inside.shared.table.value refl c.clear.new.self.items c.clear.ensures c.answer_waiting.new.self.book c.answer_waiting.new.self.table.value c.answer_waiting.new.replies.items c.answer_waiting.ensures
     (is_on g c).kept (keeps_on g c) in
     let from = c.from.ensures in
     revoking.lends (server_of g.A.Adapter.device (seen c.self.inside)) c.args.client c.args.number c.in-Some.row c.revoke.new.self c.in-Some.ensures.found c.revoke-2.new.self c.revoke-2.ensures
-    c.deref_mut.result.now c.deref_mut.ensures.value c.clear.new.self.items c.clear.ensures c.answer_waiting.new.book c.answer_waiting.new.table c.answer_waiting.new.replies.items c.answer_waiting.ensures
+    c.self.inside.shared.table.value refl c.clear.new.self.items c.clear.ensures c.answer_waiting.new.self.book c.answer_waiting.new.self.table.value c.answer_waiting.new.replies.items c.answer_waiting.ensures
     (is_on g c).kept (keeps_on g c) (its_port g c)
     (placing.has_at_place (server_of g.A.Adapter.device (seen v)) (g.A.Adapter.device v.adapter) v.shared v.ports c.in-Some.row.port.0 c.from.result from c.index-self-from.result (omega (arith, four, small, from)))
 
@@ -134,7 +132,7 @@ after_on g c =
     record (seen c.self.inside) {
       adapter = c.issue_where_ready.new.adapter;
       grants = c.revoke.new.self;
-      table = c.answer_waiting.new.table;
+      table = c.answer_waiting.new.self.table.value;
       wanted = wanted_by_port ports;
       ports = found_by_port ports;
       remembered = last_disk_by_port ports;
@@ -153,11 +151,11 @@ issued_on g c =
     let v = c.self.inside in
     let s = server_of g.A.Adapter.device (seen v) in
     let new = g.A.Adapter.device c.issue_where_ready.new.adapter in
-    let shared : Shared = record { table = with_value v.shared.table c.answer_waiting.new.table; book = c.issue_where_ready.new.book } in
+    let shared : Shared = record c.answer_waiting.new.self { book = c.issue_where_ready.new.book } in
     subst (IssuesAll c.in-Some.row.port (mid_on g (before g c)))
     (sym (placing.slots_placed (record s { grants = c.revoke.new.self }) v.ports c.from.result c.index-self-from.result new shared c.issue_where_ready.new.self c.issue_where_ready.ensures.rest))
     (revoking.issued (server_of g.A.Adapter.device (seen c.self.inside)) c.args.client c.args.number c.in-Some.row c.revoke.new.self c.in-Some.ensures.found c.revoke-2.new.self c.revoke-2.ensures
-    c.deref_mut.result.now c.deref_mut.ensures.value c.clear.new.self.items c.clear.ensures c.answer_waiting.new.book c.answer_waiting.new.table c.answer_waiting.new.replies.items c.answer_waiting.ensures
+    c.self.inside.shared.table.value refl c.clear.new.self.items c.clear.ensures c.answer_waiting.new.self.book c.answer_waiting.new.self.table.value c.answer_waiting.new.replies.items c.answer_waiting.ensures
     (is_on g (before g c)).kept (keeps_on g (before g c)) c.from.result c.from.ensures new c.issue_where_ready.new.book c.issue_where_ready.new.self.slots
     (c.issue_where_ready.ensures.issues (mid_on g (before g c)) (lends_on g (before g c))))
 
@@ -177,7 +175,7 @@ revokes_on g c = record {
   stalled = λ off. absurd (let z : true ≡ false = sym off ∙ c.if-self.false in cc);
   quiet = λ why. ⊎_elim
       (λ off. absurd (let z : true ≡ false = sym off ∙ c.if-self.false in cc))
-      (λ none. c.issue_where_ready.ensures.none (subst (λ (m : QueueMode). due_of m c.in-Some.row.port (asks_of c.answer_waiting.new.book) ≡ []) (lends_on g (before g c)).mode_is none))
+      (λ none. c.issue_where_ready.ensures.none (subst (λ (m : QueueMode). due_of m c.in-Some.row.port (asks_of c.answer_waiting.new.self.book) ≡ []) (lends_on g (before g c)).mode_is none))
       why;
 }
 

@@ -1,16 +1,17 @@
-use Rattle.std.proofs.Common.{rules, ℕ, ◌≡◌, ◌≤◌, ◌++◌, List, [], map, take, drop, length, refl, set, sym, ap, ◌∙◌, subst, arith}
+use Rattle.std.proofs.Common.{Option, Some, rules, ℕ, ◌≡◌, ◌≤◌, ◌++◌, List, [], map, take, drop, length, refl, set, sym, ap, ◌∙◌, subst, arith}
 use Rattle.std.specs.List.Sorted.{IsPermutation}
-use Rattle.std.specs.Box.{with_value}
 use Rattle.std.proofs.lemmas.List.{length-append, set-set}
 use Rattle.port_driver.specs.Parts.{TakesTurn, with_parts}
 use Rattle.port_driver.specs.Recovery.{HasPortInError, HandlesPortErrorOf, IsInError}
 use Rattle.port_driver.specs.Dispositions.{BookIsSound, HavePlaces, holding}
-use Rattle.port_driver.specs.Ports.{with_part}
+use Rattle.port_driver.specs.Ports.{HasFoundPort, with_part}
 use Rattle.block_machine.specs.declared.due.QueueMode.{QueueMode}
+use Rattle.host_boot.specs.declared.ProbeResult.{ProbeResult}
+use Rattle.identify.specs.declared.DiskInfo.{DiskInfo}
 use Rattle.identify.specs.declared.wanted.Wanted.{Wanted}
 use Rattle.server_history.specs.ErrorHandling.{IsRevalidated, requests_of}
 use Rattle.server_history.specs.Served.{done_reply}
-use Rattle.server_history.specs.Server.{ServerState, kept_at}
+use Rattle.server_history.specs.Server.{ServerState, kept_at, last_disk_of}
 use Rattle.slots.specs.Uses.{PortSlots}
 use Rattle.port_driver.specs.declared.served_port.ServedPort.{ServedPort}
 use Rattle.port_driver.specs.declared.served_port.Shared.{Shared}
@@ -64,6 +65,22 @@ recovered g c s h =
       rest = c.complete_and_recover-failed.ensures.handling s (has_port g c s h);
     }
 
+-- what the port is once it was found so
+abbrev found_so : (g : Over) (c : After-order_from-arg-1 g) → Option DiskInfo → ServedPort
+found_so g c disk = record c.complete_and_recover-failed.new.self {
+  found = c.revalidate_port-found.result.0;
+  last_disk = disk;
+  mode = c.revalidate_port-found.result.1;
+  slots = c.begin_anew.new.self.slots;
+}
+
+-- its disk is the one that it was ready with
+is_anew : (g : Over) (c : After-order_from-arg-1 g) → c.begin_anew.new.self ≡ found_so g c (Some c.in-Ready.was)
+is_anew g c =
+    let then = c.complete_and_recover-failed.new.self in
+    c.begin_anew.ensures.fields
+    ∙ ap (λ (f : ProbeResult). found_so g c (last_disk_of f then.last_disk)) (ap (λ (p : ServedPort). p.found) c.complete_and_recover-failed.ensures.rest ∙ c.in-Ready.is)
+
 -- what the server kept of the port is kept still
 same_kept : (g : Over) (c : After-complete_and_recover-failed g) (s : ServerState) → Has g c s → c.complete_and_recover-failed.new.self.kept ≡ kept_at s.kept c.args.port.0
 same_kept g c s h = ap (λ (p : ServedPort). p.kept) c.complete_and_recover-failed.ensures.rest ∙ sym h.port_is.kept_is
@@ -78,21 +95,20 @@ pub revalidate_port-found-requires-clause-bootable : goal.revalidate_port-found-
 revalidate_port-found-requires-clause-bootable g c =
     restoring.bootable (recovered g (goal.at.revalidate_port-found-requires-clause-bootable g c).After-complete_and_recover-failed c.requires.sees.0 c.requires.sees.1)
 
-pub new-self-requires : goal.new-self-requires
-new-self-requires g c =
+pub begin_anew-requires : goal.begin_anew-requires
+begin_anew-requires g c =
     let few = few_usable (g.A.Adapter.device c.revalidate_port-found.new.adapter).cap c.revalidate_port-found.result.0 in
     subst (λ (mode : QueueMode). mode.usable ≤ 32) (sym c.revalidate_port-found.ensures.mode) few
 
 pub resolve-requires-clause-sound : goal.resolve-requires-clause-sound
 resolve-requires-clause-sound g c =
-    let sound = restoring.sound (recovered g (goal.at.resolve-requires-clause-sound g c).After-complete_and_recover-failed c.requires.sees.0 c.requires.sees.1) in
-    subst (λ (table : Table). BookIsSound table c.complete_and_recover-failed.new.shared.book) (sym c.deref_mut.ensures.value) sound
+    restoring.sound (recovered g (goal.at.resolve-requires-clause-sound g c).After-complete_and_recover-failed c.requires.sees.0 c.requires.sees.1)
 
 pub resolve-requires-clause-places : goal.resolve-requires-clause-places
 resolve-requires-clause-places g c =
     let a = (goal.at.resolve-requires-clause-places g c).After-complete_and_recover-failed in
     let x = recovered g a c.requires.sees.0 c.requires.sees.1 in
-    subst (HavePlaces (requests_of c.args.port x.b)) (sym (same_kept g a c.requires.sees.0 c.requires.sees.1)) (restoring.have_places x c.args.port.0 refl [])
+    subst (HavePlaces (requests_of c.args.port x.b)) (sym (ap (λ (p : ServedPort). p.kept) c.begin_anew.ensures.fields ∙ same_kept g a c.requires.sees.0 c.requires.sees.1)) (restoring.have_places x c.args.port.0 refl [])
 
 pub order_from-requires : goal.order_from-requires
 order_from-requires g c =
@@ -101,10 +117,6 @@ order_from-requires g c =
     let told = ap length r.told ∙ length-append c.args.replies.now.items (map done_reply r.error_handled.requests) in
     let first = c.len-first.ensures.value in
     omega (arith, all, told, first)
-
--- so many slots a port has
-fresh_places : (g : Over) (c : After-order_from-arg-1 g) → length c.new-self.result.places ≡ 32
-fresh_places g c = search rules
 
 abbrev at_mending : (g : Over) (c : After-order_from-arg-1 g) → After-complete_and_recover-failed g
 at_mending g c = (goal.at.order_from-requires g c).After-complete_and_recover-failed
@@ -115,8 +127,8 @@ restored g c s h =
     let device = g.A.Adapter.device in
     let x = recovered g (at_mending g c) s h in
     let met = c.resolve.ensures.meet in
-    let now = holding c.resolve.new.book c.resolve.new.table c.resolve.new.kept in
-    let K : List Lending → Table → Type 0 = λ loans table. AreResolved (disposition_of c.complete_and_recover-failed.result.0 c.revalidation_of-revalidation.result) (requests_of c.args.port x.b) met.0 (holding x.b table loans) now in
+    let now = holding c.resolve.new.self.book c.resolve.new.self.table.value c.resolve.new.kept in
+    let K : List Lending → Type 0 = λ loans. AreResolved (disposition_of c.complete_and_recover-failed.result.0 c.revalidation_of-revalidation.result) (requests_of c.args.port x.b) met.0 (holding x.b x.t loans) now in
     let W : Wanted → Type 0 = λ wanted. IsRevalidated wanted c.args.port c.args.port_error c.in-Ready.was x.next x.one (device c.revalidate_port-found.new.adapter) c.revalidate_port-found.result.0 in
     let wanted_is = (ap (λ (p : ServedPort). p.wanted) c.complete_and_recover-failed.ensures.rest ∙ sym h.port_is.wanted_is) in
     record {
@@ -125,17 +137,25 @@ restored g c s h =
       is_found = subst W wanted_is (c.revalidate_port-found.ensures.found c.args.port (restoring.token_of x));
       mode = c.revalidate_port-found.result.1;
       mode_is = c.revalidate_port-found.ensures.mode;
-      fresh = c.new-self.result;
-      usable = c.new-self.ensures.usable;
-      as_many = fresh_places g c;
-      free = c.new-self.ensures.free;
+      fresh = c.begin_anew.new.self.slots;
+      usable = c.begin_anew.ensures.unused.usable;
+      as_many = c.begin_anew.ensures.unused.places;
+      free = c.begin_anew.ensures.unused.free;
       revalidation = c.revalidation_of-revalidation.result;
       expects = c.revalidation_of-revalidation.ensures;
       now = now;
       later = met.0;
-      meets = subst (λ (loans : List Lending). K loans x.t) (same_kept g (at_mending g c) s h)
-          (subst (K c.complete_and_recover-failed.new.self.kept) c.deref_mut.ensures.value met.2);
+      meets = subst K (ap (λ (p : ServedPort). p.kept) c.begin_anew.ensures.fields ∙ same_kept g (at_mending g c) s h) met.2;
     }
+
+-- and it has what issuing asks
+lends_anew : (g : Over) (c : After-order_from-arg-1 g) (s : ServerState) (h : Has g (at_mending g c) s)
+    → HasFoundPort (restoring.then (recovered g (at_mending g c) s h) (restored g c s h)) (g.A.Adapter.device c.revalidate_port-found.new.adapter) c.resolve.new.self.book c.begin_anew.new.self.slots c.args.port c.begin_anew.new.self.mode c.begin_anew.new.self.found
+lends_anew g c s h =
+    let x = recovered g (at_mending g c) s h in
+    let y = restored g c s h in
+    let L : ServedPort → Type 0 = λ p. HasFoundPort (restoring.then x y) (g.A.Adapter.device c.revalidate_port-found.new.adapter) c.resolve.new.self.book p.slots c.args.port p.mode p.found in
+    subst L (sym (is_anew g c)) (restoring.lends_found x y)
 
 pub issue_where_ready-requires : goal.issue_where_ready-requires
 issue_where_ready-requires g c =
@@ -143,7 +163,7 @@ issue_where_ready-requires g c =
     let s = c.requires.sees.0 in
     let x = recovered g (at_mending g a) s c.requires.sees.1 in
     let y = restored g a s c.requires.sees.1 in
-    record { lends = (restoring.then x y, restoring.lends_found x y) }
+    record { lends = (restoring.then x y, lends_anew g a s c.requires.sees.1) }
 
 -- the port's error was handled, with as many replies as there were before they were put in order
 abbrev at_order : (g : Over) (c : After-issue_where_ready g) → After-order_from-arg-1 g
@@ -166,7 +186,7 @@ module _ (g : Over) (c : After-issue_where_ready g) (s : ServerState) (h : IsInE
         three = g.A.Adapter.device c.issue_where_ready.new.adapter;
         book = c.issue_where_ready.new.book;
         slots = c.issue_where_ready.new.self.slots;
-        issues = c.issue_where_ready.ensures.issues (restoring.then x y) (restoring.lends_found x y);
+        issues = c.issue_where_ready.ensures.issues (restoring.then x y) (lends_anew g (at_order g c) s h);
         all = c.resolve.new.replies.items;
         its = sorted.0;
         after = c.order_from.new.replies.items;
@@ -177,27 +197,29 @@ module _ (g : Over) (c : After-issue_where_ready g) (s : ServerState) (h : IsInE
       }
 
   abbrev shared : Shared
-  shared = record { table = with_value c.complete_and_recover-failed.new.shared.table c.resolve.new.table; book = c.issue_where_ready.new.book }
+  shared = record c.resolve.new.self { book = c.issue_where_ready.new.book }
 
   -- so it is with the port in its place
   placed : with_parts s (g.A.Adapter.device c.issue_where_ready.new.adapter) shared c.args.port c.issue_where_ready.new.self
       ≡ with_part (restoring.then x y) (g.A.Adapter.device c.issue_where_ready.new.adapter) c.issue_where_ready.new.book c.issue_where_ready.new.self.slots c.args.port
   placed =
       let three = g.A.Adapter.device c.issue_where_ready.new.adapter in
-      let wanted_is = ap (λ (p : ServedPort). p.wanted) c.issue_where_ready.ensures.rest ∙ ap (λ (p : ServedPort). p.wanted) c.complete_and_recover-failed.ensures.rest in
-      placing.with_other s c.args.port c.args.self.now h.port_is three shared c.issue_where_ready.new.self wanted_is
-      ∙ ap (λ (p : ServedPort). record s {
+      let wanted_is = ap (λ (p : ServedPort). p.wanted) c.issue_where_ready.ensures.rest ∙ ap (λ (p : ServedPort). p.wanted) (is_anew g (at_order g c)) ∙ ap (λ (p : ServedPort). p.wanted) c.complete_and_recover-failed.ensures.rest in
+      let P : List Lending → PortSlots → ServedPort → ServerState = λ kept slots p. record s {
         device = three;
-        table = c.resolve.new.table;
+        table = c.resolve.new.self.table.value;
         ports = set s.ports c.args.port.0 p.found;
         remembered = set s.remembered c.args.port.0 p.last_disk;
         modes = set s.modes c.args.port.0 p.mode;
-        slots = set s.slots c.args.port.0 p.slots;
-        kept = set s.kept c.args.port.0 p.kept;
+        slots = set s.slots c.args.port.0 slots;
+        kept = set s.kept c.args.port.0 kept;
         book = c.issue_where_ready.new.book;
-      }) c.issue_where_ready.ensures.rest
+      } in
+      placing.with_other s c.args.port c.args.self.now h.port_is three shared c.issue_where_ready.new.self wanted_is
+      ∙ ap (λ (p : ServedPort). P p.kept p.slots p) c.issue_where_ready.ensures.rest
+      ∙ ap (P c.resolve.new.kept c.issue_where_ready.new.self.slots) (is_anew g (at_order g c))
       ∙ ap (λ (list : List PortSlots). record (restoring.then x y) { device = three; slots = list; book = c.issue_where_ready.new.book })
-      (sym (set-set s.slots c.args.port.0 c.new-self.result c.issue_where_ready.new.self.slots))
+      (sym (set-set s.slots c.args.port.0 c.begin_anew.new.self.slots c.issue_where_ready.new.self.slots))
 
   handled : TakesTurn (HandlesPortErrorOf c.args.port c.args.port_error) c.args.replies.now.items c.order_from.new.replies.items s
       (with_parts s (g.A.Adapter.device c.issue_where_ready.new.adapter) shared c.args.port c.issue_where_ready.new.self)

@@ -8,10 +8,11 @@ use Rattle.request_queue.specs.Entries.{Held, IsAccepted, requeued_entry, withou
 use Rattle.request_queue.specs.Dispositions.{IsResolved, disposition_of, keeps_loan, reply_to}
 use Rattle.request_queue.specs.declared.PendingRequest.{PendingRequest}
 use Rattle.request_queue.specs.declared.disposition.Disposition.{Disposition}
+use Rattle.port_driver.specs.declared.served_port.Shared.{Shared}
 use Rattle.port_driver.specs.Dispositions.{HavePlaces, BookIsSound, holding}
 use Rattle.port_driver.proofs.Settling.{again, ends_back, ends_kept, kept_issued, left_each, may_go_again, places_kept, places_left, shorter, sound_back}
-use Rattle.port_driver.proofs.dispositions.resolve_one.Goals as goal
-use Rattle.port_driver.proofs.dispositions.resolve_one.Goals.{then-keeps_loan, else-keeps_loan}
+use Rattle.port_driver.proofs.served_port.Shared.resolve_one.Goals as goal
+use Rattle.port_driver.proofs.served_port.Shared.resolve_one.Goals.{then-keeps_loan, else-keeps_loan}
 
 -- what was taken out is the request's, with its frames
 whole : (taken request : Held) → taken ≡ request → record { entry = request.entry; frames = taken.frames } ≡ request
@@ -21,40 +22,40 @@ pub keep-requires : goal.keep-requires
 keep-requires c =
     let r = c.request-entry.ensures in
     let q = c.requires.here in
-    let same : r.0 ≡ q.0 = c.law_an_id_is_one_request.ensures.one c.args.book.now r.0 q.0 c.requires.sound.ordered r.1 q.1 (ap (λ (e : PendingRequest). e.id) r.2 ∙ r.3 ∙ sym q.2) in
+    let same : r.0 ≡ q.0 = c.law_an_id_is_one_request.ensures.one c.args.self.now.book r.0 q.0 c.requires.sound.ordered r.1 q.1 (ap (λ (e : PendingRequest). e.id) r.2 ∙ r.3 ∙ sym q.2) in
     q.3 (ap (λ (h : Held). h.entry.issued) (sym same) ∙ ap (λ (e : PendingRequest). e.issued) r.2 ∙ kept_issued c.in-Complete.outcome c.request-entry.result (sym c.keeps_loan.ensures ∙ c.if-keeps_loan.true))
 
 pub returns-in-Wait-clause-meets : goal.returns-in-Wait-clause-meets
 returns-in-Wait-clause-meets c = λ request here its.
     let r = c.request-entry.ensures in
-    let same : r.0 ≡ request = c.law_an_id_is_one_request.ensures.one c.args.book.now r.0 request c.requires.sound.ordered r.1 here (ap (λ (e : PendingRequest). e.id) r.2 ∙ r.3 ∙ sym its) in
+    let same : r.0 ≡ request = c.law_an_id_is_one_request.ensures.one c.args.self.now.book r.0 request c.requires.sound.ordered r.1 here (ap (λ (e : PendingRequest). e.id) r.2 ∙ r.3 ∙ sym its) in
     let entry : request.entry ≡ c.request-entry.result = ap (λ (h : Held). h.entry) (sym same) ∙ r.2 in
     let disposition = ap (disposition_of c.args.failed.now c.args.revalidation) entry ∙ sym c.disposition.ensures ∙ c.in-Wait.is in
-    let h = holding c.args.book.now c.args.table.now c.args.kept.now in
+    let h = holding c.args.self.now.book c.args.self.now.table.value c.args.kept.now in
     ([], sym (append-nil c.args.replies.now.items), subst (λ (f : Disposition). IsResolved request f [] h h) (sym disposition) (refl, refl))
 
 pub returns-in-Requeue-clause-meets : goal.returns-in-Requeue-clause-meets
 returns-in-Requeue-clause-meets c = λ request here its.
     let r = c.request-entry.ensures in
-    let same : r.0 ≡ request = c.law_an_id_is_one_request.ensures.one c.args.book.now r.0 request c.requires.sound.ordered r.1 here (ap (λ (e : PendingRequest). e.id) r.2 ∙ r.3 ∙ sym its) in
+    let same : r.0 ≡ request = c.law_an_id_is_one_request.ensures.one c.args.self.now.book r.0 request c.requires.sound.ordered r.1 here (ap (λ (e : PendingRequest). e.id) r.2 ∙ r.3 ∙ sym its) in
     let entry : request.entry ≡ c.request-entry.result = ap (λ (h : Held). h.entry) (sym same) ∙ r.2 in
     let disposition = ap (disposition_of c.args.failed.now c.args.revalidation) entry ∙ sym c.disposition.ensures ∙ c.in-Requeue.is in
-    let h = holding c.args.book.now c.args.table.now c.args.kept.now in
-    let n = holding c.requeue.new.self c.args.table.now c.args.kept.now in
-    ([], sym (append-nil c.args.replies.now.items), subst (λ (f : Disposition). IsResolved request f [] h n) (sym disposition) (refl, again c.args.id request.entry.id c.args.book.now c.requeue.new.self c.args.table.now c.args.kept.now its c.requeue.ensures))
+    let h = holding c.args.self.now.book c.args.self.now.table.value c.args.kept.now in
+    let n = holding c.requeue.new.self c.args.self.now.table.value c.args.kept.now in
+    ([], sym (append-nil c.args.replies.now.items), subst (λ (f : Disposition). IsResolved request f [] h n) (sym disposition) (refl, again c.args.id request.entry.id c.args.self.now.book c.requeue.new.self c.args.self.now.table.value c.args.kept.now its c.requeue.ensures))
 
 pub returns-after-keeps_loan-clause-meets : goal.returns-after-keeps_loan-clause-meets
 returns-after-keeps_loan-clause-meets c = λ request here its.
     let r = c.request-entry.ensures in
-    let one = c.law_an_id_is_one_request.ensures.one c.args.book.now in
+    let one = c.law_an_id_is_one_request.ensures.one c.args.self.now.book in
     let same : r.0 ≡ request = one r.0 request c.requires.sound.ordered r.1 here (ap (λ (e : PendingRequest). e.id) r.2 ∙ r.3 ∙ sym its) in
     let entry : request.entry ≡ c.request-entry.result = ap (λ (h : Held). h.entry) (sym same) ∙ r.2 in
     let outcome = c.in-Complete.outcome in
     let disposition = ap (disposition_of c.args.failed.now c.args.revalidation) entry ∙ sym c.disposition.ensures ∙ c.in-Complete.is in
     let keeps = ap (keeps_loan outcome) entry ∙ sym c.keeps_loan.ensures in
     let reply : record { id = c.args.id; client = c.request-entry.result.client; outcome = outcome } ≡ reply_to request outcome = (λ i. record { id = sym its i; client = ap (λ (e : PendingRequest). e.client) (sym entry) i; outcome = outcome }) in
-    let named = ap (λ (i : RequestId). without_entry i c.args.book.now) (sym its) in
-    let table = c.if-keeps_loan.table in
+    let named = ap (λ (i : RequestId). without_entry i c.args.self.now.book) (sym its) in
+    let table = c.if-keeps_loan.self.table.value in
     let kept = c.if-keeps_loan.kept in (
       reply_to request outcome ∷ [],
       c.push.ensures.items ∙ ap (λ (x : Reply). c.args.replies.now.items ++ x ∷ []) reply,
@@ -63,45 +64,45 @@ returns-after-keeps_loan-clause-meets c = λ request here its.
             let loan = w.answer-loan.result.1 in
             let taken : Held = record { entry = w.answer-loan.result.0; frames = loan.frames } in
             let left : taken ≡ request = one taken request c.requires.sound.ordered w.answer-loan.ensures.entry here (w.answer-loan.ensures.id.0 ∙ sym its) in
-            ends_kept request outcome c.args.book.now c.if-keeps_loan.book c.args.table.now table c.args.kept.now kept loan (whole taken request left) (w.answer-loan.ensures.id.1 ∙ sym its)
-            (w.book-is ∙ w.answer-loan.ensures.rest ∙ named) (disposition_of c.args.failed.now c.args.revalidation request.entry) disposition (keeps ∙ w.if-keeps_loan.true) (w.kept-is ∙ w.keep.ensures) w.table-is
+            ends_kept request outcome c.args.self.now.book c.if-keeps_loan.self.book c.args.self.now.table.value table c.args.kept.now kept loan (whole taken request left) (w.answer-loan.ensures.id.1 ∙ sym its)
+            ((ap (λ (x : Shared). x.book) w.self-is) ∙ w.answer-loan.ensures.rest ∙ named) (disposition_of c.args.failed.now c.args.revalidation request.entry) disposition (keeps ∙ w.if-keeps_loan.true) (w.kept-is ∙ w.keep.ensures) (ap (λ (x : Shared). x.table.value) w.self-is)
         | else-keeps_loan w ↦
             let e = w.release.ensures.entry in
             let left : e.0 ≡ request = one e.0 request c.requires.sound.ordered e.1 here (ap (λ (x : PendingRequest). x.id) e.2 ∙ e.3 ∙ sym its) in
             let loan : Lending = record { frames = e.0.frames; request = request.entry.id } in
-            ends_back request outcome c.args.book.now c.if-keeps_loan.book c.args.table.now table c.args.kept.now kept loan (whole e.0 request left) refl
-            (w.book-is ∙ w.release.ensures.rest ∙ named) (disposition_of c.args.failed.now c.args.revalidation request.entry) disposition (keeps ∙ w.if-keeps_loan.false) w.kept-is
-            (subst (λ (table : Table). LendsOnly c.args.table.now table loan.frames None) (sym w.table-is) e.4)
+            ends_back request outcome c.args.self.now.book c.if-keeps_loan.self.book c.args.self.now.table.value table c.args.kept.now kept loan (whole e.0 request left) refl
+            ((ap (λ (x : Shared). x.book) w.self-is) ∙ w.release.ensures.rest ∙ named) (disposition_of c.args.failed.now c.args.revalidation request.entry) disposition (keeps ∙ w.if-keeps_loan.false) w.kept-is
+            (subst (λ (old : Table). LendsOnly old c.if-keeps_loan.self.table.value loan.frames None) w.deref_mut.ensures.value (subst (λ (table : Table). LendsOnly w.deref_mut.result.now table loan.frames None) (sym (ap (λ (x : Shared). x.table.value) w.self-is)) e.4))
       ],
     )
 
 pub returns-in-Requeue-clause-others : goal.returns-in-Requeue-clause-others
 returns-in-Requeue-clause-others c = λ e here ne.
-    subst (λ (book : List Held). Contains book e) (sym c.requeue.ensures) (c.law_operations_change_one_request.ensures.others c.args.book.now c.args.id requeued_entry e here ne)
+    subst (λ (book : List Held). Contains book e) (sym c.requeue.ensures) (c.law_operations_change_one_request.ensures.others c.args.self.now.book c.args.id requeued_entry e here ne)
 
 pub returns-in-Requeue-clause-sound : goal.returns-in-Requeue-clause-sound
 returns-in-Requeue-clause-sound c =
     let r = c.request-entry.ensures in
     let sound = c.requires.sound in
-    let its = may_go_again c.args.failed.now c.args.revalidation r.0 c.args.book.now sound.ordered r.1
+    let its = may_go_again c.args.failed.now c.args.revalidation r.0 c.args.self.now.book sound.ordered r.1
     (ap (disposition_of c.args.failed.now c.args.revalidation) r.2 ∙ sym c.disposition.ensures ∙ c.in-Requeue.is) in
-    subst (BookIsSound c.args.table.now) (sym c.requeue.ensures) (record {
-      ordered = c.law_the_book_stays_in_order.ensures.requeued c.args.book.now c.args.id sound.ordered (r.0, r.1, ap (λ (e : PendingRequest). e.id) r.2 ∙ r.3, its.0, its.1);
-      accepted = c.law_accepted_requests_stay.ensures.requeued c.args.table.now c.args.book.now c.args.id sound.accepted;
+    subst (BookIsSound c.args.self.now.table.value) (sym c.requeue.ensures) (record {
+      ordered = c.law_the_book_stays_in_order.ensures.requeued c.args.self.now.book c.args.id sound.ordered (r.0, r.1, ap (λ (e : PendingRequest). e.id) r.2 ∙ r.3, its.0, its.1);
+      accepted = c.law_accepted_requests_stay.ensures.requeued c.args.self.now.table.value c.args.self.now.book c.args.id sound.accepted;
     })
 
 pub returns-after-keeps_loan-clause-others : goal.returns-after-keeps_loan-clause-others
 returns-after-keeps_loan-clause-others c = λ e here ne.
-    let left = (c.law_operations_change_one_request.ensures.answered c.args.book.now c.args.id e).1 (here, ne) in
+    let left = (c.law_operations_change_one_request.ensures.answered c.args.self.now.book c.args.id e).1 (here, ne) in
     elim c.if-keeps_loan.branch [
-      | then-keeps_loan w ↦ subst (λ (book : List Held). Contains book e) (sym (w.book-is ∙ w.answer-loan.ensures.rest)) left
-      | else-keeps_loan w ↦ subst (λ (book : List Held). Contains book e) (sym (w.book-is ∙ w.release.ensures.rest)) left
+      | then-keeps_loan w ↦ subst (λ (book : List Held). Contains book e) (sym ((ap (λ (x : Shared). x.book) w.self-is) ∙ w.answer-loan.ensures.rest)) left
+      | else-keeps_loan w ↦ subst (λ (book : List Held). Contains book e) (sym ((ap (λ (x : Shared). x.book) w.self-is) ∙ w.release.ensures.rest)) left
     ]
 
 pub returns-after-keeps_loan-clause-places : goal.returns-after-keeps_loan-clause-places
 returns-after-keeps_loan-clause-places c = λ request rest here its places.
     let r = c.request-entry.ensures in
-    let same : r.0 ≡ request = c.law_an_id_is_one_request.ensures.one c.args.book.now r.0 request c.requires.sound.ordered r.1 here (ap (λ (e : PendingRequest). e.id) r.2 ∙ r.3 ∙ sym its) in
+    let same : r.0 ≡ request = c.law_an_id_is_one_request.ensures.one c.args.self.now.book r.0 request c.requires.sound.ordered r.1 here (ap (λ (e : PendingRequest). e.id) r.2 ∙ r.3 ∙ sym its) in
     let entry : request.entry ≡ c.request-entry.result = ap (λ (h : Held). h.entry) (sym same) ∙ r.2 in
     let keeps = ap (keeps_loan c.in-Complete.outcome) entry ∙ sym c.keeps_loan.ensures in
     elim c.if-keeps_loan.branch [
@@ -113,17 +114,17 @@ returns-after-keeps_loan-clause-places c = λ request rest here its places.
 pub returns-after-keeps_loan-clause-sound : goal.returns-after-keeps_loan-clause-sound
 returns-after-keeps_loan-clause-sound c =
     let sound = c.requires.sound in
-    let left = c.law_operations_change_one_request.ensures.answered c.args.book.now c.args.id in
-    let ordered = c.law_the_book_stays_in_order.ensures.answered c.args.book.now c.args.id sound.ordered in
+    let left = c.law_operations_change_one_request.ensures.answered c.args.self.now.book c.args.id in
+    let ordered = c.law_the_book_stays_in_order.ensures.answered c.args.self.now.book c.args.id sound.ordered in
     elim c.if-keeps_loan.branch [
-      | then-keeps_loan w ↦ subst (λ (table : Table). BookIsSound table c.if-keeps_loan.book) (sym w.table-is) (subst (BookIsSound c.args.table.now) (sym (w.book-is ∙ w.answer-loan.ensures.rest)) (record {
+      | then-keeps_loan w ↦ subst (λ (table : Table). BookIsSound table c.if-keeps_loan.self.book) (sym (ap (λ (x : Shared). x.table.value) w.self-is)) (subst (BookIsSound c.args.self.now.table.value) (sym ((ap (λ (x : Shared). x.book) w.self-is) ∙ w.answer-loan.ensures.rest)) (record {
         ordered = ordered;
-        accepted = left_each c.args.id c.args.book.now left (IsAccepted c.args.table.now) sound.accepted;
+        accepted = left_each c.args.id c.args.self.now.book left (IsAccepted c.args.self.now.table.value) sound.accepted;
       }))
       | else-keeps_loan w ↦
           let e = w.release.ensures.entry in
-          subst (λ (table : Table). BookIsSound table c.if-keeps_loan.book) (sym w.table-is)
-          (sound_back c.args.id c.args.book.now c.if-keeps_loan.book e.0 c.args.table.now w.release.new.table c.law_accepted_requests_stay.ensures.answered ordered sound.accepted e.1 (ap (λ (x : PendingRequest). x.id) e.2 ∙ e.3) e.4 (w.book-is ∙ w.release.ensures.rest))
+          subst (λ (table : Table). BookIsSound table c.if-keeps_loan.self.book) (sym (ap (λ (x : Shared). x.table.value) w.self-is))
+          (sound_back c.args.id c.args.self.now.book c.if-keeps_loan.self.book e.0 c.args.self.now.table.value w.release.new.table c.law_accepted_requests_stay.ensures.answered ordered sound.accepted e.1 (ap (λ (x : PendingRequest). x.id) e.2 ∙ e.3) (subst (λ (old : Table). LendsOnly old w.release.new.table e.0.frames None) w.deref_mut.ensures.value e.4) ((ap (λ (x : Shared). x.book) w.self-is) ∙ w.release.ensures.rest))
     ]
 
 pub returns-after-keeps_loan-clause-room : goal.returns-after-keeps_loan-clause-room
@@ -132,6 +133,6 @@ returns-after-keeps_loan-clause-room c =
     let r = c.requires.room in
     let q = c.requires.here in
     elim c.if-keeps_loan.branch [
-      | then-keeps_loan w ↦ let f = shorter c.args.id c.args.book.now c.if-keeps_loan.book q.0 q.1 q.2 (w.book-is ∙ w.answer-loan.ensures.rest) in omega (arith, n, r, f)
-      | else-keeps_loan w ↦ let f = shorter c.args.id c.args.book.now c.if-keeps_loan.book q.0 q.1 q.2 (w.book-is ∙ w.release.ensures.rest) in omega (arith, n, r, f)
+      | then-keeps_loan w ↦ let f = shorter c.args.id c.args.self.now.book c.if-keeps_loan.self.book q.0 q.1 q.2 ((ap (λ (x : Shared). x.book) w.self-is) ∙ w.answer-loan.ensures.rest) in omega (arith, n, r, f)
+      | else-keeps_loan w ↦ let f = shorter c.args.id c.args.self.now.book c.if-keeps_loan.self.book q.0 q.1 q.2 ((ap (λ (x : Shared). x.book) w.self-is) ∙ w.release.ensures.rest) in omega (arith, n, r, f)
     ]

@@ -7,12 +7,12 @@ use Rattle.request_queue.specs.Entries.{Held, is_of}
 use Rattle.request_queue.specs.Dispositions.{disposition_of}
 use Rattle.port_driver.specs.Dispositions.{HavePlaces, holding}
 use Rattle.port_driver.proofs.Settling as settling
-use Rattle.port_driver.proofs.dispositions.resolve.Goals as goal
+use Rattle.port_driver.proofs.served_port.Shared.resolve.Goals as goal
 
 pub loop-place-init : goal.loop-place-init
 loop-place-init c = (
-  settling.begins (disposition_of c.args.failed.now c.args.revalidation) (filter (λ (e : Held). is_of c.args.port e.entry) c.args.book.now) (holding c.args.book.now c.args.table.now c.args.kept.now) c.args.replies.now.items
-      (settling.of_book (is_of c.args.port) c.args.book.now) (settling.passing_ordered (is_of c.args.port) c.args.book.now c.requires.sound.ordered) c.requires.sound c.requires.room,
+  settling.begins (disposition_of c.args.failed.now c.args.revalidation) (filter (λ (e : Held). is_of c.args.port e.entry) c.args.self.now.book) (holding c.args.self.now.book c.args.self.now.table.value c.args.kept.now) c.args.replies.now.items
+      (settling.of_book (is_of c.args.port) c.args.self.now.book) (settling.passing_ordered (is_of c.args.port) c.args.self.now.book c.requires.sound.ordered) c.requires.sound c.requires.room,
   c.requires.places,
 )
 
@@ -21,8 +21,8 @@ resolve_one-requires-clause-sound c = c.loop-place.invariant.0.sound
 
 pub resolve_one-requires-clause-here : goal.resolve_one-requires-clause-here
 resolve_one-requires-clause-here c =
-    let all = filter (λ (e : Held). is_of c.args.port e.entry) c.args.book.now in
-    let n = settling.next_of all c.loop-place.place (settling.as_many (is_of c.args.port) c.args.book.now c.ids_of-ids.result.items c.loop-place.place c.len-place-end.result c.ids_of-ids.ensures c.len-place-end.ensures.value c.loop-place-test.true) in
+    let all = filter (λ (e : Held). is_of c.args.port e.entry) c.args.self.now.book in
+    let n = settling.next_of all c.loop-place.place (settling.as_many (is_of c.args.port) c.args.self.now.book c.ids_of-ids.result.items c.loop-place.place c.len-place-end.result c.ids_of-ids.ensures c.len-place-end.ensures.value c.loop-place-test.true) in
     let f = c.loop-place.invariant.0 in (
       n.0,
       f.here n.0 (subst (λ (list : List Held). Contains list n.0) (sym n.1) (Contains-get_or (n.0 ∷ drop (c.loop-place.place + 1) all) 0 n.0 (omega arith))),
@@ -36,13 +36,13 @@ resolve_one-requires-clause-room c = c.loop-place.invariant.0.room
 pub loop-place-preserved : goal.loop-place-preserved
 loop-place-preserved c =
     let port = c.args.port in
-    let all = filter (λ (e : Held). is_of port e.entry) c.args.book.now in
-    let start = holding c.args.book.now c.args.table.now c.args.kept.now in
-    let now = holding c.loop-place.book c.loop-place.table c.loop-place.kept in
-    let new = holding c.resolve_one.new.book c.resolve_one.new.table c.resolve_one.new.kept in
+    let all = filter (λ (e : Held). is_of port e.entry) c.args.self.now.book in
+    let start = holding c.args.self.now.book c.args.self.now.table.value c.args.kept.now in
+    let now = holding c.loop-place.self.book c.loop-place.self.table.value c.loop-place.kept in
+    let new = holding c.resolve_one.new.self.book c.resolve_one.new.self.table.value c.resolve_one.new.kept in
     let disposition = disposition_of c.args.failed.now c.args.revalidation in
     let left = drop (c.loop-place.place + 1) all in
-    let n = settling.next_of all c.loop-place.place (settling.as_many (is_of port) c.args.book.now c.ids_of-ids.result.items c.loop-place.place c.len-place-end.result c.ids_of-ids.ensures c.len-place-end.ensures.value c.loop-place-test.true) in
+    let n = settling.next_of all c.loop-place.place (settling.as_many (is_of port) c.args.self.now.book c.ids_of-ids.result.items c.loop-place.place c.len-place-end.result c.ids_of-ids.ensures c.len-place-end.ensures.value c.loop-place-test.true) in
     let f : settling.SoFar disposition all start c.args.replies.now.items (n.0 ∷ left) now c.loop-place.replies.items =
     subst (λ (list : List Held). settling.SoFar disposition all start c.args.replies.now.items list now c.loop-place.replies.items) n.1 c.loop-place.invariant.0 in
     let here = f.here n.0 (Contains-get_or (n.0 ∷ left) 0 n.0 (omega arith)) in
@@ -55,13 +55,13 @@ loop-place-preserved c =
 
 pub returns-clause-meet : goal.returns-clause-meet
 returns-clause-meet c =
-    let all = filter (λ (e : Held). is_of c.args.port e.entry) c.args.book.now in
+    let all = filter (λ (e : Held). is_of c.args.port e.entry) c.args.self.now.book in
     let disposition = disposition_of c.args.failed.now c.args.revalidation in
-    let start = holding c.args.book.now c.args.table.now c.args.kept.now in
-    let now = holding c.loop-place.book c.loop-place.table c.loop-place.kept in
+    let start = holding c.args.self.now.book c.args.self.now.table.value c.args.kept.now in
+    let now = holding c.loop-place.self.book c.loop-place.self.table.value c.loop-place.kept in
     settling.ends disposition all start c.args.replies.now.items now c.loop-place.replies.items
     (subst (λ (list : List Held). settling.SoFar disposition all start c.args.replies.now.items list now c.loop-place.replies.items)
-    (drop_all c.loop-place.place all (settling.no_more (is_of c.args.port) c.args.book.now c.ids_of-ids.result.items c.loop-place.place c.len-place-end.result c.ids_of-ids.ensures c.len-place-end.ensures.value c.loop-place-test.false)) c.loop-place.invariant.0)
+    (drop_all c.loop-place.place all (settling.no_more (is_of c.args.port) c.args.self.now.book c.ids_of-ids.result.items c.loop-place.place c.len-place-end.result c.ids_of-ids.ensures c.len-place-end.ensures.value c.loop-place-test.false)) c.loop-place.invariant.0)
 
 pub returns-clause-sound : goal.returns-clause-sound
 returns-clause-sound c = c.loop-place.invariant.0.sound

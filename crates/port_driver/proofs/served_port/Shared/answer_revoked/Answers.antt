@@ -1,46 +1,47 @@
-use Rattle.std.proofs.Common.{◌≡◌, ◌++◌, List, [], ◌∷◌, refl, sym, ap, ◌∙◌, subst, arith}
+use Rattle.std.proofs.Common.{◌≡◌, ◌++◌, List, [], ◌∷◌, None, refl, sym, ap, ◌∙◌, subst, arith}
 use Rattle.std.specs.List.{Contains}
 use Rattle.ata_types.specs.declared.request.Outcome.TheVariants.{Revoked}
 use Rattle.ata_types.specs.declared.request.Reply.{Reply}
 use Rattle.ata_types.specs.declared.request.RequestId.{RequestId}
 use Rattle.request_queue.specs.Entries.{Held, without_entry}
 use Rattle.dma_frames.specs.Loan.{Lending}
+use Rattle.dma_frames.specs.Table.{LendsOnly, Table}
 use Rattle.request_queue.specs.Dispositions.{reply_to}
 use Rattle.request_queue.specs.declared.PendingRequest.{PendingRequest}
 use Rattle.request_queue.specs.declared.disposition.Disposition.TheVariants.{Complete}
 use Rattle.port_driver.proofs.Settling.{ends_back, shorter, sound_back}
-use Rattle.port_driver.proofs.dispositions.answer_revoked.Goals as goal
+use Rattle.port_driver.proofs.served_port.Shared.answer_revoked.Goals as goal
 
 pub returns-clause-meets : goal.returns-clause-meets
 returns-clause-meets c = λ request kept here its.
     let it = c.release-entry in
     let e = it.ensures.entry in
     let named = ap (λ (r : PendingRequest). r.id) e.2 ∙ e.3 in
-    let left : e.0 ≡ request = c.law_an_id_is_one_request.ensures.one c.args.book.now e.0 request c.requires.sound.ordered e.1 here (named ∙ sym its) in
+    let left : e.0 ≡ request = c.law_an_id_is_one_request.ensures.one c.args.self.now.book e.0 request c.requires.sound.ordered e.1 here (named ∙ sym its) in
     let loan : Lending = record { frames = e.0.frames; request = request.entry.id } in
     let whole : record { entry = request.entry; frames = loan.frames } ≡ request = (λ i. record { entry = ap (λ (h : Held). h.entry) (sym left) i; frames = e.0.frames }) ∙ left in
     let client = sym (ap (λ (r : PendingRequest). r.client) e.2) ∙ ap (λ (h : Held). h.entry.client) left in
     let reply : record { id = c.args.id; client = it.result.client; outcome = Revoked } ≡ reply_to request Revoked = (λ i. record { id = sym its i; client = client i; outcome = Revoked }) in (
       reply_to request Revoked ∷ [],
       c.push.ensures.items ∙ ap (λ (x : Reply). c.args.replies.now.items ++ x ∷ []) reply,
-      ends_back request Revoked c.args.book.now it.new.self c.args.table.now it.new.table kept kept loan whole refl
-          (it.ensures.rest ∙ ap (λ (i : RequestId). without_entry i c.args.book.now) (sym its)) (Complete Revoked) refl refl refl e.4,
+      ends_back request Revoked c.args.self.now.book it.new.self c.args.self.now.table.value it.new.table kept kept loan whole refl
+          (it.ensures.rest ∙ ap (λ (i : RequestId). without_entry i c.args.self.now.book) (sym its)) (Complete Revoked) refl refl refl (subst (λ (old : Table). LendsOnly old it.new.table e.0.frames None) c.deref_mut.ensures.value e.4),
     )
 
 pub returns-clause-others : goal.returns-clause-others
-returns-clause-others c = λ e here ne. subst (λ (book : List Held). Contains book e) (sym c.release-entry.ensures.rest) ((c.law_operations_change_one_request.ensures.answered c.args.book.now c.args.id e).1 (here, ne))
+returns-clause-others c = λ e here ne. subst (λ (book : List Held). Contains book e) (sym c.release-entry.ensures.rest) ((c.law_operations_change_one_request.ensures.answered c.args.self.now.book c.args.id e).1 (here, ne))
 
 pub returns-clause-sound : goal.returns-clause-sound
 returns-clause-sound c =
     let it = c.release-entry in
     let e = it.ensures.entry in
-    sound_back c.args.id c.args.book.now it.new.self e.0 c.args.table.now it.new.table c.law_accepted_requests_stay.ensures.answered
-    (c.law_the_book_stays_in_order.ensures.answered c.args.book.now c.args.id c.requires.sound.ordered) c.requires.sound.accepted e.1 (ap (λ (r : PendingRequest). r.id) e.2 ∙ e.3) e.4 it.ensures.rest
+    sound_back c.args.id c.args.self.now.book it.new.self e.0 c.args.self.now.table.value it.new.table c.law_accepted_requests_stay.ensures.answered
+    (c.law_the_book_stays_in_order.ensures.answered c.args.self.now.book c.args.id c.requires.sound.ordered) c.requires.sound.accepted e.1 (ap (λ (r : PendingRequest). r.id) e.2 ∙ e.3) (subst (λ (old : Table). LendsOnly old it.new.table e.0.frames None) c.deref_mut.ensures.value e.4) it.ensures.rest
 
 pub returns-clause-room : goal.returns-clause-room
 returns-clause-room c =
     let n = c.push.ensures.len in
     let r = c.requires.room in
     let e = c.release-entry.ensures.entry in
-    let f = shorter c.args.id c.args.book.now c.release-entry.new.self e.0 e.1 (ap (λ (r : PendingRequest). r.id) e.2 ∙ e.3) c.release-entry.ensures.rest in
+    let f = shorter c.args.id c.args.self.now.book c.release-entry.new.self e.0 e.1 (ap (λ (r : PendingRequest). r.id) e.2 ∙ e.3) c.release-entry.ensures.rest in
     omega (arith, n, r, f)
