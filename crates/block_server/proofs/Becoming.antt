@@ -1,8 +1,8 @@
 -- Four ports become others, one after another: what the server then has by port.
-use Rattle.std.proofs.Common.{ℕ, ◌≡◌, ◌≢◌, ◌+◌, ◌/◌, ◌%◌, ◌<◌, ◌≤◌, List, None, length, map, set, refl, sym, ap, ◌∙◌, subst, arith, ⊎_elim}
+use Rattle.std.proofs.Common.{ℕ, ◌≡◌, ◌≢◌, ◌+◌, ◌/◌, ◌%◌, ◌<◌, ◌≤◌, List, None, get_or, length, map, set, refl, sym, ap, ◌∙◌, subst, arith, ⊎_elim}
 use Rattle.std.proofs.Math.ListN.{get_or-eq_default, get_or-map}
 use Rattle.std.proofs.lemmas.Bool.{cases_eq, cases_lt}
-use Rattle.std.proofs.lemmas.List.{ext_get_or, get_or-set_other, get_or-set_same, length-map, length-set}
+use Rattle.std.proofs.lemmas.List.{ext_get_or, get_or_default, get_or-set_other, get_or-set_same, length-map, length-set}
 use Rattle.adapter.specs.Device.{Device}
 use Rattle.block_machine.specs.declared.due.QueueMode.{QueueMode}
 use Rattle.dma_frames.specs.Loan.{Lending}
@@ -36,8 +36,8 @@ module _ (Such : ℕ → ServedPort → ServedPort → Type 0) (old : List Serve
   none_yet four = record { four = four; done = λ number low. absurd (omega (arith, low)); left = λ number more. refl }
 
   module _ (now : List ServedPort) (count : ℕ) (so_far : BecomesSoFar Such old now count) where
-    pub one_more : count < 4 → (p : ServedPort) → Such count (port_in old count) p → BecomesSoFar Such old (set now count p) (count + 1)
-    one_more low p such = record {
+    pub one_more : count < 4 → (default p : ServedPort) → Such count (get_or now count default) p → BecomesSoFar Such old (set now count p) (count + 1)
+    one_more low default p becomes = record {
       four = length-set now count p ∙ so_far.four;
       done = λ number below. ⊎_elim
           (λ (same : number ≡ count). subst (λ (n : ℕ). Such n (port_in old n) (port_in (set now count p) n)) (sym same)
@@ -47,6 +47,9 @@ module _ (Such : ℕ → ServedPort → ServedPort → Type 0) (old : List Serve
           (cases_eq number count);
       left = λ number more. get_or-set_other now count number p no_port (λ same. omega (arith, more, same)) ∙ so_far.left number (omega (arith, more));
     }
+      where
+        such : Such count (port_in old count) p
+        such = subst (λ (q : ServedPort). Such count q p) (get_or_default now count default no_port (let four = so_far.four in omega (arith, four, low)) ∙ so_far.left count (omega arith)) becomes
 
     pub all_become : 4 ≤ count → EachBecomes Such old now
     all_become all = record { four = so_far.four; each = λ number low. so_far.done number (omega (arith, all, low)) }

@@ -1,5 +1,5 @@
 -- A server's port, and what it shares with the others, as they are lent to what drives the port (this project's own).
-use Rattle.std.specs.Prelude.{ℕ, ◌≡◌, ◌+◌, ◌++◌, List, [], None, slice_set}
+use Rattle.std.specs.Prelude.{ℕ, ◌≡◌, ◌++◌, List, [], None, slice_set}
 use Rattle.ata_types.specs.declared.Port.{Port}
 use Rattle.ata_types.specs.declared.request.Reply.{Reply}
 use Rattle.adapter.specs.Device.{Device}
@@ -90,8 +90,7 @@ no_port = record {
   kept = [];
 }
 
--- A port that was found to be this once its adapter was taken over again, or didn't end a reset: its disk is
--- remembered, and no slot of it is used.
+-- the port was found to be this: the disk that it was last ready with is remembered, and no slot of it is used
 pub record IsFoundAnew (found : ProbeResult) (mode : QueueMode) (old new : ServedPort) : Type 0 where
   pub unused : AreUnused mode new.slots
   pub fields : new ≡ record old {

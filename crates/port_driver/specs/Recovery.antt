@@ -1,5 +1,5 @@
 -- A port's part of a server, as it is lent to what handles its error (this project's own).
-use Rattle.std.specs.Prelude.{ℕ, Bool, ◌≡◌, ◌≤◌, ◌++◌, List, Option, None, Some, map}
+use Rattle.std.specs.Prelude.{◌≡◌, ◌++◌, List, Option, None, Some, map}
 use Rattle.ata_types.specs.declared.Port.{Port}
 use Rattle.ata_types.specs.declared.PortState.TheVariants.{Ready}
 use Rattle.ata_types.specs.declared.request.Reply.{Reply}

@@ -1,12 +1,11 @@
 use Rattle.std.proofs.Common.{ℕ, ◌≡◌, ◌+◌, ◌/◌, ◌%◌, ◌∙◌, ap, sym, get_or, subst, arith}
-use Rattle.std.proofs.lemmas.List.{get_or_default}
 use Rattle.block_machine.specs.declared.due.QueueMode.{QueueMode}
 use Rattle.hba_regs.specs.Bits.{bit}
 use Rattle.host_boot.specs.Taken.{probe_result_of}
 use Rattle.host_boot.specs.declared.Host.{Host}
 use Rattle.server_history.specs.Server.{mode_found}
-use Rattle.port_driver.specs.Parts.{IsFoundAnew, no_port}
-use Rattle.block_server.specs.FourPorts.{IsTakenAnew, port_in}
+use Rattle.port_driver.specs.Parts.{IsFoundAnew}
+use Rattle.block_server.specs.FourPorts.{IsTakenAnew}
 use Rattle.port_driver.specs.declared.served_port.ServedPort.{ServedPort}
 use Rattle.block_server.proofs.Becoming.{all_become, none_yet, one_more}
 use Rattle.block_server.proofs.resetting.begin_anew.Goals as goal
@@ -29,12 +28,9 @@ loop-number-preserved c =
     let so_far = c.loop-number.invariant in
     let number = c.loop-number.number in
     let low = c.loop-number-test.true in
-    let there : get_or c.loop-number.ports number _ ≡ port_in c.args.ports.now number =
-    get_or_default c.loop-number.ports number c.index-ports-number.result no_port (let four = so_far.four in omega (arith, four, low)) ∙ so_far.left number (omega arith) in
-    let mode = c.mode_of-mode.result in
-    one_more (IsTakenAnew c.args.host.now) c.args.ports.now c.loop-number.ports number so_far low c.begin_anew.new.self
-    (taken c.args.host.now number (port_in c.args.ports.now number) c.begin_anew.new.self mode
-    (subst (λ (p : ServedPort). IsFoundAnew (probe_result_of c.args.host.now.ports number) mode p c.begin_anew.new.self) there c.begin_anew.ensures) c.mode_of-mode.ensures.found)
+    let default = c.index-ports-number.result in
+    one_more (IsTakenAnew c.args.host.now) c.args.ports.now c.loop-number.ports number so_far low default c.begin_anew.new.self
+    (taken c.args.host.now number (get_or c.loop-number.ports number default) c.begin_anew.new.self c.mode_of-mode.result c.begin_anew.ensures c.mode_of-mode.ensures.found)
 
 pub returns : goal.returns
 returns c = all_become (IsTakenAnew c.args.host.now) c.args.ports.now c.loop-number.ports c.loop-number.number c.loop-number.invariant (let past = c.loop-number-test.false in omega (arith, past))

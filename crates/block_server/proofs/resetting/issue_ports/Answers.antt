@@ -5,7 +5,7 @@ use Rattle.std.proofs.Math.Seq.{map-set_same}
 use Rattle.refinement.specs.Relation.{port_at}
 use Rattle.host_boot.specs.Taken.{probe_result_of}
 use Rattle.host_boot.specs.declared.ProbeResult.{ProbeResult}
-use Rattle.port_driver.specs.Parts.{HasParts, no_port, with_parts}
+use Rattle.port_driver.specs.Parts.{HasParts, no_port}
 use Rattle.block_server.specs.FourPorts.{found_by_port, with_ports}
 use Rattle.port_driver.specs.Ports.{with_part}
 use Rattle.port_driver.specs.declared.served_port.ServedPort.{ServedPort}

@@ -1,10 +1,9 @@
 use Rattle.std.proofs.Common.{Bool, true, false, ◌≡◌, List, None, Some, refl, sym, ap, ◌∙◌, subst, arith, get_or, set, [], ⊎_elim}
 use Rattle.ata_types.specs.declared.grant.GrantRow.{GrantRow}
 use Rattle.block_machine.specs.Events.{RevokeOf, WasRevoked}
-use Rattle.dma_frames.specs.Table.{Table}
 use Rattle.block_machine.specs.Due.{due_of}
 use Rattle.block_machine.specs.declared.due.QueueMode.{QueueMode}
-use Rattle.request_queue.specs.Entries.{Held, all_marked_under, asks_of}
+use Rattle.request_queue.specs.Entries.{all_marked_under, asks_of}
 use Rattle.server_history.specs.Histories.{ExtendsSettled, ExtendsHistory, ExtendsStuck, InvariantBy}
 use Rattle.server_history.specs.Revoked.{RevokesGrant}
 use Rattle.server_history.specs.Served.{IssuesAll}

@@ -1,16 +1,10 @@
-use Rattle.std.proofs.Common.{◌≡◌, ◌<◌, ◌++◌, Bool, false, List, append_assoc, arith, get_or, length, set, refl, sym, ap, ◌∙◌, subst}
-use Rattle.std.proofs.lemmas.List.{length-map, length-set}
+use Rattle.std.proofs.Common.{◌≡◌, Bool, false, List, arith, length, refl, sym, ap, ◌∙◌, subst}
+use Rattle.std.proofs.lemmas.List.{length-map}
 use Rattle.ata_types.specs.declared.request.Reply.{Reply}
-use Rattle.refinement.specs.Relation.{port_at}
-use Rattle.port_driver.specs.Parts.{IsSettledWith, TakesTurn, TurnInService}
-use Rattle.block_server.specs.FourPorts.{with_ports}
 use Rattle.block_server.specs.Seen.{seen}
 use Rattle.block_server.specs.View.{ServerView, server_of}
 use Rattle.port_driver.specs.declared.served_port.ServedPort.{ServedPort}
-use Rattle.host_boot.specs.Taken.{probe_result_of}
-use Rattle.host_boot.specs.declared.ProbeResult.{ProbeResult}
 use Rattle.server_history.specs.Histories.{InvariantBy}
-use Rattle.server_history.specs.Server.{ServerState}
 use Rattle.server_history.specs.Turns.{ServePorts, ServesPort, ProbesUnready}
 use Rattle.block_server.specs.Calls.{ServicesBy}
 use Rattle.block_server.proofs.Placing as placing

@@ -1,13 +1,9 @@
-use Rattle.std.proofs.Common.{ℕ, ◌≡◌, ◌+◌, ◌*◌, ◌≤◌, ◌++◌, false, List, drop, length}
+use Rattle.std.proofs.Common.{◌≡◌, ◌+◌, ◌*◌, ◌≤◌, false, length}
 use Rattle.adapter.specs.Counted.{MakesAtMost}
 use Rattle.port_driver.specs.Costs.{TURN_ACCESSES}
-use Rattle.host_boot.specs.Taken.{probe_result_of}
-use Rattle.ata_types.specs.declared.request.Reply.{Reply}
 use Rattle.ata_types.specs.declared.limits.TheConstants.{MOST_UNANSWERED}
 use Rattle.server_history.specs.Turns.{ProbesUnready, ServesPort}
 use Rattle.block_server.proofs.Turns.{TurnsSoFar}
-use Rattle.server_history.specs.Server.{ServerState, SettledInvariant}
-use Rattle.block_server.specs.FourPorts.{found_by_port}
 use Rattle.block_server.specs.Seen.{seen}
 use Rattle.block_server.specs.View.{server_of}
 use Rattle.block_server.proofs.server.Server.service_into.Given as goal

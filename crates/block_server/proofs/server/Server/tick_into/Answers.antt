@@ -1,18 +1,17 @@
-use Rattle.std.proofs.Common.{◌≡◌, ◌<◌, ◌↔◌, ◌++◌, Bool, IsTrue, false, List, append_assoc, arith, get_or, length, set, slice_index_or, refl, sym, ap, ◌∙◌, subst}
+use Rattle.std.proofs.Common.{◌≡◌, ◌↔◌, Bool, IsTrue, false, List, arith, length, slice_index_or, refl, sym, ap, ◌∙◌, subst}
 use Rattle.std.proofs.Math.ListN.{get_or-map}
-use Rattle.std.proofs.lemmas.List.{length-map, length-set}
+use Rattle.std.proofs.lemmas.List.{length-map}
 use Rattle.ata_types.specs.declared.request.Reply.{Reply}
 use Rattle.refinement.specs.Relation.{port_at}
 use Rattle.host_boot.specs.Taken.{probe_result_of}
-use Rattle.host_boot.specs.declared.ProbeResult.{ProbeResult}
 use Rattle.request_queue.specs.Entries.{Held, IsOverdue, aged}
 use Rattle.block_machine.specs.Events.{Served, Tick}
 use Rattle.block_server.specs.Calls.{TicksBy}
 use Rattle.server_history.specs.Histories.{ExtendsHistory, InvariantBy}
 use Rattle.server_history.specs.Server.{SettledInvariant, ServerState}
-use Rattle.server_history.specs.Turns.{TakeTurns, Ticks, TicksPort, a_tick_older, is_ready}
+use Rattle.server_history.specs.Turns.{Ticks, TicksPort, a_tick_older, is_ready}
 use Rattle.port_driver.specs.Parts.{Rests, no_port}
-use Rattle.block_server.specs.FourPorts.{found_by_port, with_ports}
+use Rattle.block_server.specs.FourPorts.{found_by_port}
 use Rattle.block_server.specs.Seen.{seen}
 use Rattle.block_server.specs.View.{ServerView, server_of}
 use Rattle.port_driver.specs.declared.served_port.ServedPort.{ServedPort}

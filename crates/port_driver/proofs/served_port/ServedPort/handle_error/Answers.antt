@@ -1,9 +1,9 @@
-use Rattle.std.proofs.Common.{Option, Some, rules, ℕ, ◌≡◌, ◌≤◌, ◌++◌, List, [], map, take, drop, length, refl, set, sym, ap, ◌∙◌, subst, arith}
+use Rattle.std.proofs.Common.{Option, Some, ℕ, ◌≡◌, ◌≤◌, ◌++◌, List, [], map, take, drop, length, refl, set, sym, ap, ◌∙◌, subst, arith}
 use Rattle.std.specs.List.Sorted.{IsPermutation}
 use Rattle.std.proofs.lemmas.List.{length-append, set-set}
 use Rattle.port_driver.specs.Parts.{TakesTurn, with_parts}
 use Rattle.port_driver.specs.Recovery.{HasPortInError, HandlesPortErrorOf, IsInError}
-use Rattle.port_driver.specs.Dispositions.{BookIsSound, HavePlaces, holding}
+use Rattle.port_driver.specs.Dispositions.{HavePlaces, holding}
 use Rattle.port_driver.specs.Ports.{HasFoundPort, with_part}
 use Rattle.block_machine.specs.declared.due.QueueMode.{QueueMode}
 use Rattle.host_boot.specs.declared.ProbeResult.{ProbeResult}
@@ -16,7 +16,6 @@ use Rattle.slots.specs.Uses.{PortSlots}
 use Rattle.port_driver.specs.declared.served_port.ServedPort.{ServedPort}
 use Rattle.port_driver.specs.declared.served_port.Shared.{Shared}
 use Rattle.dma_frames.specs.Loan.{Lending}
-use Rattle.dma_frames.specs.Table.{Table}
 use Rattle.request_queue.specs.Dispositions.{AreResolved, disposition_of}
 use Rattle.port_driver.proofs.Placing as placing
 use Rattle.port_driver.proofs.Usable.{few_usable}
