@@ -43,47 +43,24 @@ module _ (s : ServerState) (port : Port) (p : ServedPort) (has : HasServedPort s
   module _ (device : Device) (shared : Shared) where
     -- nothing of the port changed
     pub with_same : with_parts s device shared port p ≡ record s { device = device; table = shared.table.value; book = shared.book }
-    with_same = λ i. record s {
-      device = device;
-      table = shared.table.value;
+    with_same = λ i. record (with_parts s device shared port p) {
       wanted = same_wanted i;
       ports = same_found i;
       remembered = same_last_disk i;
       modes = same_mode i;
       slots = same_slots i;
       kept = same_kept i;
-      book = shared.book;
     }
 
     -- its slots are others
     pub with_slots : (slots : PortSlots) → with_parts s device shared port (record p { slots = slots })
         ≡ record s { device = device; table = shared.table.value; slots = set s.slots port.0 slots; book = shared.book }
-    with_slots slots = λ i. record s {
-      device = device;
-      table = shared.table.value;
-      wanted = same_wanted i;
-      ports = same_found i;
-      remembered = same_last_disk i;
-      modes = same_mode i;
-      slots = set s.slots port.0 slots;
-      kept = same_kept i;
-      book = shared.book;
-    }
+    with_slots slots = λ i. record (with_same i) { slots = set s.slots port.0 slots }
 
     -- other loans are kept of it
     pub with_kept : (kept : List Lending) → with_parts s device shared port (record p { kept = kept })
         ≡ record s { device = device; table = shared.table.value; kept = set s.kept port.0 kept; book = shared.book }
-    with_kept kept = λ i. record s {
-      device = device;
-      table = shared.table.value;
-      wanted = same_wanted i;
-      ports = same_found i;
-      remembered = same_last_disk i;
-      modes = same_mode i;
-      slots = same_slots i;
-      kept = set s.kept port.0 kept;
-      book = shared.book;
-    }
+    with_kept kept = λ i. record (with_same i) { kept = set s.kept port.0 kept }
 
     -- it was found anew
     pub with_found : (found : ProbeResult) (mode : QueueMode) (slots : PortSlots) → with_parts s device shared port (record p { found = found; mode = mode; slots = slots }) ≡ record s {
@@ -94,17 +71,7 @@ module _ (s : ServerState) (port : Port) (p : ServedPort) (has : HasServedPort s
       slots = set s.slots port.0 slots;
       book = shared.book;
     }
-    with_found found mode slots = λ i. record s {
-      device = device;
-      table = shared.table.value;
-      wanted = same_wanted i;
-      ports = set s.ports port.0 found;
-      remembered = same_last_disk i;
-      modes = set s.modes port.0 mode;
-      slots = set s.slots port.0 slots;
-      kept = same_kept i;
-      book = shared.book;
-    }
+    with_found found mode slots = λ i. record (with_same i) { ports = set s.ports port.0 found; modes = set s.modes port.0 mode; slots = set s.slots port.0 slots }
 
     -- only the disk that is wanted is the same
     pub with_other : (q : ServedPort) → q.wanted ≡ p.wanted → with_parts s device shared port q ≡ record s {

@@ -72,12 +72,12 @@ abbrev pub TurnInService : ProbeResult → Port → List Reply → ServerState �
 TurnInService found port replies old new = TurnBy ServesPort ProbesUnready found port replies old new
 
 -- nothing is done of the port
-abbrev pub Rests : Port → ServerState → ServerState → Type 0
-Rests port old new = new ≡ old
+abbrev pub IsAtRest : Port → ServerState → ServerState → Type 0
+IsAtRest port old new = new ≡ old
 
 -- and the turn in a tick, where the book was this when requests had got older
 abbrev pub TurnInTick : ProbeResult → List Held → Port → List Reply → ServerState → ServerState → Type 0
-TurnInTick found book port replies old new = TurnBy (TicksPort book) Rests found port replies old new
+TurnInTick found book port replies old new = TurnBy (TicksPort book) IsAtRest found port replies old new
 
 -- a port that there isn't
 abbrev pub no_port : ServedPort

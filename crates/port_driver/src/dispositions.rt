@@ -85,7 +85,8 @@ impl Shared {
         law_accepted_requests_stay();
         law_operations_change_one_request();
         law_the_book_stays_in_order();
-        let entry = self.book.release(id, &mut self.table);
+        let table = &mut *self.table;
+        let entry = self.book.release(id, table);
         replies.push(Reply {
             id,
             client: entry.client,

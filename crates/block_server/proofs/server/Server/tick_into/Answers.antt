@@ -10,7 +10,7 @@ use Rattle.block_server.specs.Calls.{TicksBy}
 use Rattle.server_history.specs.Histories.{ExtendsHistory, InvariantBy}
 use Rattle.server_history.specs.Server.{SettledInvariant, ServerState}
 use Rattle.server_history.specs.Turns.{Ticks, TicksPort, a_tick_older, is_ready}
-use Rattle.port_driver.specs.Parts.{Rests, no_port}
+use Rattle.port_driver.specs.Parts.{IsAtRest, no_port}
 use Rattle.block_server.specs.FourPorts.{found_by_port}
 use Rattle.block_server.specs.Seen.{seen}
 use Rattle.block_server.specs.View.{ServerView, server_of}
@@ -39,7 +39,7 @@ tick-requires-clause-settled g c =
     let v = c.loop-number.self-inside in
     let s = server_of device (seen v) in
     let old = a_tick_older (server_of device c.args.self.now) in
-    (s, its_part (TicksPort old.book) Rests c.args.self.now.ports old s (device v.adapter) v.shared v.ports c.loop-number.replies.items c.loop-number.number c.loop-number.invariant.turns c.loop-number-test.true _)
+    (s, its_part (TicksPort old.book) IsAtRest c.args.self.now.ports old s (device v.adapter) v.shared v.ports c.loop-number.replies.items c.loop-number.number c.loop-number.invariant.turns c.loop-number-test.true _)
 
 pub loop-number-preserved : goal.loop-number-preserved
 loop-number-preserved g c =
@@ -58,8 +58,8 @@ loop-number-preserved g c =
     let exact : O old.book = subst O (ap (λ (x : ServerState). x.book) (older_now g at)) (c.overdue_ports-overdue.ensures number small) in
     record {
       first = so_far.first;
-      turns = one_more (TicksPort old.book) Rests c.args.self.now.ports old s (device v.adapter) v.shared v.ports told number so_far.turns small so_far.first default (device new.adapter) new.shared new.self new.replies.items
-          (c.tick.ensures.turn s old.book exact (its_part (TicksPort old.book) Rests c.args.self.now.ports old s (device v.adapter) v.shared v.ports told number so_far.turns small default));
+      turns = one_more (TicksPort old.book) IsAtRest c.args.self.now.ports old s (device v.adapter) v.shared v.ports told number so_far.turns small so_far.first default (device new.adapter) new.shared new.self new.replies.items
+          (c.tick.ensures.turn s old.book exact (its_part (TicksPort old.book) IsAtRest c.args.self.now.ports old s (device v.adapter) v.shared v.ports told number so_far.turns small default));
       room = c.tick.ensures.room;
       on = so_far.on;
       cost = omega (arith, so_far.cost, c.tick.ensures.cost);
@@ -73,7 +73,7 @@ ticked g c =
     let first = c.loop-number.invariant.first in
     let past = c.loop-number-test.false in
     let v = c.loop-number.self-inside in
-    all_turns (TicksPort (a_tick_older old).book) Rests c.args.self.now.ports (a_tick_older old) (server_of device (seen v)) (device v.adapter) v.shared v.ports c.loop-number.replies.items c.loop-number.number c.loop-number.invariant.turns
+    all_turns (TicksPort (a_tick_older old).book) IsAtRest c.args.self.now.ports (a_tick_older old) (server_of device (seen v)) (device v.adapter) v.shared v.ports c.loop-number.replies.items c.loop-number.number c.loop-number.invariant.turns
     (omega (arith, first, past))
 
 pub invariant_of-self : goal.invariant_of-self
@@ -117,8 +117,8 @@ loop-number-init g c =
     let four = placing.four_ports v.ports settled.kept.four in
     record {
       first = ap length (sym ports) ∙ length-map v.ports (λ (p : ServedPort). p.found) ∙ four;
-      turns = subst (λ (told : List Reply). TurnsSoFar (TicksPort old.book) Rests c.args.self.now.ports old v.ports told (record (server_of device (seen v)) { book = c.tick-is_one.new.self }) 0) (sym c.clear.ensures)
-          (none_yet (TicksPort old.book) Rests c.args.self.now.ports old v.ports (record (server_of device (seen v)) { book = c.tick-is_one.new.self }) four ports now (older_now g at));
+      turns = subst (λ (told : List Reply). TurnsSoFar (TicksPort old.book) IsAtRest c.args.self.now.ports old v.ports told (record (server_of device (seen v)) { book = c.tick-is_one.new.self }) 0) (sym c.clear.ensures)
+          (none_yet (TicksPort old.book) IsAtRest c.args.self.now.ports old v.ports (record (server_of device (seen v)) { book = c.tick-is_one.new.self }) four ports now (older_now g at));
       room = let all = c.law_the_book_stays_in_order.ensures.all c.tick-is_one.new.self now.kept.ordered in let none = ap length c.clear.ensures in omega (arith, all, none);
       on = c.if-self.false;
       cost = let same = ap (λ (x : ServerView g.row.A.Denot). g.A.Adapter.access_count x.adapter) c.self.view_is in omega (arith, same);

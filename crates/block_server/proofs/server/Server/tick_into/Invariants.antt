@@ -4,7 +4,7 @@ use Rattle.port_driver.specs.Costs.{port_error_accesses}
 use Rattle.port_control.specs.declared.events.PortError.TheVariants.{TimedOut}
 use Rattle.ata_types.specs.declared.limits.TheConstants.{MOST_UNANSWERED}
 use Rattle.server_history.specs.Turns.{TicksPort, a_tick_older}
-use Rattle.port_driver.specs.Parts.{Rests}
+use Rattle.port_driver.specs.Parts.{IsAtRest}
 use Rattle.block_server.proofs.Turns.{TurnsSoFar}
 use Rattle.block_server.specs.Seen.{seen}
 use Rattle.block_server.specs.View.{server_of}
@@ -13,7 +13,7 @@ use Rattle.block_server.proofs.server.Server.tick_into.Given as goal
 abbrev pub invariant-loop-number : goal.invariant-loop-number
 invariant-loop-number g l = record {
   first : length l.fn.self.ports ≡ 4;
-  turns : TurnsSoFar (TicksPort (a_tick_older (server_of g.A.Adapter.device l.fn.self)).book) Rests l.fn.self.ports (a_tick_older (server_of g.A.Adapter.device l.fn.self)) l.self-inside.ports l.replies.items (server_of g.A.Adapter.device (seen l.self-inside)) l.number;
+  turns : TurnsSoFar (TicksPort (a_tick_older (server_of g.A.Adapter.device l.fn.self)).book) IsAtRest l.fn.self.ports (a_tick_older (server_of g.A.Adapter.device l.fn.self)) l.self-inside.ports l.replies.items (server_of g.A.Adapter.device (seen l.self-inside)) l.number;
   room : length l.replies.items + length l.self-inside.shared.book ≤ MOST_UNANSWERED;
   on : l.self-inside.stuck ≡ false;
   cost : MakesAtMost (port_error_accesses TimedOut * l.number) (g.A.Adapter.access_count l.fn.self.adapter) (g.A.Adapter.access_count l.self-inside.adapter);

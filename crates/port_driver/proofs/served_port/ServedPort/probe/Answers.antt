@@ -4,7 +4,8 @@ use Rattle.host_boot.specs.Taken.{probe_result_of}
 use Rattle.host_boot.specs.declared.ProbeResult.{ProbeResult}
 use Rattle.host_boot.specs.declared.ProbeResult.TheVariants.{Unready}
 use Rattle.identify.specs.declared.wanted.Wanted.{Wanted}
-use Rattle.refinement.specs.Driven.{AnyUse, IsSimulated}
+use Rattle.adapter.specs.Rules.{HasPort, IsOn}
+use Rattle.refinement.specs.Driven.{AnyUse, IsSimulated, RelatesWith}
 use Rattle.port_control.specs.Looks.{IsLooking}
 use Rattle.server_history.specs.Probing.{IsLookedAt, ProbesAnew}
 use Rattle.server_history.specs.Server.{ServerState, SettledInvariant, last_disk_of}
@@ -31,6 +32,11 @@ module _ (g : Over) (c : After-needs_probe g) (s : ServerState) (shared : Shared
   followed : IsSimulated (IsLooking c.args.port) AnyUse s.device seen
   followed = subst (λ (d : Device). IsSimulated (IsLooking c.args.port) AnyUse d seen) (sym h.parts.device_is) c.needs_probe.ensures.followed
 
+  -- where it shows that it may have a disk, it may be stopped
+  looked : IsLookedAt c.args.state c.args.port true (g.A.Adapter.device c.args.adapter.now) seen → IsOn seen × HasPort seen c.args.port.0 × RelatesWith AnyUse seen
+  looked shows =
+      c.law_an_unready_port_is_probed.ensures.looked s seen c.args.port c.args.state h.settled.kept unready (anew.booted_alive c.args.state c.args.port s.device seen (looks true shows)) followed
+
 pub returns-then-not-needs_probe-clause-probes : goal.returns-then-not-needs_probe-clause-probes
 returns-then-not-needs_probe-clause-probes g c = λ s shared h.
     let a = (goal.at.returns-then-not-needs_probe-clause-probes g c).After-needs_probe in
@@ -41,19 +47,11 @@ returns-then-not-needs_probe-clause-probes g c = λ s shared h.
 
 pub probe_anew-found-requires-clause-there : goal.probe_anew-found-requires-clause-there
 probe_anew-found-requires-clause-there g c =
-    let a = (goal.at.probe_anew-found-requires-clause-there g c).After-needs_probe in
-    let h = c.requires.settled in
-    let its = looks g a h.0 h.1 h.2 true c.if-not-needs_probe.ensures.looks in
-    (c.law_an_unready_port_is_probed.ensures.looked h.0 (seen g a h.0 h.1 h.2) c.args.port c.args.state h.2.settled.kept (unready g a h.0 h.1 h.2)
-    (anew.booted_alive c.args.state c.args.port h.0.device (seen g a h.0 h.1 h.2) its) (followed g a h.0 h.1 h.2)).1
+    (looked g (goal.at.probe_anew-found-requires-clause-there g c).After-needs_probe c.requires.settled.0 c.requires.settled.1 c.requires.settled.2 c.if-not-needs_probe.ensures.looks).1
 
 pub probe_anew-found-requires-clause-agreed : goal.probe_anew-found-requires-clause-agreed
 probe_anew-found-requires-clause-agreed g c =
-    let a = (goal.at.probe_anew-found-requires-clause-agreed g c).After-needs_probe in
-    let h = c.requires.settled in
-    let its = looks g a h.0 h.1 h.2 true c.if-not-needs_probe.ensures.looks in
-    (c.law_an_unready_port_is_probed.ensures.looked h.0 (seen g a h.0 h.1 h.2) c.args.port c.args.state h.2.settled.kept (unready g a h.0 h.1 h.2)
-    (anew.booted_alive c.args.state c.args.port h.0.device (seen g a h.0 h.1 h.2) its) (followed g a h.0 h.1 h.2)).2
+    (looked g (goal.at.probe_anew-found-requires-clause-agreed g c).After-needs_probe c.requires.settled.0 c.requires.settled.1 c.requires.settled.2 c.if-not-needs_probe.ensures.looks).2
 
 pub probe_anew-found-requires-clause-bootable : goal.probe_anew-found-requires-clause-bootable
 probe_anew-found-requires-clause-bootable g c = λ stopped result token gives restarts.

@@ -25,7 +25,7 @@ returns-clause-meets c = λ request kept here its.
       reply_to request Revoked ∷ [],
       c.push.ensures.items ∙ ap (λ (x : Reply). c.args.replies.now.items ++ x ∷ []) reply,
       ends_back request Revoked c.args.self.now.book it.new.self c.args.self.now.table.value it.new.table kept kept loan whole refl
-          (it.ensures.rest ∙ ap (λ (i : RequestId). without_entry i c.args.self.now.book) (sym its)) (Complete Revoked) refl refl refl (subst (λ (old : Table). LendsOnly old it.new.table e.0.frames None) c.deref_mut.ensures.value e.4),
+          (it.ensures.rest ∙ ap (λ (i : RequestId). without_entry i c.args.self.now.book) (sym its)) (Complete Revoked) refl refl refl (subst (λ (old : Table). LendsOnly old it.new.table e.0.frames None) c.deref_mut-table.ensures.value e.4),
     )
 
 pub returns-clause-others : goal.returns-clause-others
@@ -36,7 +36,7 @@ returns-clause-sound c =
     let it = c.release-entry in
     let e = it.ensures.entry in
     sound_back c.args.id c.args.self.now.book it.new.self e.0 c.args.self.now.table.value it.new.table c.law_accepted_requests_stay.ensures.answered
-    (c.law_the_book_stays_in_order.ensures.answered c.args.self.now.book c.args.id c.requires.sound.ordered) c.requires.sound.accepted e.1 (ap (λ (r : PendingRequest). r.id) e.2 ∙ e.3) (subst (λ (old : Table). LendsOnly old it.new.table e.0.frames None) c.deref_mut.ensures.value e.4) it.ensures.rest
+    (c.law_the_book_stays_in_order.ensures.answered c.args.self.now.book c.args.id c.requires.sound.ordered) c.requires.sound.accepted e.1 (ap (λ (r : PendingRequest). r.id) e.2 ∙ e.3) (subst (λ (old : Table). LendsOnly old it.new.table e.0.frames None) c.deref_mut-table.ensures.value e.4) it.ensures.rest
 
 pub returns-clause-room : goal.returns-clause-room
 returns-clause-room c =
