@@ -5,14 +5,25 @@
 //! begin, and the memory begins at 0. The disks of the model are the images, one to four, from port
 //! 0 on, which hold the same sectors as the adapter's own. What the lines answer is printed. Where
 //! the two stray, the access is told on standard error, and the run ends.
+//!
+//! `followed` is the model beside another adapter, its peer: each access is made on both. Of the peer nothing is known.
+//! What it answers only chooses among the steps that the model may do, and what is answered is the model's own answer:
+//! so what holds of a server over the model holds over this. Once the two don't agree, no further access is made on the
+//! peer. (`lines` reaches it by lines of text, and `differences` has those that are passed over.)
 #![tactic(auto)]
 
+mod differences;
+mod divergence;
 mod fault;
+mod followed;
+mod lines;
+mod peer;
 mod words;
 
 use device_model::{Disks, Model, ModelDisk, PortDisks};
 use fault::{FollowError, unless_memory};
-use lockstep_adapter::{Followed, LinePeer};
+use followed::Followed;
+use lines::LinePeer;
 use play::{Stop, model_with, play_over, read};
 use sector_store::{DiskStore, FileStore, MemStore};
 use std::fs::{self, File, Files, OpenOptions};
@@ -71,7 +82,7 @@ fn disks(
 }
 
 /// The peer behind the two files. The one that takes lines is opened first.
-fn peer(
+fn open_peer(
     rt: &(impl AllocGlobal + Files<File = File>),
     words: &Words,
 ) -> Result<LinePeer<BufReader<File>, File>, FollowError> {
@@ -123,7 +134,7 @@ fn run(
     let Ok(model) = model_with(rt.alloc(), &values, disks(rt, &words)?) else {
         return Err(FollowError::NoMemory);
     };
-    let followed = Followed::new(model, peer(rt, &words)?);
+    let followed = Followed::new(model, open_peer(rt, &words)?);
     let mut out = BufWriter::new(rt.alloc(), io::writer(rt)).map_err(unread)?;
     let (performed, adapter) = play_over(
         rt.alloc(),

@@ -1,2 +1,0 @@
-pub mod Compared
-pub mod Following
