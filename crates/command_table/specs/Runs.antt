@@ -33,8 +33,8 @@ pub record CoversRun (frames : List Frame) (bytes : ℕ) (e : Prd) : Type 0 wher
   pub address : e.address ≡ FRAME_BYTES * frame_number frames 0
   pub size : e.bytes ≡ min bytes (FRAME_BYTES * frames_in e)
 
--- The PRDs cover so many bytes of the frames, in order: each the longest run of those that are left. There is one such
--- list.
+-- The PRDs cover so many bytes of the frames, in order: each the longest run of those that are left. There is at most
+-- one such list.
 abbrev pub AreJoined : List Frame → ℕ → List Prd → Type 0
 AreJoined frames bytes [] = (frames ≡ []) × (bytes ≡ 0)
 AreJoined frames bytes (e ∷ es) = CoversRun frames bytes e × AreJoined (drop (frames_in e) frames) (bytes - e.bytes) es

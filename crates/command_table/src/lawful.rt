@@ -1,23 +1,13 @@
 // What laws of the crates below say of stores of tables, for this crate's proofs. Nothing comes of calling it.
-ghost use Rattle.command_table.specs.Laws.{Fragment, Laws, fits_of, may_of};
+ghost use Rattle.command_table.specs.Laws.{Laws};
 
 use adapter::laws::law_memory_keeps_bytes;
 use refinement::facts::law_adapter_stays;
-use refinement::kinds::{Kinds, law_fragments};
+use refinement::kinds::law_fragments;
 use refinement::laws::{
     law_bytes_to_store_are_free, law_free_slots_are_left, law_what_is_told_is_left,
 };
-
-/// The kinds of stores of tables.
-enum Tables {}
-
-impl Kinds for Tables {
-    ghost Kind = { Fragment };
-
-    ghost may = { may_of };
-
-    ghost fits = { fits_of };
-}
+use std::marker::Brand;
 
 /// The laws that the proofs of this crate rest on.
 pub fn law_base()
@@ -28,5 +18,5 @@ pub fn law_base()
     law_bytes_to_store_are_free();
     law_free_slots_are_left();
     law_what_is_told_is_left();
-    law_fragments::<Tables>();
+    law_fragments::<Brand>();
 }

@@ -235,7 +235,7 @@ module _ (laws : Laws) where
 
     module _ (call : Writes (Px port Ci) 1 mid new) where
       pub asked_to : IsSimulatedTo (IsAsking port) (IsUnused port.0 0) (λ uses. used uses port.0 0 (Own (page_operation page))) mid new
-      asked_to = laws.asks (Asking port) port (page_operation page) 1 mid new (refl, refl) on.no_reset prepared call
+      asked_to = laws.fragments.asks (Asking port) port (page_operation page) 1 mid new (refl, refl) on.no_reset prepared call
 
       put_ci : PutAt port.0 Ci 1 mid new
       put_ci = laws.put_at port Ci 1 mid new call on.no_reset
@@ -435,7 +435,7 @@ module _ (laws : Laws) where
       load_clear = laws.access_clear port 0 (Loading (scratch_of port.0) bytes) old new (λ v e. absurd cc) (λ v e. absurd cc) call clear
 
       pub load_followed : IsSimulated (IsAsking port) AnyUse old new
-      load_followed = (laws.loads (Awaiting port) (scratch_of port.0) bytes old new (refl, size) call).followed
+      load_followed = (laws.fragments.loads (Awaiting port) (scratch_of port.0) bytes old new (refl, size) call).followed
 
       pub load_brings : (early : ℕ) → early ≤ since → BringsLastPage port.0 o early bytes new
       load_brings early le =

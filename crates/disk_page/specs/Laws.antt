@@ -126,10 +126,3 @@ pub record Laws : Type 0 where
       other_slot
   -- this crate's kinds of accesses
   pub fragments : FragmentLaws Fragment may_of fits_of
-  pub loads : (kind : Fragment) (at : ℕ) (bytes : List ℕ) (old new : Device) → may_of kind (Loading at bytes)
-      → Loads at bytes old new
-      → IsSimulatedAlong (λ made. made ≡ Loading at bytes ∷ []) (may_of kind) (fits_of kind) old new
-  pub asks : (kind : Fragment) (port : Port) (o : Operation) (v : ℕ) (old new : Device)
-      → may_of kind (Writing (Px port Ci) v) → old.hr ≡ false
-      → ((uses : SlotStates) → fits_of kind uses → IsOwnPrepared uses old port.0 o v) → Writes (Px port Ci) v old new
-      → IsSimulatedTo (may_of kind) (fits_of kind) (λ uses. put uses port.0 0 (Own o)) old new

@@ -1,5 +1,5 @@
 // What laws of the crates below say of this crate's accesses, for its proofs. Nothing comes of calling it.
-ghost use Rattle.disk_page.specs.Laws.{Laws, Fragment, fits_of, may_of};
+ghost use Rattle.disk_page.specs.Laws.{Laws};
 
 use adapter::laws::{law_controls_are_kept, law_port_registers_are_accessed, law_steps_keep};
 use command_table::laws::law_stores_are_of_one_port;
@@ -9,23 +9,13 @@ use refinement::facts::{
 use refinement::fragments::{
     law_agreeing_goes_on, law_other_ports_are_left, law_tapes, law_unused_slots_are_silent,
 };
-use refinement::kinds::{Kinds, law_accesses_are_followed, law_fragments};
+use refinement::kinds::law_fragments;
 use refinement::laws::{
     law_own_issuing_is_permitted, law_pages_are_free, law_pages_come_when_asked,
     law_putting_is_of_one_slot,
 };
 use refinement::recovering::law_halt_is_ended;
-
-/// This crate's kinds of accesses.
-enum Pages {}
-
-impl Kinds for Pages {
-    ghost Kind = { Fragment };
-
-    ghost may = { may_of };
-
-    ghost fits = { fits_of };
-}
+use std::marker::Brand;
 
 /// The laws that the proofs of this crate rest on.
 pub fn law_base()
@@ -38,8 +28,7 @@ pub fn law_base()
     law_faults_are_recorded();
     law_over_stays();
     law_page_is_awaited();
-    law_accesses_are_followed::<Pages>();
-    law_fragments::<Pages>();
+    law_fragments::<Brand>();
     law_own_issuing_is_permitted();
     law_pages_are_free();
     law_pages_come_when_asked();

@@ -100,7 +100,7 @@ module _ (laws : Laws) where
       let went : Goes port old new = goes_over laws port made.accesses old new on made.only made.all in
       record {
         accesses = made.accesses;
-        does = record { only = made.only; slots = inl (laws.one (Recovering AnyUses port) (λ uses. uses) old new g.told.followed); engine = g.told.tells };
+        does = record { only = made.only; slots = inl (laws.fragments.one (Recovering AnyUses port) (λ uses. uses) old new g.told.followed); engine = g.told.tells };
         tells = record { parts = all_go_again outstanding; rests = tt; dead = λ e. refl; unnamed = λ token is run. absurd cc };
         leaves = record {
           ends = (g.st, g.stuck);

@@ -53,7 +53,7 @@ module _ (laws : Laws) (port : Port) (outstanding : ℕ) (queued : Bool) (old ne
       accesses = t.followed.driven.accesses ++ rest.followed.driven.accesses;
       does = record {
         only = All-append (IsRecovering port) t.followed.driven.accesses rest.followed.driven.accesses t.followed.driven.only rest.followed.driven.only;
-        slots = laws.giving_up (Recovering AnyUses port) (Recovering PortUnused port) (λ uses. uses) port.0 old new new t.followed halts.stopped.halted (λ uses free. free) rest.followed;
+        slots = laws.fragments.giving_up (Recovering AnyUses port) (Recovering PortUnused port) (λ uses. uses) port.0 old new new t.followed halts.stopped.halted (λ uses free. free) rest.followed;
         engine = laws.falls_then t.followed.driven.accesses rest.followed.driven.accesses 0 15 port t.tells;
       };
       tells = record { parts = all_go_again outstanding; rests = tt; dead = λ e. absurd cc; unnamed = λ at is run. refl };

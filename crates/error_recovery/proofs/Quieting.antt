@@ -67,12 +67,12 @@ module _ (laws : Laws) where
   -- plain work goes on over any accesses of a recovery
   pub plain_over : (port : Port) (uses : SlotStates) (old new : Device) → IsSimulated (IsRecovering port) AnyUse old new → IsRelated uses old → WorksPlainly (old.port port.0) → WorksPlainly (new.port port.0)
   plain_over port uses old new a agreed =
-      laws.plain (Recovering AnyUses port) (λ uses. uses) uses port old new tt (spares_active laws port) a agreed
+      laws.fragments.plain (Recovering AnyUses port) (λ uses. uses) uses port old new tt (spares_active laws port) a agreed
 
   -- also while it is started
   pub commands_plain : (port : Port) (old new : Device) → IsSimulated (IsControl WritesCommand port) (λ uses. AllFree uses port.0) old new → RelatesWith (λ uses. AllFree uses port.0) old →
       WorksPlainly (old.port port.0) → WorksPlainly (new.port port.0)
-  commands_plain port old new a (uses, free, agreed) = laws.plain (Controlling Commanding PortUnused port) (λ uses. uses) uses port old new free (commanding_arms port) a agreed
+  commands_plain port old new a (uses, free, agreed) = laws.fragments.plain (Controlling Commanding PortUnused port) (λ uses. uses) uses port old new free (commanding_arms port) a agreed
 
   pub starting_silent : (port : Port) (old new : Device) → IsSimulated (IsControl WritesCommand port) (λ uses. AllFree uses port.0) old new → RelatesWith (λ uses. AllFree uses port.0) old →
       SendsNone port.0 Identify old new

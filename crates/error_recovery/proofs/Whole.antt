@@ -63,7 +63,7 @@ module _ (laws : Laws) (port : Port) (outstanding : ℕ) (queued : Bool) (before
     total = first ++ b.driven.accesses
 
     pub performs : Performs total AnySlots (λ s. record (given_up port.0 s) { uses = next (given_up port.0 s).uses }) ByDeviceAlone old new
-    performs = laws.giving_up (Recovering AnyUses port) (Recovering PortUnused port) next port.0 old r.quiets.stopped new r.quiets.stops.followed r.quiets.stands (λ uses free. free) b
+    performs = laws.fragments.giving_up (Recovering AnyUses port) (Recovering PortUnused port) next port.0 old r.quiets.stopped new r.quiets.stops.followed r.quiets.stands (λ uses free. free) b
 
     pub only : All (IsRecovering port) total
     only = All-append (IsRecovering port) first b.driven.accesses r.quiets.stops.followed.driven.only b.driven.only

@@ -3,7 +3,7 @@ use Rattle.std.specs.Prelude.{ℕ, true, false, ◌≡◌, ◌≢◌, ◌/◌, �
 use Rattle.ata_types.specs.declared.Port.{Port}
 use Rattle.hba_regs.specs.Bits.{bit}
 use Rattle.hba_regs.specs.declared.reg.PortReg.{PortReg}
-use Rattle.hba_regs.specs.declared.reg.PortReg.TheVariants.{Ci, Is, Sact, Sctl, Serr, Tfd}
+use Rattle.hba_regs.specs.declared.reg.PortReg.TheVariants.{Ci, Is, Sctl, Serr, Tfd}
 use Rattle.hba_regs.specs.declared.reg.Reg.{Reg}
 use Rattle.hba_regs.specs.declared.reg.Reg.TheVariants.{Ghc, Px}
 use Rattle.adapter.specs.Access.{Access, Does, Reads}
@@ -16,13 +16,12 @@ use Rattle.adapter.specs.declared.command.Operation.{Operation}
 use Rattle.adapter.specs.declared.tape.Entry.{Entry}
 use Rattle.block_machine.specs.State.{Machine}
 use Rattle.refinement.specs.Laws.{FragmentLaws, TapeLaws}
-use Rattle.refinement.specs.Acts.{ByDeviceAlone, Performs}
 use Rattle.refinement.specs.Relation.{StateRelation}
-use Rattle.refinement.specs.Driven.{AnyAccess, AnyUse, HasNoCommand, IsRelated, IsControl, IsDrivenBy, IsSimulated, IsSimulatedTo, IsOf, NoneWrites, SendsNone}
+use Rattle.refinement.specs.Driven.{AnyAccess, AnyUse, HasNoCommand, IsControl, IsDrivenBy, IsOf, SendsNone}
 use Rattle.refinement.specs.Driver.{AllFree, DriverState, DriverRelation}
 use Rattle.refinement.specs.Errors.{ChangesByErrors, NoneFails, NoneFatal}
 use Rattle.refinement.specs.Facts.{IsFaulted, IsHalted, IsRecorded, RunsWell, ShowsFault, ShowsNoTrouble}
-use Rattle.refinement.specs.GivingUp.{given_up, parking_all}
+use Rattle.refinement.specs.GivingUp.{parking_all}
 use Rattle.refinement.specs.Links.{LeavesControls, PlugsNone, SameAdapter, SparesRegister}
 use Rattle.refinement.specs.Noted.{LeavesNotes}
 use Rattle.refinement.specs.Recovering.{IsLinked, RunsLinked, WorksPlainly}
@@ -161,18 +160,3 @@ pub record Laws : Type 0 where
       → ((r : PortReg) → registers_of set r → registers_of more r) → (access : Access)
       → IsControl (registers_of set) port access → IsControl (registers_of more) port access
   pub fragments : FragmentLaws Fragment may_of fits_of
-  pub plain : (kind : Fragment) (next : SlotStates → SlotStates) (uses : SlotStates) (port : Port) (old new : Device)
-      → fits_of kind uses
-      → NoneWrites (may_of kind) (Px port Sact) → IsSimulatedTo (may_of kind) (fits_of kind) next old new
-      → IsRelated uses old → WorksPlainly (old.port port.0) → WorksPlainly (new.port port.0)
-  pub one : (kind : Fragment) (next : SlotStates → SlotStates) (old new : Device)
-      → (a : IsSimulatedTo (may_of kind) (fits_of kind) next old new)
-      → Performs a.driven.accesses (λ s m. fits_of kind s.uses) (λ s. record s { uses = next s.uses }) ByDeviceAlone old
-      new
-  pub giving_up : (kind then : Fragment) (next : SlotStates → SlotStates) (port : ℕ) (old mid new : Device)
-      → (a : IsSimulated (may_of kind) (fits_of kind) old mid) → IsHalted (mid.port port)
-      → ((uses : SlotStates) → AllFree uses port → fits_of then uses)
-      → (b : IsSimulatedTo (may_of then) (fits_of then) next mid new)
-      → Performs (a.driven.accesses ++ b.driven.accesses)
-      (λ s m. fits_of kind s.uses) (λ s. record (given_up port s) { uses = next (given_up port s).uses }) ByDeviceAlone
-      old new

@@ -1,5 +1,5 @@
 // What laws of the crates below say of this crate's accesses, for its proofs. Nothing comes of calling it.
-ghost use Rattle.error_recovery.specs.Laws.{Laws, RegisterSet, Fragment, fits_of, may_of, registers_of};
+ghost use Rattle.error_recovery.specs.Laws.{Laws};
 
 use adapter::laws::law_port_registers_are_accessed;
 use disk_page::laws::{law_asking_is_of_one_port, law_what_is_told_of_waits_stays};
@@ -11,31 +11,12 @@ use refinement::facts::{
 };
 use refinement::fragments::{law_other_ports_are_left, law_tapes, law_unused_slots_are_silent};
 use refinement::giving_up::{law_fault_is_outstanding, law_slots_are_given_up};
-use refinement::kinds::{
-    Kinds, Registers, law_controls_are_of_a_port, law_followed_fragments_give, law_fragments,
-    law_fragments_are_parts,
-};
+use refinement::kinds::{law_controls_are_of_a_port, law_fragments};
 use refinement::laws::law_putting_is_of_one_slot;
 use refinement::recovering::{
     law_faults_are_plain, law_faults_show_before_the_end, law_link_is_kept, law_running_goes_on,
 };
-
-/// This crate's kinds of accesses.
-enum Recoveries {}
-
-impl Registers for Recoveries {
-    ghost Set = { RegisterSet };
-
-    ghost has = { registers_of };
-}
-
-impl Kinds for Recoveries {
-    ghost Kind = { Fragment };
-
-    ghost may = { may_of };
-
-    ghost fits = { fits_of };
-}
+use std::marker::Brand;
 
 /// The laws that the proofs of this crate rest on.
 pub fn law_base()
@@ -53,10 +34,8 @@ pub fn law_base()
     law_running_well_is_found();
     law_fault_is_outstanding();
     law_slots_are_given_up();
-    law_fragments::<Recoveries>();
-    law_controls_are_of_a_port::<Recoveries>();
-    law_followed_fragments_give::<Recoveries>();
-    law_fragments_are_parts::<Recoveries>();
+    law_fragments::<Brand>();
+    law_controls_are_of_a_port::<Brand>();
     law_putting_is_of_one_slot();
     law_faults_are_plain();
     law_faults_show_before_the_end();

@@ -1,34 +1,18 @@
 // What laws of the crates below say of this crate's accesses, for its proofs. Nothing comes of calling it.
-ghost use Rattle.port_boot.specs.Laws.{Laws, RegisterSet, Fragment, fits_of, may_of, registers_of};
+ghost use Rattle.port_boot.specs.Laws.{Laws};
 
 use adapter::laws::law_port_registers_are_accessed;
 use disk_page::laws::law_asking_is_of_one_port;
 use port_control::laws::law_what_is_told_of_engines_stays;
 use refinement::facts::{
-    law_adapter_stays, law_cleared_stays, law_fatal_errors_compose, law_faults_are_recorded,
-    law_faults_compose, law_link_comes_up, law_plugging_composes, law_running_well_is_found,
+    law_adapter_stays, law_cleared_stays, law_faults_are_recorded, law_link_comes_up,
+    law_running_well_is_found, law_undisturbed_ports_tell_nothing,
 };
 use refinement::fragments::{law_other_ports_are_left, law_tapes, law_unused_slots_are_silent};
-use refinement::kinds::{Kinds, Registers, law_controls_are_of_a_port, law_fragments};
+use refinement::kinds::{law_controls_are_of_a_port, law_fragments};
 use refinement::laws::law_writing_is_permitted;
 use refinement::recovering::law_halts_are_of_taken_commands;
-
-/// This crate's kinds of accesses.
-enum Boots {}
-
-impl Registers for Boots {
-    ghost Set = { RegisterSet };
-
-    ghost has = { registers_of };
-}
-
-impl Kinds for Boots {
-    ghost Kind = { Fragment };
-
-    ghost may = { may_of };
-
-    ghost fits = { fits_of };
-}
+use std::marker::Brand;
 
 /// The laws that the proofs of this crate rest on.
 pub fn law_base()
@@ -37,14 +21,12 @@ pub fn law_base()
     law_port_registers_are_accessed();
     law_adapter_stays();
     law_cleared_stays();
-    law_fatal_errors_compose();
     law_faults_are_recorded();
-    law_faults_compose();
     law_link_comes_up();
-    law_plugging_composes();
+    law_undisturbed_ports_tell_nothing();
     law_running_well_is_found();
-    law_fragments::<Boots>();
-    law_controls_are_of_a_port::<Boots>();
+    law_fragments::<Brand>();
+    law_controls_are_of_a_port::<Brand>();
     law_writing_is_permitted();
     law_halts_are_of_taken_commands();
     law_other_ports_are_left();

@@ -1,5 +1,5 @@
 // What laws of the crates below say of accesses that control a port, for their proofs. Nothing comes of calling it.
-ghost use Rattle.port_control.specs.Laws.{Laws, RegisterSet, Fragment, fits_of, may_of, registers_of};
+ghost use Rattle.port_control.specs.Laws.{Laws};
 
 use adapter::laws::{law_accesses_compose, law_port_registers_are_accessed, law_steps_keep};
 use refinement::facts::{
@@ -12,29 +12,13 @@ use refinement::fragments::{
     law_causes_stay_clear, law_other_ports_are_left, law_tapes, law_written_notes_stay,
 };
 use refinement::giving_up::law_stopped_slots_tell;
-use refinement::kinds::{Kinds, Registers, law_controls_are_of_a_port, law_fragments};
+use refinement::kinds::{law_controls_are_of_a_port, law_fragments};
 use refinement::laws::{
     law_arming_is_followed, law_clear_bits_stay, law_commanding_is_permitted,
     law_placing_is_permitted, law_writing_is_permitted,
 };
 use refinement::recovering::{law_link_is_kept, law_running_goes_on};
-
-/// The kinds of accesses that control a port.
-enum Controls {}
-
-impl Registers for Controls {
-    ghost Set = { RegisterSet };
-
-    ghost has = { registers_of };
-}
-
-impl Kinds for Controls {
-    ghost Kind = { Fragment };
-
-    ghost may = { may_of };
-
-    ghost fits = { fits_of };
-}
+use std::marker::Brand;
 
 /// The laws that the proofs on controlling a port rest on.
 pub fn law_base()
@@ -58,8 +42,8 @@ pub fn law_base()
     law_running_well_is_found();
     law_stop_is_found();
     law_stopped_slots_tell();
-    law_fragments::<Controls>();
-    law_controls_are_of_a_port::<Controls>();
+    law_fragments::<Brand>();
+    law_controls_are_of_a_port::<Brand>();
     law_arming_is_followed();
     law_clear_bits_stay();
     law_commanding_is_permitted();

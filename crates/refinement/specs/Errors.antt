@@ -55,6 +55,13 @@ pub record NoneFails (port : ℕ) (old new : Device) : Type 0 where
   pub tape : new.tape ≡ old.tape ++ gained
   pub none : All (λ e. IsFaultOf port e → ⊥) gained
 
+-- What the tape tells nothing of in two parts of a call it tells nothing of in the whole, and the other way round.
+pub record IsOfEachPart (Untold : ℕ → Device → Device → Type 0) : Type 0 where
+  pub none : (port : ℕ) (d : Device) → Untold port d d
+  pub more : (port : ℕ) (old mid new : Device) → Untold port old mid → Untold port mid new → Untold port old new
+  pub parts : (port : ℕ) (old mid new : Device) (early late : List Entry) → mid.tape ≡ old.tape ++ early
+      → new.tape ≡ mid.tape ++ late → Untold port old new → Untold port old mid × Untold port mid new
+
 -- Bits 27 to 29 of PxIS, IFS, HBDS and HBFS, rise only for a fatal error of the port; and bit 30, TFES, only for a
 -- fault of it (AHCI 1.3.1, 3.3.5).
 pub record ChangesByErrors (port : ℕ) (old new : Device) : Type 0 where

@@ -4,18 +4,21 @@ use Rattle.ata_types.specs.declared.Port.{Port}
 use Rattle.hba_regs.specs.declared.reg.PortReg.TheVariants.{Ci, Sact, Sctl}
 use Rattle.hba_regs.specs.declared.reg.Reg.{Reg}
 use Rattle.hba_regs.specs.declared.reg.Reg.TheVariants.{Px}
-use Rattle.adapter.specs.Access.{Access, Does, Reads, Stores, Writes}
-use Rattle.adapter.specs.Access.Access.{Reading, Storing, Writing}
+use Rattle.adapter.specs.Access.{Access, Does, Loads, Reads, Stores, Writes}
+use Rattle.adapter.specs.Access.Access.{Loading, Reading, Storing, Writing}
 use Rattle.adapter.specs.Device.{Device}
 use Rattle.adapter.specs.Rules.{MayWrite, IsStable}
 use Rattle.adapter.specs.declared.command.Operation.{Operation}
 use Rattle.adapter.specs.declared.tape.Entry.{Entry}
+use Rattle.refinement.specs.Acts.{ByDeviceAlone, Performs}
 use Rattle.refinement.specs.Driven.{Grows, IsRelated, IsSimulated, IsSimulatedTo, IsSimulatedAlong, IsSimulatedAlongTo, NoneWrites, SendsNone}
-use Rattle.refinement.specs.Driver.{LeavesUses, MayStore}
+use Rattle.refinement.specs.Driver.{AllFree, IsOwnPrepared, LeavesUses, MayStore}
 use Rattle.refinement.specs.Errors.{ChangesByDisks, NoneComes, NoneFails, NoneFatal}
-use Rattle.refinement.specs.Facts.{Undisturbed}
+use Rattle.refinement.specs.Facts.{IsHalted, Undisturbed}
+use Rattle.refinement.specs.GivingUp.{given_up}
 use Rattle.refinement.specs.Links.{PlugsNone}
 use Rattle.refinement.specs.Links.{SparesRegister}
+use Rattle.refinement.specs.Recovering.{WorksPlainly}
 use Rattle.refinement.specs.Slots.{Free, IsOver, Own, SlotStates, op_of, put}
 
 -- Fragments of accesses of these kinds, which may be made with the uses of slots that fit them.
@@ -24,9 +27,16 @@ pub record FragmentLaws (Kind : Type 0) (may : Kind → Access → Type 0)
   pub none : (kind : Kind) (d : Device) → IsSimulatedAlong (λ made. made ≡ []) (may kind) (fits kind) d d
   pub reads : (kind : Kind) (r : Reg) (v : ℕ) (old new : Device) → may kind (Reading r v) → Reads r v old new
       → IsSimulatedAlong (λ made. made ≡ Reading r v ∷ []) (may kind) (fits kind) old new
+  pub loads : (kind : Kind) (at : ℕ) (bytes : List ℕ) (old new : Device) → may kind (Loading at bytes)
+      → Loads at bytes old new
+      → IsSimulatedAlong (λ made. made ≡ Loading at bytes ∷ []) (may kind) (fits kind) old new
   pub writes : (kind : Kind) (r : Reg) (v : ℕ) (old new : Device) → may kind (Writing r v) → IsStable (MayWrite r v) old
       → ((uses : SlotStates) → fits kind uses → LeavesUses uses r v old) → Writes r v old new
       → IsSimulatedAlong (λ made. made ≡ Writing r v ∷ []) (may kind) (fits kind) old new
+  pub asks : (kind : Kind) (port : Port) (o : Operation) (v : ℕ) (old new : Device) → may kind (Writing (Px port Ci) v)
+      → old.hr ≡ false
+      → ((uses : SlotStates) → fits kind uses → IsOwnPrepared uses old port.0 o v) → Writes (Px port Ci) v old new
+      → IsSimulatedTo (may kind) (fits kind) (λ uses. put uses port.0 0 (Own o)) old new
   pub stores : (kind : Kind) (at : ℕ) (bytes : List ℕ) (old new : Device) → may kind (Storing at bytes)
       → ((uses : SlotStates) → fits kind uses → MayStore uses at (length bytes)) → Stores at bytes old new
       → IsSimulated (may kind) (fits kind) old new
@@ -53,6 +63,22 @@ pub record FragmentLaws (Kind : Type 0) (may : Kind → Access → Type 0)
       → fits kind uses → NoneWrites (may kind) (Px port Ci) → NoneWrites (may kind) (Px port Sact) → op_of o ≡ None
       → (uses port.0 0 ≡ Own o → ⊥) → IsSimulatedTo (may kind) (fits kind) next old new → IsRelated uses old
       → SendsNone port.0 o old new
+  pub plain : (kind : Kind) (next : SlotStates → SlotStates) (uses : SlotStates) (port : Port) (old new : Device)
+      → fits kind uses
+      → NoneWrites (may kind) (Px port Sact) → IsSimulatedTo (may kind) (fits kind) next old new
+      → IsRelated uses old → WorksPlainly (old.port port.0) → WorksPlainly (new.port port.0)
+  -- as parts of a call
+  pub one : (kind : Kind) (next : SlotStates → SlotStates) (old new : Device)
+      → (a : IsSimulatedTo (may kind) (fits kind) next old new)
+      → Performs a.driven.accesses (λ s m. fits kind s.uses) (λ s. record s { uses = next s.uses }) ByDeviceAlone old
+      new
+  pub giving_up : (kind then : Kind) (next : SlotStates → SlotStates) (port : ℕ) (old mid new : Device)
+      → (a : IsSimulated (may kind) (fits kind) old mid) → IsHalted (mid.port port)
+      → ((uses : SlotStates) → AllFree uses port → fits then uses)
+      → (b : IsSimulatedTo (may then) (fits then) next mid new)
+      → Performs (a.driven.accesses ++ b.driven.accesses)
+      (λ s m. fits kind s.uses) (λ s. record (given_up port s) { uses = next (given_up port s).uses }) ByDeviceAlone
+      old new
 
 -- what the tape tells of a part of a call, and of the whole
 pub record TapeLaws : Type 0 where

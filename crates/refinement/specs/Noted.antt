@@ -1,12 +1,13 @@
 -- What the driver's readings of a port noted, and what leaves it (this project's own).
-use Rattle.std.specs.Prelude.{◌≡◌, ◌≢◌}
+use Rattle.std.specs.Prelude.{ℕ, ◌≡◌, ◌≢◌}
 use Rattle.ata_types.specs.declared.Port.{Port}
+use Rattle.hba_regs.specs.declared.reg.PortReg.{PortReg}
 use Rattle.hba_regs.specs.declared.reg.Reg.{Reg}
 use Rattle.hba_regs.specs.declared.reg.Reg.TheVariants.{Px}
 use Rattle.hba_regs.specs.declared.reg.PortReg.TheVariants.{Cmd, Tfd, Sig, Ssts, Sctl, Sact, Ci}
-use Rattle.adapter.specs.Access.{Access}
+use Rattle.adapter.specs.Access.{Access, Reads}
 use Rattle.adapter.specs.Access.Access.{Reading}
-use Rattle.adapter.specs.Device.{Notes}
+use Rattle.adapter.specs.Device.{Device, Notes}
 use Rattle.refinement.specs.Links.{SparesRegister}
 
 -- the access doesn't read the register
@@ -27,3 +28,8 @@ pub record LeavesNotes (access : Access) (port : Port) (old new : Notes) : Type 
       → (new.last_ci ≡ old.last_ci) × (SparesRegister (Px port Sctl) access → new.command_count ≡ old.command_count)
   pub active : SparesReading (Px port Sact) access → new.last_sact ≡ old.last_sact
   pub signature : SparesReading (Px port Sig) access → new.last_sig ≡ old.last_sig
+
+-- A reading of the register is noted here, as the last one.
+abbrev pub NotesLast : PortReg → (Notes → ℕ) → Type 0
+NotesLast r last = (port : Port) (v : ℕ) (old new : Device) → Reads (Px port r) v old new
+    → last (new.port port.0).notes ≡ v

@@ -30,10 +30,10 @@ ghost use Rattle.refinement.specs.Awaits.{AwaitsPage};
 ghost use Rattle.refinement.specs.Booted.{BootIsFound};
 ghost use Rattle.refinement.specs.Driven.{Grows};
 ghost use Rattle.refinement.specs.Driver.{DriverState, DriverRelation, IsOwnPrepared};
-ghost use Rattle.refinement.specs.Errors.{KeepsErrors, NoneComes, ChangesByDisks, StaysClear, NoneFatal, NoneFails, ChangesByErrors, IsLeftByReset, IsCleared, IsWork};
+ghost use Rattle.refinement.specs.Errors.{KeepsErrors, NoneComes, ChangesByDisks, StaysClear, NoneFatal, NoneFails, ChangesByErrors, IsLeftByReset, IsCleared, IsOfEachPart, IsWork};
 ghost use Rattle.refinement.specs.Facts.{IsHalted, IsAfterReset, FindsOwnPage, IsStill, AreOver, RunsWell, Undisturbed, ShowsNoTrouble, TellsNoTrouble, ClearsNoTrouble, IsFaulted, ShowsFault, HasFaults, IsRecorded, IsAwaited, IsUnflagged, IsQuiet, KeepsRecord, EndedIn, IsClear};
 ghost use Rattle.refinement.specs.Links.{SparesRegister, SameAdapter, LeavesControls, PlugsNone, LeavesDisk, LeavesLink, HasDeviceOrNone};
-ghost use Rattle.refinement.specs.Noted.{LeavesNotes};
+ghost use Rattle.refinement.specs.Noted.{LeavesNotes, NotesLast};
 ghost use Rattle.refinement.specs.Places.{scratch_of};
 ghost use Rattle.refinement.specs.Slots.{SlotStates, Free, Own, Serves, IsOver, Brought, put};
 ghost use Rattle.refinement.specs.Spares.{IsOfAnother};
@@ -333,14 +333,23 @@ pub fn law_cleared_stays()
     law_below();
 }
 
-/// Where nothing goes wrong in each of two parts of a call, nothing does in the whole; and where nothing does in the
-/// whole, nothing does in the parts.
-pub fn law_calm_composes()
-    ensures none { (port : ℕ) (d : Device) → Undisturbed port d d }
-    ensures more { (port : ℕ) (old mid new : Device) → Undisturbed port old mid → Undisturbed port mid new
-        → Undisturbed port old new }
-    ensures parts { (port : ℕ) (old mid new : Device) (early late : List Entry) → mid.tape ≡ old.tape ++ early
-        → new.tape ≡ mid.tape ++ late → Undisturbed port old new → Undisturbed port old mid × Undisturbed port mid new }
+/// What the tape tells nothing of in two parts of a call it tells nothing of in the whole, and the other way round: all
+/// that goes wrong with a port, its disks that go or come, its disks that come, its fatal errors, and its faults.
+pub fn law_what_is_untold_composes()
+    ensures calm { IsOfEachPart Undisturbed }
+    ensures plugs { IsOfEachPart PlugsNone }
+    ensures comes { IsOfEachPart NoneComes }
+    ensures fatal { IsOfEachPart NoneFatal }
+    ensures fails { IsOfEachPart NoneFails }
+{}
+
+/// Where nothing goes wrong with a port, the tape tells of no disk that goes or comes, of no fatal error and of no
+/// fault; and where none goes or comes, none comes.
+pub fn law_undisturbed_ports_tell_nothing()
+    ensures plugs { (port : ℕ) (old new : Device) → Undisturbed port old new → PlugsNone port old new }
+    ensures comes { (port : ℕ) (old new : Device) → PlugsNone port old new → NoneComes port old new }
+    ensures fatal { (port : ℕ) (old new : Device) → Undisturbed port old new → NoneFatal port old new }
+    ensures fails { (port : ℕ) (old new : Device) → Undisturbed port old new → NoneFails port old new }
 {}
 
 /// What the adapter is stays over each access: its memory's size, its capabilities and its ports; and so over one
@@ -406,17 +415,6 @@ pub fn law_controls_are_set()
 {
     law_below();
 }
-
-/// Where the tape tells of no disk of the port that goes or comes in two parts of a call, it tells of none in the
-/// whole, and the other way round; where nothing goes wrong, it tells of none either.
-pub fn law_plugging_composes()
-    ensures none { (port : ℕ) (d : Device) → PlugsNone port d d }
-    ensures more { (port : ℕ) (old mid new : Device) → PlugsNone port old mid → PlugsNone port mid new
-        → PlugsNone port old new }
-    ensures parts { (port : ℕ) (old mid new : Device) (early late : List Entry) → mid.tape ≡ old.tape ++ early
-        → new.tape ≡ mid.tape ++ late → PlugsNone port old new → PlugsNone port old mid × PlugsNone port mid new }
-    ensures calm { (port : ℕ) (old new : Device) → Undisturbed port old new → PlugsNone port old new }
-{}
 
 /// While no reset is pending, N of PxSERR tells each disk that goes or comes, until PxSERR is written: where it is 0
 /// after the device's steps or an access, or is read 0, no disk of the port went or came, and it was 0 before. A disk
@@ -609,39 +607,6 @@ pub fn law_errors_rise_by_disks()
     law_below();
 }
 
-/// Where the tape tells of no disk of the port that comes in two parts of a call, it tells of none in the whole, and
-/// the other way round; where none goes or comes, none comes.
-pub fn law_coming_composes()
-    ensures none { (port : ℕ) (d : Device) → NoneComes port d d }
-    ensures more { (port : ℕ) (old mid new : Device) → NoneComes port old mid → NoneComes port mid new
-        → NoneComes port old new }
-    ensures parts { (port : ℕ) (old mid new : Device) (early late : List Entry) → mid.tape ≡ old.tape ++ early
-        → new.tape ≡ mid.tape ++ late → NoneComes port old new → NoneComes port old mid × NoneComes port mid new }
-    ensures plugs { (port : ℕ) (old new : Device) → PlugsNone port old new → NoneComes port old new }
-{}
-
-/// Where the tape tells of no fatal error of the port in two parts of a call, it tells of none in the whole, and the
-/// other way round; where nothing goes wrong, it tells of none either.
-pub fn law_fatal_errors_compose()
-    ensures none { (port : ℕ) (d : Device) → NoneFatal port d d }
-    ensures more { (port : ℕ) (old mid new : Device) → NoneFatal port old mid → NoneFatal port mid new
-        → NoneFatal port old new }
-    ensures parts { (port : ℕ) (old mid new : Device) (early late : List Entry) → mid.tape ≡ old.tape ++ early
-        → new.tape ≡ mid.tape ++ late → NoneFatal port old new → NoneFatal port old mid × NoneFatal port mid new }
-    ensures calm { (port : ℕ) (old new : Device) → Undisturbed port old new → NoneFatal port old new }
-{}
-
-/// Where the tape tells of no fault of the port in two parts of a call, it tells of none in the whole, and the other
-/// way round; where nothing goes wrong, it tells of none either.
-pub fn law_faults_compose()
-    ensures none { (port : ℕ) (d : Device) → NoneFails port d d }
-    ensures more { (port : ℕ) (old mid new : Device) → NoneFails port old mid → NoneFails port mid new
-        → NoneFails port old new }
-    ensures parts { (port : ℕ) (old mid new : Device) (early late : List Entry) → mid.tape ≡ old.tape ++ early
-        → new.tape ≡ mid.tape ++ late → NoneFails port old new → NoneFails port old mid × NoneFails port mid new }
-    ensures calm { (port : ℕ) (old new : Device) → Undisturbed port old new → NoneFails port old new }
-{}
-
 /// While a port's engine stands, no move, clearing, end, fault or fatal error of the port comes; and where no disk
 /// comes either, the disk holds what it did: whatever the device does, also over a reset of the adapter that ends, and
 /// over each access, also the write of ST itself.
@@ -683,18 +648,12 @@ pub fn law_errors_are_cleared()
 /// A reading of a port's register notes the value as the last one read. While no reset is pending it counts the
 /// readings in a row, too, as the adapter's notes do, and shows what the port has then.
 pub fn law_notes_are_set()
-    ensures command { (port : Port) (v : ℕ) (old new : Device) → Reads (Px port Cmd) v old new
-        → (new.port port.0).notes.last_cmd ≡ v }
-    ensures link { (port : Port) (v : ℕ) (old new : Device) → Reads (Px port Ssts) v old new
-        → (new.port port.0).notes.last_ssts ≡ v }
-    ensures file { (port : Port) (v : ℕ) (old new : Device) → Reads (Px port Tfd) v old new
-        → (new.port port.0).notes.last_tfd ≡ v }
-    ensures issued { (port : Port) (v : ℕ) (old new : Device) → Reads (Px port Ci) v old new
-        → (new.port port.0).notes.last_ci ≡ v }
-    ensures active { (port : Port) (v : ℕ) (old new : Device) → Reads (Px port Sact) v old new
-        → (new.port port.0).notes.last_sact ≡ v }
-    ensures signature { (port : Port) (v : ℕ) (old new : Device) → Reads (Px port Sig) v old new
-        → (new.port port.0).notes.last_sig ≡ v }
+    ensures command { NotesLast Cmd (λ n. n.last_cmd) }
+    ensures link { NotesLast Ssts (λ n. n.last_ssts) }
+    ensures file { NotesLast Tfd (λ n. n.last_tfd) }
+    ensures issued { NotesLast Ci (λ n. n.last_ci) }
+    ensures active { NotesLast Sact (λ n. n.last_sact) }
+    ensures signature { NotesLast Sig (λ n. n.last_sig) }
     ensures counts { (port : Port) (r : PortReg) (v : ℕ) (old new : Device) → old.hr ≡ false
         → Reads (Px port r) v old new → (new.port port.0).notes ≡ note r v (old.port port.0) }
     ensures shows { (port : Port) (r : PortReg) (v : ℕ) (old new : Device) → old.hr ≡ false

@@ -21,8 +21,7 @@ ghost use Rattle.refinement.specs.Links.{SameAdapter, SparesRegister};
 ghost use Rattle.refinement.specs.Slots.{SlotStates, Free, IsOver, Own, op_of, put};
 
 use super::facts::{
-    law_calm_composes, law_coming_composes, law_errors_rise_by_disks, law_fatal_errors_compose,
-    law_faults_compose, law_plugging_composes,
+    law_errors_rise_by_disks, law_undisturbed_ports_tell_nothing, law_what_is_untold_composes,
 };
 use super::lawful::law_below;
 
@@ -77,11 +76,8 @@ pub fn law_tapes()
     ensures { TapeLaws }
 {
     law_tapes_grow();
-    law_coming_composes();
-    law_plugging_composes();
-    law_fatal_errors_compose();
-    law_faults_compose();
-    law_calm_composes();
+    law_what_is_untold_composes();
+    law_undisturbed_ports_tell_nothing();
     law_errors_rise_by_disks();
 }
 

@@ -1,6 +1,7 @@
-// Laws of fragments of accesses, whatever their kinds are, for the crates above: the clause is the theorem. A crate
-// names its kinds by an `impl`. Nothing calls these functions when it runs.
-ghost use Rattle.std.specs.Prelude.{ℕ, None, false, ◌≡◌, ◌⊎◌, ◌++◌, [], ◌∷◌, List, length};
+// Laws of fragments of accesses, whatever their kinds are, for the crates above: the clause is the theorem. A caller
+// passes `Brand`, and names its kinds in the proof of its call (`ghosts-law_fragments` in its Invariants.antt). Nothing
+// calls these functions when it runs.
+ghost use Rattle.std.specs.Prelude.{ℕ, ⊤, None, false, ◌≡◌, ◌⊎◌, ◌++◌, [], ◌∷◌, List, length};
 ghost use Rattle.ata_types.specs.declared.Port.{Port};
 ghost use Rattle.hba_regs.specs.declared.reg.PortReg.{PortReg};
 ghost use Rattle.hba_regs.specs.declared.reg.PortReg.TheVariants.{Sact, Ci};
@@ -23,6 +24,7 @@ ghost use Rattle.refinement.specs.Slots.{SlotStates, Free, Own, IsOver, op_of, p
 
 use super::lawful::law_below;
 use adapter::laws::law_accesses_compose;
+use std::marker::Brand;
 
 /// Sets of a port's registers.
 pub trait Registers {
@@ -30,6 +32,13 @@ pub trait Registers {
     ghost Set: { Type 0 };
     /// The registers of a set.
     ghost has: { Set → PortReg → Type 0 };
+}
+
+/// What stands where a caller names no sets: one, of all registers.
+impl Registers for Brand {
+    ghost Set = { ⊤ };
+
+    ghost has = { λ set r. ⊤ };
 }
 
 /// Kinds of accesses, and the uses of slots with which those of a kind may be made.
@@ -40,6 +49,15 @@ pub trait Kinds {
     ghost may: { Kind → Access → Type 0 };
     /// The uses that fit them.
     ghost fits: { Kind → SlotStates → Type 0 };
+}
+
+/// What stands where a caller names no kinds: one, of all accesses, which all uses fit.
+impl Kinds for Brand {
+    ghost Kind = { ⊤ };
+
+    ghost may = { λ kind access. ⊤ };
+
+    ghost fits = { λ kind uses. ⊤ };
 }
 
 /// Accesses that read a port's registers and write those of a set are the one or the other. They are of that port
@@ -125,16 +143,6 @@ pub fn law_followed_fragments_give<K: Kinds>()
     law_below();
 }
 
-/// What these laws say of a crate's kinds, for its proofs.
-pub fn law_fragments<K: Kinds>()
-    ensures { FragmentLaws K.Kind K.may K.fits }
-{
-    law_accesses_are_followed::<K>();
-    law_stores_are_followed::<K>();
-    law_fragments_are_followed::<K>();
-    law_followed_fragments_give::<K>();
-}
-
 /// A fragment that is followed is a part of a call, in which the device alone makes steps. And where a port has halted
 /// after it, the driver may give up all slots of the port, and go on with another fragment, of any kind that a port
 /// without a used slot allows: the two are one part, too.
@@ -152,4 +160,15 @@ pub fn law_fragments_are_parts<K: Kinds>()
         (λ s. record (given_up port s) { uses = next (given_up port s).uses }) ByDeviceAlone old new }
 {
     law_accesses_compose();
+}
+
+/// What these laws say of a crate's kinds, for its proofs.
+pub fn law_fragments<K: Kinds>()
+    ensures { FragmentLaws K.Kind K.may K.fits }
+{
+    law_accesses_are_followed::<K>();
+    law_stores_are_followed::<K>();
+    law_fragments_are_followed::<K>();
+    law_followed_fragments_give::<K>();
+    law_fragments_are_parts::<K>();
 }

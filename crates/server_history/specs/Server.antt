@@ -42,10 +42,10 @@ use Rattle.driver_history.specs.Holds.{Runs, mode_of}
 use Rattle.request_queue.specs.declared.PendingRequest.{PendingRequest}
 
 -- The device behind the adapter; the grants; by frame its owner and the request that it is lent to; by port the disk
--- that is wanted, what it was found to be, which disk it was ready with when its error was last handled, or its adapter
--- last reset, how it takes commands, what its slots are used for, and what is still lent to requests of it that were
--- answered; the unanswered requests in order of acceptance, with what is lent to them; and the id that was handed out
--- last, or 0.
+-- that is wanted, what it was found to be, the disk that it was last ready with before its error was last handled or
+-- its adapter last reset (and so while it isn't ready), how it takes commands, what its slots are used for, and what is
+-- still lent to requests of it that were answered; the unanswered requests in order of acceptance, with what is lent to
+-- them; and the id that was handed out last, or 0.
 pub record ServerState : Type 0 where
   pub device : Device
   pub grants : List GrantRow

@@ -3,7 +3,6 @@ ghost use Rattle.server_history.specs.After.{RecoveryLaws, PortErrorLaws};
 ghost use Rattle.server_history.specs.Basics.{AgeLaws, BasicLaws, LivingLaws, SlotLaws};
 ghost use Rattle.server_history.specs.Below.{LawsBelow};
 ghost use Rattle.server_history.specs.Calls.{CallLaws, LookLaws};
-ghost use Rattle.server_history.specs.Laws.{Fragment, fits_of, may_of};
 
 use adapter::laws::law_accesses_compose;
 use adapter::laws::law_port_registers_are_accessed;
@@ -63,17 +62,15 @@ use refinement::facts::law_device_or_none_stays;
 use refinement::facts::law_disk_stays;
 use refinement::facts::law_ended_is_clear;
 use refinement::facts::law_errors_are_shown;
-use refinement::facts::law_fatal_errors_compose;
 use refinement::facts::law_notes_are_set;
 use refinement::facts::law_over_stays;
-use refinement::facts::law_plugging_composes;
 use refinement::facts::law_plugging_is_found;
 use refinement::facts::law_switching_on;
+use refinement::facts::law_undisturbed_ports_tell_nothing;
 use refinement::fragments::law_other_ports_are_left;
 use refinement::giving_up::law_fault_is_outstanding;
 use refinement::giving_up::law_given_up_requests_are_parked;
 use refinement::giving_up::law_slots_are_given_up;
-use refinement::kinds::Kinds;
 use refinement::kinds::law_fragments;
 use refinement::laws::law_accepting_agrees;
 use refinement::laws::law_an_idle_device_agrees;
@@ -109,17 +106,7 @@ use request_queue::laws::law_operations_change_one_request;
 use request_queue::laws::law_operations_change_what_is_due;
 use request_queue::laws::law_steps_change_the_book;
 use request_queue::laws::law_the_book_stays_in_order;
-
-/// The kinds of accesses of a port's turn.
-enum Turns {}
-
-impl Kinds for Turns {
-    ghost Kind = { Fragment };
-
-    ghost may = { may_of };
-
-    ghost fits = { fits_of };
-}
+use std::marker::Brand;
 
 /// What steps and accesses do, one after another.
 fn law_basics()
@@ -196,7 +183,7 @@ fn law_looks()
     law_port_registers_are_accessed();
     law_notes_are_set();
     law_device_or_none_stays();
-    law_fragments::<Turns>();
+    law_fragments::<Brand>();
     law_other_ports_are_left();
     law_failures_are_found();
     law_errors_are_seen();
@@ -227,8 +214,7 @@ fn law_port_errors()
 {
     law_errors_are_shown();
     law_plugging_is_found();
-    law_fatal_errors_compose();
-    law_plugging_composes();
+    law_undisturbed_ports_tell_nothing();
     law_disk_stays();
     law_halts_are_of_taken_commands();
 }

@@ -1,6 +1,6 @@
 // What laws of the crates below say of the accesses of looks, for their proofs and those above. Nothing comes of
 // calling it.
-ghost use Rattle.port_control.specs.LookLaws.{Laws, Fragment, fits_of, may_of};
+ghost use Rattle.port_control.specs.LookLaws.{Laws};
 
 use adapter::laws::{law_port_registers_are_accessed, law_steps_compose, law_steps_keep};
 use refinement::disks::law_look_tells;
@@ -11,21 +11,11 @@ use refinement::facts::{
     law_plugging_is_found, law_running_well_is_found, law_trouble_is_shown,
 };
 use refinement::fragments::{law_other_ports_are_left, law_tapes};
-use refinement::kinds::{Kinds, law_fragments};
+use refinement::kinds::law_fragments;
 use refinement::laws::{
     law_acknowledging_is_permitted, law_clear_bits_stay, law_writing_is_permitted,
 };
-
-/// The kinds of accesses of looks.
-enum Looks {}
-
-impl Kinds for Looks {
-    ghost Kind = { Fragment };
-
-    ghost may = { may_of };
-
-    ghost fits = { fits_of };
-}
+use std::marker::Brand;
 
 /// The laws that the proofs on looks rest on.
 pub fn law_base()
@@ -50,7 +40,7 @@ pub fn law_base()
     law_plugging_is_found();
     law_running_well_is_found();
     law_trouble_is_shown();
-    law_fragments::<Looks>();
+    law_fragments::<Brand>();
     law_acknowledging_is_permitted();
     law_clear_bits_stay();
     law_writing_is_permitted();

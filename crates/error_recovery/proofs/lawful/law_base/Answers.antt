@@ -41,7 +41,4 @@ returns c = record {
   control_spares = c.law_controls_are_of_a_port.ensures.spares;
   control_wider = c.law_controls_are_of_a_port.ensures.wider;
   fragments = c.law_fragments.ensures;
-  plain = c.law_followed_fragments_give.ensures.plain;
-  one = c.law_fragments_are_parts.ensures.one;
-  giving_up = c.law_fragments_are_parts.ensures.giving_up;
 }
