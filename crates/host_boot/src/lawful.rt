@@ -1,5 +1,5 @@
 // What laws of the crates below say of this crate's accesses, for its proofs. Nothing comes of calling it.
-ghost use Rattle.host_boot.specs.Laws.{Laws, Fragment, fits_of, may_of};
+ghost use Rattle.host_boot.specs.Laws.{Laws};
 
 use adapter::laws::{law_accesses_compose, law_steps_keep};
 use port_boot::laws::{
@@ -12,20 +12,10 @@ use refinement::facts::{
     law_adapter_stays, law_device_or_none_stays, law_reset_is_found, law_switching_on,
 };
 use refinement::fragments::{law_agreeing_goes_on, law_other_ports_are_left, law_tapes};
-use refinement::kinds::{Kinds, law_fragments};
+use refinement::kinds::law_fragments;
 use refinement::laws::law_putting_is_of_one_slot;
 use refinement::recovering::law_halts_are_of_taken_commands;
-
-/// This crate's kinds of accesses.
-enum Boots {}
-
-impl Kinds for Boots {
-    ghost Kind = { Fragment };
-
-    ghost may = { may_of };
-
-    ghost fits = { fits_of };
-}
+use std::marker::Brand;
 
 /// The laws that the proofs of this crate rest on.
 pub fn law_base()
@@ -39,7 +29,7 @@ pub fn law_base()
     law_reset_is_found();
     law_reset_is_idle();
     law_switching_on();
-    law_fragments::<Boots>();
+    law_fragments::<Brand>();
     law_putting_is_of_one_slot();
     law_halts_are_of_taken_commands();
     law_agreeing_goes_on();

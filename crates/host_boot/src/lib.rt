@@ -7,7 +7,8 @@
 //! anew.
 #![tactic(auto)]
 
-ghost use Rattle.std.specs.Prelude.{◌≡◌, ◌<◌, ◌≤◌, length, true};
+ghost use Rattle.std.specs.Prelude.{◌≡◌, ◌<◌, ◌≤◌, ◌+◌, length, true};
+ghost use Rattle.hba_regs.specs.Bits.{bit, field};
 ghost use Rattle.hba_regs.specs.declared.reg.Reg.TheVariants.{Ghc};
 ghost use Rattle.adapter.specs.Access.{Writes};
 ghost use Rattle.adapter.specs.Idle.{IsIdle};
@@ -171,6 +172,20 @@ pub fn take_over<A: Adapter>(adapter: &mut A, wanted: &[Wanted; PORTS]) -> Host
     }
 }
 
+/// What a port was found to be by its boot, with what CAP tells of the adapter.
+#[inline(always)]
+fn booted_with(capabilities: Capabilities, found: ProbeResult) -> Booted
+    ensures slots { result.slots ≡ field capabilities.0 8 5 + 1 }
+    ensures queued { result.queued ≡ bit capabilities.0 30 }
+    ensures found { result.found ≡ found }
+{
+    Booted {
+        slots: capabilities.last_slot() as u8 + 1,
+        queued: capabilities.has_ncq(),
+        found,
+    }
+}
+
 /// Boots a port that was stopped, and no slot of which is used: as a port is booted when its adapter is taken over
 /// (AHCI 1.3.1, 10.1.2). CAP is read first, since its disk may be another, which takes commands in another way.
 pub fn reboot_port<A: Adapter>(adapter: &mut A, stopped: Stopped, wanted: &Wanted) -> Booted
@@ -183,11 +198,7 @@ pub fn reboot_port<A: Adapter>(adapter: &mut A, stopped: Stopped, wanted: &Wante
     law_base();
     let capabilities = Capabilities(adapter.read(Reg::Cap));
     let found = boot_stopped(adapter, stopped, wanted);
-    Booted {
-        slots: capabilities.last_slot() as u8 + 1,
-        queued: capabilities.has_ncq(),
-        found,
-    }
+    booted_with(capabilities, found)
 }
 
 /// Boots a port that was stopped since its device went or came, and no slot of which is used, if a device shows
@@ -208,9 +219,5 @@ pub fn reboot_if_present<A: Adapter>(adapter: &mut A, stopped: Stopped, wanted: 
     } else {
         ProbeResult::Unready(PortState::Absent)
     };
-    Booted {
-        slots: capabilities.last_slot() as u8 + 1,
-        queued: capabilities.has_ncq(),
-        found,
-    }
+    booted_with(capabilities, found)
 }

@@ -1,4 +1,4 @@
-use Rattle.std.proofs.Common.{ℕ, ◌≡◌, ◌+◌, ◌∙◌, sym, ap, subst}
+use Rattle.std.proofs.Common.{◌≡◌, ◌∙◌, sym, ap, subst}
 use Rattle.ata_types.specs.declared.Port.{Port}
 use Rattle.ata_types.specs.declared.limits.TheConstants.{MOST_READINGS}
 use Rattle.adapter.specs.Device.{Notes}
@@ -42,19 +42,18 @@ returns-clause-boots g c =
     let device = g.A.Adapter.device in
     let asked = device c.read.new.self in
     let seen = device c.shows_device.new.adapter in
-    let slots = ap (λ (n : ℕ). n + 1) c.last_slot.ensures in
     let looks = subst (λ (p : Port). IsSimulated (IsControl IsClearing p) AnyUse asked seen) c.port.ensures c.shows_device.ensures.followed in
     elim c.if-shows_device.branch [
       | then-shows_device w ↦
           let there = subst (λ (p : Port). (seen.port p.0).ssts_det ≡ 3) c.port.ensures (c.shows_device.ensures.asks.there w.if-shows_device.true) in
-          let booted = subst (λ (f : ProbeResult). BootsStopped wanted port f seen (device w.boot_stopped-found.new.adapter)) (sym w.found-is) w.boot_stopped-found.ensures.boots in
-          let boots = subst (λ a. BootsStopped wanted port c.if-shows_device.found seen (device a)) (sym w.adapter-is) booted in
-          seen_boots laws _ _ asked c.read.ensures.does port seen looks _ wanted _ there boots slots c.has_ncq.ensures
+          let booted = subst (λ (f : ProbeResult). BootsStopped wanted port f seen (device w.boot_stopped-found.new.adapter)) (sym (c.booted_with.ensures.found ∙ w.found-is)) w.boot_stopped-found.ensures.boots in
+          let boots = subst (λ a. BootsStopped wanted port c.booted_with.result.found seen (device a)) (sym w.adapter-is) booted in
+          seen_boots laws _ _ asked c.read.ensures.does port seen looks _ wanted _ there boots c.booted_with.ensures.slots c.booted_with.ensures.queued
       | else-shows_device w ↦
           let left = cap_leaves laws _ c.requires.bootable.on.no_reset port.0 _ _ c.read.ensures.does in
           let stays = subst (λ (p : Port). IsStopped (asked.port p.0) → IsStopped (seen.port p.0)) c.port.ensures c.shows_device.ensures.asks.stopped in
           let none = subst (λ (p : Port). (asked.port p.0).notes.link_count ≡ MOST_READINGS → BacksFault NoDevice (seen.port p.0).notes) c.port.ensures (c.shows_device.ensures.asks.none w.if-shows_device.false) in
           let stopped = stays (asked_stopped laws _ _ _ c.read.ensures.does port left c.requires.stopped) in
           let full = ap (λ (n : Notes). n.link_count) left.notes ∙ c.requires.saw in
-          seen_absent laws _ _ asked c.read.ensures.does port seen looks _ wanted _ (ap device w.adapter-is) w.found-is stopped (none full)
+          seen_absent laws _ _ asked c.read.ensures.does port seen looks _ wanted _ (ap device w.adapter-is) (c.booted_with.ensures.found ∙ w.found-is) stopped (none full)
     ]

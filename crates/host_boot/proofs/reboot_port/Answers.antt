@@ -1,4 +1,6 @@
-use Rattle.std.proofs.Common.{ℕ, ◌+◌, ap}
+use Rattle.std.proofs.Common.{sym, subst}
+use Rattle.host_boot.specs.Again.{BootsStopped}
+use Rattle.host_boot.specs.declared.ProbeResult.{ProbeResult}
 use Rattle.host_boot.proofs.Booting.{asked_bootable, asked_boots, asked_stopped}
 use Rattle.host_boot.proofs.Leaving.{cap_leaves}
 use Rattle.host_boot.proofs.reboot_port.Goals as goal
@@ -13,4 +15,7 @@ boot_stopped-found-requires-clause-stopped g c =
 
 pub returns-clause-boots : goal.returns-clause-boots
 returns-clause-boots g c =
-    asked_boots c.law_base.ensures _ _ _ c.read.ensures.does c.args.stopped.port _ c.args.wanted.now _ c.boot_stopped-found.ensures.boots (ap (λ (n : ℕ). n + 1) c.last_slot.ensures) c.has_ncq.ensures
+    let port = c.args.stopped.port in
+    let device = g.A.Adapter.device in
+    let boots = subst (λ (f : ProbeResult). BootsStopped c.args.wanted.now port f (device c.read.new.self) (device c.boot_stopped-found.new.adapter)) (sym c.booted_with.ensures.found) c.boot_stopped-found.ensures.boots in
+    asked_boots c.law_base.ensures _ _ _ c.read.ensures.does port _ c.args.wanted.now _ boots c.booted_with.ensures.slots c.booted_with.ensures.queued
