@@ -1,5 +1,5 @@
 -- How a line of a script is spelled (this project's own): each line in one way, and some values have no line.
-use Rattle.std.specs.Prelude.{ℕ, ◌≡◌, ◌<◌, ◌≤◌, ◌^◌, List, [], ◌∷◌, length, codes}
+use Rattle.std.specs.Prelude.{ℕ, ◌≡◌, ◌<◌, ◌≤◌, ◌^◌, ⊤, List, [], ◌∷◌, length, codes, Option, Some, IfSome, OnSome}
 use Rattle.std.specs.List.{All, join_with_byte}
 use Rattle.std.specs.Fmt.{decimal}
 use Rattle.hex.specs.Hex.{encode_lower}
@@ -135,3 +135,22 @@ IsLine Reset = Unit {0}
 IsLine (Revoke client grant) = (client.0 < 256) × (grant < 256)
 IsLine (State port) = port.0 < 4
 IsLine (Device asked) = IsStep asked
+
+-- ---- what is read from words
+
+-- if a step is, they are its words
+abbrev pub ReadsAsStep : List Word → Option DeviceStep → Type 0
+ReadsAsStep words found = IfSome found (λ s. IsStep s × (step_words s ≡ words))
+
+-- each step whose words they are is
+abbrev pub ReadsEachStep : List Word → Option DeviceStep → Type 0
+ReadsEachStep words found = (s : DeviceStep) → IsStep s → step_words s ≡ words → found ≡ Some s
+
+-- if a call is put into the place, they are the words of its line
+abbrev pub ReadsAsLine : List Word → Option ⊤ → Call DeviceStep → Type 0
+ReadsAsLine words found call = OnSome found (IsLine call × (line_words call ≡ words))
+
+-- each call whose line's words they are is
+abbrev pub ReadsEachLine : List Word → Option ⊤ → Call DeviceStep → Type 0
+ReadsEachLine words found call = (c : Call DeviceStep) → IsLine c → line_words c ≡ words
+    → (found ≡ Some tt) × (call ≡ c)

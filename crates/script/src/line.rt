@@ -1,7 +1,7 @@
 // One line of a script: the call that it asks for.
 ghost use Rattle.std.specs.Prelude.{◌≡◌, ◌<◌, ◌≤◌, ◌==◌, ◌↔◌, IsTrue, ◌++◌, ◌∷◌, [], codes, Some, None, IfSome, OnSome, length, map};
 ghost use Rattle.std.specs.List.{slice_split};
-ghost use Rattle.script.specs.Line.{IsLine, IsRequest, IsSpelled, IsStep, line_text, line_words, op_word, request_words, step_words, transfer_words};
+ghost use Rattle.script.specs.Line.{IsLine, IsRequest, IsSpelled, ReadsAsLine, ReadsAsStep, ReadsEachLine, ReadsEachStep, line_text, op_word, request_words, transfer_words};
 ghost use Rattle.ata_types.specs.declared.call.Call.{Call};
 ghost use Rattle.ata_types.specs.declared.call.Call.TheVariants.{Submit};
 ghost use Rattle.ata_types.specs.declared.request.Op.{Op};
@@ -67,10 +67,8 @@ fn transfer(op: Op, words: &[&[u8]], request: &mut Request) -> Option<()>
 
 /// The lie that the disk of the port is to tell of this page: where, and which bits are turned.
 fn lie(port: &[u8], page: &[u8], offset: &[u8], bits: &[u8]) -> Option<DeviceStep>
-    ensures found { IfSome result (λ s. IsStep s
-        × (step_words s ≡ codes "lie" ∷ port.now ∷ page.now ∷ offset.now ∷ bits.now ∷ [])) }
-    ensures only { (s : DeviceStep) → IsStep s → step_words s ≡ codes "lie" ∷ port.now ∷ page.now ∷ offset.now
-        ∷ bits.now ∷ [] → result ≡ Some s }
+    ensures found { ReadsAsStep (codes "lie" ∷ port.now ∷ page.now ∷ offset.now ∷ bits.now ∷ []) result }
+    ensures only { ReadsEachStep (codes "lie" ∷ port.now ∷ page.now ∷ offset.now ∷ bits.now ∷ []) result }
 {
     let port = fields::port(port)?;
     let page = fields::page(page)?;
@@ -81,10 +79,8 @@ fn lie(port: &[u8], page: &[u8], offset: &[u8], bits: &[u8]) -> Option<DeviceSte
 
 /// The clear that the device is to do: where, and of how many sectors.
 fn clear(port: &[u8], slot: &[u8], count: &[u8]) -> Option<DeviceStep>
-    ensures found { IfSome result (λ s. IsStep s
-        × (step_words s ≡ codes "clear" ∷ port.now ∷ slot.now ∷ count.now ∷ [])) }
-    ensures only { (s : DeviceStep) → IsStep s → step_words s ≡ codes "clear" ∷ port.now ∷ slot.now ∷ count.now ∷ []
-        → result ≡ Some s }
+    ensures found { ReadsAsStep (codes "clear" ∷ port.now ∷ slot.now ∷ count.now ∷ []) result }
+    ensures only { ReadsEachStep (codes "clear" ∷ port.now ∷ slot.now ∷ count.now ∷ []) result }
 {
     let port = fields::port(port)?;
     let slot = fields::slot(slot)?;
@@ -94,10 +90,8 @@ fn clear(port: &[u8], slot: &[u8], count: &[u8]) -> Option<DeviceStep>
 
 /// The fault that a command of the device is to end with: where, and which error.
 fn fault(port: &[u8], slot: &[u8], error: &[u8]) -> Option<DeviceStep>
-    ensures found { IfSome result (λ s. IsStep s
-        × (step_words s ≡ codes "fault" ∷ port.now ∷ slot.now ∷ error.now ∷ [])) }
-    ensures only { (s : DeviceStep) → IsStep s → step_words s ≡ codes "fault" ∷ port.now ∷ slot.now ∷ error.now ∷ []
-        → result ≡ Some s }
+    ensures found { ReadsAsStep (codes "fault" ∷ port.now ∷ slot.now ∷ error.now ∷ []) result }
+    ensures only { ReadsEachStep (codes "fault" ∷ port.now ∷ slot.now ∷ error.now ∷ []) result }
 {
     let port = fields::port(port)?;
     let slot = fields::slot(slot)?;
@@ -107,10 +101,8 @@ fn fault(port: &[u8], slot: &[u8], error: &[u8]) -> Option<DeviceStep>
 
 /// The same, of one that leaves its disk busy.
 fn fault_busy(port: &[u8], slot: &[u8], error: &[u8]) -> Option<DeviceStep>
-    ensures found { IfSome result (λ s. IsStep s
-        × (step_words s ≡ codes "faultbusy" ∷ port.now ∷ slot.now ∷ error.now ∷ [])) }
-    ensures only { (s : DeviceStep) → IsStep s
-        → step_words s ≡ codes "faultbusy" ∷ port.now ∷ slot.now ∷ error.now ∷ [] → result ≡ Some s }
+    ensures found { ReadsAsStep (codes "faultbusy" ∷ port.now ∷ slot.now ∷ error.now ∷ []) result }
+    ensures only { ReadsEachStep (codes "faultbusy" ∷ port.now ∷ slot.now ∷ error.now ∷ []) result }
 {
     let port = fields::port(port)?;
     let slot = fields::slot(slot)?;
@@ -120,9 +112,8 @@ fn fault_busy(port: &[u8], slot: &[u8], error: &[u8]) -> Option<DeviceStep>
 
 /// The byte that the device is to fill with what it may write.
 fn scribble(port: &[u8], byte: &[u8]) -> Option<DeviceStep>
-    ensures found { IfSome result (λ s. IsStep s × (step_words s ≡ codes "scribble" ∷ port.now ∷ byte.now ∷ [])) }
-    ensures only { (s : DeviceStep) → IsStep s → step_words s ≡ codes "scribble" ∷ port.now ∷ byte.now ∷ []
-        → result ≡ Some s }
+    ensures found { ReadsAsStep (codes "scribble" ∷ port.now ∷ byte.now ∷ []) result }
+    ensures only { ReadsEachStep (codes "scribble" ∷ port.now ∷ byte.now ∷ []) result }
 {
     let port = fields::port(port)?;
     let byte = fields::byte(byte)?;
@@ -131,8 +122,8 @@ fn scribble(port: &[u8], byte: &[u8]) -> Option<DeviceStep>
 
 /// A step of which nothing but its port is told.
 fn of_port(name: &[u8], port: &[u8]) -> Option<DeviceStep>
-    ensures found { IfSome result (λ s. IsStep s × (step_words s ≡ name.now ∷ port.now ∷ [])) }
-    ensures only { (s : DeviceStep) → IsStep s → step_words s ≡ name.now ∷ port.now ∷ [] → result ≡ Some s }
+    ensures found { ReadsAsStep (name.now ∷ port.now ∷ []) result }
+    ensures only { ReadsEachStep (name.now ∷ port.now ∷ []) result }
 {
     let port = fields::port(port)?;
     if is(name, "unplug") {
@@ -155,9 +146,8 @@ fn of_port(name: &[u8], port: &[u8]) -> Option<DeviceStep>
 
 /// A step of which its port and one thing more is told.
 fn of_port_and(name: &[u8], port: &[u8], last: &[u8]) -> Option<DeviceStep>
-    ensures found { IfSome result (λ s. IsStep s × (step_words s ≡ name.now ∷ port.now ∷ last.now ∷ [])) }
-    ensures only { (s : DeviceStep) → IsStep s → step_words s ≡ name.now ∷ port.now ∷ last.now ∷ []
-        → result ≡ Some s }
+    ensures found { ReadsAsStep (name.now ∷ port.now ∷ last.now ∷ []) result }
+    ensures only { ReadsEachStep (name.now ∷ port.now ∷ last.now ∷ []) result }
 {
     if is(name, "scribble") {
         return scribble(port, last);
@@ -186,10 +176,8 @@ fn of_port_and(name: &[u8], port: &[u8], last: &[u8]) -> Option<DeviceStep>
 
 /// A step of which its port, a slot and one thing more is told.
 fn of_slot_and(name: &[u8], port: &[u8], slot: &[u8], last: &[u8]) -> Option<DeviceStep>
-    ensures found { IfSome result (λ s. IsStep s
-        × (step_words s ≡ name.now ∷ port.now ∷ slot.now ∷ last.now ∷ [])) }
-    ensures only { (s : DeviceStep) → IsStep s → step_words s ≡ name.now ∷ port.now ∷ slot.now ∷ last.now ∷ []
-        → result ≡ Some s }
+    ensures found { ReadsAsStep (name.now ∷ port.now ∷ slot.now ∷ last.now ∷ []) result }
+    ensures only { ReadsEachStep (name.now ∷ port.now ∷ slot.now ∷ last.now ∷ []) result }
 {
     if is(name, "clear") {
         return clear(port, slot, last);
@@ -211,10 +199,8 @@ fn of_page_and(
     offset: &[u8],
     bits: &[u8],
 ) -> Option<DeviceStep>
-    ensures found { IfSome result (λ s. IsStep s
-        × (step_words s ≡ name.now ∷ port.now ∷ page.now ∷ offset.now ∷ bits.now ∷ [])) }
-    ensures only { (s : DeviceStep) → IsStep s
-        → step_words s ≡ name.now ∷ port.now ∷ page.now ∷ offset.now ∷ bits.now ∷ [] → result ≡ Some s }
+    ensures found { ReadsAsStep (name.now ∷ port.now ∷ page.now ∷ offset.now ∷ bits.now ∷ []) result }
+    ensures only { ReadsEachStep (name.now ∷ port.now ∷ page.now ∷ offset.now ∷ bits.now ∷ []) result }
 {
     if is(name, "lie") {
         return lie(port, page, offset, bits);
@@ -224,9 +210,8 @@ fn of_page_and(
 
 /// The step that the device is to do, from its name and the words after it.
 fn step(name: &[u8], words: &[&[u8]]) -> Option<DeviceStep>
-    ensures found { IfSome result (λ s. IsStep s × (step_words s ≡ name.now ∷ map (λ w. w.now) words.now)) }
-    ensures only { (s : DeviceStep) → IsStep s → step_words s ≡ name.now ∷ map (λ w. w.now) words.now
-        → result ≡ Some s }
+    ensures found { ReadsAsStep (name.now ∷ map (λ w. w.now) words.now) result }
+    ensures only { ReadsEachStep (name.now ∷ map (λ w. w.now) words.now) result }
 {
     match words {
         [port] => of_port(name, port),
@@ -245,11 +230,8 @@ fn trim(
     count: &[u8],
     call: &mut Call<DeviceStep>,
 ) -> Option<()>
-    ensures found { OnSome result (IsLine call.new
-        × (line_words call.new ≡ codes "trim" ∷ client.now ∷ grant.now ∷ first.now ∷ count.now ∷ [])) }
-    ensures only { (c : Call DeviceStep) → IsLine c
-        → line_words c ≡ codes "trim" ∷ client.now ∷ grant.now ∷ first.now ∷ count.now ∷ []
-        → (result ≡ Some tt) × (call.new ≡ c) }
+    ensures found { ReadsAsLine (codes "trim" ∷ client.now ∷ grant.now ∷ first.now ∷ count.now ∷ []) result call.new }
+    ensures only { ReadsEachLine (codes "trim" ∷ client.now ∷ grant.now ∷ first.now ∷ count.now ∷ []) result call.new }
 {
     let client = fields::client(client)?;
     let grant = fields::number(grant, 255)? as u8;
@@ -268,10 +250,8 @@ fn trim(
 
 /// The same of the flush that is asked, from the words after `flush`. It names no sectors.
 fn flush(client: &[u8], grant: &[u8], call: &mut Call<DeviceStep>) -> Option<()>
-    ensures found { OnSome result (IsLine call.new
-        × (line_words call.new ≡ codes "flush" ∷ client.now ∷ grant.now ∷ [])) }
-    ensures only { (c : Call DeviceStep) → IsLine c → line_words c ≡ codes "flush" ∷ client.now ∷ grant.now ∷ []
-        → (result ≡ Some tt) × (call.new ≡ c) }
+    ensures found { ReadsAsLine (codes "flush" ∷ client.now ∷ grant.now ∷ []) result call.new }
+    ensures only { ReadsEachLine (codes "flush" ∷ client.now ∷ grant.now ∷ []) result call.new }
 {
     let client = fields::client(client)?;
     let grant = fields::number(grant, 255)? as u8;
@@ -294,11 +274,8 @@ fn store(
     bytes: &[u8],
     call: &mut Call<DeviceStep>,
 ) -> Option<()>
-    ensures found { OnSome result (IsLine call.new
-        × (line_words call.new ≡ codes "store" ∷ client.now ∷ frame.now ∷ offset.now ∷ bytes.now ∷ [])) }
-    ensures only { (c : Call DeviceStep) → IsLine c
-        → line_words c ≡ codes "store" ∷ client.now ∷ frame.now ∷ offset.now ∷ bytes.now ∷ []
-        → (result ≡ Some tt) × (call.new ≡ c) }
+    ensures found { ReadsAsLine (codes "store" ∷ client.now ∷ frame.now ∷ offset.now ∷ bytes.now ∷ []) result call.new }
+    ensures only { ReadsEachLine (codes "store" ∷ client.now ∷ frame.now ∷ offset.now ∷ bytes.now ∷ []) result call.new }
 {
     let client = fields::client(client)?;
     let frame = fields::frame(frame)?;
@@ -321,11 +298,8 @@ fn load(
     count: &[u8],
     call: &mut Call<DeviceStep>,
 ) -> Option<()>
-    ensures found { OnSome result (IsLine call.new
-        × (line_words call.new ≡ codes "load" ∷ client.now ∷ frame.now ∷ offset.now ∷ count.now ∷ [])) }
-    ensures only { (c : Call DeviceStep) → IsLine c
-        → line_words c ≡ codes "load" ∷ client.now ∷ frame.now ∷ offset.now ∷ count.now ∷ []
-        → (result ≡ Some tt) × (call.new ≡ c) }
+    ensures found { ReadsAsLine (codes "load" ∷ client.now ∷ frame.now ∷ offset.now ∷ count.now ∷ []) result call.new }
+    ensures only { ReadsEachLine (codes "load" ∷ client.now ∷ frame.now ∷ offset.now ∷ count.now ∷ []) result call.new }
 {
     let client = fields::client(client)?;
     let frame = fields::frame(frame)?;
@@ -342,10 +316,8 @@ fn load(
 
 /// The same of the revocation that is asked, from the words after `revoke`.
 fn revoke(client: &[u8], grant: &[u8], call: &mut Call<DeviceStep>) -> Option<()>
-    ensures found { OnSome result (IsLine call.new
-        × (line_words call.new ≡ codes "revoke" ∷ client.now ∷ grant.now ∷ [])) }
-    ensures only { (c : Call DeviceStep) → IsLine c → line_words c ≡ codes "revoke" ∷ client.now ∷ grant.now ∷ []
-        → (result ≡ Some tt) × (call.new ≡ c) }
+    ensures found { ReadsAsLine (codes "revoke" ∷ client.now ∷ grant.now ∷ []) result call.new }
+    ensures only { ReadsEachLine (codes "revoke" ∷ client.now ∷ grant.now ∷ []) result call.new }
 {
     let client = fields::client(client)?;
     let grant = fields::number(grant, 255)? as u8;
@@ -359,9 +331,8 @@ fn revoke(client: &[u8], grant: &[u8], call: &mut Call<DeviceStep>) -> Option<()
 /// Reads a step of the device, from the words after `dev`, in place of a call.
 #[inline(never)]
 fn of_device(words: &[&[u8]], call: &mut Call<DeviceStep>) -> Option<()>
-    ensures found { OnSome result (IsLine call.new × (line_words call.new ≡ codes "dev" ∷ map (λ w. w.now) words.now)) }
-    ensures only { (c : Call DeviceStep) → IsLine c → line_words c ≡ codes "dev" ∷ map (λ w. w.now) words.now
-        → (result ≡ Some tt) × (call.new ≡ c) }
+    ensures found { ReadsAsLine (codes "dev" ∷ map (λ w. w.now) words.now) result call.new }
+    ensures only { ReadsEachLine (codes "dev" ∷ map (λ w. w.now) words.now) result call.new }
 {
     let (name, rest) = words.split_first()?;
     *call = Call::Device(step(name, rest)?);
@@ -371,9 +342,8 @@ fn of_device(words: &[&[u8]], call: &mut Call<DeviceStep>) -> Option<()>
 /// A line that is one word.
 #[inline(never)]
 fn of_word(name: &[u8], call: &mut Call<DeviceStep>) -> Option<()>
-    ensures found { OnSome result (IsLine call.new × (line_words call.new ≡ name.now ∷ [])) }
-    ensures only { (c : Call DeviceStep) → IsLine c → line_words c ≡ name.now ∷ []
-        → (result ≡ Some tt) × (call.new ≡ c) }
+    ensures found { ReadsAsLine (name.now ∷ []) result call.new }
+    ensures only { ReadsEachLine (name.now ∷ []) result call.new }
 {
     if is(name, "service") {
         *call = Call::Service;
@@ -409,9 +379,8 @@ fn make_request(call: &mut Call<DeviceStep>)
 #[inline(never)]
 fn of_transfer(op: Op, words: &[&[u8]], call: &mut Call<DeviceStep>) -> Option<()>
     requires { (r : Request) → IsSpelled op r × (request_words op r ≡ transfer_words r) }
-    ensures found { OnSome result (IsLine call.new × (line_words call.new ≡ op_word op ∷ map (λ w. w.now) words.now)) }
-    ensures only { (c : Call DeviceStep) → IsLine c → line_words c ≡ op_word op ∷ map (λ w. w.now) words.now
-        → (result ≡ Some tt) × (call.new ≡ c) }
+    ensures found { ReadsAsLine (op_word op ∷ map (λ w. w.now) words.now) result call.new }
+    ensures only { ReadsEachLine (op_word op ∷ map (λ w. w.now) words.now) result call.new }
 {
     if !matches!(call, Call::Submit(_)) {
         make_request(call);
@@ -425,10 +394,8 @@ fn of_transfer(op: Op, words: &[&[u8]], call: &mut Call<DeviceStep>) -> Option<(
 /// A trim, from the words after `trim`.
 #[inline(never)]
 fn of_trim(words: &[&[u8]], call: &mut Call<DeviceStep>) -> Option<()>
-    ensures found { OnSome result (IsLine call.new
-        × (line_words call.new ≡ codes "trim" ∷ map (λ w. w.now) words.now)) }
-    ensures only { (c : Call DeviceStep) → IsLine c → line_words c ≡ codes "trim" ∷ map (λ w. w.now) words.now
-        → (result ≡ Some tt) × (call.new ≡ c) }
+    ensures found { ReadsAsLine (codes "trim" ∷ map (λ w. w.now) words.now) result call.new }
+    ensures only { ReadsEachLine (codes "trim" ∷ map (λ w. w.now) words.now) result call.new }
 {
     match words {
         [client, grant, first, count] => trim(client, grant, first, count, call),
@@ -439,10 +406,8 @@ fn of_trim(words: &[&[u8]], call: &mut Call<DeviceStep>) -> Option<()>
 /// A flush, from the words after `flush`.
 #[inline(never)]
 fn of_flush(words: &[&[u8]], call: &mut Call<DeviceStep>) -> Option<()>
-    ensures found { OnSome result (IsLine call.new
-        × (line_words call.new ≡ codes "flush" ∷ map (λ w. w.now) words.now)) }
-    ensures only { (c : Call DeviceStep) → IsLine c → line_words c ≡ codes "flush" ∷ map (λ w. w.now) words.now
-        → (result ≡ Some tt) × (call.new ≡ c) }
+    ensures found { ReadsAsLine (codes "flush" ∷ map (λ w. w.now) words.now) result call.new }
+    ensures only { ReadsEachLine (codes "flush" ∷ map (λ w. w.now) words.now) result call.new }
 {
     match words {
         [client, grant] => flush(client, grant, call),
@@ -453,10 +418,8 @@ fn of_flush(words: &[&[u8]], call: &mut Call<DeviceStep>) -> Option<()>
 /// A store, from the words after `store`.
 #[inline(never)]
 fn of_store(words: &[&[u8]], call: &mut Call<DeviceStep>) -> Option<()>
-    ensures found { OnSome result (IsLine call.new
-        × (line_words call.new ≡ codes "store" ∷ map (λ w. w.now) words.now)) }
-    ensures only { (c : Call DeviceStep) → IsLine c → line_words c ≡ codes "store" ∷ map (λ w. w.now) words.now
-        → (result ≡ Some tt) × (call.new ≡ c) }
+    ensures found { ReadsAsLine (codes "store" ∷ map (λ w. w.now) words.now) result call.new }
+    ensures only { ReadsEachLine (codes "store" ∷ map (λ w. w.now) words.now) result call.new }
 {
     match words {
         [client, frame, offset, bytes] => store(client, frame, offset, bytes, call),
@@ -467,10 +430,8 @@ fn of_store(words: &[&[u8]], call: &mut Call<DeviceStep>) -> Option<()>
 /// A load, from the words after `load`.
 #[inline(never)]
 fn of_load(words: &[&[u8]], call: &mut Call<DeviceStep>) -> Option<()>
-    ensures found { OnSome result (IsLine call.new
-        × (line_words call.new ≡ codes "load" ∷ map (λ w. w.now) words.now)) }
-    ensures only { (c : Call DeviceStep) → IsLine c → line_words c ≡ codes "load" ∷ map (λ w. w.now) words.now
-        → (result ≡ Some tt) × (call.new ≡ c) }
+    ensures found { ReadsAsLine (codes "load" ∷ map (λ w. w.now) words.now) result call.new }
+    ensures only { ReadsEachLine (codes "load" ∷ map (λ w. w.now) words.now) result call.new }
 {
     match words {
         [client, frame, offset, count] => load(client, frame, offset, count, call),
@@ -481,10 +442,8 @@ fn of_load(words: &[&[u8]], call: &mut Call<DeviceStep>) -> Option<()>
 /// A revocation, from the words after `revoke`.
 #[inline(never)]
 fn of_revoke(words: &[&[u8]], call: &mut Call<DeviceStep>) -> Option<()>
-    ensures found { OnSome result (IsLine call.new
-        × (line_words call.new ≡ codes "revoke" ∷ map (λ w. w.now) words.now)) }
-    ensures only { (c : Call DeviceStep) → IsLine c → line_words c ≡ codes "revoke" ∷ map (λ w. w.now) words.now
-        → (result ≡ Some tt) × (call.new ≡ c) }
+    ensures found { ReadsAsLine (codes "revoke" ∷ map (λ w. w.now) words.now) result call.new }
+    ensures only { ReadsEachLine (codes "revoke" ∷ map (λ w. w.now) words.now) result call.new }
 {
     match words {
         [client, grant] => revoke(client, grant, call),
@@ -495,10 +454,8 @@ fn of_revoke(words: &[&[u8]], call: &mut Call<DeviceStep>) -> Option<()>
 /// A port's state, from the words after `state`.
 #[inline(never)]
 fn of_state(words: &[&[u8]], call: &mut Call<DeviceStep>) -> Option<()>
-    ensures found { OnSome result (IsLine call.new
-        × (line_words call.new ≡ codes "state" ∷ map (λ w. w.now) words.now)) }
-    ensures only { (c : Call DeviceStep) → IsLine c → line_words c ≡ codes "state" ∷ map (λ w. w.now) words.now
-        → (result ≡ Some tt) × (call.new ≡ c) }
+    ensures found { ReadsAsLine (codes "state" ∷ map (λ w. w.now) words.now) result call.new }
+    ensures only { ReadsEachLine (codes "state" ∷ map (λ w. w.now) words.now) result call.new }
 {
     match words {
         [port] => {
@@ -514,9 +471,8 @@ fn of_state(words: &[&[u8]], call: &mut Call<DeviceStep>) -> Option<()>
 fn asked_else(name: &[u8], words: &[&[u8]], call: &mut Call<DeviceStep>) -> Option<()>
     requires name { (name.now ≡ codes "read" → ⊥) × (name.now ≡ codes "write" → ⊥) }
     requires more { 1 ≤ length words.now }
-    ensures found { OnSome result (IsLine call.new × (line_words call.new ≡ name.now ∷ map (λ w. w.now) words.now)) }
-    ensures only { (c : Call DeviceStep) → IsLine c → line_words c ≡ name.now ∷ map (λ w. w.now) words.now
-        → (result ≡ Some tt) × (call.new ≡ c) }
+    ensures found { ReadsAsLine (name.now ∷ map (λ w. w.now) words.now) result call.new }
+    ensures only { ReadsEachLine (name.now ∷ map (λ w. w.now) words.now) result call.new }
 {
     if is(name, "dev") {
         return of_device(words, call);
@@ -545,9 +501,8 @@ fn asked_else(name: &[u8], words: &[&[u8]], call: &mut Call<DeviceStep>) -> Opti
 /// Reads what a line's first word and those after it ask. Each kind of line has a function of its own, so that what one
 /// kind has room for is cleared for that kind alone.
 fn asked(name: &[u8], words: &[&[u8]], call: &mut CallPlace) -> Option<()>
-    ensures found { OnSome result (IsLine call.new × (line_words call.new ≡ name.now ∷ map (λ w. w.now) words.now)) }
-    ensures only { (c : Call DeviceStep) → IsLine c → line_words c ≡ name.now ∷ map (λ w. w.now) words.now
-        → (result ≡ Some tt) × (call.new ≡ c) }
+    ensures found { ReadsAsLine (name.now ∷ map (λ w. w.now) words.now) result call.new }
+    ensures only { ReadsEachLine (name.now ∷ map (λ w. w.now) words.now) result call.new }
 {
     call.is_transfer = false;
     if words.is_empty() {
