@@ -98,27 +98,26 @@ fn rule_of(cause: Refusal) -> Option<Rule>
     }
 }
 
+/// What stands in the list for a frame; nothing where the list ends before it.
+fn at_frame<T: Copy>(list: &[Option<T>], frame: Frame) -> Option<T>
+    ensures { result ≡ for_frame list.now frame }
+{
+    list.get(frame.0 as usize).copied().flatten()
+}
+
 impl Tables {
     /// The owner of the frame.
     fn owner(&self, frame: Frame) -> Option<ClientId>
         ensures { result ≡ for_frame self.now.owners.items frame }
     {
-        self.owners
-            .as_slice()
-            .get(frame.0 as usize)
-            .copied()
-            .flatten()
+        at_frame(self.owners.as_slice(), frame)
     }
 
     /// The request that the frame is lent to.
     fn lent_to(&self, frame: Frame) -> Option<RequestId>
         ensures { result ≡ for_frame self.now.lent.items frame }
     {
-        self.lent
-            .as_slice()
-            .get(frame.0 as usize)
-            .copied()
-            .flatten()
+        at_frame(self.lent.as_slice(), frame)
     }
 
     /// What the port shows.
