@@ -34,8 +34,8 @@ pub record BootsAgain (wanted : Wanted) (port : Port) (booted : Booted) (old new
   pub slots : booted.slots ≡ new.cap / 256 % 32 + 1
   pub queued : booted.queued ≡ bit new.cap 30
 
--- A port is booted if a device shows: PxSSTS.DET is 3 where its boot begins; or the port is found absent, and is left as
--- an absent one is.
+-- A port is booted if a device shows: PxSSTS.DET is 3 where its boot begins; or it is found absent, and is left as an
+-- absent one is.
 abbrev pub BootsIfThere : Wanted → Port → Booted → Device → Device → Type 0
 BootsIfThere wanted port booted old new =
     ((b : BootsAgain wanted port booted old new) × ((b.asked.port port.0).ssts_det ≡ 3))

@@ -275,7 +275,8 @@ fn store(
     call: &mut Call<DeviceStep>,
 ) -> Option<()>
     ensures found { ReadsAsLine (codes "store" ∷ client.now ∷ frame.now ∷ offset.now ∷ bytes.now ∷ []) result call.new }
-    ensures only { ReadsEachLine (codes "store" ∷ client.now ∷ frame.now ∷ offset.now ∷ bytes.now ∷ []) result call.new }
+    ensures only { ReadsEachLine (codes "store" ∷ client.now ∷ frame.now ∷ offset.now ∷ bytes.now ∷ []) result
+        call.new }
 {
     let client = fields::client(client)?;
     let frame = fields::frame(frame)?;

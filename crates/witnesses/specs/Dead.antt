@@ -22,8 +22,8 @@ use Rattle.driver_history.specs.Histories.{IsDriverHistory, PortCorresponds}
 abbrev pub reset_accesses : List Access
 reset_accesses = Writing Ghc 0x80000001 ∷ Reading Ghc 0x80000001 ∷ []
 
--- A request is accepted; then a reset doesn't end, which leaves both ports dead and answers nobody; and a service, which
--- makes no access, answers the request PortDead: its frames are kept. Each port's part in the reset and in the service
+-- A request is accepted; then a reset doesn't end, which leaves both ports dead and answers nobody; and a service that
+-- makes no access answers the request PortDead: its frames are kept. Each port's part in the reset and in the service
 -- is done.
 pub record DeathIsAHistory : Type 0 where
   pub first : JointState Device
