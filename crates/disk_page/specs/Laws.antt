@@ -1,10 +1,10 @@
 -- What laws of the crates below say of accesses, with the kinds of accesses of this crate: its proofs rest on them.
-use Rattle.std.specs.Prelude.{ℕ, true, false, ◌≡◌, ◌≢◌, ◌+◌, ◌≤◌, ◌<◌, ◌++◌, List, [], ◌∷◌, All, None, length}
+use Rattle.std.specs.Prelude.{ℕ, true, false, ◌≡◌, ◌≢◌, ◌+◌, ◌≤◌, ◌<◌, ◌++◌, List, All, None, length}
 use Rattle.ata_types.specs.declared.Port.{Port}
 use Rattle.adapter.specs.Access.{Access, Does, Loads, Reads, Writes}
 use Rattle.refinement.specs.Laws.{FragmentLaws, TapeLaws}
 use Rattle.refinement.specs.Relation.{StateRelation}
-use Rattle.refinement.specs.Driven.{AnyAccess, AnyUse, IsRelated, IsDrivenBy, IsSimulatedTo, IsOf, IsSimulatedAlong, LeavesPort, NoneWrites, SendsNone}
+use Rattle.refinement.specs.Driven.{AnyAccess, AnyUse, IsRelated, IsDrivenBy, IsOf, LeavesPort, NoneWrites, SendsNone}
 use Rattle.refinement.specs.Awaits.{AwaitsPage}
 use Rattle.refinement.specs.Recovering.{EndsHalt}
 use Rattle.refinement.specs.Slots.{Brought, Free, IsMove, IsOver, Own, SlotState, SlotStates, op_of, put}
@@ -20,7 +20,7 @@ use Rattle.refinement.specs.Driver.{IsOwnPrepared}
 use Rattle.block_machine.specs.Histories.{IsReachable}
 use Rattle.command_table.specs.Written.{IsTableStore, IsUnused}
 use Rattle.adapter.specs.Kept.{Keeps, KeepsControls}
-use Rattle.adapter.specs.Access.Access.{Loading, Writing}
+use Rattle.adapter.specs.Access.Access.{Writing}
 use Rattle.block_machine.specs.State.{Machine}
 use Rattle.adapter.specs.declared.command.Operation.{Operation}
 use Rattle.hba_regs.specs.declared.reg.PortReg.{PortReg}
