@@ -9,6 +9,7 @@ use std::alloc::Global;
 use std::test::Fail;
 
 /// Sectors that a request has the disk read, write or clear, one call each, and what it leaves in each byte of them.
+#[derive(Clone, Copy)]
 pub struct Calls {
     pub request: u64,
     pub first: u64,
@@ -20,6 +21,7 @@ pub struct Calls {
 
 /// A worked case: its configuration, the sectors of its disk, its session, in the form of examples/cases, how many
 /// requests it has, and the calls of the disk in their order.
+#[derive(Clone, Copy)]
 pub struct Case<'a> {
     pub text: &'a str,
     pub sectors: u32,
@@ -28,213 +30,182 @@ pub struct Case<'a> {
     pub calls: &'a [Calls],
 }
 
+/// Eight sectors that request 1 has the disk read.
+const READS: Calls = Calls {
+    request: 1,
+    first: 100,
+    count: 8,
+    left: None,
+    failed: None,
+};
+
+/// The same, which it has the disk write zeros to, or clear.
+const CLEARS: Calls = Calls {
+    left: Some(0),
+    ..READS
+};
+
+/// One request, of a disk that queues commands.
+const ONE: Case<'static> = Case {
+    text: QUEUED,
+    sectors: 356,
+    session: "",
+    requests: 1,
+    calls: &[READS],
+};
+
+/// A session that begins so; then the disk does what slots have, one after another, and each time a service tells a
+/// request Ok.
+macro_rules! session {
+    ($begins:literal $(, $slot:literal => $request:literal)*) => {
+        concat!(
+            $begins
+            $(, "> dev finish 0 ", $slot, "\ndid\n> service\nreply ", $request, " Ok\n> state 0\nstate Ready\n")*
+        )
+    };
+}
+
+/// Three reads, of which the second fails; then the disk does the others, the last of them so, and the session ends so.
+macro_rules! one_of_three_fails {
+    ($ends:literal) => {
+        concat!(
+            "> read 1 0 100 8 76
+ok 1
+> read 1 0 108 8 77
+ok 2
+> read 1 0 116 8 78
+ok 3
+> dev fetch 0 1
+did
+> dev fault 0 1 40
+did
+> service
+reply 2 DeviceError 41 40
+> state 0
+state Ready
+> dev finish 0 0
+did
+> dev finish 0 1
+",
+            $ends
+        )
+    };
+}
+
+/// A write of which two sectors are moved, the second so, when its disk goes.
+macro_rules! unplugged {
+    ($second:literal) => {
+        concat!(
+            "> write 1 0 100 8 76
+ok 1
+> dev fetch 0 0
+did
+> dev move 0 0
+did
+> dev move 0 0
+",
+            $second,
+            "
+> dev unplug 0
+did
+> service
+reply 1 Unplugged
+> state 0
+state Absent
+> dev plug 0 0
+did
+> service
+quiet
+> state 0
+state Ready
+"
+        )
+    };
+}
+
 const CASES: [Case<'static>; 11] = [
     Case {
-        text: QUEUED,
-        sectors: 356,
-        session: "> read 1 0 100 8 76
-ok 1
-> dev finish 0 0
-did
-> service
-reply 1 Ok
-> state 0
-state Ready
-",
-        requests: 1,
-        calls: &[Calls {
-            request: 1,
-            first: 100,
-            count: 8,
-            left: None,
-            failed: None,
-        }],
+        session: session!("> read 1 0 100 8 76\nok 1\n", 0 => 1),
+        ..ONE
     },
     Case {
-        text: QUEUED,
-        sectors: 356,
-        session: "> write 1 0 100 8 76
-ok 1
-> dev finish 0 0
-did
-> service
-reply 1 Ok
-> state 0
-state Ready
-",
-        requests: 1,
-        calls: &[Calls {
-            request: 1,
-            first: 100,
-            count: 8,
-            left: Some(0),
-            failed: None,
-        }],
+        session: session!("> write 1 0 100 8 76\nok 1\n", 0 => 1),
+        calls: &[CLEARS],
+        ..ONE
     },
     Case {
-        text: QUEUED,
-        sectors: 356,
-        session: "> write 1 0 100 8 76
-ok 1
-> write 1 0 120 8 77
-ok 2
-> dev finish 0 1
-did
-> service
-reply 2 Ok
-> state 0
-state Ready
-> dev finish 0 0
-did
-> service
-reply 1 Ok
-> state 0
-state Ready
-",
+        session: session!(
+            "> write 1 0 100 8 76\nok 1\n> write 1 0 120 8 77\nok 2\n",
+            1 => 2,
+            0 => 1
+        ),
         requests: 2,
         calls: &[
             Calls {
                 request: 2,
                 first: 120,
-                count: 8,
-                left: Some(0),
-                failed: None,
+                ..CLEARS
             },
-            Calls {
-                request: 1,
-                first: 100,
-                count: 8,
-                left: Some(0),
-                failed: None,
-            },
+            CLEARS,
         ],
+        ..ONE
     },
     Case {
-        text: QUEUED,
-        sectors: 356,
-        session: "> write 1 0 100 1 76
-ok 1
-> read 1 0 100 1 77
-ok 2
-> dev finish 0 0
-did
-> service
-reply 1 Ok
-> state 0
-state Ready
-> dev finish 0 0
-did
-> service
-reply 2 Ok
-> state 0
-state Ready
-",
+        session: session!(
+            "> write 1 0 100 1 76\nok 1\n> read 1 0 100 1 77\nok 2\n",
+            0 => 1,
+            0 => 2
+        ),
         requests: 2,
         calls: &[
-            Calls {
-                request: 1,
-                first: 100,
-                count: 1,
-                left: Some(0),
-                failed: None,
-            },
+            Calls { count: 1, ..CLEARS },
             Calls {
                 request: 2,
-                first: 100,
                 count: 1,
-                left: None,
-                failed: None,
+                ..READS
             },
         ],
+        ..ONE
     },
     Case {
-        text: QUEUED,
-        sectors: 356,
-        session: "> trim 1 0 100 8
-ok 1
-> read 1 0 104 8 76
-ok 2
-> dev finish 0 0
-did
-> service
-reply 1 Ok
-> state 0
-state Ready
-> dev finish 0 0
-did
-> service
-reply 2 Ok
-> state 0
-state Ready
-",
+        session: session!(
+            "> trim 1 0 100 8\nok 1\n> read 1 0 104 8 76\nok 2\n",
+            0 => 1,
+            0 => 2
+        ),
         requests: 2,
         calls: &[
-            Calls {
-                request: 1,
-                first: 100,
-                count: 8,
-                left: Some(0),
-                failed: None,
-            },
+            CLEARS,
             Calls {
                 request: 2,
                 first: 104,
-                count: 8,
-                left: None,
-                failed: None,
+                ..READS
             },
         ],
+        ..ONE
     },
     Case {
-        text: QUEUED,
-        sectors: 356,
-        session: "> write 1 0 100 8 76
-ok 1
-> flush 1 0
-ok 2
-> read 1 0 130 2 77
-ok 3
-> dev finish 0 0
-did
-> service
-reply 1 Ok
-> state 0
-state Ready
-> dev finish 0 0
-did
-> service
-reply 2 Ok
-> state 0
-state Ready
-> dev finish 0 0
-did
-> service
-reply 3 Ok
-> state 0
-state Ready
-",
+        session: session!(
+            "> write 1 0 100 8 76\nok 1\n> flush 1 0\nok 2\n> read 1 0 130 2 77\nok 3\n",
+            0 => 1,
+            0 => 2,
+            0 => 3
+        ),
         requests: 3,
         calls: &[
-            Calls {
-                request: 1,
-                first: 100,
-                count: 8,
-                left: Some(0),
-                failed: None,
-            },
+            CLEARS,
             Calls {
                 request: 3,
                 first: 130,
                 count: 2,
-                left: None,
-                failed: None,
+                ..READS
             },
         ],
+        ..ONE
     },
     Case {
-        text: QUEUED,
-        sectors: 356,
-        session: "> read 1 0 100 8 76
+        session: session!(
+            "> read 1 0 100 8 76
 ok 1
 > dev fetch 0 0
 did
@@ -244,82 +215,33 @@ did
 quiet
 > state 0
 state Ready
-> dev finish 0 0
-did
-> service
-reply 1 Ok
-> state 0
-state Ready
 ",
-        requests: 1,
-        calls: &[Calls {
-            request: 1,
-            first: 100,
-            count: 8,
-            left: None,
-            failed: None,
-        }],
+            0 => 1
+        ),
+        ..ONE
     },
     Case {
         text: UNQUEUED,
-        sectors: 356,
-        session: "> read 1 0 100 8 76
-ok 1
-> write 1 0 110 8 77
-ok 2
-> dev finish 0 0
-did
-> service
-reply 1 Ok
-> state 0
-state Ready
-> dev finish 0 0
-did
-> service
-reply 2 Ok
-> state 0
-state Ready
-",
+        session: session!(
+            "> read 1 0 100 8 76\nok 1\n> write 1 0 110 8 77\nok 2\n",
+            0 => 1,
+            0 => 2
+        ),
         requests: 2,
         calls: &[
-            Calls {
-                request: 1,
-                first: 100,
-                count: 8,
-                left: None,
-                failed: None,
-            },
+            READS,
             Calls {
                 request: 2,
                 first: 110,
-                count: 8,
-                left: Some(0),
-                failed: None,
+                ..CLEARS
             },
         ],
+        ..ONE
     },
     // A read fails, and those beside it go again.
     Case {
-        text: QUEUED,
-        sectors: 356,
-        session: "> read 1 0 100 8 76
-ok 1
-> read 1 0 108 8 77
-ok 2
-> read 1 0 116 8 78
-ok 3
-> dev fetch 0 1
-did
-> dev fault 0 1 40
-did
-> service
-reply 2 DeviceError 41 40
-> state 0
-state Ready
-> dev finish 0 0
-did
-> dev finish 0 1
-did
+        session: one_of_three_fails!(
+            "did
 > service
 reply 1 Ok
 reply 3 Ok
@@ -329,33 +251,13 @@ state Ready
 no
 > service
 quiet
-",
+"
+        ),
         requests: 3,
         calls: &[
             Calls {
-                request: 1,
-                first: 100,
-                count: 8,
-                left: None,
-                failed: Some(
-                    "> read 1 0 100 8 76
-ok 1
-> read 1 0 108 8 77
-ok 2
-> read 1 0 116 8 78
-ok 3
-> dev fetch 0 1
-did
-> dev fault 0 1 40
-did
-> service
-reply 2 DeviceError 41 40
-> state 0
-state Ready
-> dev finish 0 0
-did
-> dev finish 0 1
-no
+                failed: Some(one_of_three_fails!(
+                    "no
 > service
 reply 1 DeviceError 41 40
 > state 0
@@ -364,110 +266,42 @@ state Ready
 did
 > service
 reply 3 Ok
-",
-                ),
+"
+                )),
+                ..READS
             },
             Calls {
                 request: 3,
                 first: 116,
-                count: 8,
-                left: None,
-                failed: None,
+                ..READS
             },
         ],
+        ..ONE
     },
     // A write of which two sectors were moved when its disk went.
     Case {
-        text: QUEUED,
-        sectors: 356,
-        session: "> write 1 0 100 8 76
-ok 1
-> dev fetch 0 0
-did
-> dev move 0 0
-did
-> dev move 0 0
-did
-> dev unplug 0
-did
-> service
-reply 1 Unplugged
-> state 0
-state Absent
-> dev plug 0 0
-did
-> service
-quiet
-> state 0
-state Ready
-",
-        requests: 1,
+        session: unplugged!("did"),
         calls: &[
             Calls {
-                request: 1,
-                first: 100,
                 count: 1,
-                left: Some(0),
-                failed: Some(
-                    "> write 1 0 100 8 76
-ok 1
-> dev fetch 0 0
-did
-> dev move 0 0
-did
-> dev move 0 0
-no
-> dev unplug 0
-did
-> service
-reply 1 Unplugged
-> state 0
-state Absent
-> dev plug 0 0
-did
-> service
-quiet
-> state 0
-state Ready
-",
-                ),
+                failed: Some(unplugged!("no")),
+                ..CLEARS
             },
             Calls {
-                request: 1,
                 first: 101,
                 count: 1,
-                left: Some(0),
-                failed: None,
+                ..CLEARS
             },
         ],
+        ..ONE
     },
     // A read that the disk doesn't do for three ticks goes again.
     Case {
-        text: QUEUED,
-        sectors: 356,
-        session: "> read 1 0 100 8 76
-ok 1
-> tick
-quiet
-> tick
-quiet
-> tick
-quiet
-> dev finish 0 0
-did
-> service
-reply 1 Ok
-> state 0
-state Ready
-",
-        requests: 1,
-        calls: &[Calls {
-            request: 1,
-            first: 100,
-            count: 8,
-            left: None,
-            failed: None,
-        }],
+        session: session!(
+            "> read 1 0 100 8 76\nok 1\n> tick\nquiet\n> tick\nquiet\n> tick\nquiet\n",
+            0 => 1
+        ),
+        ..ONE
     },
 ];
 

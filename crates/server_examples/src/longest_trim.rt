@@ -6,16 +6,19 @@ use std::alloc::Global;
 use std::process::Abort;
 use std::test::Fail;
 
-/// The longest trim. Its last sector, and the one behind it, are looked at.
-const LONGEST_TRIM: Case<'static> = Case {
-    text: OF_ALL_SECTORS,
-    sectors: 70_000,
-    session: "> trim 1 0 1000 65536
+/// The longest trim is told so, and then a read of its last sector, and of the one behind it, of which these bytes are
+/// loaded, the last of the one and the first of the other.
+macro_rules! trim_and_read {
+    ($trim:literal, $read:literal, $bytes:literal) => {
+        concat!(
+            "> trim 1 0 1000 65536
 ok 1
 > dev finish 0 0
 did
 > service
-reply 1 Ok
+reply 1 ",
+            $trim,
+            "
 > state 0
 state Ready
 > read 1 0 66535 2 76
@@ -23,12 +26,25 @@ ok 2
 > dev finish 0 0
 did
 > service
-reply 2 Ok
+reply 2 ",
+            $read,
+            "
 > state 0
 state Ready
 > load 1 76 511 2
-bytes 00e8
-",
+bytes ",
+            $bytes,
+            "
+"
+        )
+    };
+}
+
+/// The longest trim, and what is told where a call fails.
+const LONGEST_TRIM: Case<'static> = Case {
+    text: OF_ALL_SECTORS,
+    sectors: 70_000,
+    session: trim_and_read!("Ok", "Ok", "00e8"),
     requests: 2,
     calls: &[
         Calls {
@@ -36,54 +52,14 @@ bytes 00e8
             first: 1000,
             count: 65_536,
             left: Some(0),
-            failed: Some(
-                "> trim 1 0 1000 65536
-ok 1
-> dev finish 0 0
-did
-> service
-reply 1 DeviceError 41 40
-> state 0
-state Ready
-> read 1 0 66535 2 76
-ok 2
-> dev finish 0 0
-did
-> service
-reply 2 Ok
-> state 0
-state Ready
-> load 1 76 511 2
-bytes e7e8
-",
-            ),
+            failed: Some(trim_and_read!("DeviceError 41 40", "Ok", "e7e8")),
         },
         Calls {
             request: 2,
             first: 66_535,
             count: 2,
             left: None,
-            failed: Some(
-                "> trim 1 0 1000 65536
-ok 1
-> dev finish 0 0
-did
-> service
-reply 1 Ok
-> state 0
-state Ready
-> read 1 0 66535 2 76
-ok 2
-> dev finish 0 0
-did
-> service
-reply 2 DeviceError 41 40
-> state 0
-state Ready
-> load 1 76 511 2
-bytes 0000
-",
-            ),
+            failed: Some(trim_and_read!("Ok", "DeviceError 41 40", "0000")),
         },
     ],
 };

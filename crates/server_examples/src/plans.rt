@@ -1,39 +1,11 @@
 // What a configuration asks of a server, and which values break its rules. Texts of configurations stand in the cases
 // of the program.
+use crate::servers::{QUEUED, config};
 use ata_types::{ClientId, Frame, GrantRow, Port, Rights, Sector};
 use configuration::{ClientConfig, Config, FaultKind, GrantConfig, Plan, PortConfig};
 use identify::Wanted;
 use std::alloc::Global;
 use std::test::Fail;
-
-const EXAMPLE: &str = "frames = 256
-slots = 32
-ncq = true
-depth = 32
-trim = \"full\"
-[[port]]
-number = 0
-serial = \"IMAGEDISK\"
-[[client]]
-id = 1
-first_frame = 76
-frames = 40
-[[grant]]
-client = 1
-number = 0
-port = 0
-first = 100
-count = 64
-rights = \"rwtf\"
-";
-
-fn example(alloc: Global) -> Result<Config, Fail> {
-    Ok(
-        Config::parse(alloc, EXAMPLE.as_bytes())
-            .ok()
-            .ok_or("refused")?,
-    )
-}
 
 fn grant(alloc: Global, number: u64, rights: &str) -> Result<GrantConfig, Fail> {
     Ok(GrantConfig {
@@ -73,8 +45,8 @@ const fn client(id: u64, first_frame: u64) -> ClientConfig {
 }
 
 const OWNERS: &[(ClientId, Frame, u16)] = &[
-    (ClientId(1), Frame(76), 40),
-    (ClientId(8), Frame(255), 1),
+    (ClientId(1), Frame(76), 160),
+    (ClientId(8), Frame(511), 1),
 ];
 
 const WANTED: [Wanted; 4] = [
@@ -84,9 +56,9 @@ const WANTED: [Wanted; 4] = [
     Wanted::Any,
 ];
 
-/// The example with two ports, a client and a grant for each right more.
+/// The configuration with two ports, a client and a grant for each right more.
 fn enlarged(alloc: Global) -> Result<Config, Fail> {
-    let mut config = example(alloc)?;
+    let mut config = config(alloc, QUEUED)?;
     for (number, serial) in [(3, None), (1, Some("TWENTY CHARACTERS 20"))] {
         let serial = match serial {
             Some(text) => Some(String::from_str(alloc, text)?),
@@ -94,7 +66,7 @@ fn enlarged(alloc: Global) -> Result<Config, Fail> {
         };
         config.port.push(PortConfig { number, serial })?;
     }
-    config.client.push(client(8, 255))?;
+    config.client.push(client(8, 511))?;
     for (number, letters) in [(1, "r"), (2, "w"), (3, "t"), (63, "f")] {
         config.grant.push(grant(alloc, number, letters)?)?;
     }
@@ -109,13 +81,13 @@ fn a_configuration_is_planned(rt: HostRuntime) -> Result<(), Fail> {
     assert_eq!(rt; (of_disk, config.trim.as_str()), ((32, true, 32), "full"));
     let plan = Plan::of(&config).ok().ok_or("refused")?;
     let grants = [
-        row(0, 100, 64, [true; 4]),
+        row(0, 100, 1024, [true; 4]),
         row(1, 7, 9, [true, false, false, false]),
         row(2, 7, 9, [false, true, false, false]),
         row(3, 7, 9, [false, false, true, false]),
         row(63, 7, 9, [false, false, false, true]),
     ];
-    assert_eq!(rt; (plan.frames(), *plan.wanted()), (256, WANTED));
+    assert_eq!(rt; (plan.frames(), *plan.wanted()), (512, WANTED));
     assert_eq!(rt; (plan.owners(), plan.grants()), (OWNERS, &grants[..]));
     Ok(())
 }
@@ -132,9 +104,9 @@ enum Added {
 // Each is added to the ones before it, and each further fault is of a lesser kind. No text has the last client.
 #[test]
 fn values_that_break_a_rule_are_refused(rt: HostRuntime) -> Result<(), Fail> {
-    let mut config = example(rt.alloc())?;
+    let mut config = config(rt.alloc(), QUEUED)?;
     for (added, kind) in [
-        (Added::Client(8, 255, 1), None),
+        (Added::Client(8, 511, 1), None),
         (Added::Grant(8, 1, 0), None),
         (Added::Grant(1, 1, 1), Some(FaultKind::UnknownPort)),
         (Added::Grant(2, 1, 0), Some(FaultKind::UnknownClient)),
