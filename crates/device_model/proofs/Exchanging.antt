@@ -178,6 +178,8 @@ next_over {old} {h} {next} {t} port slot is at = record {
     places = at.behind.places;
     room = at.behind.room;
     inside = let size = is.size in let inside = at.behind.inside in omega (arith, size, inside);
+    low = at.behind.low;
+    numbered = at.behind.numbered;
     ranged = at.behind.ranged;
   };
 }
@@ -199,6 +201,8 @@ next_grown {old} {h} {next} {t} port slot is at =
         places = at.behind.places;
         room = at.behind.room;
         inside = let inside = at.behind.inside in omega (arith, size, inside);
+        low = at.behind.low;
+        numbered = at.behind.numbered;
         ranged = at.behind.ranged;
       };
     }
@@ -256,6 +260,8 @@ next_after old p port slot next t new tape starved at some e small same held =
             (let lt = on.0 in omega (arith, lt), ap (λ j. slice_index (pieces t.prds) j) place ∙ (on.1 ∙ far));
         room = let room = at.behind.room in omega (arith, room, some);
         inside = omega (arith, inside, some);
+        low = let low = at.behind.low in omega (arith, low, some);
+        numbered = let numbered = at.behind.numbered in omega (arith, numbered, some);
         ranged = λ _. at.behind.ranged some;
       };
     }

@@ -52,13 +52,15 @@ pub record IsNextRun (h : Hardware) (port slot most : ℕ) (run : SectorExtent) 
   pub count_is : run.count ≡ span most (taken_of t)
   pub fits : t.cleared + run.count < 2 ^ 32
 
--- So many pieces of this command follow its next one in their region, each with a place in a memory of this size: none,
--- unless it names sectors.
+-- So many pieces of this command follow its next one in their region, each with a place in a memory of this size, an
+-- address of 32 bits and a sector of 64: none, unless it names sectors.
 pub record AreBehind (size : ℕ) (next : NextMove) (t : TakenCommand) : Type 0 where
   pub places : (k : ℕ) → k ≤ next.behind → (t.moved + k < length (pieces t.prds))
       × (slice_index (pieces t.prds) (t.moved + k) ≡ next.address + 512 * k)
   pub room : t.moved + next.behind + 1 < 2 ^ 32
   pub inside : next.address + 512 * next.behind + 512 ≤ size
+  pub low : next.address + 512 * next.behind < 2 ^ 32
+  pub numbered : next.sector + next.behind < 2 ^ 64
   pub ranged : 1 ≤ next.behind → is_ranged (transfer_operation t.transfer) ≡ true
 
 -- the next piece of this command goes to or from this address, and is this sector, if it is one

@@ -37,14 +37,15 @@ use std::snapshot::Snapshot;
 const ABORTED: u8 = 0x04;
 
 /// What a command moves next: a sector, or 0 where it names none, and the address that the bytes go to or come from.
+/// Each number has a whole word, so that none of them is taken out of another's word for each sector.
 #[derive(Clone, Copy, Debug)]
 pub struct NextMove {
     pub transfer: Transfer,
     pub sector: u64,
-    pub address: u32,
+    pub address: u64,
     /// How many pieces behind it can be moved without a look for their places: those of its region, where the command
     /// names sectors.
-    pub behind: u32,
+    pub behind: u64,
 }
 
 /// What is left of a command, but for its end: so many moves, and then so many clears.
@@ -84,6 +85,7 @@ impl NextMove {
 
     /// The move of the piece behind it, if that needs no look.
     fn after(self) -> Option<NextMove>
+        requires { (self.sector + self.behind < 2 ^ 64) × (self.address + 512 * self.behind < 2 ^ 32) }
         ensures { IfSome result (λ n. (1 ≤ self.behind) × (n ≡ record {
           transfer = self.transfer;
           sector = self.sector + 1;
@@ -94,28 +96,28 @@ impl NextMove {
         if self.behind == 0 {
             return None;
         }
-        let sector = self.sector.checked_add(1)?;
-        let address = self.address.checked_add(512)?;
         Some(NextMove {
             transfer: self.transfer,
-            sector,
-            address,
+            sector: self.sector + 1,
+            address: self.address + 512,
             behind: self.behind - 1,
         })
     }
 }
 
 /// How many pieces behind one can be moved without a look for their places: all of its region, where such a command
-/// names sectors, and each has its place in a memory of this size; and else none.
-fn behind(transfer: Transfer, place: PiecePlace, size: usize) -> u32
-    requires { place.address < 2 ^ 33 }
+/// names sectors, and each has its place in a memory of this size, and an address of 32 bits; and else none.
+fn behind(transfer: Transfer, place: PiecePlace, size: usize) -> u64
+    requires { place.address < 2 ^ 32 }
     ensures few { result ≤ place.behind }
     ensures inside { place.address + 512 ≤ size → place.address + 512 * result + 512 ≤ size }
+    ensures low { place.address + 512 * result < 2 ^ 32 }
     ensures ranged { 1 ≤ result → is_ranged (transfer_operation transfer) ≡ true }
 {
-    let end = place.address + 512 * u64::from(place.behind) + 512;
-    if transfer.is_ranged() && end <= size as u64 {
-        place.behind
+    let pieces = u64::from(place.behind);
+    let end = place.address + 512 * pieces + 512;
+    if transfer.is_ranged() && end <= (size as u64).min(1 << 32) {
+        pieces
     } else {
         0
     }
@@ -423,14 +425,13 @@ impl Hardware {
     {
         let command = working_on(&self.ports, usize::from(port), slot)?;
         let place = place_at(command.prds.as_slice(), command.moved)?;
-        let address = u32::try_from(place.address).ok()?;
-        if address as usize + 512 > self.memory.len() {
+        if place.address >= 1 << 32 || place.address as usize + 512 > self.memory.len() {
             return None;
         }
         Some(NextMove {
             transfer: command.transfer,
             sector: sector_of(command),
-            address,
+            address: place.address,
             behind: behind(command.transfer, place, self.memory.len()),
         })
     }
@@ -456,7 +457,7 @@ impl Hardware {
             slot: Slot(slot),
             operation: next.transfer.operation(),
             sector: next.sector,
-            address: next.address,
+            address: next.address as u32,
             direction: next.transfer.direction(),
             bytes: Snapshot::of(piece_in(&self.memory, next)),
         });
