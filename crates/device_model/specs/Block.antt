@@ -1,6 +1,8 @@
--- The block that a trim has brought: a port has room for one, since a plain command is alone.
-use Rattle.std.specs.Prelude.{ℕ, ◌≡◌, ◌<◌, ◌^◌, List, [], Option, None, Some, slice_index_or}
+-- The commands that are taken, and the block that a trim has brought: a port has room for one, since a plain command is alone.
+use Rattle.std.specs.Prelude.{ℕ, ◌≡◌, ◌+◌, ◌<◌, ◌^◌, List, [], ◌∷◌, Option, None, Some, if◌then◌else◌}
+use Rattle.std.specs.List.{slice_get}
 use Rattle.std.specs.declared.snapshot.Snapshot.{Snapshot}
+use Rattle.hba_regs.specs.Bits.{bit}
 use Rattle.device_model.specs.declared.port.TakenCommand.{TakenCommand}
 use Rattle.device_model.specs.declared.port.Transfer.TheVariants.{Trim}
 
@@ -9,13 +11,20 @@ abbrev pub brought : Option (Snapshot (List ℕ)) → List ℕ
 brought None = []
 brought (Some block) = block.value
 
+-- what is taken in each slot: the command in its room, where its bit is a one
+abbrev pub held_by : (filled : ℕ) → List TakenCommand → ℕ → Option TakenCommand
+held_by filled rooms = λ slot. if bit filled slot then slice_get rooms slot else None
+
+-- the same as a list, from a slot on
+abbrev pub held_from : (slot filled : ℕ) → List TakenCommand → List (Option TakenCommand)
+held_from slot filled [] = []
+held_from slot filled (room ∷ rooms) = (if bit filled slot then Some room else None) ∷ held_from (slot + 1) filled rooms
+
 -- Where a trim is taken, no other command is; and where it has brought its block, this is it. The first sector of each
 -- command has a number of 48 bits.
-pub record HasBlock (slots : List (Option TakenCommand)) (block : List ℕ) : Type 0 where
-  pub alone : (slot other : ℕ) (t u : TakenCommand) → slice_index_or slots slot None ≡ Some t
-      → slice_index_or slots other None ≡ Some u →
+pub record HasBlock (taken : ℕ → Option TakenCommand) (block : List ℕ) : Type 0 where
+  pub alone : (slot other : ℕ) (t u : TakenCommand) → taken slot ≡ Some t → taken other ≡ Some u →
       t.transfer ≡ Trim → other ≡ slot
-  pub is : (slot : ℕ) (t : TakenCommand) (b : Snapshot (List ℕ)) → slice_index_or slots slot None ≡ Some t
-      → t.block ≡ Some b →
+  pub is : (slot : ℕ) (t : TakenCommand) (b : Snapshot (List ℕ)) → taken slot ≡ Some t → t.block ≡ Some b →
       (t.transfer ≡ Trim) × (b.value ≡ block)
-  pub low : (slot : ℕ) (t : TakenCommand) → slice_index_or slots slot None ≡ Some t → t.first < 2 ^ 48
+  pub low : (slot : ℕ) (t : TakenCommand) → taken slot ≡ Some t → t.first < 2 ^ 48

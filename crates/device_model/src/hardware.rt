@@ -12,6 +12,7 @@ ghost use Rattle.device_model.specs.View.{Media, port_of, blank_port};
 ghost use Rattle.device_model.specs.Whole.{Outside, device_of, HasRegister};
 
 use crate::bits::bit_if;
+use crate::command_room::CommandRoom;
 use crate::port::PortModel;
 use adapter::Entry;
 use ata_types::PORTS;
@@ -30,6 +31,8 @@ pub struct Hardware {
     pub tape: Vec<Entry>,
     /// Whether a step was left out since there was no memory to note it, or to keep what sectors held that it changes.
     pub starved: bool,
+    /// Where a command is read before it is taken.
+    pub room: CommandRoom,
 }
 
 /// VS: version 1.3.1.

@@ -14,6 +14,7 @@ mod bay;
 mod bits;
 mod cache;
 mod clearing;
+mod command_room;
 mod config;
 mod disks;
 mod fetch;

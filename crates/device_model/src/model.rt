@@ -28,6 +28,7 @@ ghost use Rattle.device_model.specs.Whole.{HasDisks, HasRegister};
 
 use crate::bay::{Bay, PAGE_BYTES, end_in, end_lies, lie_of, log_failed};
 use crate::clearing::SectorExtent;
+use crate::command_room::CommandRoom;
 use crate::config::{ModelConfig, NoMemory};
 use crate::disks::{DiskIndex, Disks, PortDisks};
 use crate::hardware::Hardware;
@@ -195,6 +196,7 @@ impl<S: SectorStore> Model<S> {
             ie: false,
             tape: Vec::new(alloc),
             starved: false,
+            room: CommandRoom::new(alloc)?,
         };
         Ok(Model {
             hardware,

@@ -41,6 +41,21 @@ impl PrdTable {
         }
     }
 
+    /// None any more.
+    pub fn clear(&mut self)
+        ensures { self.new ≡ [] }
+    {
+        self.number = 0;
+    }
+
+    /// Those of another table, in place of these. It copies no more than there are.
+    pub fn copy_from(&mut self, other: &PrdTable)
+        ensures { self.new ≡ other.now }
+    {
+        self.room[..other.number].copy_from_slice(&other.room[..other.number]);
+        self.number = other.number;
+    }
+
     /// One more.
     pub fn push(&mut self, prd: Prd)
         requires { length self.old < MOST_REQUEST_FRAMES }

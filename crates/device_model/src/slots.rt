@@ -36,12 +36,12 @@ pub fn failed_status(busy: bool) -> u8
 
 impl PortModel {
     /// A command is taken in a slot: a queued one leaves PxCI, and a plain one sets BSY.
-    pub fn take(&mut self, slot: u8, command: TakenCommand)
+    pub fn take(&mut self, slot: u8, command: &TakenCommand)
         requires slot { slot < 32 }
-        requires new { IsUntouched command }
-        requires alone { (m : Media) → IsAlone (port_of self.old m) (transfer_operation command.transfer) }
-        ensures { (m : Media) → port_of self.new m ≡ with_fetch (port_of self.old m) slot (taken_of command).meaning
-            (taken_of command).places }
+        requires new { IsUntouched command.now }
+        requires alone { (m : Media) → IsAlone (port_of self.old m) (transfer_operation command.now.transfer) }
+        ensures { (m : Media) → port_of self.new m ≡ with_fetch (port_of self.old m) slot (taken_of command.now).meaning
+            (taken_of command.now).places }
     {
         let queued = command.transfer.is_queued();
         self.taken.put(slot, command);

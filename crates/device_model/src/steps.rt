@@ -22,8 +22,7 @@ ghost use Rattle.device_model.specs.declared.port.TakenCommand.{TakenCommand};
 
 use crate::cache::Cache;
 use crate::fetch::{
-    PiecePlace, count_pieces, may_say_page, place_at, read_command, read_into, read_page,
-    says_command,
+    PiecePlace, count_pieces, may_say_page, place_at, read_command, read_page, says_command,
 };
 use crate::hardware::Hardware;
 use crate::port::{TakenCommand, Transfer};
@@ -230,6 +229,13 @@ fn grow(tape: &mut Vec<Entry>, cache: &mut Cache, growths: Growths) -> bool
     tape.reserve(growths.entries).is_ok() && cache.reserve(growths.old_sectors)
 }
 
+/// Tells that there was no memory, from then on.
+fn starve(starved: &mut bool)
+    ensures { starved.new ≡ true }
+{
+    *starved = true;
+}
+
 /// Whether a command that sends a page can be done to its end: whether each of its pieces has a place in a memory of
 /// this size, and an address of 32 bits.
 fn can_end(command: &TakenCommand, size: usize) -> bool
@@ -316,7 +322,7 @@ impl Hardware {
         if !self.ports[place].may_take_command(command.transfer) {
             return false;
         }
-        self.ports[place].take(slot, command);
+        self.ports[place].take(slot, &command);
         true
     }
 
@@ -638,21 +644,20 @@ impl Hardware {
         ensures same { KeepsTheSame cache.old cache.new }
         ensures left { result ≡ None → IsUnbegun port slot self.old self.new cache.old cache.new }
     {
-        let place = usize::from(port);
-        let list = self.ports[place].addresses.clb;
-        let mut command = TakenCommand::room();
-        if !read_into(&self.memory, list, slot, &mut command) {
+        let model = &mut self.ports[usize::from(port)];
+        let list = model.addresses.clb;
+        let Some(command) = self.room.read(&self.memory, list, slot) else {
+            return None;
+        };
+        if !model.may_take_command(command.transfer) {
             return None;
         }
-        if !self.ports[place].may_take_command(command.transfer) {
-            return None;
-        }
-        let rest = rest_of(&command, &[], &self.memory)?;
+        let rest = rest_of(command, &[], &self.memory)?;
         if !grow(&mut self.tape, cache, growths_of(rest)) {
-            self.starved = true;
+            starve(&mut self.starved);
             return None;
         }
-        self.ports[place].take(slot, command);
+        model.take(slot, command);
         Some(CommandToFinish {
             rest,
             was_taken: true,

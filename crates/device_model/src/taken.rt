@@ -3,7 +3,7 @@ ghost use Rattle.std.specs.Prelude.{◌≡◌, ◌≢◌, ◌<◌, ◌≤◌, �
 ghost use Rattle.adapter.specs.Commands.{is_queued};
 ghost use Rattle.adapter.specs.Memory.{changed};
 ghost use Rattle.adapter.specs.Steps.{noted_bytes};
-ghost use Rattle.device_model.specs.Block.{brought};
+ghost use Rattle.device_model.specs.Block.{brought, held_by};
 ghost use Rattle.device_model.specs.View.{held_in, transfer_operation};
 ghost use Rattle.device_model.specs.declared.port.TakenCommand.{TakenCommand};
 
@@ -18,26 +18,25 @@ use std::snapshot::Snapshot;
 /// The commands that a port has taken, each in its slot. Their memory is found once, as they are made.
 #[derive(Drop)]
 pub struct TakenCommands {
-    slots: Vec<Option<TakenCommand>>,
-    /// In which slots a command is, by their bits: so that it is told at once whether one is.
+    /// A room for the command of each slot.
+    slots: Vec<TakenCommand>,
+    /// In which slots a command is taken, by their bits. What else is in a room is none, so that none has to be put
+    /// there.
     filled: u32,
     /// The block of the one trim that is taken, where it was moved.
     block: [u8; 512],
 }
 
 impl Model for TakenCommands {
-    ghost use Rattle.std.specs.Prelude.{◌≡◌, List, Option, None, is_some, length, slice_index_or};
-    ghost use Rattle.device_model.specs.Bits.{word_bits};
-    ghost use Rattle.device_model.specs.Block.{HasBlock};
+    ghost use Rattle.std.specs.Prelude.{◌≡◌, List, Option, length};
+    ghost use Rattle.device_model.specs.Block.{HasBlock, held_by, held_from};
     ghost use Rattle.device_model.specs.declared.port.TakenCommand.{TakenCommand};
 
     ghost Value = { List (Option TakenCommand) };
 
-    ghost view = { λ s. s.slots.items };
+    ghost view = { λ s. held_from 0 s.filled s.slots.items };
 
-    ghost invariant = { λ s. (length s.slots.items ≡ 32)
-        × (word_bits s.filled ≡ (λ slot. is_some (slice_index_or s.slots.items slot None)))
-        × HasBlock s.slots.items s.block };
+    ghost invariant = { λ s. (length s.slots.items ≡ 32) × HasBlock (held_by s.filled s.slots.items) s.block };
 }
 
 impl TakenCommands {
@@ -47,7 +46,7 @@ impl TakenCommands {
     {
         let mut slots = Vec::with_capacity(alloc, SLOTS)?;
         for _slot in 0..SLOTS {
-            slots.push(None)?;
+            slots.push(TakenCommand::room())?;
         }
         Ok(TakenCommands {
             slots,
@@ -63,7 +62,11 @@ impl TakenCommands {
         ensures low { IfSome result (λ command. command.now.first < 2 ^ 48) }
         ensures none { result ≡ None → held_in self.now slot ≡ None }
     {
-        self.slots[usize::from(slot)].as_ref()
+        if is_set(self.filled, u32::from(slot)) {
+            Some(&self.slots[usize::from(slot)])
+        } else {
+            None
+        }
     }
 
     /// Whether a command is taken in a slot: its bit tells.
@@ -82,16 +85,24 @@ impl TakenCommands {
         is_clear_from(self.filled, u32::from(slot))
     }
 
-    /// A command is taken in a slot, of which nothing was moved yet; a trim alone.
-    pub fn put(&mut self, slot: u8, command: TakenCommand)
+    /// A command is taken in a slot, of which nothing was moved yet; a trim alone. It is copied, no more of it than there
+    /// is.
+    pub fn put(&mut self, slot: u8, command: &TakenCommand)
         requires slot { slot < 32 }
-        requires new { command.block ≡ None }
-        requires low { command.first < 2 ^ 48 }
+        requires new { command.now.block ≡ None }
+        requires low { command.now.first < 2 ^ 48 }
         requires alone { (other : ℕ) (u : TakenCommand) → other ≢ slot → held_in self.old other ≡ Some u →
-            (command.transfer ≡ Transfer.Trim → ⊥) × (u.transfer ≡ Transfer.Trim → ⊥) }
-        ensures { held_in self.new ≡ changed (held_in self.old) slot (Some command) }
+            (command.now.transfer ≡ Transfer.Trim → ⊥) × (u.transfer ≡ Transfer.Trim → ⊥) }
+        ensures { held_in self.new ≡ changed (held_in self.old) slot (Some command.now) }
     {
-        self.slots[usize::from(slot)] = Some(command);
+        let room = &mut self.slots[usize::from(slot)];
+        room.transfer = command.transfer;
+        room.first = command.first;
+        room.count = command.count;
+        room.prds.copy_from(&command.prds);
+        room.moved = command.moved;
+        room.block = None;
+        room.cleared = command.cleared;
         self.filled = with_bit_as(self.filled, u32::from(slot), true);
     }
 
@@ -102,7 +113,9 @@ impl TakenCommands {
         ensures { (t : TakenCommand) → held_in self.old slot ≡ Some t
             → held_in self.new ≡ changed (held_in self.old) slot (Some (record t { moved = t.moved + 1 })) }
     {
-        count_move(&mut self.slots[usize::from(slot)]);
+        if is_set(self.filled, u32::from(slot)) {
+            self.slots[usize::from(slot)].moved += 1;
+        }
     }
 
     /// The block of a slot's trim was moved.
@@ -115,7 +128,9 @@ impl TakenCommands {
             (Some (record t { moved = t.moved + 1; block = Some (noted_bytes bytes.now) })) }
     {
         self.block = *bytes;
-        bring_block(&mut self.slots[usize::from(slot)], bytes);
+        let command = &mut self.slots[usize::from(slot)];
+        command.moved += 1;
+        command.block = Some(Snapshot::of(bytes));
     }
 
     /// So many more sectors of a slot's trim were cleared.
@@ -125,7 +140,9 @@ impl TakenCommands {
         ensures { (t : TakenCommand) → held_in self.old slot ≡ Some t
             → held_in self.new ≡ changed (held_in self.old) slot (Some (record t { cleared = t.cleared + count })) }
     {
-        count_clear(&mut self.slots[usize::from(slot)], count);
+        if is_set(self.filled, u32::from(slot)) {
+            self.slots[usize::from(slot)].cleared += count;
+        }
     }
 
     /// The block that a slot's command has brought; none where it hasn't.
@@ -134,33 +151,24 @@ impl TakenCommands {
         ensures block { (t : TakenCommand) → held_in self.now slot ≡ Some t → result.now ≡ brought t.block }
         ensures few { length result.now ≤ 512 }
     {
-        match &self.slots[usize::from(slot)] {
+        match self.get(slot) {
             Some(command) if command.block.is_some() => &self.block,
             _ => &[],
         }
     }
 
-    /// A slot's command is taken no more. A function of its own, since its caller's frame would have room for a command
-    /// else; `clear` too.
-    #[inline(never)]
+    /// A slot's command is taken no more.
     pub fn remove(&mut self, slot: u8)
         requires { slot < 32 }
         ensures { held_in self.new ≡ changed (held_in self.old) slot None }
     {
-        self.slots[usize::from(slot)] = None;
         self.filled = with_bit_as(self.filled, u32::from(slot), false);
     }
 
-    /// No command is taken any more. A slot that has none is left, since there is much to write in one.
-    #[inline(never)]
+    /// No command is taken any more.
     pub fn clear(&mut self)
         ensures { held_in self.new ≡ (λ slot. None) }
     {
-        for slot in 0..SLOTS {
-            if is_set(self.filled, slot as u32) {
-                empty(&mut self.slots[slot]);
-            }
-        }
         self.filled = 0;
     }
 
@@ -176,62 +184,18 @@ impl TakenCommands {
         ensures { IsTrue result ↔ ((slot : ℕ) (t : TakenCommand) → held_in self.now slot ≡ Some t
             → is_queued (transfer_operation t.transfer) ≡ true) }
     {
-        self.is_empty() || hold_queued(&self.slots)
+        self.is_empty() || hold_queued(&self.slots, self.filled)
     }
 }
 
-/// A command is taken no more.
-fn empty(taken: &mut Option<TakenCommand>)
-    ensures { taken.new ≡ None }
-{
-    *taken = None;
-}
-
-/// One more piece of a command was moved.
-fn count_move(taken: &mut Option<TakenCommand>)
-    requires { IfSome taken.old (λ t. t.moved + 1 < 2 ^ 32) }
-    ensures counted { (t : TakenCommand) → taken.old ≡ Some t → taken.new ≡ Some (record t { moved = t.moved + 1 }) }
-    ensures stays { is_some taken.new ≡ is_some taken.old }
-{
-    if let Some(command) = taken {
-        command.moved += 1;
-    }
-}
-
-/// The block of a trim was moved.
-fn bring_block(taken: &mut Option<TakenCommand>, bytes: &[u8; 512])
-    requires { IfSome taken.old (λ t. t.moved + 1 < 2 ^ 32) }
-    ensures counted { (t : TakenCommand) → taken.old ≡ Some t
-        → taken.new ≡ Some (record t { moved = t.moved + 1; block = Some (noted_bytes bytes.now) }) }
-    ensures stays { is_some taken.new ≡ is_some taken.old }
-{
-    if let Some(command) = taken {
-        command.moved += 1;
-        command.block = Some(Snapshot::of(bytes));
-    }
-}
-
-/// So many more sectors of a trim were cleared.
-fn count_clear(taken: &mut Option<TakenCommand>, count: u32)
-    requires { IfSome taken.old (λ t. t.cleared + count < 2 ^ 32) }
-    ensures counted { (t : TakenCommand) → taken.old ≡ Some t
-        → taken.new ≡ Some (record t { cleared = t.cleared + count }) }
-    ensures stays { is_some taken.new ≡ is_some taken.old }
-{
-    if let Some(command) = taken {
-        command.cleared += count;
-    }
-}
-
-/// Whether each command in these slots is queued.
-fn hold_queued(slots: &[Option<TakenCommand>]) -> bool
-    ensures { IsTrue result ↔ ((slot : ℕ) (t : TakenCommand) → held_in slots.now slot ≡ Some t
+/// Whether each command that is taken, of these rooms, is queued.
+fn hold_queued(rooms: &[TakenCommand], filled: u32) -> bool
+    requires { length rooms.now ≡ 32 }
+    ensures { IsTrue result ↔ ((slot : ℕ) (t : TakenCommand) → held_by filled rooms.now slot ≡ Some t
         → is_queued (transfer_operation t.transfer) ≡ true) }
 {
-    for slot in slots {
-        if let Some(command) = slot
-            && !command.transfer.is_queued()
-        {
+    for slot in 0..SLOTS {
+        if is_set(filled, slot as u32) && !rooms[slot].transfer.is_queued() {
             return false;
         }
     }

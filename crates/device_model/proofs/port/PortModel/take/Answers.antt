@@ -15,13 +15,13 @@ use Rattle.device_model.proofs.port.PortModel.take.Goals as goal
 
 pub put-requires-clause-alone : goal.put-requires-clause-alone
 put-requires-clause-alone c = λ other u ne held.
-    both_queued c.args.command.transfer u.transfer (c.requires.alone no_media other (taken_of u) (slot_taken (held_in c.args.self.now.taken) u other held))
+    both_queued c.args.command.now.transfer u.transfer (c.requires.alone no_media other (taken_of u) (slot_taken (held_in c.args.self.now.taken) u other held))
 
 -- a queued one
 pub returns-then-queued : goal.returns-then-queued
 returns-then-queued c = λ m.
     let p : PortModel = c.args.self.now in
-    let r : TakenCommand = c.args.command in
+    let r : TakenCommand = c.args.command.now in
     let state : DevicePort = with_fetch (port_of p m) c.args.slot (taken_of r).meaning (taken_of r).places in
     let queued : true ≡ is_queued (transfer_operation r.transfer) = sym c.if-queued.true ∙ c.is_queued-queued.ensures in
     let taken = ap taken_slots c.put.ensures ∙ slots_begun (held_in p.taken) c.args.slot r c.requires.new in
@@ -34,7 +34,7 @@ returns-then-queued c = λ m.
 pub returns-else-queued : goal.returns-else-queued
 returns-else-queued c = λ m.
     let p : PortModel = c.args.self.now in
-    let r : TakenCommand = c.args.command in
+    let r : TakenCommand = c.args.command.now in
     let state : DevicePort = with_fetch (port_of p m) c.args.slot (taken_of r).meaning (taken_of r).places in
     let plain : false ≡ is_queued (transfer_operation r.transfer) = sym c.if-queued.false ∙ c.is_queued-queued.ensures in
     let taken = ap taken_slots c.put.ensures ∙ slots_begun (held_in p.taken) c.args.slot r c.requires.new in

@@ -1,29 +1,67 @@
-use Rattle.std.proofs.Common.{rules, ap, ◌≡◌, ◌<◌, ◌∙◌, None, Some, length, slice_index_or}
-use Rattle.std.proofs.lemmas.List.{get_or_default, length-set}
-use Rattle.std.specs.Prelude.{is_some}
+use Rattle.std.proofs.Common.{rules, arith, ℕ, Bool, List, Option, ◌≡◌, ◌≢◌, ◌<◌, ◌≤◌, ◌+◌, ◌^◌, ◌∙◌, None, Some, true, false, length, ap, sym, subst, refl, eq-eqb, eqb-true}
+use Rattle.std.specs.Prelude.{IfSome, is_some, slice_index_or, slice_set}
+use Rattle.std.proofs.lemmas.List.{length-set}
 use Rattle.adapter.specs.Memory.{changed}
+use Rattle.adapter.specs.Steps.{noted_bytes}
+use Rattle.hba_regs.specs.Bits.{bit}
+use Rattle.device_model.proofs.Absurd.{fun_ext, some-none, some_one, true-false}
+use Rattle.device_model.proofs.BitLemmas.{none_set}
+use Rattle.device_model.proofs.Blocks.{block_moved, block_on, block_put, block_removed}
+use Rattle.device_model.proofs.NewModel.{zero_bit}
+use Rattle.device_model.proofs.SlotLemmas.{held_list, held_none, held_on, held_put, held_removed, held_room, held_set, held_tells, held_within, is_held}
 use Rattle.device_model.specs.View.{held_in}
-use Rattle.device_model.proofs.Blocks.{brought_block}
-use Rattle.device_model.proofs.SlotLemmas.{filled_still, set_slot}
+use Rattle.device_model.specs.Block.{HasBlock, held_by}
+use Rattle.device_model.specs.declared.port.TakenCommand.{TakenCommand}
 use Rattle.device_model.proofs.taken.TakenCommands.add_block.Goals as goal
 
-pub returns : goal.returns
-returns c = λ t held.
+pub overflow_add-command : goal.overflow_add-command
+overflow_add-command c =
+    let filled = c.self.inside.filled in
     let items = c.self.inside.slots.items in
     let small : c.from.result < length items = search rules in
-    let there : slice_index_or items c.from.result None ≡ Some t = (λ i. held_in (c.self.view_is i) (c.from.ensures i)) ∙ held in
-    let more = c.bring_block.ensures.counted t (c.index_mut.ensures.value ∙ (get_or_default items c.from.result c.index_mut.result.now None small ∙ there)) in
-    set_slot items c.from.result c.bring_block.new.taken small ∙ (λ i. changed (held_in (c.self.view_is i)) (c.from.ensures i) (more i))
+    let trim = c.requires.trim in
+    let at = is_held filled items c.args.self.now c.from.result c.args.slot c.self.view_is c.from.ensures ∙ trim.1 in
+    let set = held_set filled items c.from.result trim.0 at in
+    let now : TakenCommand = c.index_mut-command.result.now in
+    let there : held_by filled items c.from.result ≡ Some now = held_room filled items c.from.result now small set ∙ ap Some (sym c.index_mut-command.ensures.value) in
+    let one : now ≡ trim.0 = some_one (sym there ∙ at) in
+    let P : TakenCommand → Type 0 = λ t. t.moved + 1 < 2 ^ 32 in
+    let below = subst P (sym one) trim.3 in
+    omega (arith, below)
 
 pub invariant_of-self : goal.invariant_of-self
 invariant_of-self c =
+    let filled = c.self.inside.filled in
     let items = c.self.inside.slots.items in
     let small : c.from.result < length items = search rules in
-    let there = c.index_mut.ensures.value ∙ get_or_default items c.from.result c.index_mut.result.now None small in
     let trim = c.requires.trim in
-    let held : slice_index_or items c.from.result None ≡ Some trim.0 = (λ i. held_in (c.self.view_is i) (c.from.ensures i)) ∙ trim.1 in (
+    let at = is_held filled items c.args.self.now c.from.result c.args.slot c.self.view_is c.from.ensures ∙ trim.1 in
+    let set = held_set filled items c.from.result trim.0 at in
+    let now : TakenCommand = c.index_mut-command.result.now in
+    let there : held_by filled items c.from.result ≡ Some now = held_room filled items c.from.result now small set ∙ ap Some (sym c.index_mut-command.ensures.value) in
+    let one : now ≡ trim.0 = some_one (sym there ∙ at) in
+    let new : TakenCommand = record now { moved = now.moved + 1; block = Some c.of.result } in
+    let P : (ℕ → Option TakenCommand) → Type 0 = λ f. HasBlock f c.args.bytes.now in (
       simp length-set c.self.invariant.0,
-      filled_still items c.from.result c.bring_block.new.taken _ small c.self.invariant.1 (c.bring_block.ensures.stays ∙ ap is_some there),
-      brought_block items c.self.inside.block _ c.from.result c.bring_block.new.taken trim.0 small c.self.invariant.2 held trim.2
-          (c.bring_block.ensures.counted trim.0 (there ∙ held)),
+      subst P (sym (held_on filled items c.from.result new small set))
+          (block_moved (held_by filled items) c.self.inside.block c.from.result c.self.invariant.1 now new there refl refl c.args.bytes.now
+          (ap (λ (t : TakenCommand). t.transfer) one ∙ trim.2) (λ i. Some (noted_bytes (c.of.ensures i)))),
     )
+
+pub returns : goal.returns
+returns c = λ t held.
+    let filled = c.self.inside.filled in
+    let items = c.self.inside.slots.items in
+    let small : c.from.result < length items = search rules in
+    let trim = c.requires.trim in
+    let at = is_held filled items c.args.self.now c.from.result c.args.slot c.self.view_is c.from.ensures ∙ trim.1 in
+    let set = held_set filled items c.from.result trim.0 at in
+    let now : TakenCommand = c.index_mut-command.result.now in
+    let there : held_by filled items c.from.result ≡ Some now = held_room filled items c.from.result now small set ∙ ap Some (sym c.index_mut-command.ensures.value) in
+    let one : now ≡ trim.0 = some_one (sym there ∙ at) in
+    let new : TakenCommand = record now { moved = now.moved + 1; block = Some c.of.result } in
+    let same : now ≡ t = some_one (sym there ∙ (is_held filled items c.args.self.now c.from.result c.args.slot c.self.view_is c.from.ensures ∙ held)) in
+    let was : held_by filled items ≡ held_in c.args.self.now = sym (held_list filled items) ∙ ap held_in c.self.view_is in
+    held_list filled (slice_set items c.from.result new)
+    ∙ (held_on filled items c.from.result new small set
+    ∙ (λ i. changed (was i) (c.from.ensures i) (Some (record (same i) { moved = (same i).moved + 1; block = Some (noted_bytes (c.of.ensures i)) }))))

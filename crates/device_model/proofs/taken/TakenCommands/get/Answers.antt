@@ -1,11 +1,44 @@
-use Rattle.std.proofs.Common.{rules, ◌<◌, ◌∙◌, None, length, sym}
-use Rattle.std.proofs.lemmas.List.{get_or_default}
-use Rattle.device_model.proofs.Blocks.{low_copied}
+use Rattle.std.proofs.Common.{rules, arith, ℕ, Bool, List, Option, ◌≡◌, ◌≢◌, ◌<◌, ◌≤◌, ◌+◌, ◌^◌, ◌∙◌, None, Some, true, false, length, ap, sym, subst, refl, eq-eqb, eqb-true}
+use Rattle.std.specs.Prelude.{IfSome, is_some, slice_index_or, slice_set}
+use Rattle.std.proofs.lemmas.List.{length-set}
+use Rattle.adapter.specs.Memory.{changed}
+use Rattle.adapter.specs.Steps.{noted_bytes}
+use Rattle.hba_regs.specs.Bits.{bit}
+use Rattle.device_model.proofs.Absurd.{fun_ext, some-none, some_one, true-false}
+use Rattle.device_model.proofs.BitLemmas.{none_set}
+use Rattle.device_model.proofs.Blocks.{block_moved, block_on, block_put, block_removed}
+use Rattle.device_model.proofs.NewModel.{zero_bit}
+use Rattle.device_model.proofs.SlotLemmas.{held_list, held_none, held_on, held_put, held_removed, held_room, held_set, held_tells, held_within, is_held}
+use Rattle.device_model.specs.View.{held_in}
+use Rattle.device_model.specs.Block.{HasBlock, held_by}
+use Rattle.device_model.specs.declared.port.TakenCommand.{TakenCommand}
 use Rattle.device_model.proofs.taken.TakenCommands.get.Goals as goal
 
-pub returns-clause-low : goal.returns-clause-low
-returns-clause-low c =
+pub returns-then-is_set-clause-found : goal.returns-then-is_set-clause-found
+returns-then-is_set-clause-found c =
+    let filled = c.self.inside.filled in
     let items = c.self.inside.slots.items in
-    let small : c.from.result < length items = search rules in
-    low_copied c.as_ref.result c.index.result.now c.as_ref.ensures.value
-    (λ t is. c.self.invariant.2.low c.from.result t (sym (c.index.ensures ∙ get_or_default items c.from.result c.index.result.now None small) ∙ is))
+    let small : c.from-then-is_set.result < length items = search rules in
+    let place : c.from-then-is_set.result ≡ c.from.result = c.from-then-is_set.ensures ∙ sym c.from.ensures in
+    let set : bit filled c.from-then-is_set.result ≡ true = ap (bit filled) place ∙ (sym c.is_set.ensures ∙ c.if-is_set.true) in
+    let there : held_by filled items c.from-then-is_set.result ≡ Some c.index.result.now =
+    held_room filled items c.from-then-is_set.result c.index.result.now small set ∙ ap Some (sym c.index.ensures) in
+    sym (is_held filled items c.args.self.now c.from-then-is_set.result c.args.slot c.self.view_is c.from-then-is_set.ensures) ∙ there
+
+pub returns-then-is_set-clause-low : goal.returns-then-is_set-clause-low
+returns-then-is_set-clause-low c =
+    let filled = c.self.inside.filled in
+    let items = c.self.inside.slots.items in
+    let small : c.from-then-is_set.result < length items = search rules in
+    let place : c.from-then-is_set.result ≡ c.from.result = c.from-then-is_set.ensures ∙ sym c.from.ensures in
+    let set : bit filled c.from-then-is_set.result ≡ true = ap (bit filled) place ∙ (sym c.is_set.ensures ∙ c.if-is_set.true) in
+    let there : held_by filled items c.from-then-is_set.result ≡ Some c.index.result.now =
+    held_room filled items c.from-then-is_set.result c.index.result.now small set ∙ ap Some (sym c.index.ensures) in
+    c.self.invariant.1.low c.from-then-is_set.result c.index.result.now there
+
+pub returns-else-is_set-clause-none : goal.returns-else-is_set-clause-none
+returns-else-is_set-clause-none c = λ _.
+    let filled = c.self.inside.filled in
+    let items = c.self.inside.slots.items in
+    sym (is_held filled items c.args.self.now c.from.result c.args.slot c.self.view_is c.from.ensures)
+    ∙ held_none filled items c.from.result (sym c.is_set.ensures ∙ c.if-is_set.false)

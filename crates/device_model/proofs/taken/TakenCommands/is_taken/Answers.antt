@@ -1,11 +1,24 @@
-use Rattle.std.proofs.Common.{ℕ, Bool, Option, ◌≡◌, ◌∙◌, None, ap, slice_index_or}
-use Rattle.std.specs.Prelude.{is_some}
-use Rattle.device_model.specs.Bits.{word_bits}
+use Rattle.std.proofs.Common.{rules, arith, ℕ, Bool, List, Option, ◌≡◌, ◌≢◌, ◌<◌, ◌≤◌, ◌+◌, ◌^◌, ◌∙◌, None, Some, true, false, length, ap, sym, subst, refl, eq-eqb, eqb-true}
+use Rattle.std.specs.Prelude.{IfSome, is_some, slice_index_or, slice_set}
+use Rattle.std.proofs.lemmas.List.{length-set}
+use Rattle.adapter.specs.Memory.{changed}
+use Rattle.adapter.specs.Steps.{noted_bytes}
+use Rattle.hba_regs.specs.Bits.{bit}
+use Rattle.device_model.proofs.Absurd.{fun_ext, some-none, some_one, true-false}
+use Rattle.device_model.proofs.BitLemmas.{none_set}
+use Rattle.device_model.proofs.Blocks.{block_moved, block_on, block_put, block_removed}
+use Rattle.device_model.proofs.NewModel.{zero_bit}
+use Rattle.device_model.proofs.SlotLemmas.{held_list, held_none, held_on, held_put, held_removed, held_room, held_set, held_tells, held_within, is_held}
 use Rattle.device_model.specs.View.{held_in}
+use Rattle.device_model.specs.Block.{HasBlock, held_by}
 use Rattle.device_model.specs.declared.port.TakenCommand.{TakenCommand}
 use Rattle.device_model.proofs.taken.TakenCommands.is_taken.Goals as goal
 
 pub returns : goal.returns
 returns c =
-    let tells : word_bits c.self.inside.filled c.args.slot ≡ is_some (slice_index_or c.self.inside.slots.items c.args.slot None) = ap (λ (f : ℕ → Bool). f c.args.slot) c.self.invariant.1 in
-    c.is_set.ensures ∙ (ap (word_bits c.self.inside.filled) c.from.ensures ∙ (tells ∙ ap (λ (f : ℕ → Option TakenCommand). is_some (f c.args.slot)) (ap held_in c.self.view_is)))
+    let filled = c.self.inside.filled in
+    let items = c.self.inside.slots.items in
+    let fits : filled < 2 ^ 32 = search rules in
+    c.is_set.ensures
+    ∙ (held_tells filled items c.from.result fits c.self.invariant.0
+    ∙ ap is_some (is_held filled items c.args.self.now c.from.result c.args.slot c.self.view_is c.from.ensures))

@@ -1,21 +1,20 @@
-use Rattle.std.proofs.Common.{rules, ℕ, Option, None, ◌≡◌, ◌∙◌, ap, length, sym}
-use Rattle.std.specs.Prelude.{is_some}
-use Rattle.device_model.proofs.Absurd.{fun_ext}
-use Rattle.device_model.specs.View.{held_in}
-use Rattle.device_model.specs.declared.port.TakenCommand.{TakenCommand}
+use Rattle.std.proofs.Common.{rules, arith, ℕ, Bool, List, Option, ◌≡◌, ◌≢◌, ◌<◌, ◌≤◌, ◌+◌, ◌^◌, ◌∙◌, None, Some, true, false, length, ap, sym, subst, refl, eq-eqb, eqb-true}
+use Rattle.std.specs.Prelude.{IfSome, is_some, slice_index_or, slice_set}
+use Rattle.std.proofs.lemmas.List.{length-set}
+use Rattle.adapter.specs.Memory.{changed}
+use Rattle.adapter.specs.Steps.{noted_bytes}
+use Rattle.hba_regs.specs.Bits.{bit}
+use Rattle.device_model.proofs.Absurd.{fun_ext, some-none, some_one, true-false}
+use Rattle.device_model.proofs.BitLemmas.{none_set}
+use Rattle.device_model.proofs.Blocks.{block_moved, block_on, block_put, block_removed}
 use Rattle.device_model.proofs.NewModel.{zero_bit}
-use Rattle.device_model.proofs.Blocks.{block_gone}
-use Rattle.device_model.proofs.SlotLemmas.{none_held}
+use Rattle.device_model.proofs.SlotLemmas.{held_list, held_none, held_on, held_put, held_removed, held_room, held_set, held_tells, held_within, is_held}
+use Rattle.device_model.specs.View.{held_in}
+use Rattle.device_model.specs.Block.{HasBlock, held_by}
+use Rattle.device_model.specs.declared.port.TakenCommand.{TakenCommand}
 use Rattle.device_model.proofs.taken.TakenCommands.new.Goals as goal
 
 pub returns : goal.returns
-returns c = ap held_in c.loop-slot.invariant ∙ none_held c.loop-slot._slot
-
-pub invariant_of-result : goal.invariant_of-result
-invariant_of-result c =
-    let empty : held_in c.loop-slot.slots.items ≡ (λ slot. None) = ap held_in c.loop-slot.invariant ∙ none_held c.loop-slot._slot in
-    let long : length c.loop-slot.slots.items ≡ 32 = search rules in (
-      long,
-      fun_ext (λ k. zero_bit k ∙ sym (ap (λ (f : ℕ → Option TakenCommand). is_some (f k)) empty)),
-      block_gone c.loop-slot.slots.items _ (λ k. ap (λ (f : ℕ → Option TakenCommand). f k) empty),
-    )
+returns c =
+    let items = c.loop-slot.slots.items in
+    held_list 0 items ∙ fun_ext (λ k. held_none 0 items k (zero_bit k))

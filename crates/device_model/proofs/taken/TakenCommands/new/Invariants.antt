@@ -1,5 +1,5 @@
-use Rattle.std.proofs.Common.{◌≡◌, None, replicate}
+use Rattle.std.proofs.Common.{◌≡◌, length}
 use Rattle.device_model.proofs.taken.TakenCommands.new.Given as goal
 
 abbrev pub invariant-loop-slot : goal.invariant-loop-slot
-invariant-loop-slot l = l.slots.items ≡ replicate l._slot None
+invariant-loop-slot l = length l.slots.items ≡ l._slot

@@ -1,27 +1,45 @@
-use Rattle.std.proofs.Common.{rules, ℕ, List, Option, ◌≡◌, ◌≢◌, ◌<◌, ◌∙◌, Some, length, ap, sym}
+use Rattle.std.proofs.Common.{rules, arith, ℕ, Bool, List, Option, ◌≡◌, ◌≢◌, ◌<◌, ◌≤◌, ◌+◌, ◌^◌, ◌∙◌, None, Some, true, false, length, ap, sym, subst, refl, eq-eqb, eqb-true}
+use Rattle.std.specs.Prelude.{IfSome, is_some, slice_index_or, slice_set}
 use Rattle.std.proofs.lemmas.List.{length-set}
 use Rattle.adapter.specs.Memory.{changed}
+use Rattle.adapter.specs.Steps.{noted_bytes}
+use Rattle.hba_regs.specs.Bits.{bit}
+use Rattle.device_model.proofs.Absurd.{fun_ext, some-none, some_one, true-false}
+use Rattle.device_model.proofs.BitLemmas.{none_set}
+use Rattle.device_model.proofs.Blocks.{block_moved, block_on, block_put, block_removed}
+use Rattle.device_model.proofs.NewModel.{zero_bit}
+use Rattle.device_model.proofs.SlotLemmas.{held_list, held_none, held_on, held_put, held_removed, held_room, held_set, held_tells, held_within, is_held}
 use Rattle.device_model.specs.View.{held_in}
+use Rattle.device_model.specs.Block.{HasBlock, held_by}
 use Rattle.device_model.specs.declared.port.TakenCommand.{TakenCommand}
-use Rattle.device_model.proofs.Blocks.{block_put}
-use Rattle.device_model.proofs.SlotLemmas.{filled_set, set_slot}
 use Rattle.device_model.proofs.taken.TakenCommands.put.Goals as goal
 
 pub returns : goal.returns
 returns c =
-    let items = c.self.inside.slots.items in
-    let small : c.from.result < length items = search rules in
-    set_slot items c.from.result (Some c.args.command) small ∙ (λ i. changed (held_in (c.self.view_is i)) (c.from.ensures i) (Some c.args.command))
-
-pub invariant_of-self : goal.invariant_of-self
-invariant_of-self c =
+    let filled = c.self.inside.filled in
     let items = c.self.inside.slots.items in
     let small : c.from.result < length items = search rules in
     let place : c.from-2.result ≡ c.from.result = c.from-2.ensures ∙ sym c.from.ensures in
-    let beside = λ (other : ℕ) (u : TakenCommand) (ne : other ≢ c.from.result) (is : held_in items other ≡ Some u).
-    c.requires.alone other u (rw c.from.ensures at ne) (ap (λ (f : List (Option TakenCommand)). held_in f other) (sym c.self.view_is) ∙ is) in
-    let bits = rw place at c.with_bit_as-self-inside.ensures in (
+    let new : TakenCommand = record c.args.command.now { prds = c.copy_from.new.self; block = None } in
+    let bits = rw place at c.with_bit_as-self-inside.ensures in
+    let was : held_by filled items ≡ held_in c.args.self.now = sym (held_list filled items) ∙ ap held_in c.self.view_is in
+    held_list c.with_bit_as-self-inside.result (slice_set items c.from.result new)
+    ∙ (held_put filled c.with_bit_as-self-inside.result items c.from.result new small bits
+    ∙ (λ i. changed (was i) (c.from.ensures i) (Some (record c.args.command.now { prds = c.copy_from.ensures i; block = sym c.requires.new i }))))
+
+pub invariant_of-self : goal.invariant_of-self
+invariant_of-self c =
+    let filled = c.self.inside.filled in
+    let items = c.self.inside.slots.items in
+    let small : c.from.result < length items = search rules in
+    let place : c.from-2.result ≡ c.from.result = c.from-2.ensures ∙ sym c.from.ensures in
+    let new : TakenCommand = record c.args.command.now { prds = c.copy_from.new.self; block = None } in
+    let bits = rw place at c.with_bit_as-self-inside.ensures in
+    let was : held_by filled items ≡ held_in c.args.self.now = sym (held_list filled items) ∙ ap held_in c.self.view_is in
+    let beside = λ (other : ℕ) (u : TakenCommand) (ne : other ≢ c.from.result) (is : held_by filled items other ≡ Some u).
+    c.requires.alone other u (rw c.from.ensures at ne) (ap (λ (f : ℕ → Option TakenCommand). f other) (sym was) ∙ is) in
+    let P : (ℕ → Option TakenCommand) → Type 0 = λ f. HasBlock f c.self.inside.block in (
       simp length-set c.self.invariant.0,
-      filled_set items c.from.result (Some c.args.command) _ _ small c.self.invariant.1 bits,
-      block_put items c.self.inside.block c.from.result small c.self.invariant.2 c.args.command c.requires.new c.requires.low beside,
+      subst P (sym (held_put filled c.with_bit_as-self-inside.result items c.from.result new small bits))
+          (block_put (held_by filled items) c.self.inside.block c.from.result c.self.invariant.1 new refl c.requires.low beside),
     )

@@ -1,24 +1,34 @@
-use Rattle.std.proofs.Common.{rules, ◌≡◌, ◌<◌, ◌∙◌, None, length, sym}
+use Rattle.std.proofs.Common.{rules, arith, ℕ, Bool, List, Option, ◌≡◌, ◌≢◌, ◌<◌, ◌≤◌, ◌+◌, ◌^◌, ◌∙◌, None, Some, true, false, length, ap, sym, subst, refl, eq-eqb, eqb-true}
+use Rattle.std.specs.Prelude.{IfSome, is_some, slice_index_or, slice_set}
 use Rattle.std.proofs.lemmas.List.{length-set}
 use Rattle.adapter.specs.Memory.{changed}
+use Rattle.adapter.specs.Steps.{noted_bytes}
+use Rattle.hba_regs.specs.Bits.{bit}
+use Rattle.device_model.proofs.Absurd.{fun_ext, some-none, some_one, true-false}
+use Rattle.device_model.proofs.BitLemmas.{none_set}
+use Rattle.device_model.proofs.Blocks.{block_moved, block_on, block_put, block_removed}
+use Rattle.device_model.proofs.NewModel.{zero_bit}
+use Rattle.device_model.proofs.SlotLemmas.{held_list, held_none, held_on, held_put, held_removed, held_room, held_set, held_tells, held_within, is_held}
 use Rattle.device_model.specs.View.{held_in}
-use Rattle.device_model.proofs.Blocks.{block_removed}
-use Rattle.device_model.proofs.SlotLemmas.{filled_set, set_slot}
+use Rattle.device_model.specs.Block.{HasBlock, held_by}
+use Rattle.device_model.specs.declared.port.TakenCommand.{TakenCommand}
 use Rattle.device_model.proofs.taken.TakenCommands.remove.Goals as goal
 
 pub returns : goal.returns
 returns c =
+    let filled = c.self.inside.filled in
     let items = c.self.inside.slots.items in
-    let small : c.from.result < length items = search rules in
-    set_slot items c.from.result None small ∙ (λ i. changed (held_in (c.self.view_is i)) (c.from.ensures i) None)
+    let was : held_by filled items ≡ held_in c.args.self.now = sym (held_list filled items) ∙ ap held_in c.self.view_is in
+    held_list c.with_bit_as-self-inside.result items
+    ∙ (held_removed filled c.with_bit_as-self-inside.result items c.from.result c.with_bit_as-self-inside.ensures
+    ∙ (λ i. changed (was i) (c.from.ensures i) None))
 
 pub invariant_of-self : goal.invariant_of-self
 invariant_of-self c =
+    let filled = c.self.inside.filled in
     let items = c.self.inside.slots.items in
-    let small : c.from.result < length items = search rules in
-    let place : c.from-2.result ≡ c.from.result = c.from-2.ensures ∙ sym c.from.ensures in
-    let bits = rw place at c.with_bit_as-self-inside.ensures in (
-      simp length-set c.self.invariant.0,
-      filled_set items c.from.result None _ _ small c.self.invariant.1 bits,
-      block_removed items c.self.inside.block c.from.result small c.self.invariant.2,
+    let P : (ℕ → Option TakenCommand) → Type 0 = λ f. HasBlock f c.self.inside.block in (
+      c.self.invariant.0,
+      subst P (sym (held_removed filled c.with_bit_as-self-inside.result items c.from.result c.with_bit_as-self-inside.ensures))
+          (block_removed (held_by filled items) c.self.inside.block c.from.result c.self.invariant.1),
     )

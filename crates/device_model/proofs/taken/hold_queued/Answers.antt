@@ -1,0 +1,63 @@
+use Rattle.std.proofs.Common.{rules, arith, ℕ, Bool, List, Option, ◌≡◌, ◌≢◌, ◌<◌, ◌≤◌, ◌+◌, ◌^◌, ◌∙◌, None, Some, true, false, length, ap, sym, subst, refl, eq-eqb, eqb-true}
+use Rattle.std.specs.Prelude.{IfSome, is_some, slice_index_or, slice_set}
+use Rattle.std.proofs.lemmas.List.{length-set}
+use Rattle.adapter.specs.Memory.{changed}
+use Rattle.adapter.specs.Steps.{noted_bytes}
+use Rattle.hba_regs.specs.Bits.{bit}
+use Rattle.device_model.proofs.Absurd.{fun_ext, some-none, some_one, true-false}
+use Rattle.device_model.proofs.BitLemmas.{none_set}
+use Rattle.device_model.proofs.Blocks.{block_is, block_moved, block_on, block_put, block_removed}
+use Rattle.device_model.proofs.NewModel.{zero_bit}
+use Rattle.device_model.proofs.SlotLemmas.{held_list, held_none, held_on, held_put, held_removed, held_room, held_set, held_tells, held_within, is_held}
+use Rattle.device_model.specs.View.{held_in}
+use Rattle.device_model.specs.Block.{HasBlock, held_by}
+use Rattle.device_model.specs.declared.port.TakenCommand.{TakenCommand}
+use Rattle.std.proofs.lemmas.Bool.{cases_lt}
+use Rattle.adapter.specs.Commands.{is_queued}
+use Rattle.device_model.specs.Block.{brought}
+use Rattle.device_model.specs.View.{transfer_operation}
+use Rattle.std.proofs.Common.{inl, inr, List}
+use Rattle.device_model.proofs.taken.hold_queued.Goals as goal
+use Rattle.device_model.proofs.taken.hold_queued.Goals.{else-is_set-via-then-is_set+else-not-is_queued, else-is_set-via-else-is_set}
+
+pub returns-then-not-is_queued : goal.returns-then-not-is_queued
+returns-then-not-is_queued c =
+    let rooms = c.args.rooms.now in
+    let t : TakenCommand = slice_index_or rooms c.loop-slot.slot c.index-rooms-slot.result in
+    let small : c.loop-slot.slot < length rooms = search rules in
+    let set : bit c.args.filled c.loop-slot.slot ≡ true = sym c.is_set.ensures ∙ c.if-is_set.true in
+    let there = held_room c.args.filled rooms c.loop-slot.slot c.index-rooms-slot.result small set in (
+      λ never. true-false never refl,
+      λ all. true-false (all c.loop-slot.slot t there) (sym c.is_queued.ensures ∙ c.if-not-is_queued.true),
+    )
+
+pub loop-slot-preserved : goal.loop-slot-preserved
+loop-slot-preserved c = λ k few t held.
+    let rooms = c.args.rooms.now in
+    let slot : ℕ = c.loop-slot.slot in
+    elim (cases_lt k slot) [
+      | inl low ↦ c.loop-slot.invariant k low t held
+      | inr high ↦
+          let here : k ≡ slot = omega (arith, few, high) in
+          let is : held_by c.args.filled rooms slot ≡ Some t = ap (held_by c.args.filled rooms) (sym here) ∙ held in
+          elim c.else-is_set.branch [
+            | else-is_set-via-then-is_set+else-not-is_queued w ↦
+                let u : TakenCommand = slice_index_or rooms slot w.index-rooms-slot.result in
+                let small : slot < length rooms = search rules in
+                let set : bit c.args.filled slot ≡ true = sym c.is_set.ensures ∙ w.if-is_set.true in
+                let there = held_room c.args.filled rooms slot w.index-rooms-slot.result small set in
+                let one : u ≡ t = some_one (sym there ∙ is) in
+                ap (λ (x : TakenCommand). is_queued (transfer_operation x.transfer)) (sym one) ∙ (sym w.is_queued.ensures ∙ w.if-not-is_queued.false)
+            | else-is_set-via-else-is_set w ↦ some-none is (held_none c.args.filled rooms slot (sym c.is_set.ensures ∙ w.if-is_set.false))
+          ]
+    ]
+
+pub returns : goal.returns
+returns c = (
+  λ _ slot t held.
+      let within = held_within c.args.filled c.args.rooms.now slot t held in
+      let long = c.requires in
+      let over = c.loop-slot-test.false in
+      c.loop-slot.invariant slot (omega (arith, within, long, over)) t held,
+  λ _. refl,
+)

@@ -1,0 +1,54 @@
+// Where commands are read that are not taken yet.
+ghost use Rattle.std.specs.Prelude.{◌≡◌, ◌<◌, ℕ, List, IfOk, IfSome, None};
+ghost use Rattle.adapter.specs.Commands.{Meaning};
+ghost use Rattle.adapter.specs.Decoding.{DecodesTo};
+ghost use Rattle.device_model.specs.Fetched.{IsUntouched, bytes_of};
+ghost use Rattle.device_model.specs.View.{taken_of};
+
+use crate::fetch::read_into;
+use crate::port::TakenCommand;
+use std::alloc::{AllocError, Global};
+use std::marker::Model;
+
+/// Room for a command that is read, found once, since a command is large. What was read there counts as long as it is
+/// looked at, so contracts say nothing of it afterwards.
+#[derive(Drop)]
+pub struct CommandRoom {
+    room: Vec<TakenCommand>,
+}
+
+impl Model for CommandRoom {
+    ghost use Rattle.std.specs.Prelude.{◌≡◌, length};
+
+    ghost Value = { Unit {0} };
+
+    ghost view = { λ _. tt };
+
+    ghost invariant = { λ r. length r.room.items ≡ 1 };
+}
+
+impl CommandRoom {
+    /// Room for one.
+    pub fn new(alloc: Global) -> Result<CommandRoom, AllocError> {
+        let mut room = Vec::with_capacity(alloc, 1)?;
+        room.push(TakenCommand::room())?;
+        Ok(CommandRoom { room })
+    }
+
+    /// The command that the bytes of a slot say, if it is one that the model takes.
+    pub fn read(&mut self, memory: &[u8], list: u32, slot: u8) -> Option<&TakenCommand>
+        requires { slot < 32 }
+        ensures found { IfSome result (λ t. IsUntouched t.now
+            × DecodesTo (bytes_of memory.now) list slot (taken_of t.now).meaning (taken_of t.now).places) }
+        ensures only { result ≡ None → (m : Meaning) (places : List ℕ)
+            → DecodesTo (bytes_of memory.now) list slot m places → ⊥ }
+    {
+        let command = &mut self.room[0];
+        command.prds.clear();
+        if read_into(memory, list, slot, command) {
+            Some(&self.room[0])
+        } else {
+            None
+        }
+    }
+}
