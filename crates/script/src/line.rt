@@ -3,7 +3,7 @@ ghost use Rattle.std.specs.Prelude.{◌≡◌, ◌<◌, ◌≤◌, ◌==◌, ◌
 ghost use Rattle.std.specs.List.{slice_split};
 ghost use Rattle.script.specs.Line.{IsLine, IsRequest, IsSpelled, ReadsAsLine, ReadsAsStep, ReadsEachLine, ReadsEachStep, line_text, op_word, request_words, transfer_words};
 ghost use Rattle.ata_types.specs.declared.call.Call.{Call};
-ghost use Rattle.ata_types.specs.declared.call.Call.TheVariants.{Submit};
+ghost use Rattle.ata_types.specs.declared.call.Call.TheVariants.{Device, Submit};
 ghost use Rattle.ata_types.specs.declared.request.Op.{Op};
 ghost use Rattle.ata_types.specs.declared.request.Request.{Request};
 ghost use Rattle.adapter.specs.declared.access.DeviceStep.{DeviceStep};
@@ -329,14 +329,27 @@ fn revoke(client: &[u8], grant: &[u8], call: &mut Call<DeviceStep>) -> Option<()
     Some(())
 }
 
-/// Reads a step of the device, from the words after `dev`, in place of a call.
+/// Puts a step of the device in place of a call.
+#[inline(never)]
+fn make_step(call: &mut Call<DeviceStep>, step: DeviceStep)
+    ensures { call.new ≡ Device step }
+{
+    *call = Call::Device(step);
+}
+
+/// Reads a step of the device, from the words after `dev`, in place of a call. Where that is a step already, no other
+/// call is written, which would have room for a request.
 #[inline(never)]
 fn of_device(words: &[&[u8]], call: &mut Call<DeviceStep>) -> Option<()>
     ensures found { ReadsAsLine (codes "dev" ∷ map (λ w. w.now) words.now) result call.new }
     ensures only { ReadsEachLine (codes "dev" ∷ map (λ w. w.now) words.now) result call.new }
 {
     let (name, rest) = words.split_first()?;
-    *call = Call::Device(step(name, rest)?);
+    let step = step(name, rest)?;
+    match call {
+        Call::Device(place) => *place = step,
+        _ => make_step(call, step),
+    }
     Some(())
 }
 
