@@ -15,6 +15,7 @@ use Rattle.device_model.specs.Does.{AnswersStep, Completes, GoesOnSo}
 use Rattle.device_model.specs.Finishing.{LooksForPage, HasPageCommand, TapeHasRoom, IsBusy, MayPage}
 use Rattle.device_model.specs.Held.{IsPortHeld, IsPortLoose}
 use Rattle.device_model.specs.Modelled.{device_at}
+use Rattle.device_model.specs.Pending.{TakesPage}
 use Rattle.device_model.specs.Sent.{SendsEnd}
 use Rattle.device_model.specs.Settled.{IsSettled, LeadsOwn, LeavesOne, NoneIsLeft, SendsPages}
 use Rattle.device_model.specs.Whole.{HasDisks}
@@ -35,20 +36,6 @@ weight_same old new q same =
     ap (λ (p : DevicePort). total (λ k. (if p.ci k then 1 else 0) + (if is_some (p.taken k) then 1 else 0)) 32) same
 
 module _ {S : Type 0} (size : S → ℕ) (told : S → Option (ℕ → List ℕ)) (failures : S → Option Failures) where
-  -- a command that sends a page was taken, or was already
-  pub record Takes (port slot : ℕ) (old new : Model S) : Type 0 where
-    pub own : (held : List Bool) → IsPortLoose held port → LeadsOwn (SendsPages held) (device_at size told old) (device_at size told new)
-    pub settled : (held : List Bool) → IsSettled held (device_at size told old) → IsSettled held (device_at size told new)
-    pub taken : IsBusy (device_at size told new) port
-    pub stuck : MayPage (device_at size told old) port slot → (other : ℕ) → HasPageCommand (device_at size told new) port other → HasPageCommand (device_at size told old) port slot
-    pub left : (has : HasPageCommand (device_at size told old) port slot) → (now : HasPageCommand (device_at size told new) port slot) × (now.left ≡ has.left)
-    pub others : (q : ℕ) → q ≢ port → (device_at size told new).port q ≡ (device_at size told old).port q
-    pub as_large : (device_at size told new).size ≡ (device_at size told old).size
-    pub rest : GoesOnSo size old new
-    pub room : (n : ℕ) → TapeHasRoom new.hardware n → TapeHasRoom old.hardware n
-    pub starved : new.hardware.starved ≡ old.hardware.starved
-    pub disks : (q : ℕ) (w : DiskIndex) → numbered_disk new q w ≡ numbered_disk old q w
-
   -- one is left, for which the tape has no memory, of a port that is left out; it is taken
   pub record Lacks (left_out : List Bool) (m : Model S) : Type 0 where
     pub port : ℕ
@@ -193,7 +180,7 @@ module _ {S : Type 0} (size : S → ℕ) (told : S → Option (ℕ → List ℕ)
       -- ---- one that lacks memory is taken, and no more
 
       pub so_far_lacking : (last : Model S) → lacks ≡ false → answer ≡ false → (new.hardware.starved ≡ true) × (TapeHasRoom new.hardware (has.left + 1) → ⊥) →
-          Takes p.0 s.0 new last → IsSoFar first last (slice_set left_out p.0 true) true
+          TakesPage size told p.0 s.0 new last → IsSoFar first last (slice_set left_out p.0 true) true
       so_far_lacking last fed left missed t =
           let P : Device → Type 0 = λ d. (there : HasPageCommand d p.0 s.0) × (TapeHasRoom new.hardware (there.left + 1) → ⊥) in
           let one = subst P (sym (same left)) (has, missed.1) in
@@ -231,7 +218,7 @@ module _ {S : Type 0} (size : S → ℕ) (told : S → Option (ℕ → List ℕ)
 
     -- ---- one that can't be done to its end, or for which no memory is looked for, is taken
 
-    pub so_far_taken : (new : Model S) → Takes p.0 s.0 m new → (lacks ≡ false → (MayPage old_device p.0 s.0) × (HasPageCommand old_device p.0 s.0 → ⊥)) →
+    pub so_far_taken : (new : Model S) → TakesPage size told p.0 s.0 m new → (lacks ≡ false → (MayPage old_device p.0 s.0) × (HasPageCommand old_device p.0 s.0 → ⊥)) →
         IsSoFar first new (slice_set left_out p.0 true) lacks
     so_far_taken new t stuck =
         let long : p.0 < length left_out = subst (λ (n : ℕ). p.0 < n) (sym is.long) small in

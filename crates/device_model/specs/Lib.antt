@@ -14,7 +14,9 @@ pub mod Settled
 pub mod Modelled
 pub mod Finishing
 pub mod Paged
+pub mod Pending
 pub mod Does
 pub mod Queue
 pub mod Tells
 pub mod Trims
+pub mod Zeroed

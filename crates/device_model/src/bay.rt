@@ -11,6 +11,7 @@ ghost use Rattle.device_model.specs.Paged.{IsItsLog, IsItsPage, IsTurned, lying,
 ghost use Rattle.device_model.specs.Trims.{written_ahead};
 ghost use Rattle.device_model.specs.View.{transfer_operation};
 ghost use Rattle.device_model.specs.Whole.{Outside, device_of};
+ghost use Rattle.device_model.specs.Zeroed.{MakesZero};
 
 use crate::cache::{Cache, put_sector, write_back};
 use crate::clearing::SectorExtent;
@@ -87,18 +88,7 @@ fn clear_sectors<S: SectorStore>(
 ) -> u32
     requires inside { run.first + run.count ≤ S.size disk.old }
     requires room { HasOldRoom cache.old run.count }
-    ensures few { result ≤ run.count }
-    ensures disk { disk_over which (S.size disk.new) (S.told disk.new)
-        ≡ disk_cleared (disk_over which (S.size disk.old) (S.told disk.old)) run.first result }
-    ensures size { S.size disk.new ≡ S.size disk.old }
-    ensures none { result ≡ 0 → S.told disk.new ≡ S.told disk.old }
-    ensures fine { result ≡ run.count → S.failures disk.new ≡ S.failures disk.old }
-    ensures fails { result < run.count → CallFails cache.old.is_on true (run.first + result) (S.failures disk.old)
-        (S.failures disk.new) }
-    ensures lasting { (noted : Option (ℕ → List ℕ)) → lasting_in cache.new (S.told disk.new) noted
-        ≡ lasting_in cache.old (S.told disk.old) noted }
-    ensures cached { cache.new.is_on ≡ cache.old.is_on }
-    ensures old_room { (n : ℕ) → HasOldRoom cache.old (run.count + n) → HasOldRoom cache.new n }
+    ensures { MakesZero S.size S.told S.failures which run result disk.old disk.new cache.old cache.new }
 {
     for place in 0..run.count {
         if !put_sector(disk, cache, run.first + u64::from(place), &ZEROS) {
@@ -169,35 +159,7 @@ impl<S: SectorStore> Bay<S> {
     #[inline(always)]
     fn transfer_bytes(&mut self, next: NextMove, bytes: &mut [u8; 512]) -> bool
         requires { HasOldRoom self.old.cache (written_ahead (transfer_operation next.transfer) 1) }
-        ensures inside { result ≡ true → is_ranged (transfer_operation next.transfer) ≡ true
-            → next.sector < S.size self.old.disk.store }
-        ensures sector { IsSector bytes.new }
-        ensures gives { result ≡ true → is_ranged (transfer_operation next.transfer) ≡ true
-            → reads_memory (transfer_operation next.transfer) ≡ false →
-            IfSome (S.told self.old.disk.store) (λ told. bytes.new ≡ told next.sector) }
-        ensures takes { reads_memory (transfer_operation next.transfer) ≡ true → bytes.new ≡ bytes.old }
-        ensures left { result ≡ false → bytes.new ≡ bytes.old }
-        ensures page { result ≡ true → next.transfer ≡ Transfer.Identify
-            → IsItsPage (identity S.size self.old.disk) self.old.says bytes.new }
-        ensures log { result ≡ true → next.transfer ≡ Transfer.ReadLog → IsItsLog self.old.says bytes.new }
-        ensures same { is_ranged (transfer_operation next.transfer) ≡ false → self.new ≡ self.old }
-        ensures disk { result ≡ true → disk_over self.old.which (S.size self.new.disk.store)
-            (S.told self.new.disk.store)
-            ≡ disk_after (transfer_operation next.transfer) (disk_over self.old.which (S.size self.old.disk.store)
-            (S.told self.old.disk.store)) next.sector bytes.new }
-        ensures kept { result ≡ false → S.told self.new.disk.store ≡ S.told self.old.disk.store }
-        ensures size { S.size self.new.disk.store ≡ S.size self.old.disk.store }
-        ensures fine { result ≡ true → S.failures self.new.disk.store ≡ S.failures self.old.disk.store }
-        ensures ranged { result ≡ false → is_ranged (transfer_operation next.transfer) ≡ true }
-        ensures fails { result ≡ false → next.sector < S.size self.old.disk.store →
-            CallFails self.old.cache.is_on (reads_memory (transfer_operation next.transfer)) next.sector
-            (S.failures self.old.disk.store) (S.failures self.new.disk.store) }
-        ensures lasting { lasting_of S.told self.new ≡ lasting_of S.told self.old }
-        ensures cached { self.new.cache.is_on ≡ self.old.cache.is_on }
-        ensures old_room { (n : ℕ) → HasOldRoom self.old.cache (written_ahead (transfer_operation next.transfer) 1 + n)
-            → HasOldRoom self.new.cache n }
-        ensures rest { self.new ≡ record self.old
-            { disk = record self.old.disk { store = self.new.disk.store }; cache = self.new.cache } }
+        ensures { Exchanges S.size S.told S.failures self.old self.new next bytes.old bytes.new result }
     {
         match next.transfer {
             Transfer::Read | Transfer::ReadQueued => self.disk.store.read(next.sector, bytes),
@@ -248,18 +210,9 @@ impl<S: SectorStore> Bay<S> {
     pub fn clear(&mut self, run: SectorExtent) -> u32
         requires inside { run.first + run.count ≤ S.size self.old.disk.store }
         requires room { HasOldRoom self.old.cache run.count }
-        ensures few { result ≤ run.count }
-        ensures disk { disk_over self.old.which (S.size self.new.disk.store) (S.told self.new.disk.store)
-            ≡ disk_cleared (disk_over self.old.which (S.size self.old.disk.store) (S.told self.old.disk.store))
-            run.first result }
-        ensures size { S.size self.new.disk.store ≡ S.size self.old.disk.store }
-        ensures none { result ≡ 0 → S.told self.new.disk.store ≡ S.told self.old.disk.store }
-        ensures fine { result ≡ run.count → S.failures self.new.disk.store ≡ S.failures self.old.disk.store }
-        ensures fails { result < run.count → CallFails self.old.cache.is_on true (run.first + result)
-            (S.failures self.old.disk.store) (S.failures self.new.disk.store) }
+        ensures zero { MakesZero S.size S.told S.failures self.old.which run result self.old.disk.store
+            self.new.disk.store self.old.cache self.new.cache }
         ensures lasting { lasting_of S.told self.new ≡ lasting_of S.told self.old }
-        ensures cached { self.new.cache.is_on ≡ self.old.cache.is_on }
-        ensures old_room { (n : ℕ) → HasOldRoom self.old.cache (run.count + n) → HasOldRoom self.new.cache n }
         ensures rest { self.new ≡ record self.old
             { disk = record self.old.disk { store = self.new.disk.store }; cache = self.new.cache } }
     {

@@ -16,6 +16,7 @@ ghost use Rattle.device_model.specs.View.{transfer_operation};
 ghost use Rattle.device_model.specs.Finishing.{LooksForPage, HasPageCommand, HasMove, TapeHasRoom, IsBusy, MayPage, sends_page};
 ghost use Rattle.device_model.specs.Held.{IsPortLoose};
 ghost use Rattle.device_model.specs.Paged.{lying, naming, truthful};
+ghost use Rattle.device_model.specs.Pending.{TakesPage};
 ghost use Rattle.device_model.specs.Does.{AnswersStep, Completes, GoesOnSo, HasCleared, CommandFails, answer_of, asked_fault};
 ghost use Rattle.device_model.specs.Tells.{disks_told};
 ghost use Rattle.device_model.specs.Queue.{BeginsAccess, DoesRead, DoesThen};
@@ -536,23 +537,7 @@ impl<S: SectorStore> Model<S> {
         requires small { slot < 32 }
         requires there { MayPage (device_at S.size S.told self.old) port slot
             ⊎ HasPageCommand (device_at S.size S.told self.old) port slot }
-        ensures own { (held : List Bool) → IsPortLoose held port
-            → LeadsOwn (SendsPages held) (device_at S.size S.told self.old) (device_at S.size S.told self.new) }
-        ensures settled { (held : List Bool) → IsSettled held (device_at S.size S.told self.old)
-            → IsSettled held (device_at S.size S.told self.new) }
-        ensures taken { IsBusy (device_at S.size S.told self.new) port }
-        ensures stuck { MayPage (device_at S.size S.told self.old) port slot → (other : ℕ)
-            → HasPageCommand (device_at S.size S.told self.new) port other →
-            HasPageCommand (device_at S.size S.told self.old) port slot }
-        ensures left { (has : HasPageCommand (device_at S.size S.told self.old) port slot) →
-            (now : HasPageCommand (device_at S.size S.told self.new) port slot) × (now.left ≡ has.left) }
-        ensures others { (q : ℕ) → q ≢ port → (device_at S.size S.told self.new).port q
-            ≡ (device_at S.size S.told self.old).port q }
-        ensures size { (device_at S.size S.told self.new).size ≡ (device_at S.size S.told self.old).size }
-        ensures rest { GoesOnSo S.size self.old self.new }
-        ensures room { (n : ℕ) → TapeHasRoom self.new.hardware n → TapeHasRoom self.old.hardware n }
-        ensures starved { self.new.hardware.starved ≡ self.old.hardware.starved }
-        ensures bays { self.new.bays ≡ self.old.bays }
+        ensures { TakesPage S.size S.told port slot self.old self.new }
     {
         let _taken = self.hardware.fetch(port, slot);
     }

@@ -39,46 +39,55 @@ loop-place-preserved g c =
       old_room = λ n room. put.left n (c.loop-place.invariant.old_room (n + 1) (less_room c.args.cache.now (c.loop-place.place + 1 + n) (c.loop-place.place + (n + 1)) (omega arith) room));
     }
 
-pub returns-then-not-put_sector-clause-none : goal.returns-then-not-put_sector-clause-none
-returns-then-not-put_sector-clause-none g c = λ none.
+pub returns-then-not-put_sector : goal.returns-then-not-put_sector
+returns-then-not-put_sector g c =
     let disk : Disk = disk_over c.args.which (g.S.SectorStore.size c.args.disk.now) (g.S.SectorStore.told c.args.disk.now) in
-    c.put_sector.ensures.kept c.if-not-put_sector.true
-    ∙ (ap (λ (d : Disk). d.sectors) c.loop-place.invariant.disk
-    ∙ ap (λ (d : Disk). d.sectors) (ap (λ (n : ℕ). disk_cleared disk c.args.run.first n) none ∙ clears_none disk c.args.run.first))
-
-pub returns-then-not-put_sector-clause-fails : goal.returns-then-not-put_sector-clause-fails
-returns-then-not-put_sector-clause-fails g c = λ _.
     let put = c.put_sector.ensures in
     let is = c.loop-place.invariant in
     let below = c.loop-place-test.true in
-    let inside = c.requires.inside in
-    let size = is.size in
-    let at : c.args.run.first + c.from.result ≡ c.args.run.first + c.loop-place.place = ap (λ (k : ℕ). c.args.run.first + k) c.from.ensures in
-    let failed = put.fails c.if-not-put_sector.true (omega (arith, at, below, inside, size)) in
-    let P : Bool → Type 0 = λ on. CallFails on true (c.args.run.first + c.loop-place.place) (g.S.SectorStore.failures c.args.disk.now) (g.S.SectorStore.failures c.put_sector.new.store) in
-    let Q : Option Failures → Type 0 = λ was. CallFails c.loop-place.cache.is_on true (c.args.run.first + c.loop-place.place) was (g.S.SectorStore.failures c.put_sector.new.store) in
-    let R : ℕ → Type 0 = λ k. CallFails c.loop-place.cache.is_on true k (g.S.SectorStore.failures c.loop-place.disk) (g.S.SectorStore.failures c.put_sector.new.store) in
-    subst P is.cached (subst Q is.fine (subst R at failed))
+    let kept = put.kept c.if-not-put_sector.true in
+    record {
+      few = omega (arith, below);
+      disk = (λ i. disk_over c.args.which (put.size i) (kept i)) ∙ is.disk;
+      sized = put.size ∙ is.size;
+      none = λ none.
+          kept
+          ∙ (ap (λ (d : Disk). d.sectors) is.disk
+          ∙ ap (λ (d : Disk). d.sectors) (ap (λ (n : ℕ). disk_cleared disk c.args.run.first n) none ∙ clears_none disk c.args.run.first));
+      fine = λ whole. absurd (omega (arith, whole, below));
+      fails = λ _.
+          let inside = c.requires.inside in
+          let size = is.size in
+          let at : c.args.run.first + c.from.result ≡ c.args.run.first + c.loop-place.place = ap (λ (k : ℕ). c.args.run.first + k) c.from.ensures in
+          let failed = put.fails c.if-not-put_sector.true (omega (arith, at, below, inside, size)) in
+          let P : Bool → Type 0 = λ on. CallFails on true (c.args.run.first + c.loop-place.place) (g.S.SectorStore.failures c.args.disk.now) (g.S.SectorStore.failures c.put_sector.new.store) in
+          let Q : Option Failures → Type 0 = λ was. CallFails c.loop-place.cache.is_on true (c.args.run.first + c.loop-place.place) was (g.S.SectorStore.failures c.put_sector.new.store) in
+          let R : ℕ → Type 0 = λ k. CallFails c.loop-place.cache.is_on true k (g.S.SectorStore.failures c.loop-place.disk) (g.S.SectorStore.failures c.put_sector.new.store) in
+          subst P is.cached (subst Q is.fine (subst R at failed));
+      lasting = λ noted. put.lasting noted ∙ is.lasting noted;
+      cached = put.is_on ∙ is.cached;
+      old_room = λ n room.
+          put.left n (is.old_room (n + 1) (less_room c.args.cache.now (c.args.run.count + n) (c.loop-place.place + (n + 1)) (omega (arith, below)) room));
+    }
 
-pub returns-then-not-put_sector-clause-lasting : goal.returns-then-not-put_sector-clause-lasting
-returns-then-not-put_sector-clause-lasting g c = λ noted. c.put_sector.ensures.lasting noted ∙ c.loop-place.invariant.lasting noted
-
-pub returns-then-not-put_sector-clause-cached : goal.returns-then-not-put_sector-clause-cached
-returns-then-not-put_sector-clause-cached g c = c.put_sector.ensures.is_on ∙ c.loop-place.invariant.cached
-
-pub returns-then-not-put_sector-clause-old_room : goal.returns-then-not-put_sector-clause-old_room
-returns-then-not-put_sector-clause-old_room g c = λ n room.
-    let below = c.loop-place-test.true in
-    c.put_sector.ensures.left n (c.loop-place.invariant.old_room (n + 1) (less_room c.args.cache.now (c.args.run.count + n) (c.loop-place.place + (n + 1)) (omega (arith, below)) room))
-
-pub returns-clause-lasting : goal.returns-clause-lasting
-returns-clause-lasting g c = c.loop-place.invariant.lasting
-
-pub returns-clause-cached : goal.returns-clause-cached
-returns-clause-cached g c = c.loop-place.invariant.cached
-
-pub returns-clause-old_room : goal.returns-clause-old_room
-returns-clause-old_room g c = λ n room.
+pub returns : goal.returns
+returns g c =
+    let disk : Disk = disk_over c.args.which (g.S.SectorStore.size c.args.disk.now) (g.S.SectorStore.told c.args.disk.now) in
+    let is = c.loop-place.invariant in
     let past = c.loop-place-test.false in
     let end = c.loop-place.auto.place-end in
-    c.loop-place.invariant.old_room n (less_room c.args.cache.now (c.args.run.count + n) (c.loop-place.place + n) (omega (arith, past, end)) room)
+    let whole : c.loop-place.place ≡ c.args.run.count = omega (arith, past, end) in
+    let cleared = is.disk ∙ ap (λ (n : ℕ). disk_cleared disk c.args.run.first n) whole in
+    record {
+      few = omega arith;
+      disk = cleared;
+      sized = is.size;
+      none = λ none.
+          ap (λ (d : Disk). d.sectors) cleared
+          ∙ ap (λ (d : Disk). d.sectors) (ap (λ (n : ℕ). disk_cleared disk c.args.run.first n) none ∙ clears_none disk c.args.run.first);
+      fine = λ _. is.fine;
+      fails = λ less. absurd (omega (arith, less));
+      lasting = is.lasting;
+      cached = is.cached;
+      old_room = λ n room. is.old_room n (less_room c.args.cache.now (c.args.run.count + n) (c.loop-place.place + n) (omega (arith, past, end)) room);
+    }

@@ -4,28 +4,7 @@ use Rattle.device_model.proofs.bay.Bay.transfer_within.Goals as goal
 
 pub returns : goal.returns
 returns g c =
-    let is = c.transfer_bytes.ensures in
     let E : List ℕ → Type 0 = λ before. Exchanges g.S.SectorStore.size g.S.SectorStore.told g.S.SectorStore.failures
     c.args.self.now
     c.transfer_bytes.new.self c.args.next before c.transfer_bytes.new.bytes c.transfer_bytes.result in
-    subst E c.in-Some.ensures.cases.same
-    (record {
-      inside = is.inside;
-      sector = is.sector;
-      gives = is.gives;
-      takes = is.takes;
-      left = is.left;
-      page = is.page;
-      log = is.log;
-      same = is.same;
-      disk = is.disk;
-      kept = is.kept;
-      sized = is.size;
-      fine = is.fine;
-      ranged = is.ranged;
-      fails = is.fails;
-      lasting = is.lasting;
-      cached = is.cached;
-      old_room = is.old_room;
-      rest = is.rest;
-    })
+    subst E c.in-Some.ensures.cases.same c.transfer_bytes.ensures

@@ -75,7 +75,7 @@ pub clear-requires-clause-held : goal.clear-requires-clause-held
 clear-requires-clause-held g c =
     let found = c.in-Some.ensures.found in
     let fits = found.1.fits in
-    let few = c.clear-count.ensures.few in
+    let few = c.clear-count.ensures.zero.few in
     let cut = c.cut-on_disk.ensures.count in
     (found.0, found.1.holds, omega (arith, fits, few, cut))
 
@@ -104,7 +104,7 @@ whole_lasts g c =
     ∙ (ap (lasting_of g.S.SectorStore.told) c.reserve.ensures.rest ∙ grown_lasts g.S.SectorStore.told c.in-Some-index_mut.bay c.reserve.new.self.cache c.reserve.ensures.same)
 
 whole_cached : (g : Over) (c : goal.Then-count-run g) → c.clear-count.new.self.cache.is_on ≡ c.in-Some-index_mut.bay.cache.is_on
-whole_cached g c = c.clear-count.ensures.cached ∙ c.reserve.ensures.same.is_on
+whole_cached g c = c.clear-count.ensures.zero.cached ∙ c.reserve.ensures.same.is_on
 
 whole_disk : (g : Over) (c : goal.Then-count-run g) →
     disk_over c.in-Some-index_mut.bay.which (g.S.SectorStore.size c.clear-count.new.self.disk.store) (g.S.SectorStore.told c.clear-count.new.self.disk.store)
@@ -113,7 +113,7 @@ whole_disk : (g : Over) (c : goal.Then-count-run g) →
 whole_disk g c =
     let P : Bay g.row.S.Denot → Type 0 = λ x. disk_over x.which (g.S.SectorStore.size c.clear-count.new.self.disk.store) (g.S.SectorStore.told c.clear-count.new.self.disk.store)
     ≡ disk_cleared (disk_over x.which (g.S.SectorStore.size x.disk.store) (g.S.SectorStore.told x.disk.store)) c.cut-on_disk.result.first c.clear-count.result in
-    subst P c.reserve.ensures.rest c.clear-count.ensures.disk
+    subst P c.reserve.ensures.rest c.clear-count.ensures.zero.disk
 
 abbrev whole_mid : (g : Over) (c : goal.Then-count-run g) → Model g.row.S.Denot
 whole_mid g c = record c.args.self.now { hardware = c.clear.new.self; bays = with_item c.args.self.now.bays c.from-place.result (Some c.clear-count.new.self) }
@@ -136,11 +136,11 @@ whole_part : (g : Over) (c : goal.Then-count-run g) →
 whole_part g c =
     let found = c.in-Some.ensures.found in
     let cut = c.cut-on_disk.ensures in
-    let zeros = c.clear-count.ensures in
+    let zeros = c.clear-count.ensures.zero in
     cut_part g.S.SectorStore.size g.S.SectorStore.told g.S.SectorStore.failures c.args.port c.args.slot c.args.most c.args.self.now (whole_mid g c)
     c.in-Some-index_mut.bay c.clear-count.new.self (whole_was g c) (whole_items g c) (whole_rest g c) (whole_lasts g c) c.reserve-room.new.self
     c.in-Some.run'.first c.clear-count.result found.0 c.reserve-room.ensures.same
-    c.in-Some.run' c.cut-on_disk.result c.sectors.result refl found.1 c.sectors.ensures cut.inside cut.count cut.first zeros.few (whole_disk g c) (λ none. zeros.none none ∙ ap g.S.SectorStore.told (whole_store g c)) (zeros.size ∙ ap g.S.SectorStore.size (whole_store g c))
+    c.in-Some.run' c.cut-on_disk.result c.sectors.result refl found.1 c.sectors.ensures cut.inside cut.count cut.first zeros.few (whole_disk g c) (λ none. zeros.none none ∙ ap g.S.SectorStore.told (whole_store g c)) (zeros.sized ∙ ap g.S.SectorStore.size (whole_store g c))
     c.clear.ensures.none (λ some o. c.clear.ensures.cleared some o found.0 found.1.holds)
 
 -- all of it is
@@ -159,14 +159,14 @@ all g c =
     let whole : c.in-Some.run'.count ≡ span c.args.most (taken_of found.0) = found.1.count_is in
     let same = c.if-count-run.true in
     let some : 1 ≤ c.clear-count.result = omega (arith, one, whole, same) in
-    let few = c.clear-count.ensures.few in
+    let few = c.clear-count.ensures.zero.few in
     let cut = c.cut-on_disk.ensures.count in
     let cleared = p.all some (omega (arith, whole, same)) in (
       cleared,
       record {
         asked = p.whole some;
         fine = λ _. store_fine m (whole_mid g c) c.args.port.0 a b (whole_was g c) (whole_items g c) (whole_rest g c) g.S.SectorStore.failures
-            (c.clear-count.ensures.fine (omega (arith, few, cut, same)) ∙ ap g.S.SectorStore.failures (whole_store g c));
+            (c.clear-count.ensures.zero.fine (omega (arith, few, cut, same)) ∙ ap g.S.SectorStore.failures (whole_store g c));
         says = store_says m (whole_mid g c) c.args.port.0 a b (whole_was g c) (whole_items g c) (whole_rest g c) c.args.port.0;
         ends = λ _. cleared;
         loses = λ yes. true-false yes refl;
@@ -190,7 +190,7 @@ returns-then-count-run-clause-answers g c =
         others = seated_others m (whole_mid g c) c.args.port.0 a b (whole_was g c) (whole_items g c);
         pages = (whole_part g c).pages;
         disks = λ none. absurd (none (c.requires, taken_of found.0, whole_can g c));
-        keeps = store_keeps m (whole_mid g c) c.args.port.0 a b (whole_was g c) (whole_items g c) (whole_rest g c) g.S.SectorStore.size (c.clear-count.ensures.size ∙ ap g.S.SectorStore.size (whole_store g c)) (whole_cached g c) refl refl;
+        keeps = store_keeps m (whole_mid g c) c.args.port.0 a b (whole_was g c) (whole_items g c) (whole_rest g c) g.S.SectorStore.size (c.clear-count.ensures.zero.sized ∙ ap g.S.SectorStore.size (whole_store g c)) (whole_cached g c) refl refl;
         starved = c.clear.ensures.starved ∙ c.reserve-room.ensures.starved;
       },
     )
@@ -220,7 +220,7 @@ then_lasts g c =
     ∙ (ap (lasting_of g.S.SectorStore.told) c.reserve.ensures.rest ∙ grown_lasts g.S.SectorStore.told c.in-Some-index_mut.bay c.reserve.new.self.cache c.reserve.ensures.same)
 
 then_cached : (g : Over) (c : goal.After-fail-failed g) → c.clear-count.new.self.cache.is_on ≡ c.in-Some-index_mut.bay.cache.is_on
-then_cached g c = c.clear-count.ensures.cached ∙ c.reserve.ensures.same.is_on
+then_cached g c = c.clear-count.ensures.zero.cached ∙ c.reserve.ensures.same.is_on
 
 then_disk : (g : Over) (c : goal.After-fail-failed g) →
     disk_over c.in-Some-index_mut.bay.which (g.S.SectorStore.size c.clear-count.new.self.disk.store) (g.S.SectorStore.told c.clear-count.new.self.disk.store)
@@ -229,7 +229,7 @@ then_disk : (g : Over) (c : goal.After-fail-failed g) →
 then_disk g c =
     let P : Bay g.row.S.Denot → Type 0 = λ x. disk_over x.which (g.S.SectorStore.size c.clear-count.new.self.disk.store) (g.S.SectorStore.told c.clear-count.new.self.disk.store)
     ≡ disk_cleared (disk_over x.which (g.S.SectorStore.size x.disk.store) (g.S.SectorStore.told x.disk.store)) c.cut-on_disk.result.first c.clear-count.result in
-    subst P c.reserve.ensures.rest c.clear-count.ensures.disk
+    subst P c.reserve.ensures.rest c.clear-count.ensures.zero.disk
 
 abbrev mid : (g : Over) (c : goal.After-fail-failed g) → Model g.row.S.Denot
 mid g c = record c.args.self.now { hardware = c.clear.new.self; bays = with_item c.args.self.now.bays c.from-place.result (Some c.clear-count.new.self) }
@@ -252,17 +252,17 @@ part : (g : Over) (c : goal.After-fail-failed g) →
 part g c =
     let found = c.in-Some.ensures.found in
     let cut = c.cut-on_disk.ensures in
-    let zeros = c.clear-count.ensures in
+    let zeros = c.clear-count.ensures.zero in
     cut_part g.S.SectorStore.size g.S.SectorStore.told g.S.SectorStore.failures c.args.port c.args.slot c.args.most c.args.self.now (mid g c)
     c.in-Some-index_mut.bay c.clear-count.new.self (was g c) (items g c) (then_rest g c) (then_lasts g c) c.reserve-room.new.self
     c.in-Some.run'.first c.clear-count.result found.0 c.reserve-room.ensures.same
-    c.in-Some.run' c.cut-on_disk.result c.sectors.result refl found.1 c.sectors.ensures cut.inside cut.count cut.first zeros.few (then_disk g c) (λ none. zeros.none none ∙ ap g.S.SectorStore.told (then_store g c)) (zeros.size ∙ ap g.S.SectorStore.size (then_store g c))
+    c.in-Some.run' c.cut-on_disk.result c.sectors.result refl found.1 c.sectors.ensures cut.inside cut.count cut.first zeros.few (then_disk g c) (λ none. zeros.none none ∙ ap g.S.SectorStore.told (then_store g c)) (zeros.sized ∙ ap g.S.SectorStore.size (then_store g c))
     c.clear.ensures.none (λ some o. c.clear.ensures.cleared some o found.0 found.1.holds)
 
 fewer : (g : Over) (c : goal.After-fail-failed g) → c.clear-count.result < span c.args.most (taken_of c.in-Some.ensures.found.0)
 fewer g c =
     let whole : c.in-Some.run'.count ≡ span c.args.most (taken_of c.in-Some.ensures.found.0) = c.in-Some.ensures.found.1.count_is in
-    let few = c.clear-count.ensures.few in
+    let few = c.clear-count.ensures.zero.few in
     let cut = c.cut-on_disk.ensures.count in
     let other = c.if-count-run.false in
     omega (arith, whole, few, cut, other)
@@ -276,7 +276,7 @@ cause g c =
     let run = c.in-Some.run' in
     let on = c.cut-on_disk.result in
     let count = c.clear-count.result in
-    let few = c.clear-count.ensures.few in
+    let few = c.clear-count.ensures.zero.few in
     let cut = c.cut-on_disk.ensures.count in
     let inside = c.cut-on_disk.ensures.inside in
     let size = c.sectors.ensures in
@@ -290,11 +290,11 @@ cause g c =
           let V : Bool → Type 0 = λ x. CallFails x true (on.first + count) (g.S.SectorStore.failures c.reserve.new.self.disk.store) (g.S.SectorStore.failures c.clear-count.new.self.disk.store) in
           let W : g.row.S.Denot → Type 0 = λ x. CallFails a.cache.is_on true (on.first + count) (g.S.SectorStore.failures x) (g.S.SectorStore.failures c.clear-count.new.self.disk.store) in
           let sector : on.first + count ≡ run.first + count = omega (arith, first) in
-          (inr (omega (arith, less, first, inside, size), error, subst Q sector (subst W (then_store g c) (subst V c.reserve.ensures.same.is_on (c.clear-count.ensures.fails less)))), omega (arith, error))
+          (inr (omega (arith, less, first, inside, size), error, subst Q sector (subst W (then_store g c) (subst V c.reserve.ensures.same.is_on (c.clear-count.ensures.zero.fails less)))), omega (arith, error))
       | else-count-on_disk w ↦
           let most = w.if-count-on_disk.false in
           let error = w.error-is in
-          (inl (omega (arith, few, cut, most, other, size), error, c.clear-count.ensures.fine (omega (arith, few, most)) ∙ ap g.S.SectorStore.failures (then_store g c)), omega (arith, error))
+          (inl (omega (arith, few, cut, most, other, size), error, c.clear-count.ensures.zero.fine (omega (arith, few, most)) ∙ ap g.S.SectorStore.failures (then_store g c)), omega (arith, error))
     ]
 
 failed : (g : Over) (c : goal.After-fail-failed g) →
@@ -340,7 +340,7 @@ returns-clause-answers g c =
           (store_says m (mid g c) c.args.port.0 a b (was g c) (items g c) (then_rest g c) c.args.port.0)
           (store_whichs m (mid g c) c.args.port.0 a b (was g c) (items g c) (then_rest g c) c.args.port.0)
           (seated_others m (mid g c) c.args.port.0 a b (was g c) (items g c)) (part g c).pages
-          (store_keeps m (mid g c) c.args.port.0 a b (was g c) (items g c) (then_rest g c) g.S.SectorStore.size (c.clear-count.ensures.size ∙ ap g.S.SectorStore.size (then_store g c)) (then_cached g c) refl refl)
+          (store_keeps m (mid g c) c.args.port.0 a b (was g c) (items g c) (then_rest g c) g.S.SectorStore.size (c.clear-count.ensures.zero.sized ∙ ap g.S.SectorStore.size (then_store g c)) (then_cached g c) refl refl)
           (c.clear.ensures.starved ∙ c.reserve-room.ensures.starved) (c.requires, taken_of found.0, can g c),
     )
 
@@ -393,10 +393,10 @@ returns-then-count-run-clause-old_room g c = λ _ t taken n room.
     let able = whole_can g c in
     let one : t ≡ taken_of found.0 = some_one (sym taken ∙ able.works.taken) in
     let whole : c.in-Some.run'.count ≡ span c.args.most t = found.1.count_is ∙ ap (span c.args.most) (sym one) in
-    let few = c.clear-count.ensures.few in
+    let few = c.clear-count.ensures.zero.few in
     let cut = c.cut-on_disk.ensures.count in
     let same = c.if-count-run.true in
     room_there (whole_mid g c) c.args.port.0 n c.clear-count.new.self (seated_here m (whole_mid g c) c.args.port.0 a c.clear-count.new.self (whole_was g c) (whole_items g c))
-    (c.clear-count.ensures.old_room n
+    (c.clear-count.ensures.zero.old_room n
     (c.reserve.ensures.kept (c.cut-on_disk.result.count + n)
     (less_room a.cache (span c.args.most t + n) (c.cut-on_disk.result.count + n) (omega (arith, whole, cut, few, same)) (room_here m c.args.port.0 (span c.args.most t + n) a (whole_was g c) room))))

@@ -1,18 +1,14 @@
-use Rattle.std.proofs.Common.{ℕ, true, false, ◌≡◌, ◌∙◌, None, Option, slice_index_or, slice_set, inl, inr, sym, ap, subst}
-use Rattle.std.specs.Prelude.{option_map}
-use Rattle.std.specs.Global.{Vec}
+use Rattle.std.proofs.Common.{ℕ, true, false, ◌≡◌, ◌∙◌, slice_set, inl, inr, sym, ap, subst}
 use Rattle.adapter.specs.Device.{Device}
 use Rattle.adapter.specs.declared.access.DeviceStep.TheVariants as asked
 use Rattle.ata_types.specs.declared.Port.{Port}
 use Rattle.ata_types.specs.declared.Slot.{Slot}
-use Rattle.device_model.specs.Disks.{disk_in_bay}
 use Rattle.device_model.specs.Finishing.{HasPageCommand, MayPage}
 use Rattle.device_model.specs.Modelled.{device_at}
-use Rattle.device_model.specs.declared.bay.Bay.{Bay}
 use Rattle.device_model.proofs.Absurd.{true-false}
 use Rattle.device_model.proofs.Doing.{left_it}
 use Rattle.device_model.proofs.Paging.{found_ends, found_stuck}
-use Rattle.device_model.proofs.SentPages.{IsSoFar, Takes, fewer, lacking_told, less_done, less_taken, none_left, so_far_done, so_far_lacking, so_far_taken}
+use Rattle.device_model.proofs.SentPages.{IsSoFar, fewer, lacking_told, less_done, less_taken, none_left, so_far_done, so_far_lacking, so_far_taken}
 use Rattle.device_model.proofs.model.Model.send_pages.Goals as goal
 
 -- ---- one that can't be done to its end, or for which no memory is looked for
@@ -29,7 +25,6 @@ loop-found-preserved-then-lacks g c =
     let s : Slot = record { 0 = c.in-Some.found.slot } in
     let d : Device = device_at g.S.SectorStore.size g.S.SectorStore.told m in
     let found = c.in-Some.ensures.port in
-    let t = c.take_page.ensures in
     let stuck : c.loop-found.lacks ≡ false → MayPage d p.0 s.0 × (HasPageCommand d p.0 s.0 → ⊥) =
     λ (fed : c.loop-found.lacks ≡ false).
     elim c.if-lacks.either [
@@ -38,22 +33,9 @@ loop-found-preserved-then-lacks g c =
     ] in
     let P : ℕ → Type 0 = λ k. IsSoFar g.S.SectorStore.size g.S.SectorStore.told g.S.SectorStore.failures c.args.self.now c.take_page.new.self
     (slice_set c.loop-found.left_out k true) c.loop-found.lacks in
-    let takes : Takes g.S.SectorStore.size g.S.SectorStore.told g.S.SectorStore.failures p.0 s.0 m c.take_page.new.self = record {
-      own = t.own;
-      settled = t.settled;
-      taken = t.taken;
-      stuck = t.stuck;
-      left = t.left;
-      others = t.others;
-      as_large = t.size;
-      rest = t.rest;
-      room = t.room;
-      starved = t.starved;
-      disks = λ q w. ap (λ (v : Vec (Option (Bay g.row.S.Denot))). option_map (λ (b : Bay g.row.S.Denot). disk_in_bay b w) (slice_index_or v.items q None)) t.bays;
-    } in
     subst P (sym c.from.ensures)
     (so_far_taken g.S.SectorStore.size g.S.SectorStore.told g.S.SectorStore.failures c.args.self.now m c.loop-found.left_out c.loop-found.lacks c.loop-found.invariant p s
-    found.0 c.in-Some.ensures.small found.1 found.2 c.take_page.new.self takes stuck)
+    found.0 c.in-Some.ensures.small found.1 found.2 c.take_page.new.self c.take_page.ensures stuck)
 
 -- ---- one for which the tape had no memory
 
@@ -74,27 +56,13 @@ loop-found-preserved-then-not-finish g c =
     let s : Slot = record { 0 = c.in-Some.found.slot } in
     let d : Device = device_at g.S.SectorStore.size g.S.SectorStore.told m in
     let found = c.in-Some.ensures.port in
-    let t = c.take_page-then-not-finish.ensures in
     let has = found_ends d p.0 s.0 c.in-Some.found.ends c.if-lacks.false.0 c.in-Some.ensures.found in
     let P : ℕ → Type 0 = λ k. IsSoFar g.S.SectorStore.size g.S.SectorStore.told g.S.SectorStore.failures c.args.self.now c.take_page-then-not-finish.new.self
     (slice_set c.loop-found.left_out k true) true in
-    let takes : Takes g.S.SectorStore.size g.S.SectorStore.told g.S.SectorStore.failures p.0 s.0 c.finish.new.self c.take_page-then-not-finish.new.self = record {
-      own = t.own;
-      settled = t.settled;
-      taken = t.taken;
-      stuck = t.stuck;
-      left = t.left;
-      others = t.others;
-      as_large = t.size;
-      rest = t.rest;
-      room = t.room;
-      starved = t.starved;
-      disks = λ q w. ap (λ (v : Vec (Option (Bay g.row.S.Denot))). option_map (λ (b : Bay g.row.S.Denot). disk_in_bay b w) (slice_index_or v.items q None)) t.bays;
-    } in
     subst P (sym c.from-then-not-finish.ensures)
     (so_far_lacking g.S.SectorStore.size g.S.SectorStore.told g.S.SectorStore.failures c.args.self.now m c.loop-found.left_out c.loop-found.lacks c.loop-found.invariant p s
     found.0 c.in-Some.ensures.small found.1 found.2 c.finish.new.self c.finish.result c.finish.ensures.answers has c.take_page-then-not-finish.new.self c.if-lacks.false.1
-    c.if-not-finish.true ((c.finish.ensures.sends found.2 has).1 c.if-not-finish.true) takes)
+    c.if-not-finish.true ((c.finish.ensures.sends found.2 has).1 c.if-not-finish.true) c.take_page-then-not-finish.ensures)
 
 -- ---- one that is done
 

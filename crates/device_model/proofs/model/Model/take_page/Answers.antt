@@ -41,7 +41,7 @@ returns g c =
       stuck = λ may k has. fetched_has port slot k did old new fetched never may has;
       left = λ has. fetched_left port slot did old new has fetched same never;
       others = apart.1;
-      size = apart.0;
+      as_large = apart.0;
       rest = record {
         held = refl;
         says = λ _. refl;
@@ -54,5 +54,5 @@ returns g c =
           let R : Vec Entry → Type 0 = λ tape. vec_len tape + n ≤ vec_capacity tape in
           subst R c.fetch-taken.ensures.tape room;
       starved = c.fetch-taken.ensures.starved;
-      bays = refl;
+      disks = λ _ _. refl;
     }

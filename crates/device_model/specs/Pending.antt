@@ -1,0 +1,29 @@
+-- A command that sends a page to the driver is taken, as the model does by itself.
+use Rattle.std.specs.Prelude.{ℕ, ◌≡◌, ◌≢◌, List, Bool, Option}
+use Rattle.device_model.specs.Disks.{numbered_disk}
+use Rattle.device_model.specs.Does.{GoesOnSo}
+use Rattle.device_model.specs.Finishing.{HasPageCommand, IsBusy, MayPage, TapeHasRoom}
+use Rattle.device_model.specs.Held.{IsPortLoose}
+use Rattle.device_model.specs.Modelled.{device_at}
+use Rattle.device_model.specs.Settled.{IsSettled, LeadsOwn, SendsPages}
+use Rattle.device_model.specs.declared.disks.DiskIndex.{DiskIndex}
+use Rattle.device_model.specs.declared.model.Model.{Model}
+
+-- A command that sends a page was taken in this slot, or was already: what is left of it is as before, and on its port
+-- no other may be done to its end. Nothing of another port is another, nor of the disks.
+pub record TakesPage {S : Type 0} (size : S → ℕ) (told : S → Option (ℕ → List ℕ)) (port slot : ℕ) (old new : Model S) : Type 0 where
+  pub own : (held : List Bool) → IsPortLoose held port
+      → LeadsOwn (SendsPages held) (device_at size told old) (device_at size told new)
+  pub settled : (held : List Bool) → IsSettled held (device_at size told old)
+      → IsSettled held (device_at size told new)
+  pub taken : IsBusy (device_at size told new) port
+  pub stuck : MayPage (device_at size told old) port slot → (other : ℕ)
+      → HasPageCommand (device_at size told new) port other → HasPageCommand (device_at size told old) port slot
+  pub left : (has : HasPageCommand (device_at size told old) port slot)
+      → (now : HasPageCommand (device_at size told new) port slot) × (now.left ≡ has.left)
+  pub others : (q : ℕ) → q ≢ port → (device_at size told new).port q ≡ (device_at size told old).port q
+  pub as_large : (device_at size told new).size ≡ (device_at size told old).size
+  pub rest : GoesOnSo size old new
+  pub room : (n : ℕ) → TapeHasRoom new.hardware n → TapeHasRoom old.hardware n
+  pub starved : new.hardware.starved ≡ old.hardware.starved
+  pub disks : (q : ℕ) (w : DiskIndex) → numbered_disk new q w ≡ numbered_disk old q w
