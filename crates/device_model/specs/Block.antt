@@ -1,4 +1,5 @@
--- The commands that are taken, and the block that a trim has brought: a port has room for one, since a plain command is alone.
+-- The commands that are taken, and the block that a trim has brought: a port has room for one, since a plain command
+-- is alone.
 use Rattle.std.specs.Prelude.{ℕ, ◌≡◌, ◌+◌, ◌<◌, ◌^◌, List, [], ◌∷◌, Option, None, Some, if◌then◌else◌}
 use Rattle.std.specs.List.{slice_get}
 use Rattle.std.specs.declared.snapshot.Snapshot.{Snapshot}

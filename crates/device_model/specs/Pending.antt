@@ -11,7 +11,8 @@ use Rattle.device_model.specs.declared.model.Model.{Model}
 
 -- A command that sends a page was taken in this slot, or was already: what is left of it is as before, and on its port
 -- no other may be done to its end. Nothing of another port is another, nor of the disks.
-pub record TakesPage {S : Type 0} (size : S → ℕ) (told : S → Option (ℕ → List ℕ)) (port slot : ℕ) (old new : Model S) : Type 0 where
+pub record TakesPage {S : Type 0} (size : S → ℕ) (told : S → Option (ℕ → List ℕ)) (port slot : ℕ)
+    (old new : Model S) : Type 0 where
   pub own : (held : List Bool) → IsPortLoose held port
       → LeadsOwn (SendsPages held) (device_at size told old) (device_at size told new)
   pub settled : (held : List Bool) → IsSettled held (device_at size told old)

@@ -14,7 +14,8 @@ use Rattle.device_model.specs.declared.disks.DiskIndex.{DiskIndex}
 pub record MakesZero {S : Type 0} (size : S → ℕ) (told : S → Option (ℕ → List ℕ)) (failures : S → Option Failures)
     (which : DiskIndex) (run : SectorExtent) (count : ℕ) (old new : S) (was now : Cache) : Type 0 where
   pub few : count ≤ run.count
-  pub disk : disk_over which (size new) (told new) ≡ disk_cleared (disk_over which (size old) (told old)) run.first count
+  pub disk : disk_over which (size new) (told new)
+      ≡ disk_cleared (disk_over which (size old) (told old)) run.first count
   pub sized : size new ≡ size old
   pub none : count ≡ 0 → told new ≡ told old
   pub fine : count ≡ run.count → failures new ≡ failures old
