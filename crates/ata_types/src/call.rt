@@ -1,5 +1,8 @@
 // What a server is asked, and what it answers: as values, for lists of calls and for the lines of a script.
-use crate::{ClientId, Frame, MemFault, Port, PortState, Refusal, Replies, Request, RequestId};
+use crate::{
+    ClientId, Frame, MOST_CALL_BYTES, MemFault, Port, PortState, Refusal, Replies, Request,
+    RequestId,
+};
 use arrayvec::ArrayVec;
 
 /// A call of the server. `S` are the steps that its device can be told to do.
@@ -13,7 +16,7 @@ pub enum Call<S> {
         frame: Frame,
         /// In bytes, from the frame's first byte on.
         offset: u32,
-        bytes: ArrayVec<u8, 64>,
+        bytes: ArrayVec<u8, MOST_CALL_BYTES>,
     },
     /// Show bytes of a frame.
     ClientLoad {
@@ -21,7 +24,7 @@ pub enum Call<S> {
         frame: Frame,
         /// In bytes, from the frame's first byte on.
         offset: u32,
-        /// In bytes; above 64 it counts as 64.
+        /// In bytes; above `MOST_CALL_BYTES` it counts as that many.
         length: u32,
     },
     /// Answer what is done, handle errors, and look for disks.
@@ -56,7 +59,7 @@ pub struct NoSuchGrant;
 pub enum CallResult<R = Replies> {
     Submitted(Result<RequestId, Refusal>),
     Stored(Result<(), MemFault>),
-    Loaded(Result<ArrayVec<u8, 64>, MemFault>),
+    Loaded(Result<ArrayVec<u8, MOST_CALL_BYTES>, MemFault>),
     /// What a service or a tick answered.
     Served(R),
     /// What a reset answered, if it ended.

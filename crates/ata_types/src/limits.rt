@@ -21,5 +21,8 @@ pub const MOST_REQUEST_FRAMES: usize = 128;
 /// Unanswered requests of all clients together: 16 of each of eight.
 pub const MOST_UNANSWERED: usize = 128;
 
+/// Bytes that one call stores into a frame, or loads from it.
+pub const MOST_CALL_BYTES: usize = 64;
+
 /// Readings of a register in one wait. Where none of them shows what is waited for, the wait is in vain.
 pub const MOST_READINGS: u32 = 64;

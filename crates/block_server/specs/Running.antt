@@ -2,6 +2,7 @@
 use Rattle.std.specs.Prelude.{min, Some, None, Ok, Err}
 use Rattle.arrayvec.specs.ArrayVec.{ArrayVec}
 use Rattle.ata_types.specs.declared.call.Call.{Call}
+use Rattle.ata_types.specs.declared.limits.TheConstants.{MOST_CALL_BYTES}
 use Rattle.ata_types.specs.declared.call.Call.TheVariants.{Submit, ClientStore, ClientLoad, Service, Tick, Reset, Revoke, State, Device as Step}
 use Rattle.ata_types.specs.declared.call.CallResult.{CallResult}
 use Rattle.ata_types.specs.declared.call.CallResult.TheVariants as said
@@ -11,11 +12,11 @@ use Rattle.block_machine.specs.Events.{Ask, Submit as AskSubmit, StoreAt, LoadAt
 use Rattle.block_machine.specs.Events as machine
 use Rattle.server_history.specs.Histories.{store_said}
 
--- the call of a list, as the machine is asked; a load is of at most 64 bytes
+-- the call of a list, as the machine is asked; a load is of `MOST_CALL_BYTES` at most
 abbrev pub ask_of : Call DeviceStep → Ask DeviceStep
 ask_of (Submit r) = AskSubmit r
 ask_of (ClientStore client frame offset bytes) = StoreAt client frame offset bytes.items
-ask_of (ClientLoad client frame offset count) = LoadAt client frame offset (min count 64)
+ask_of (ClientLoad client frame offset count) = LoadAt client frame offset (min count MOST_CALL_BYTES)
 ask_of Service = AskService
 ask_of Tick = AskTick
 ask_of Reset = AskReset

@@ -7,10 +7,7 @@ use crate::laws::law_runs_keep_their_promise;
 use crate::{RunStopped, Sayings, Server};
 use adapter::{Adapter, DeviceStep, Stepped};
 use arrayvec::ArrayVec;
-use ata_types::{Call, CallResult, ClientId, Frame, MemFault, Replies};
-
-/// Bytes that one load of a list tells at most.
-const FEW: usize = 64;
+use ata_types::{Call, CallResult, ClientId, Frame, MOST_CALL_BYTES, MemFault, Replies};
 
 impl<A: Adapter> Server<A> {
     ghost use Rattle.block_machine.specs.Events.{LoadAt};
@@ -19,7 +16,7 @@ impl<A: Adapter> Server<A> {
     ghost use Rattle.server_history.specs.Histories.{ExtendsHistory};
     ghost use Rattle.adapter.specs.Counted.{MakesAtMost};
 
-    /// At most 64 bytes of a frame. A function of its own, since its caller would have room for them on its stack else.
+    /// At most `MOST_CALL_BYTES` of a frame. A function of its own, since its caller would have room for them on its stack else.
     #[inline(never)]
     fn load_few(
         &mut self,
@@ -27,14 +24,14 @@ impl<A: Adapter> Server<A> {
         frame: Frame,
         offset: u32,
         count: u32,
-    ) -> Result<ArrayVec<u8, 64>, MemFault>
+    ) -> Result<ArrayVec<u8, MOST_CALL_BYTES>, MemFault>
         ensures adds { ExtendsHistory (server_of A.device self.old) (server_of A.device self.new)
-            (LoadAt client frame offset (min count 64)) (said_of (CallResult.Loaded result)) }
+            (LoadAt client frame offset (min count MOST_CALL_BYTES)) (said_of (CallResult.Loaded result)) }
         ensures wanted { self.new.wanted ≡ self.old.wanted }
         ensures cost { MakesAtMost 1 (A.access_count self.old.adapter) (A.access_count self.new.adapter) }
     {
-        let mut buffer = [0; FEW];
-        let part = &mut buffer[..(count as usize).min(FEW)];
+        let mut buffer = [0; MOST_CALL_BYTES];
+        let part = &mut buffer[..(count as usize).min(MOST_CALL_BYTES)];
         self.client_load(client, frame, offset, part)?;
         let mut bytes = ArrayVec::new();
         bytes.try_extend_from_slice(part).unwrap();

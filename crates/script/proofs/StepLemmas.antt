@@ -4,6 +4,7 @@ use Rattle.std.specs.Prelude.{codes}
 use Rattle.std.specs.Fmt.{decimal}
 use Rattle.hex.specs.Hex.{encode_lower}
 use Rattle.ata_types.specs.declared.Port.{Port}
+use Rattle.ata_types.specs.declared.limits.TheConstants.{MOST_CALL_BYTES}
 use Rattle.adapter.specs.declared.access.DiskPage.{DiskPage}
 use Rattle.adapter.specs.declared.access.DeviceStep.{DeviceStep}
 use Rattle.adapter.specs.declared.access.DeviceStep.TheVariants as step
@@ -88,7 +89,7 @@ pub record IsStore (line : Call DeviceStep) (client frame offset bytes : Word) :
   pub at_small : at < 2 ^ 32
   pub all : All (λ b. b < 256) put.items
   pub least : 1 ≤ length put.items
-  pub most : length put.items ≤ 64
+  pub most : length put.items ≤ MOST_CALL_BYTES
   pub client_is : decimal by.0 ≡ client
   pub frame_is : decimal in_frame.0 ≡ frame
   pub offset_is : decimal at ≡ offset
@@ -133,7 +134,7 @@ pub record IsLoad (line : Call DeviceStep) (client frame offset count : Word) : 
   pub frame_small : in_frame.0 < 65536
   pub at_small : at < 2 ^ 32
   pub least : 1 ≤ many
-  pub most : many ≤ 64
+  pub most : many ≤ MOST_CALL_BYTES
   pub client_is : decimal by.0 ≡ client
   pub frame_is : decimal in_frame.0 ≡ frame
   pub offset_is : decimal at ≡ offset

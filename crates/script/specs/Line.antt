@@ -10,7 +10,7 @@ use Rattle.ata_types.specs.declared.call.Call.TheVariants.{Submit, ClientStore, 
 use Rattle.ata_types.specs.declared.request.Op.{Op}
 use Rattle.ata_types.specs.declared.request.Op.TheVariants.{Read, Write, Trim, Flush}
 use Rattle.ata_types.specs.declared.request.Request.{Request}
-use Rattle.ata_types.specs.declared.limits.TheConstants.{MOST_REQUEST_FRAMES}
+use Rattle.ata_types.specs.declared.limits.TheConstants.{MOST_CALL_BYTES, MOST_REQUEST_FRAMES}
 use Rattle.adapter.specs.declared.access.DiskPage.{DiskPage}
 use Rattle.adapter.specs.declared.access.DiskPage.TheVariants.{Identity, Log}
 use Rattle.adapter.specs.declared.access.DeviceStep.{DeviceStep}
@@ -126,9 +126,9 @@ IsStep (step.LosePlug port) = port.0 < 4
 abbrev pub IsLine : Call DeviceStep → Type 0
 IsLine (Submit request) = IsSpelled request.op request × IsRequest request
 IsLine (ClientStore client frame offset bytes) = (client.0 < 256) × (frame.0 < 65536) × (offset < 2 ^ 32)
-    × All (λ b. b < 256) bytes.items × (1 ≤ length bytes.items) × (length bytes.items ≤ 64)
+    × All (λ b. b < 256) bytes.items × (1 ≤ length bytes.items) × (length bytes.items ≤ MOST_CALL_BYTES)
 IsLine (ClientLoad client frame offset count) = (client.0 < 256) × (frame.0 < 65536) × (offset < 2 ^ 32) × (1 ≤ count)
-    × (count ≤ 64)
+    × (count ≤ MOST_CALL_BYTES)
 IsLine Service = Unit {0}
 IsLine Tick = Unit {0}
 IsLine Reset = Unit {0}

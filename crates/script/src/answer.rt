@@ -8,7 +8,9 @@ ghost use Rattle.script.specs.Answer.{answer_line, answer_text, fault_words, kin
 
 use adapter::{Clear, Done, Move, Operation};
 use arrayvec::ArrayVec;
-use ata_types::{FrameFault, MemFault, Outcome, PortState, Refusal, Reply, RequestId, Rule};
+use ata_types::{
+    FrameFault, MOST_CALL_BYTES, MemFault, Outcome, PortState, Refusal, Reply, RequestId, Rule,
+};
 use std::{fmt, io};
 
 /// One line that is printed.
@@ -22,7 +24,7 @@ pub enum Answer<'a> {
     Stored,
     /// The client may not load or store there.
     Barred(MemFault),
-    /// The bytes that were loaded. More than 64 of them can't be printed.
+    /// The bytes that were loaded. More than `MOST_CALL_BYTES` can't be printed.
     Bytes(&'a [u8]),
     /// A request has ended.
     Replied(Reply),
@@ -44,10 +46,7 @@ pub enum Answer<'a> {
     Flushed(Done),
 }
 
-/// The most bytes that one line has.
-const MOST_BYTES: usize = 64;
-
-/// At most 64 bytes, each as two lower-case hexadecimal digits.
+/// At most `MOST_CALL_BYTES` bytes, each as two lower-case hexadecimal digits.
 #[derive(Clone, Copy)]
 struct Hex<'a>(&'a [u8]);
 
@@ -55,7 +54,7 @@ impl fmt::Display for Hex<'_> {
     ghost output = { λ h. Some (encode_lower h.0.now) };
 
     fn fmt<W: fmt::Write>(&self, f: &mut fmt::Formatter<W>) -> fmt::Result {
-        let mut digits = [0u8; 2 * MOST_BYTES];
+        let mut digits = [0u8; 2 * MOST_CALL_BYTES];
         let digits = digits.get_mut(..2 * self.0.len()).ok_or(fmt::Error)?;
         hex::encode_to_slice(self.0, digits).ok().ok_or(fmt::Error)?;
         let text = str::from_utf8(digits).ok().ok_or(fmt::Error)?;
@@ -245,6 +244,9 @@ impl fmt::Display for Answer<'_> {
     }
 }
 
+/// Room for a short line: two texts, and a number of 20 digits at most.
+const SHORT_LINE: usize = 64;
+
 /// Writes a number between two texts, all at once.
 fn write_numbered<W: io::Write>(
     out: &mut W,
@@ -257,7 +259,7 @@ fn write_numbered<W: io::Write>(
         (before.now ++ decimal number ++ after.now)) }
 {
     let mut digits = itoa::Buffer::new();
-    let mut line: ArrayVec<u8, MOST_BYTES> = ArrayVec::new();
+    let mut line: ArrayVec<u8, SHORT_LINE> = ArrayVec::new();
     line.try_extend_from_slice(before).unwrap();
     line.try_extend_from_slice(digits.format(number).as_bytes())
         .unwrap();

@@ -11,7 +11,7 @@ ghost use Rattle.adapter.specs.declared.access.FatalError.{FatalError};
 
 use adapter::{DiskNumber, DiskPage, FatalError};
 use arrayvec::ArrayVec;
-use ata_types::{ClientId, Frame, MOST_REQUEST_FRAMES, Port, Slot};
+use ata_types::{ClientId, Frame, MOST_CALL_BYTES, MOST_REQUEST_FRAMES, Port, Slot};
 
 /// Whether a word is this text. Words are short, so that a look at each byte is the least that it takes.
 #[inline(always)]
@@ -76,12 +76,12 @@ pub(crate) fn wide(word: &[u8]) -> Option<u32>
     Some(number(word, 0xffff_ffff)? as u32)
 }
 
-/// How many bytes are loaded: 1 to 64.
+/// How many bytes are loaded: 1 to `MOST_CALL_BYTES`.
 pub(crate) fn count(word: &[u8]) -> Option<u32>
-    ensures spelled { IfSome result (λ n. (1 ≤ n) × (n ≤ 64) × (decimal n ≡ word.now)) }
-    ensures only { (n : ℕ) → 1 ≤ n → n ≤ 64 → decimal n ≡ word.now → result ≡ Some n }
+    ensures spelled { IfSome result (λ n. (1 ≤ n) × (n ≤ MOST_CALL_BYTES) × (decimal n ≡ word.now)) }
+    ensures only { (n : ℕ) → 1 ≤ n → n ≤ MOST_CALL_BYTES → decimal n ≡ word.now → result ≡ Some n }
 {
-    let count = number(word, 64)? as u32;
+    let count = number(word, MOST_CALL_BYTES as u64)? as u32;
     if count == 0 {
         return None;
     }
@@ -178,17 +178,17 @@ pub(crate) fn frames(word: &[u8], frames: &mut ArrayVec<Frame, MOST_REQUEST_FRAM
     Some(())
 }
 
-/// 1 to 64 bytes, each as two lower-case hexadecimal digits.
-pub(crate) fn bytes(word: &[u8]) -> Option<ArrayVec<u8, 64>>
+/// 1 to `MOST_CALL_BYTES` bytes, each as two lower-case hexadecimal digits.
+pub(crate) fn bytes(word: &[u8]) -> Option<ArrayVec<u8, MOST_CALL_BYTES>>
     ensures spelled { IfSome result (λ v. (1 ≤ length v.items) × (encode_lower v.items ≡ word.now)) }
-    ensures most { IfSome result (λ v. length v.items ≤ 64) }
+    ensures most { IfSome result (λ v. length v.items ≤ MOST_CALL_BYTES) }
     ensures bytes { IfSome result (λ v. All (λ b. b < 256) v.items) }
-    ensures only { (v : Items ℕ) → All (λ b. b < 256) v.items → 1 ≤ length v.items → length v.items ≤ 64
+    ensures only { (v : Items ℕ) → All (λ b. b < 256) v.items → 1 ≤ length v.items → length v.items ≤ MOST_CALL_BYTES
         → encode_lower v.items ≡ word.now → result ≡ Some v }
 {
     let length = word.len() / 2;
-    let mut read = [0u8; 64];
-    let mut spelled = [0u8; 128];
+    let mut read = [0u8; MOST_CALL_BYTES];
+    let mut spelled = [0u8; 2 * MOST_CALL_BYTES];
     let bytes = read.get_mut(..length)?;
     hex::decode_to_slice(word, bytes).ok()?;
     let digits = spelled.get_mut(..2 * length)?;
