@@ -13,7 +13,7 @@ use Rattle.ata_types.specs.declared.grant.Rights.{Rights}
 use Rattle.ata_types.specs.Grant.{Allows}
 use Rattle.block_machine.specs.Rules.{IsNamed, IsAllowedCount, frames_for}
 use Rattle.block_machine.specs.State.{Block, Accepted, Pending, Machine}
-use Rattle.block_machine.specs.Steps.{Step, Accept, Touch, May, IsNew, IsLiving, after_step}
+use Rattle.block_machine.specs.Steps.{Step, Accept, Touch, May, MayAccept, IsLiving, after_step}
 use Rattle.block_machine.specs.Left.{after, IsLegal, IsInitial, IsAccept}
 use Rattle.block_machine.specs.Confined.{IsGranted, IsConfined, WasAccepted, MovesBytes}
 use Rattle.block_machine.proofs.Members.{contains_none, contains_here, contains_there, contains_cases}
@@ -29,7 +29,7 @@ living_accepted start (step ∷ past) s legal e l = ⊎_elim
     (lives_before (after start past) step legal.1 e l)
 
 -- it was new to some machine
-pub was_new : (start : Machine) (h : List Step) (r : Accepted) → WasAccepted start h r → (m : Machine) × IsNew m r
+pub was_new : (start : Machine) (h : List Step) (r : Accepted) → WasAccepted start h r → (m : Machine) × MayAccept m r
 was_new start [] r w = absurd w
 was_new start (step ∷ past) r (inl c) = (after start past, c.1)
 was_new start (step ∷ past) r (inr w) = was_new start past r w
@@ -92,7 +92,7 @@ allows_cases rights Trim = true_cases rights.trim
 allows_cases rights Flush = true_cases rights.flush
 
 -- a request that breaks no rule is granted
-pub law_accepted_is_granted : (m : Machine) (r : Accepted) → IsNew m r → IsGranted m.rows r
+pub law_accepted_is_granted : (m : Machine) (r : Accepted) → MayAccept m r → IsGranted m.rows r
 law_accepted_is_granted m r new = ⊎_elim
     (λ (x : (row : GrantRow) × IsNamed m.rows r.asked row). record {
       row = x.0;
@@ -111,10 +111,10 @@ law_accepted_is_granted m r new = ⊎_elim
     (row_of m.rows r.asked)
 
 -- the numbers of its frames and sectors fit
-frames_fit : (m : Machine) (r : Accepted) → IsNew m r → length r.asked.frames.items ≡ frames_for r.asked.op r.asked.count
+frames_fit : (m : Machine) (r : Accepted) → MayAccept m r → length r.asked.frames.items ≡ frames_for r.asked.op r.asked.count
 frames_fit m r new = ⊎_elim (λ e. e) (λ ne. absurd (new.unbroken FrameCount ne)) (cases_eq (length r.asked.frames.items) (frames_for r.asked.op r.asked.count))
 
-pub flush_empty : (m : Machine) (r : Accepted) → IsNew m r → r.asked.op ≡ Flush → r.asked.count ≡ 0
+pub flush_empty : (m : Machine) (r : Accepted) → MayAccept m r → r.asked.op ≡ Flush → r.asked.count ≡ 0
 flush_empty m r new op = ⊎_elim (λ e. e) (λ ne. absurd (new.unbroken BadCount (subst (λ (o : Op). IsAllowedCount o r.asked.count → ⊥) (sym op) ne))) (cases_eq r.asked.count 0)
 
 framed : (op : Op) (count n i : ℕ) → n ≡ frames_for op count → MovesBytes op → i < count → i / 8 < n
@@ -124,7 +124,7 @@ framed Trim count n i e b lt = absurd b
 framed Flush count n i e b lt = absurd b
 
 -- a frame for each sector that is moved
-pub has_frame : (m : Machine) (r : Accepted) → IsNew m r → MovesBytes r.asked.op → (i : ℕ) → i < r.asked.count → i / 8 < length r.asked.frames.items
+pub has_frame : (m : Machine) (r : Accepted) → MayAccept m r → MovesBytes r.asked.op → (i : ℕ) → i < r.asked.count → i / 8 < length r.asked.frames.items
 has_frame m r new moves i lt = framed r.asked.op r.asked.count (length r.asked.frames.items) i (frames_fit m r new) moves lt
 
 -- each touch is confined

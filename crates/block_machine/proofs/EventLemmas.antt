@@ -11,7 +11,7 @@ use Rattle.block_machine.specs.State.{Block, Memory, Pending, Machine, frame_at,
 use Rattle.block_machine.specs.Steps.{Step, Accept, Touch, Again, Answer, Release, Store, May, after_step, stays, unlend, is_lent_to, put_bytes, memory_after, AllTouched}
 use Rattle.block_machine.specs.Left.{after, IsLegal, IsInitial, AllTellSectors, HoldsLeft}
 use Rattle.block_machine.specs.Ports.{Ports, Evidence}
-use Rattle.block_machine.specs.Events.{AbstractState, Ask, Submit, StoreAt, LoadAt, Service, Tick, Reset, RevokeOf, State, Device, CallRecord, AllMay, IsByDevice, IsByServer, Belong, AllLawful, abstract_after_all, IsRun, steps_of, EveryReadHolds}
+use Rattle.block_machine.specs.Events.{AbstractState, Ask, Submit, StoreAt, LoadAt, Service, Tick, Reset, RevokeOf, State, Device, CallRecord, AllMay, IsByDevice, IsByServer, AreStepsOfCall, AllLawful, abstract_after_all, IsRun, steps_of, EveryReadHolds}
 use Rattle.block_machine.proofs.Order.{In}
 use Rattle.block_machine.proofs.Sound.{Sound}
 use Rattle.block_machine.proofs.Trace.{runs_lives}
@@ -227,7 +227,7 @@ answer_is_in : (rest : List Step) (e : Pending) (before : List Step) → In (Ans
 answer_is_in [] e before = inl refl
 answer_is_in (step ∷ rest) e before = inr (answer_is_in rest e before)
 
-belongs : {D : Type 0} (ask : Ask D) (ports : Ports) (steps : List Step) → Belong ask ports steps → (step : Step) → In step steps → IsByDevice step ⊎ IsByServer ask ports step
+belongs : {D : Type 0} (ask : Ask D) (ports : Ports) (steps : List Step) → AreStepsOfCall ask ports steps → (step : Step) → In step steps → IsByDevice step ⊎ IsByServer ask ports step
 belongs ask ports [] b step i = absurd i
 belongs ask ports (x ∷ xs) b step (inl e) = subst (λ (y : Step). IsByDevice y ⊎ IsByServer ask ports y) (sym e) b.1
 belongs ask ports (x ∷ xs) b step (inr i) = belongs ask ports xs b.0 step i

@@ -17,7 +17,7 @@ use Rattle.block_machine.specs.declared.due.Unanswered.{Unanswered}
 use Rattle.block_machine.specs.State.{Accepted, Pending, Machine, frame_at, is_reader, unanswered, waiting}
 use Rattle.block_machine.specs.Rules.{frames_for}
 use Rattle.block_machine.specs.Due.{IsDue, must_keep_order, waits_for, is_plain}
-use Rattle.block_machine.specs.Steps.{Step, Accept, Issue, Touch, End, Age, Again, Answer, Revoke, Release, Unplug, Replace, Store, Load, May, IsNew, NoneKept, after_step, at, without, IsLiving, MayStillMove, newly_issued, touch, mark_ended, requeued, older, newly_accepted, lend, unlend, unlend_all, is_lent_to, stays}
+use Rattle.block_machine.specs.Steps.{Step, Accept, Issue, Touch, End, Age, Again, Answer, Revoke, Release, Unplug, Replace, Store, Load, May, MayAccept, NoneKept, after_step, at, without, IsLiving, MayStillMove, newly_issued, touch, mark_ended, requeued, older, newly_accepted, lend, unlend, unlend_all, is_lent_to, stays}
 use Rattle.block_machine.proofs.Members.{contains_none, contains_here, contains_there, contains_cases, map_in, into_map, at_cases, without_in, append_in, none_of}
 use Rattle.block_machine.proofs.Sound.{Sound, Carries, IsChanged, KeepsRequest, IsLentAll, IsDistinct, lived, order_carried, carried}
 
@@ -258,7 +258,7 @@ enough Write count n e r = absurd (false≢true r)
 enough Trim count n e r = absurd (false≢true r)
 enough Flush count n e r = absurd (false≢true r)
 
-keeps_accept : (m : Machine) (request : Accepted) → Sound m → IsNew m request → Sound (after_step m (Accept request))
+keeps_accept : (m : Machine) (request : Accepted) → Sound m → MayAccept m request → Sound (after_step m (Accept request))
 keeps_accept m request s new = record {
   below = λ x l. ⊎_elim (λ i. below x i) (λ p. subst (λ (y : Pending). y.request.id.0 < suc m.next) (sym p) (omega (arith, new.id))) (who x l);
   one = λ a b ha hb eq. one a b (append_in m.book (newly_accepted request) a ha) (append_in m.book (newly_accepted request) b hb) eq;

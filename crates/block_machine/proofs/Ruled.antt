@@ -8,7 +8,7 @@ use Rattle.ata_types.specs.Grant.{Allows, Covers}
 use Rattle.block_machine.specs.declared.due.QueueMode.{QueueMode}
 use Rattle.block_machine.specs.Rules.{Breaks, HasRow, IsNamed}
 use Rattle.block_machine.specs.State.{Accepted, Pending, Machine}
-use Rattle.block_machine.specs.Steps.{Step, Issue, May, IsNew}
+use Rattle.block_machine.specs.Steps.{Step, Issue, May, MayAccept}
 use Rattle.block_machine.specs.Left.{after, IsLegal, IsInitial}
 use Rattle.block_machine.specs.Confined.{IsGranted, IsNotOnFrames, KeepsRules, WasAccepted}
 use Rattle.block_machine.proofs.Accepts.{living_accepted, was_new}
@@ -16,7 +16,7 @@ use Rattle.block_machine.proofs.Configured.{rows_shrink, was_granted}
 use Rattle.block_machine.proofs.RuleLemmas.{one_row}
 use Rattle.block_machine.proofs.Runs.{traced}
 
-module _ (start m : Machine) (r : Accepted) (s : IsInitial start) (granted : IsGranted start.rows r) (new : (then : Machine) × IsNew then r) (shrunk : (row : GrantRow) → Contains m.rows row → Contains start.rows row) where
+module _ (start m : Machine) (r : Accepted) (s : IsInitial start) (granted : IsGranted start.rows r) (new : (then : Machine) × MayAccept then r) (shrunk : (row : GrantRow) → Contains m.rows row → Contains start.rows row) where
   -- the row that it names now is the one that granted it
   its_row : (row : GrantRow) → IsNamed m.rows r.asked row → row ≡ granted.row
   its_row row named = one_row start.rows s.rows r.asked.client r.asked.grant row granted.row (shrunk row named.0) named.1 granted.named.0 granted.named.1

@@ -5,7 +5,7 @@ use Rattle.std.specs.List.{Contains}
 use Rattle.ata_types.specs.declared.Port.{Port}
 use Rattle.block_machine.specs.State.{Block, DiskBytes, Accepted, Pending, Machine, waiting, sector_of}
 use Rattle.block_machine.specs.Due.{must_keep_order, is_writer}
-use Rattle.block_machine.specs.Steps.{Step, Accept, Issue, Touch, End, Age, Again, Answer, Revoke, Release, Unplug, Replace, Store, Load, May, IsNew, after_step, at, IsLiving, MayStillMove, newly_issued, touch, mark_ended, requeued, older, newly_accepted}
+use Rattle.block_machine.specs.Steps.{Step, Accept, Issue, Touch, End, Age, Again, Answer, Revoke, Release, Unplug, Replace, Store, Load, May, MayAccept, after_step, at, IsLiving, MayStillMove, newly_issued, touch, mark_ended, requeued, older, newly_accepted}
 use Rattle.block_machine.specs.Left.{IsAccept, plugs, plugged_disk, plug_count, bytes_when_plugged, IsTouch, touches, HasTouched, disk_number_read, Wrote, IsLastWritten}
 use Rattle.block_machine.proofs.Members.{contains_none, contains_cases, map_in, without_in, append_in}
 use Rattle.block_machine.proofs.Sound.{Sound, KeepsRequest}
@@ -35,10 +35,10 @@ kept_then m e a false h i = inr i
 
 -- the request comes with this step
 abbrev pub Comes : Machine → Step → Accepted → Type 0
-Comes m step r = IsAccept step r × IsNew m r
+Comes m step r = IsAccept step r × MayAccept m r
 
 pub lives_before : (m : Machine) (step : Step) → May m step → (a : Pending) → IsLiving (after_step m step) a → Before m a ⊎ Comes m step a.request
-lives_before m (Accept request) may a (inl h) = ⊎_elim (λ i. inl (same_before m a (inl i))) (λ p. inr (ap (λ (y : Pending). y.request) (sym p), subst (λ (y : Pending). IsNew m y.request) (sym p) may)) (append_in m.book (newly_accepted request) a h)
+lives_before m (Accept request) may a (inl h) = ⊎_elim (λ i. inl (same_before m a (inl i))) (λ p. inr (ap (λ (y : Pending). y.request) (sym p), subst (λ (y : Pending). MayAccept m y.request) (sym p) may)) (append_in m.book (newly_accepted request) a h)
 lives_before m (Accept request) may a (inr h) = inl (same_before m a (inr h))
 lives_before m (Issue mode e) may a (inl h) = inl (in_book m a (moved (at e.request.id newly_issued) m.book (at_keeps e.request.id newly_issued (λ x. refl)) a h))
 lives_before m (Issue mode e) may a (inr h) = inl (same_before m a (inr h))

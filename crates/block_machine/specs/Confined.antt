@@ -13,7 +13,7 @@ use Rattle.ata_types.specs.declared.refusal.Rule.TheVariants.{Frames}
 use Rattle.block_machine.specs.Rules.{IsNamed, Breaks}
 use Rattle.block_machine.specs.Due.{is_writer}
 use Rattle.block_machine.specs.State.{Accepted, Pending, Machine, block_of, frame_at, sector_of, is_reader}
-use Rattle.block_machine.specs.Steps.{Step, Touch, Replace, Store, IsNew, IsLiving, unanswered_of}
+use Rattle.block_machine.specs.Steps.{Step, Touch, Replace, Store, MayAccept, IsLiving, unanswered_of}
 use Rattle.block_machine.specs.Left.{after, IsAccept}
 
 -- a row of the client grants the request: its port, its operation, and, but for a flush, its sectors
@@ -31,7 +31,7 @@ GrantsNoWrites row = (row.rights.write ≡ false) × (row.rights.trim ≡ false)
 -- the request was accepted in the history: it broke no rule then, and had its row's port and its frames' bytes
 abbrev pub WasAccepted : Machine → List Step → Accepted → Type 0
 WasAccepted start [] r = ⊥
-WasAccepted start (step ∷ past) r = (IsAccept step r × IsNew (after start past) r) ⊎ WasAccepted start past r
+WasAccepted start (step ∷ past) r = (IsAccept step r × MayAccept (after start past) r) ⊎ WasAccepted start past r
 
 -- the rule isn't on the frames themselves, but on the grant, or on how many sectors and frames there are
 abbrev pub IsNotOnFrames : Rule → Type 0
@@ -62,8 +62,9 @@ abbrev pub HasFrame : Accepted → Frame → Type 0
 HasFrame r frame = (i : ℕ) × (i < length r.asked.frames.items) × (frame_at r.asked.frames.items i ≡ frame)
 
 -- The frames hold what they held at acceptance, but for the sectors of a read: so a write's hold its bytes.
-abbrev pub IsHeld : Machine → Accepted → Type 0
-IsHeld m r = (i b : ℕ) → (is_reader r.asked.op ≡ true → r.asked.count ≤ i) → i < 8 * length r.asked.frames.items
+abbrev pub FramesAreAsAccepted : Machine → Accepted → Type 0
+FramesAreAsAccepted m r = (i b : ℕ) → (is_reader r.asked.op ≡ true → r.asked.count ≤ i)
+    → i < 8 * length r.asked.frames.items
     → b < 512 → block_of m.memory r.asked.frames.items i b ≡ r.held i b
 
 -- A client has at most 16 unanswered requests, and all have 128. A request that is unanswered or kept was issued at

@@ -51,12 +51,12 @@ waits_for mode r other = other.port.0 == r.port.0 && (if is_plain mode r.op
     || (nat_lt other.id.0 r.id.0 && (is_plain mode other.op || must_keep_order other r)))
 
 -- it waits, and nothing stands in its way
-abbrev pub is_clear : QueueMode → List Unanswered → Unanswered → Bool
-is_clear mode book r = not r.issued && not (list_any (waits_for mode r) book)
+abbrev pub is_unblocked : QueueMode → List Unanswered → Unanswered → Bool
+is_unblocked mode book r = not r.issued && not (list_any (waits_for mode r) book)
 
 -- how many earlier ones of its port are clear to go
 abbrev pub ahead : QueueMode → List Unanswered → Unanswered → ℕ
-ahead mode book r = count_by (λ other. is_earlier_on_port other r && is_clear mode book other) book
+ahead mode book r = count_by (λ other. is_earlier_on_port other r && is_unblocked mode book other) book
 
 -- how many requests of the port are issued: each has a slot
 abbrev pub issued_count : List Unanswered → Port → ℕ
@@ -70,12 +70,12 @@ free_slots mode book port = mode.usable - issued_count book port
 -- (A plain one goes alone, so its slot is free.)
 pub record IsDue (mode : QueueMode) (book : List Unanswered) (r : Unanswered) : Type 0 where
   pub here : Contains book r
-  pub clear : is_clear mode book r ≡ true
+  pub clear : is_unblocked mode book r ≡ true
   pub slot : is_plain mode r.op ≡ false → ahead mode book r < free_slots mode book r.port
 
 -- `IsDue` of a request of the book, as a test
 abbrev pub is_due : QueueMode → List Unanswered → Unanswered → Bool
-is_due mode book r = is_clear mode book r &&
+is_due mode book r = is_unblocked mode book r &&
     (is_plain mode r.op || nat_lt (ahead mode book r) (free_slots mode book r.port))
 
 -- how many earlier ones of its port are due: `law_slots_by_due` says that a slot is left after these too

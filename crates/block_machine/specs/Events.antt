@@ -111,9 +111,10 @@ IsByServer (RevokeOf client number) ports (Issue mode e) = (ports.state e.reques
 IsByServer ask ports step = ⊥
 
 -- each step is the device's, or one of such a call
-abbrev pub Belong : {D : Type 0} → Ask D → Ports → List Step → Type 0
-Belong ask ports [] = Unit {0}
-Belong ask ports (step ∷ before) = Belong ask ports before × (IsByDevice step ⊎ IsByServer ask ports step)
+abbrev pub AreStepsOfCall : {D : Type 0} → Ask D → Ports → List Step → Type 0
+AreStepsOfCall ask ports [] = Unit {0}
+AreStepsOfCall ask ports (step ∷ before) = AreStepsOfCall ask ports before × (IsByDevice step
+    ⊎ IsByServer ask ports step)
 
 -- all steps are the device's
 abbrev pub AllDevices : List Step → Type 0
@@ -200,7 +201,8 @@ IsReadyAgain old evidence ports port = (ports.state port ≡ Ready) × Contains 
 -- Revoked is told of a request that isn't issued, or where it would go again. An issued request's frames are given back
 -- only where it ended or its port stopped: else they may still be written. And PortDead leaves the port dead. (So it
 -- was when the call began, or it got stuck in the call: that follows from what the calls make of ports, by law
--- `law_dead_ports_were_stuck`. That a request is told Revoked only once its grant was revoked, `IsTellable` says.)
+-- `law_dead_ports_were_stuck`. That a request is told Revoked only once its grant was revoked, `GrantAllowsOutcome`
+-- says.)
 abbrev pub IsLawful : AbstractState → Evidence → Ports → Pending → Outcome → Type 0
 IsLawful old evidence ports e outcome.Ok = WasIssued old.machine e.request.id × (e.issued ≡ true) × AllTouched e
     × (e.ended ≡ true)
@@ -444,7 +446,7 @@ abstract_after old event = record { machine = after old.machine event.steps; por
 -- The event may happen at the old moment.
 pub record Happens {D : Type 0} (old : AbstractState) (event : CallRecord D) : Type 0 where
   pub may : AllMay old.machine event.steps
-  pub belong : Belong event.ask event.ports event.steps
+  pub belong : AreStepsOfCall event.ask event.ports event.steps
   pub last : IssuesLast event.steps
   pub lawful : AllLawful old event.evidence event.ports event.steps
   pub fit : AreFit event.ports

@@ -176,7 +176,7 @@ unanswered_of book client = count_by (λ e. e.request.asked.client.0 == client.0
 
 -- A request that is accepted has the next id, breaks no rule, goes to its row's port, and has what its frames hold.
 -- A client has at most 16 unanswered requests, and ids fit 64 bits.
-pub record IsNew (m : Machine) (r : Accepted) : Type 0 where
+pub record MayAccept (m : Machine) (r : Accepted) : Type 0 where
   pub id : r.id.0 ≡ m.next
   pub id_left : m.next < 2 ^ 64
   pub unbroken : (rule : Rule) → Breaks m.rows m.owner m.lent r.asked rule → ⊥
@@ -194,10 +194,10 @@ HasGrant m e = HasRow e.request.asked.client e.request.asked.grant m.rows
 
 -- What the grant must be for an outcome: a request is told Revoked only once its grant was revoked, and is aborted only
 -- where it wasn't.
-abbrev pub IsTellable : Machine → Pending → Outcome → Type 0
-IsTellable m e Revoked = HasGrant m e → ⊥
-IsTellable m e Aborted = HasGrant m e
-IsTellable m e _ = Unit {0}
+abbrev pub GrantAllowsOutcome : Machine → Pending → Outcome → Type 0
+GrantAllowsOutcome m e Revoked = HasGrant m e → ⊥
+GrantAllowsOutcome m e Aborted = HasGrant m e
+GrantAllowsOutcome m e _ = Unit {0}
 
 -- the bytes that are moved for a write are its own; a read's may be any, and a trim's and a flush's mean nothing
 abbrev pub MovesOwn : Accepted → ℕ → Block → Type 0
@@ -216,7 +216,7 @@ HasHeld m port k block =
 -- The step may come. A request is issued, or waits again, only while its grant is there. (That an answer is lawful is
 -- judged at the end of its call too, where what stands behind it is known.)
 abbrev pub May : Machine → Step → Type 0
-May m (Accept r) = IsNew m r
+May m (Accept r) = MayAccept m r
 May m (Issue mode e) = Contains m.book e × IsDue mode (map unanswered m.book) (unanswered e) × NoneKept m e.request.port
     × HasGrant m e
 May m (Touch e i block) = MayStillMove m e × (i < e.request.asked.count) × (m.present e.request.port ≡ true)
@@ -224,7 +224,7 @@ May m (Touch e i block) = MayStillMove m e × (i < e.request.asked.count) × (m.
 May m (End e) = MayStillMove m e × AllTouched e × (m.present e.request.port ≡ true)
 May m (Age ready) = Unit {0}
 May m (Again e) = Contains m.book e × (e.issued ≡ true) × (e.issues < 4) × HasGrant m e
-May m (Answer e outcome) = Contains m.book e × IsTellable m e outcome
+May m (Answer e outcome) = Contains m.book e × GrantAllowsOutcome m e outcome
 May m (Revoke client number) = HasRow client number m.rows
 May m Release = Unit {0}
 May m (Unplug port) = m.present port ≡ true

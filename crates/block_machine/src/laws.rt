@@ -18,9 +18,9 @@ ghost use Rattle.block_machine.specs.Ports.{Ports, AreFit};
 ghost use Rattle.block_machine.specs.Refusals.{Situation, IsAcceptable, IsOpen};
 ghost use Rattle.block_machine.specs.Rules.{Names};
 ghost use Rattle.block_machine.specs.State.{Block, Accepted, Pending, Machine, unanswered};
-ghost use Rattle.block_machine.specs.Steps.{Step, Touch, End, Issue, Again, Answer, Age, after_step, May, IsNew, IsLiving, AllTouched};
+ghost use Rattle.block_machine.specs.Steps.{Step, Touch, End, Issue, Again, Answer, Age, after_step, May, MayAccept, IsLiving, AllTouched};
 ghost use Rattle.block_machine.specs.Left.{IsInitial, IsLegal, AllTellSectors, HoldsLeft, after};
-ghost use Rattle.block_machine.specs.Confined.{IsGranted, IsConfined, IsHeld, HasFrame, KeepsRules, WasAccepted, WithinLimits};
+ghost use Rattle.block_machine.specs.Confined.{IsGranted, IsConfined, FramesAreAsAccepted, HasFrame, KeepsRules, WasAccepted, WithinLimits};
 ghost use Rattle.block_machine.specs.Events.{AbstractState, CallRecord, AllMay, IsRun, EveryReadHolds, abstract_after_all, steps_of};
 ghost use Rattle.block_machine.specs.Histories.{IsReachable};
 
@@ -118,7 +118,7 @@ pub fn law_issues_keep_the_rules()
 
 /// A request that is accepted is within a row of its client.
 pub fn law_accepted_is_granted()
-    ensures { (m : Machine) (r : Accepted) → IsNew m r → IsGranted m.rows r }
+    ensures { (m : Machine) (r : Accepted) → MayAccept m r → IsGranted m.rows r }
 {}
 
 /// Each request that is unanswered or kept was accepted.
@@ -147,7 +147,7 @@ pub fn law_one_id_is_one_request()
 pub fn law_frames_keep_bytes()
     ensures { (start : Machine) (history : List Step) (e : Pending) → IsInitial start
         → IsLegal start history
-        → IsLiving (after start history) e → IsHeld (after start history) e.request }
+        → IsLiving (after start history) e → FramesAreAsAccepted (after start history) e.request }
 {}
 
 /// In a machine that is reached a client and a number name one row at most.

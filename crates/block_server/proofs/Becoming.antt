@@ -15,11 +15,11 @@ use Rattle.host_boot.specs.declared.ProbeResult.TheVariants.{Unserved}
 use Rattle.identify.specs.declared.wanted.Wanted.{Wanted}
 use Rattle.slots.specs.Uses.{PortSlots, use_at}
 use Rattle.server_history.specs.Kept.{IsKeptIn, TakesBack}
-use Rattle.server_history.specs.Resets.{IsTakenAgain}
+use Rattle.server_history.specs.Resets.{IsReinitialized}
 use Rattle.server_history.specs.Server.{ServerState, kept_at, last_disk_of, mode_at, mode_found, plain_mode, remembered_at, slots_at, used_for}
 use Rattle.server_history.specs.Stalled.{ResetGetsStuck, stuck_found}
-use Rattle.block_server.specs.FourPorts.{EachBecomes, IsTakenAnew, found_by_port, kept_by_port, last_disk_by_port, mode_by_port, port_in, slots_by_port, wanted_by_port, with_ports, without_loans}
-use Rattle.port_driver.specs.Parts.{IsFoundAnew, no_port}
+use Rattle.block_server.specs.FourPorts.{EachBecomes, BeginsAsHostFound, found_by_port, kept_by_port, last_disk_by_port, mode_by_port, port_in, slots_by_port, wanted_by_port, with_ports, without_loans}
+use Rattle.port_driver.specs.Parts.{BeginsAnew, no_port}
 use Rattle.port_driver.specs.declared.served_port.ServedPort.{ServedPort}
 use Rattle.port_driver.specs.declared.served_port.Shared.{Shared}
 
@@ -69,7 +69,7 @@ same_field field old new four_old four each =
     (λ number low. get_or-map field new number no_port ∙ each number (omega (arith, low, long_new, four)) ∙ sym (get_or-map field old number no_port))
 
 module _ (found : ℕ → ProbeResult) (mode : ℕ → QueueMode) (old new : List ServedPort) (four_old : length old ≡ 4) (four : length new ≡ 4)
-    (each : (number : ℕ) → number < 4 → IsFoundAnew (found number) (mode number) (port_in old number) (port_in new number)) where
+    (each : (number : ℕ) → number < 4 → BeginsAnew (found number) (mode number) (port_in old number) (port_in new number)) where
   pub its_found : (number : ℕ) → number < 4 → probe_result_of (found_by_port new) number ≡ found number
   its_found number low = get_or-map (λ (p : ServedPort). p.found) new number no_port ∙ ap (λ (p : ServedPort). p.found) (each number low).fields
 
@@ -110,7 +110,7 @@ module _ (found : ℕ → ProbeResult) (mode : ℕ → QueueMode) (old new : Lis
 -- ---- the adapter didn't end its reset
 
 module _ (s : ServerState) (before device : Device) (shared : Shared) (old new : List ServedPort) (four_old : length old ≡ 4)
-    (stuck : EachBecomes (λ number was now. IsFoundAnew (stuck_found was.found) plain_mode was now) old new) where
+    (stuck : EachBecomes (λ number was now. BeginsAnew (stuck_found was.found) plain_mode was now) old new) where
   abbrev found : ℕ → ProbeResult
   found number = stuck_found (port_in old number).found
 
@@ -139,14 +139,14 @@ module _ (s : ServerState) (before device : Device) (shared : Shared) (old new :
 
 -- ---- the adapter was taken over
 
-module _ (host : Host) (four_host : length host.ports ≡ 4) (old new : List ServedPort) (four_old : length old ≡ 4) (taken : EachBecomes (IsTakenAnew host) old new) where
+module _ (host : Host) (four_host : length host.ports ≡ 4) (old new : List ServedPort) (four_old : length old ≡ 4) (taken : EachBecomes (BeginsAsHostFound host) old new) where
   abbrev pub found_by : ℕ → ProbeResult
   found_by number = probe_result_of host.ports number
 
   abbrev pub mode_by : ℕ → QueueMode
   mode_by number = (port_in new number).mode
 
-  pub each : (number : ℕ) → number < 4 → IsFoundAnew (found_by number) (mode_by number) (port_in old number) (port_in new number)
+  pub each : (number : ℕ) → number < 4 → BeginsAnew (found_by number) (mode_by number) (port_in old number) (port_in new number)
   each number low = (taken.each number low).anew
 
   pub found_host : found_by_port new ≡ host.ports
@@ -161,7 +161,7 @@ module _ (host : Host) (four_host : length host.ports ≡ 4) (old new : List Ser
 
 -- again, after a reset
 module _ (s : ServerState) (before idle device : Device) (first later : Shared) (old new : List ServedPort) (four_old : length old ≡ 4) (host : Host) (four_host : length host.ports ≡ 4)
-    (taken : EachBecomes (IsTakenAnew host) (map without_loans old) new) where
+    (taken : EachBecomes (BeginsAsHostFound host) (map without_loans old) new) where
   abbrev mid : List ServedPort
   mid = map without_loans old
 
@@ -187,11 +187,11 @@ module _ (s : ServerState) (before idle device : Device) (first later : Shared) 
   abbrev m : ℕ → QueueMode
   m = mode_by host four_host mid new four_mid taken
 
-  e : (number : ℕ) → number < 4 → IsFoundAnew (f number) (m number) (port_in mid number) (port_in new number)
+  e : (number : ℕ) → number < 4 → BeginsAnew (f number) (m number) (port_in mid number) (port_in new number)
   e = each host four_host mid new four_mid taken
 
   pub takes_again : Resets before idle → TakesBack first.table.value later.table.value (IsKeptIn (kept_by_port old)) → TakesOver (wanted_by_port mid) host idle device → later.book ≡ first.book
-      → IsTakenAgain (with_ports s before first old) (with_ports s device later new)
+      → IsReinitialized (with_ports s before first old) (with_ports s device later new)
   takes_again resets back takes book = record {
     idle = idle;
     resets = resets;

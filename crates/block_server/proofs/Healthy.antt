@@ -25,7 +25,7 @@ use Rattle.block_machine.specs.State.{Pending}
 use Rattle.block_machine.specs.Steps.{AllTouched, Answer, Step}
 use Rattle.durability.specs.Durable.{EveryPlugFinds}
 use Rattle.driver_history.specs.Heeding.{HeedsAt}
-use Rattle.driver_history.specs.Claims.{AnswerRests, GoesWellFor, IsCalmlyTold, IsHealthyFor}
+use Rattle.driver_history.specs.Claims.{AnswerRests, GoesWellFor, IsFaultFreeOutcome, IsHealthyFor}
 use Rattle.driver_history.specs.Evidence.{StaysHealthy}
 use Rattle.driver_history.specs.Histories.{IsDriverHistory}
 use Rattle.driver_history.specs.Holds.{HoldsAt, HoldsOf, NoneWaits}
@@ -180,7 +180,7 @@ parts port old mid new one two first second u =
 -- ---- what is told where nothing goes wrong
 
 told_well : (ask : Ask DeviceStep) (said : CallResult) (old : AbstractState) (evidence : Evidence) (steps : List Step) (new : AbstractState) (e : Pending) (told : Outcome)
-    → IsAnswered ask said old evidence steps new → Contains steps (Answer e told) → IsCalmlyTold ask told
+    → IsAnswered ask said old evidence steps new → Contains steps (Answer e told) → IsFaultFreeOutcome ask told
     → (told ≡ Ok → WasIssued old.machine e.request.id × (e.issued ≡ true) × AllTouched e × (e.ended ≡ true)) → IsToldWell ask old.machine e told
 told_well (RevokeOf client number) (WasRevoked (Some replies)) old evidence steps new e told answered here calm rests = (calm, ((answered.told e).0 (subst (λ (o : Outcome). Contains steps (Answer e o)) calm here)).1)
 told_well (RevokeOf client number) (WasRevoked None) old evidence steps new e told answered here calm rests =

@@ -22,8 +22,8 @@ use Rattle.host_boot.specs.declared.ProbeResult.TheVariants.{Unserved}
 use Rattle.identify.specs.declared.wanted.Wanted.{Wanted}
 use Rattle.configuration.specs.Plan.{HasClientFrames, IsClient, IsPlan, IsServedGrant, PlanView}
 use Rattle.server_history.specs.Server.{IsNewServer, ServerState, kept_at, last_disk_of, mode_at, mode_found, no_slots, remembered_at, used_for}
-use Rattle.block_server.specs.FourPorts.{EachBecomes, IsTakenAnew, found_by_port, kept_by_port, last_disk_by_port, mode_by_port, port_in, slots_by_port, wanted_by_port}
-use Rattle.port_driver.specs.Parts.{IsFoundAnew}
+use Rattle.block_server.specs.FourPorts.{EachBecomes, BeginsAsHostFound, found_by_port, kept_by_port, last_disk_by_port, mode_by_port, port_in, slots_by_port, wanted_by_port}
+use Rattle.port_driver.specs.Parts.{BeginsAnew}
 use Rattle.port_driver.specs.declared.served_port.ServedPort.{ServedPort}
 use Rattle.block_server.proofs.Becoming as becoming
 
@@ -111,7 +111,7 @@ pub record NewPorts (host : Host) (wanted_disks : List Wanted) (ports : List Ser
 -- so it is once its adapter was taken over, where none was served before
 module _ (host : Host) (four_host : length host.ports ≡ 4) (wanted_disks : List Wanted) (kept : List (List Lending)) (none : kept ≡ [] ∷ [] ∷ [] ∷ [] ∷ []) (first ports : List ServedPort)
     (wanted : wanted_by_port first ≡ wanted_disks) (keeps : kept_by_port first ≡ kept) (found : found_by_port first ≡ replicate 4 Unserved) (forgotten : last_disk_by_port first ≡ replicate 4 None)
-    (taken : EachBecomes (IsTakenAnew host) first ports) where
+    (taken : EachBecomes (BeginsAsHostFound host) first ports) where
   four_first : length first ≡ 4
   four_first = sym (length-map first (λ (p : ServedPort). p.found)) ∙ ap length found ∙ length-replicate 4 Unserved
 
@@ -121,7 +121,7 @@ module _ (host : Host) (four_host : length host.ports ≡ 4) (wanted_disks : Lis
   abbrev m : ℕ → QueueMode
   m = becoming.mode_by host four_host first ports four_first taken
 
-  e : (number : ℕ) → number < 4 → IsFoundAnew (f number) (m number) (port_in first number) (port_in ports number)
+  e : (number : ℕ) → number < 4 → BeginsAnew (f number) (m number) (port_in first number) (port_in ports number)
   e = becoming.each host four_host first ports four_first taken
 
   pub new_ports : NewPorts host wanted_disks ports

@@ -9,7 +9,7 @@ use Rattle.host_boot.specs.Taken.{probe_result_of}
 use Rattle.host_boot.specs.declared.ProbeResult.{ProbeResult}
 use Rattle.host_boot.specs.declared.ProbeResult.TheVariants.{Unserved}
 use Rattle.server_history.specs.Server.{ServerState}
-use Rattle.port_driver.specs.Parts.{HasParts, HasServedPort, no_port, with_parts}
+use Rattle.port_driver.specs.Parts.{HasPortAndShared, HasPortAt, no_port, with_parts}
 use Rattle.block_server.specs.FourPorts.{found_by_port, port_in, slots_by_port, with_ports}
 use Rattle.port_driver.specs.declared.served_port.ServedPort.{ServedPort}
 use Rattle.port_driver.specs.declared.served_port.Shared.{Shared}
@@ -20,7 +20,7 @@ four_ports ports four = sym (length-map ports (λ (p : ServedPort). p.slots)) �
 
 module _ (s : ServerState) (device : Device) (shared : Shared) (ports : List ServedPort) (number : ℕ) where
   -- the port of this number has its part
-  pub has_port : HasServedPort (with_ports s device shared ports) number (port_in ports number)
+  pub has_port : HasPortAt (with_ports s device shared ports) number (port_in ports number)
   has_port = record {
     wanted_is = get_or-map (λ (p : ServedPort). p.wanted) ports number no_port;
     found_is = get_or-map (λ (p : ServedPort). p.found) ports number no_port;
@@ -30,9 +30,9 @@ module _ (s : ServerState) (device : Device) (shared : Shared) (ports : List Ser
     kept_is = get_or-map (λ (p : ServedPort). p.kept) ports number no_port;
   }
 
-  pub has_parts : (default : ServedPort) → number < length ports → HasParts (with_ports s device shared ports) device shared (port_at number) (get_or ports number default)
+  pub has_parts : (default : ServedPort) → number < length ports → HasPortAndShared (with_ports s device shared ports) device shared (port_at number) (get_or ports number default)
   has_parts default low =
-      subst (HasParts (with_ports s device shared ports) device shared (port_at number)) (get_or_default ports number no_port default low)
+      subst (HasPortAndShared (with_ports s device shared ports) device shared (port_at number)) (get_or_default ports number no_port default low)
       (record { device_is = refl; table_is = refl; book_is = refl; port_is = has_port })
 
   -- the server, with another in its place
@@ -59,8 +59,8 @@ pub at_place : (ports : List ServedPort) (port place : ℕ) → place ≡ port �
 at_place ports port place is default low = ap (port_in ports) (sym is) ∙ get_or_default ports place no_port default low
 
 pub has_at_place : (s : ServerState) (device : Device) (shared : Shared) (ports : List ServedPort) (port place : ℕ) → place ≡ port → (default : ServedPort) → place < length ports
-    → HasServedPort (with_ports s device shared ports) port (get_or ports place default)
-has_at_place s device shared ports port place is default low = subst (HasServedPort (with_ports s device shared ports) port) (at_place ports port place is default low) (has_port s device shared ports port)
+    → HasPortAt (with_ports s device shared ports) port (get_or ports place default)
+has_at_place s device shared ports port place is default low = subst (HasPortAt (with_ports s device shared ports) port) (at_place ports port place is default low) (has_port s device shared ports port)
 
 -- the server, where only the slots of a port are others
 pub slots_placed : (s : ServerState) (ports : List ServedPort) (place : ℕ) (default : ServedPort) (device : Device) (shared : Shared) (p : ServedPort) → p ≡ record (get_or ports place default) { slots = p.slots }

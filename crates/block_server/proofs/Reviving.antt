@@ -17,7 +17,7 @@ use Rattle.server_history.specs.Resets.{IssuePorts, SettlePorts, SettlesPort}
 use Rattle.server_history.specs.Served.{IssuesAll, IssuesEach, IssuesOne}
 use Rattle.server_history.specs.Server.{AreOfTwo, ServerState, InCallInvariant, IsLentOut, kept_at, state_of}
 use Rattle.server_history.specs.Stalled.{BookInvariant}
-use Rattle.port_driver.specs.Parts.{HasParts}
+use Rattle.port_driver.specs.Parts.{HasPortAndShared}
 use Rattle.port_driver.specs.Ports.{HasReadyPort}
 use Rattle.port_driver.specs.declared.served_port.ServedPort.{ServedPort}
 use Rattle.port_driver.specs.declared.served_port.Shared.{Shared}
@@ -62,7 +62,7 @@ issues_keep law port [] s new kept same = subst InCallInvariant (sym same) kept
 issues_keep law port (id ∷ ids) s new kept (mid, one, rest) = issues_keep law port ids mid new (law s mid port id kept one) rest
 
 -- what the server has of one ready port
-pub ready_one : (s : ServerState) (device : Device) (shared : Shared) (port : Port) (p : ServedPort) → InCallInvariant s → HasParts s device shared port p → (info : DiskInfo) → p.found ≡ Ready info
+pub ready_one : (s : ServerState) (device : Device) (shared : Shared) (port : Port) (p : ServedPort) → InCallInvariant s → HasPortAndShared s device shared port p → (info : DiskInfo) → p.found ≡ Ready info
     → HasReadyPort s device shared.book p.slots port p.mode
 ready_one s device shared port p kept has info is = record {
   kept = kept;

@@ -18,7 +18,7 @@ use Rattle.server_history.specs.Served.{IssuesAll}
 use Rattle.server_history.specs.Server.{InCallInvariant, ServerState, kept_at}
 use Rattle.slots.specs.Uses.{PortSlots}
 use Rattle.port_driver.specs.Dispositions.{holding}
-use Rattle.port_driver.specs.Parts.{HasServedPort}
+use Rattle.port_driver.specs.Parts.{HasPortAt}
 use Rattle.port_driver.specs.Ports.{HasFoundPort, with_part}
 use Rattle.port_driver.specs.declared.served_port.ServedPort.{ServedPort}
 
@@ -60,7 +60,7 @@ module _ (s : ServerState) (client : ClientId) (number : ℕ) (row : GrantRow) (
     low = let its = (All-contains IsRow s.grants row k.rows takes.0).port in omega (arith, its)
 
     -- the port has what issuing asks
-    pub lends : (p : ServedPort) → HasServedPort s row.port.0 p → HasFoundPort mid s.device book p.slots row.port p.mode p.found
+    pub lends : (p : ServedPort) → HasPortAt s row.port.0 p → HasFoundPort mid s.device book p.slots row.port p.mode p.found
     lends p has = record { kept = goes_on; found_is = has.found_is; device_is = refl; book_is = refl; slots_are = has.slots_are; mode_is = has.mode_is }
 
     -- and then what is due was issued

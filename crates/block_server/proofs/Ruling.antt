@@ -9,9 +9,8 @@ use Rattle.ata_types.specs.declared.refusal.Rule.TheVariants.{NoGrant, NoRight, 
 use Rattle.ata_types.specs.declared.request.Request.{Request}
 use Rattle.block_machine.specs.Refusals.{Situation, Applies, IsAcceptable, IsFirstRefusal}
 use Rattle.block_machine.specs.Rules.{BreaksNone, IsFirstBroken, IsBefore, rank}
-use Rattle.block_machine.proofs.RuleLemmas.{number, place}
 
-rule_small : (rule : rules.Rule) → number rule ≤ 8
+rule_small : (rule : rules.Rule) → (rank (Rule rule)).0 ≤ 8
 rule_small NoGrant = omega arith
 rule_small NoRight = omega arith
 rule_small BadCount = omega arith
@@ -28,11 +27,11 @@ module _ (s : Situation) (r : Request) where
 
   before_rule : (rule : rules.Rule) → IsFirstBroken s.rows s.owner s.lent r rule → (other : Refusal) → IsBefore (rank other) (rank (Rule rule)) → Applies s r other → ⊥
   before_rule rule first (Rule other) before applies = first.1 other before applies
-  before_rule rule first (PortNotReady state) before applies = let small = rule_small rule in not_before 9 (number rule) 0 (place rule) (omega arith) before
-  before_rule rule first OutsideDisk before applies = let small = rule_small rule in not_before 10 (number rule) 0 (place rule) (omega arith) before
-  before_rule rule first TrimUnsupported before applies = let small = rule_small rule in not_before 11 (number rule) 0 (place rule) (omega arith) before
-  before_rule rule first ClientFull before applies = let small = rule_small rule in not_before 12 (number rule) 0 (place rule) (omega arith) before
-  before_rule rule first IdsSpent before applies = let small = rule_small rule in not_before 13 (number rule) 0 (place rule) (omega arith) before
+  before_rule rule first (PortNotReady state) before applies = let small = rule_small rule in not_before 9 (rank (Rule rule)).0 0 (rank (Rule rule)).1 (omega arith) before
+  before_rule rule first OutsideDisk before applies = let small = rule_small rule in not_before 10 (rank (Rule rule)).0 0 (rank (Rule rule)).1 (omega arith) before
+  before_rule rule first TrimUnsupported before applies = let small = rule_small rule in not_before 11 (rank (Rule rule)).0 0 (rank (Rule rule)).1 (omega arith) before
+  before_rule rule first ClientFull before applies = let small = rule_small rule in not_before 12 (rank (Rule rule)).0 0 (rank (Rule rule)).1 (omega arith) before
+  before_rule rule first IdsSpent before applies = let small = rule_small rule in not_before 13 (rank (Rule rule)).0 0 (rank (Rule rule)).1 (omega arith) before
 
   pub rule_first : (rule : rules.Rule) → IsFirstBroken s.rows s.owner s.lent r rule → IsFirstRefusal s r (Rule rule)
   rule_first rule first = (first.0, before_rule rule first)

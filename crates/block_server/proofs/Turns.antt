@@ -9,7 +9,7 @@ use Rattle.host_boot.specs.Taken.{probe_result_of}
 use Rattle.host_boot.specs.declared.ProbeResult.{ProbeResult}
 use Rattle.host_boot.specs.declared.ProbeResult.TheVariants.{Ready, Unready, Unserved}
 use Rattle.server_history.specs.Server.{ServerState, SettledInvariant}
-use Rattle.server_history.specs.Turns.{TakeTurns}
+use Rattle.server_history.specs.Turns.{EachPortTakesTurn}
 use Rattle.port_driver.specs.Parts.{IsSettledWith, TakesTurn, TurnBy, with_parts}
 use Rattle.port_driver.specs.declared.served_port.ServedPort.{ServedPort}
 use Rattle.port_driver.specs.declared.served_port.Shared.{Shared}
@@ -23,7 +23,7 @@ module _ (Such : Port → List Reply → ServerState → ServerState → Type 0)
     pub four : length ports ≡ 4
     pub left : (q : ℕ) → number ≤ q → probe_result_of (found_by_port ports) q ≡ probe_result_of found q
     pub settled : SettledInvariant now
-    pub rest : (later : List Reply) (last : ServerState) → TakeTurns Such Other number (drop number found) later now last → TakeTurns Such Other 0 found (told ++ later) first last
+    pub rest : (later : List Reply) (last : ServerState) → EachPortTakesTurn Such Other number (drop number found) later now last → EachPortTakesTurn Such Other 0 found (told ++ later) first last
 
   -- at first none has had its turn
   pub none_yet : (ports : List ServedPort) (now : ServerState) → length ports ≡ 4 → found_by_port ports ≡ found → SettledInvariant now → now ≡ first → TurnsSoFar ports [] now 0
@@ -31,20 +31,20 @@ module _ (Such : Port → List Reply → ServerState → ServerState → Type 0)
     four = four;
     left = λ q more. ap (λ (list : List ProbeResult). probe_result_of list q) is;
     settled = settled;
-    rest = λ later last turns. subst (λ (x : ServerState). TakeTurns Such Other 0 found later x last) same turns;
+    rest = λ later last turns. subst (λ (x : ServerState). EachPortTakesTurn Such Other 0 found later x last) same turns;
   }
 
   -- the port of this number has its turn, and then those after it
   one_turn : (number : ℕ) → number < length found → (s mid new : ServerState) (its later : List Reply) → SettledInvariant mid → TurnBy Such Other (probe_result_of found number) (port_at number) its s mid
-      → TakeTurns Such Other (number + 1) (drop (number + 1) found) later mid new → TakeTurns Such Other number (drop number found) (its ++ later) s new
+      → EachPortTakesTurn Such Other (number + 1) (drop (number + 1) found) later mid new → EachPortTakesTurn Such Other number (drop number found) (its ++ later) s new
   one_turn number low s mid new its later kept turn rest =
-      subst (λ (left : List ProbeResult). TakeTurns Such Other number left (its ++ later) s new) (sym (drop_more found number Unserved low)) (by (probe_result_of found number) turn)
+      subst (λ (left : List ProbeResult). EachPortTakesTurn Such Other number left (its ++ later) s new) (sym (drop_more found number Unserved low)) (by (probe_result_of found number) turn)
     where
-      by : (one : ProbeResult) → TurnBy Such Other one (port_at number) its s mid → TakeTurns Such Other number (one ∷ drop (number + 1) found) (its ++ later) s new
+      by : (one : ProbeResult) → TurnBy Such Other one (port_at number) its s mid → EachPortTakesTurn Such Other number (one ∷ drop (number + 1) found) (its ++ later) s new
       by (Ready info) had = (mid, its, later, refl, kept, had, rest)
-      by (Unready state) had = subst (λ (told : List Reply). TakeTurns Such Other number (Unready state ∷ drop (number + 1) found) (told ++ later) s new) (sym had.0) (mid, kept, had.1, rest)
-      by Unserved had = subst (λ (told : List Reply). TakeTurns Such Other number (Unserved ∷ drop (number + 1) found) (told ++ later) s new) (sym had.0)
-          (subst (λ (x : ServerState). TakeTurns Such Other (number + 1) (drop (number + 1) found) later x new) had.1 rest)
+      by (Unready state) had = subst (λ (told : List Reply). EachPortTakesTurn Such Other number (Unready state ∷ drop (number + 1) found) (told ++ later) s new) (sym had.0) (mid, kept, had.1, rest)
+      by Unserved had = subst (λ (told : List Reply). EachPortTakesTurn Such Other number (Unserved ∷ drop (number + 1) found) (told ++ later) s new) (sym had.0)
+          (subst (λ (x : ServerState). EachPortTakesTurn Such Other (number + 1) (drop (number + 1) found) later x new) had.1 rest)
 
   module _ (s : ServerState) (device : Device) (shared : Shared) (ports : List ServedPort) (told : List Reply) (number : ℕ) (so_far : TurnsSoFar ports told (with_ports s device shared ports) number) where
     -- the port of this number has its part
@@ -65,14 +65,14 @@ module _ (Such : Port → List Reply → ServerState → ServerState → Type 0)
           left = λ q more. placing.other_found ports number p q (λ same. omega (arith, more, same)) ∙ so_far.left q (omega (arith, more));
           settled = turn.settled;
           rest = λ later last more.
-              let W : List Reply → Type 0 = λ all. TakeTurns Such Other 0 found all first last in
+              let W : List Reply → Type 0 = λ all. EachPortTakesTurn Such Other 0 found all first last in
               subst W (sym (ap (λ (all : List Reply). all ++ later) turn.told ∙ append_assoc told turn.its later))
               (so_far.rest (turn.its ++ later) last (one_turn number (omega (arith, many, low)) (with_ports s device shared ports) mid last turn.its later turn.settled turn.does more));
         }
 
     -- after the last there is none, so the turns of the others are all
-    pub all_turns : length found ≤ number → TakeTurns Such Other 0 found told first (with_ports s device shared ports)
+    pub all_turns : length found ≤ number → EachPortTakesTurn Such Other 0 found told first (with_ports s device shared ports)
     all_turns all =
         let now = with_ports s device shared ports in
-        subst (λ (replies : List Reply). TakeTurns Such Other 0 found replies first now) (append-nil told)
-        (so_far.rest [] now (subst (λ (left : List ProbeResult). TakeTurns Such Other number left [] now now) (sym (drop_all number found all)) (refl, refl)))
+        subst (λ (replies : List Reply). EachPortTakesTurn Such Other 0 found replies first now) (append-nil told)
+        (so_far.rest [] now (subst (λ (left : List ProbeResult). EachPortTakesTurn Such Other number left [] now now) (sym (drop_all number found all)) (refl, refl)))

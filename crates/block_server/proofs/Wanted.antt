@@ -17,7 +17,7 @@ use Rattle.request_queue.specs.Entries.{Held}
 use Rattle.server_history.specs.Resets.{IssuePorts, SettlePorts}
 use Rattle.server_history.specs.Served.{IssuesEach}
 use Rattle.server_history.specs.Server.{ServerState}
-use Rattle.server_history.specs.Turns.{ServesPort, TakeTurns, TicksPort, ProbesUnready, a_tick_older}
+use Rattle.server_history.specs.Turns.{ServesPort, EachPortTakesTurn, TicksPort, ProbesUnready, a_tick_older}
 use Rattle.block_server.specs.Calls.{ServicesBy, Services, Submits, TicksBy, TicksServer}
 use Rattle.block_server.specs.Resetting.{DoesReset}
 use Rattle.block_server.specs.Revoking.{Revokes, RevokesAndIssues}
@@ -32,7 +32,7 @@ SameWanted old new = new.wanted ≡ old.wanted
 turns : (Such : Port → List Reply → ServerState → ServerState → Type 0) (Other : Port → ServerState → ServerState → Type 0)
     → ((port : Port) (replies : List Reply) (old new : ServerState) → Such port replies old new → SameWanted old new)
     → ((port : Port) (old new : ServerState) → Other port old new → SameWanted old new)
-    → (port : ℕ) (found : List ProbeResult) (replies : List Reply) (old new : ServerState) → TakeTurns Such Other port found replies old new → SameWanted old new
+    → (port : ℕ) (found : List ProbeResult) (replies : List Reply) (old new : ServerState) → EachPortTakesTurn Such Other port found replies old new → SameWanted old new
 turns Such Other such other port [] replies old new t = ap (λ (s : ServerState). s.wanted) t.1
 turns Such Other such other port (Ready info ∷ rest) replies old new (mid, its, later, are, settled, does, more) =
     turns Such Other such other (port + 1) rest later mid new more ∙ such (port_at port) its old mid does

@@ -11,7 +11,7 @@ use Rattle.identify.specs.declared.DiskInfo.{DiskInfo}
 use Rattle.identify.specs.declared.wanted.Wanted.{Wanted}
 use Rattle.slots.specs.Uses.{PortSlots}
 use Rattle.server_history.specs.Server.{ServerState, mode_found}
-use Rattle.port_driver.specs.Parts.{IsFoundAnew, no_port}
+use Rattle.port_driver.specs.Parts.{BeginsAnew, no_port}
 use Rattle.port_driver.specs.declared.served_port.ServedPort.{ServedPort}
 use Rattle.port_driver.specs.declared.served_port.Shared.{Shared}
 
@@ -62,7 +62,7 @@ pub record EachBecomes (Such : ℕ → ServedPort → ServedPort → Type 0) (ol
   pub each : (number : ℕ) → number < 4 → Such number (port_in old number) (port_in new number)
 
 -- the port of this number was found by the host, and takes commands as adapter and disk can
-pub record IsTakenAnew (host : Host) (number : ℕ) (old new : ServedPort) : Type 0 where
-  pub anew : IsFoundAnew (probe_result_of host.ports number) new.mode old new
+pub record BeginsAsHostFound (host : Host) (number : ℕ) (old new : ServedPort) : Type 0 where
+  pub anew : BeginsAnew (probe_result_of host.ports number) new.mode old new
   pub mode : (cap : ℕ) → host.slots ≡ cap / 256 % 32 + 1 → host.queued ≡ bit cap 30
       → new.mode ≡ mode_found cap (probe_result_of host.ports number)

@@ -112,12 +112,12 @@ pub(crate) fn ready_ports(ports: &[ServedPort; PORTS]) -> [bool; PORTS]
 
 /// By port, whether a request of it is overdue, where it is known whether one of any port is. Mostly none is, and then
 /// no request is looked at.
-pub(crate) fn overdue_ports(book: &Book, is_one: bool) -> [bool; PORTS]
-    requires { IsTrue is_one ↔ IsAnyOverdue book.now }
+pub(crate) fn overdue_ports(book: &Book, any_overdue: bool) -> [bool; PORTS]
+    requires { IsTrue any_overdue ↔ IsAnyOverdue book.now }
     ensures { (number : ℕ) → number < 4 → IsTrue (slice_index_or result number false)
         ↔ IsOverdue (port_at number) book.now }
 {
-    if !is_one {
+    if !any_overdue {
         return [false; PORTS];
     }
     [

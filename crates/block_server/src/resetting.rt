@@ -3,8 +3,8 @@ ghost use Rattle.std.specs.Prelude.{◌≡◌, ◌<◌, ◌≤◌, ◌+◌, ◌*
 ghost use Rattle.adapter.specs.Counted.{MakesAtMost};
 ghost use Rattle.ata_types.specs.declared.request.Reply.{Reply};
 ghost use Rattle.port_driver.specs.Costs.{ISSUES_ACCESSES};
-ghost use Rattle.block_server.specs.FourPorts.{EachBecomes, IsTakenAnew, found_by_port, kept_by_port, with_ports, without_loans};
-ghost use Rattle.port_driver.specs.Parts.{IsFoundAnew};
+ghost use Rattle.block_server.specs.FourPorts.{EachBecomes, BeginsAsHostFound, found_by_port, kept_by_port, with_ports, without_loans};
+ghost use Rattle.port_driver.specs.Parts.{BeginsAnew};
 ghost use Rattle.server_history.specs.Kept.{IsKeptIn, MayGoBack, TakesBack};
 ghost use Rattle.server_history.specs.Resets.{IssuePorts, MaySettle, SettlePorts};
 ghost use Rattle.server_history.specs.Server.{InCallInvariant, ServerState, plain_mode};
@@ -33,7 +33,7 @@ pub(crate) fn give_all_back(ports: &mut [ServedPort; PORTS], table: &mut FrameTa
 
 /// Notes that a reset of the adapter got stuck: each port that is served is dead.
 pub(crate) fn get_stuck(ports: &mut [ServedPort; PORTS])
-    ensures { EachBecomes (λ number old new. IsFoundAnew (stuck_found old.found) plain_mode old new) ports.old
+    ensures { EachBecomes (λ number old new. BeginsAnew (stuck_found old.found) plain_mode old new) ports.old
         ports.new }
 {
     for number in 0..PORTS {
@@ -44,7 +44,7 @@ pub(crate) fn get_stuck(ports: &mut [ServedPort; PORTS])
 /// Notes what each port was found to be once the adapter was taken over, and how it takes commands then.
 pub(crate) fn begin_anew(ports: &mut [ServedPort; PORTS], host: &Host)
     requires { length host.now.ports ≡ 4 }
-    ensures { EachBecomes (IsTakenAnew host.now) ports.old ports.new }
+    ensures { EachBecomes (BeginsAsHostFound host.now) ports.old ports.new }
 {
     for number in 0..PORTS {
         let found = host.ports[number];

@@ -16,7 +16,8 @@ impl<A: Adapter> Server<A> {
     ghost use Rattle.server_history.specs.Histories.{ExtendsHistory};
     ghost use Rattle.adapter.specs.Counted.{MakesAtMost};
 
-    /// At most `MOST_CALL_BYTES` of a frame. A function of its own, since its caller would have room for them on its stack else.
+    /// At most `MOST_CALL_BYTES` of a frame. A function of its own, since its caller would have room for them on its
+    /// stack else.
     #[inline(never)]
     fn load_few(
         &mut self,

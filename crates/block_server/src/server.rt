@@ -383,8 +383,8 @@ impl<A: Adapter> Server<A> {
             // No port is ready, so no request gets older.
             return;
         }
-        let is_one = self.shared.book.tick(&ready_ports(&self.ports));
-        let overdue = overdue_ports(&self.shared.book, is_one);
+        let any_overdue = self.shared.book.tick(&ready_ports(&self.ports));
+        let overdue = overdue_ports(&self.shared.book, any_overdue);
         for number in 0..PORTS {
             self.ports[number].tick(
                 &mut self.adapter,

@@ -25,7 +25,7 @@ use Rattle.refinement.specs.Places.{list_of, scratch_of, table_of}
 use Rattle.refinement.specs.Slots.{SlotStates, SlotDecodesTo}
 use Rattle.command_table.specs.Bytes.{part}
 use Rattle.command_table.specs.Laws.{Laws}
-use Rattle.command_table.specs.Laws.Fragment.{Tables, TablesAndBlock}
+use Rattle.command_table.specs.Laws.AccessKind.{Tables, TablesAndBlock}
 use Rattle.command_table.specs.Written.{IsTableFor, IsHeader, IsInTable, IsStoreWithBlock, IsTableStore, IsUnused}
 use Rattle.command_table.specs.Places.{places_of}
 use Rattle.command_table.proofs.Saying.{table_says}

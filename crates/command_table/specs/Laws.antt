@@ -19,15 +19,15 @@ use Rattle.refinement.specs.Slots.{SlotDecodesTo, SlotStates}
 use Rattle.command_table.specs.Written.{IsStoreWithBlock, IsTableStore, IsUnused}
 
 -- header and table of a slot of a port are stored; or these of its slot 0, and a block
-pub data Fragment : Type 0 where
-  Tables : (port slot : ℕ) → Fragment
-  TablesAndBlock : (port : ℕ) → Fragment
+pub data AccessKind : Type 0 where
+  Tables : (port slot : ℕ) → AccessKind
+  TablesAndBlock : (port : ℕ) → AccessKind
 
-abbrev pub may_of : Fragment → Access → Type 0
+abbrev pub may_of : AccessKind → Access → Type 0
 may_of (Tables port slot) = IsTableStore port slot
 may_of (TablesAndBlock port) = IsStoreWithBlock port 0
 
-abbrev pub fits_of : Fragment → SlotStates → Type 0
+abbrev pub fits_of : AccessKind → SlotStates → Type 0
 fits_of (Tables port slot) = IsUnused port slot
 fits_of (TablesAndBlock port) = IsUnused port 0
 
@@ -61,4 +61,4 @@ pub record Laws : Type 0 where
       (places : List ℕ) → port < 4 → slot < 32 → MissesTable port slot at (length bytes)
       → SlotDecodesTo old.memory (list_of port) port slot c places
       → SlotDecodesTo new.memory (list_of port) port slot c places
-  pub fragments : FragmentLaws Fragment may_of fits_of
+  pub fragments : FragmentLaws AccessKind may_of fits_of

@@ -28,10 +28,10 @@ use Rattle.block_machine.specs.Left.{after}
 use Rattle.block_machine.specs.State.{Accepted, Pending, Machine}
 use Rattle.block_machine.specs.Steps.{Step, Issue, May}
 use Rattle.block_machine.specs.declared.due.QueueMode.{QueueMode}
-use Rattle.refinement.specs.Acts.{Act, InSlots, IsDone, AreDone, Comes, at_slots, accesses_of, act_steps}
+use Rattle.refinement.specs.Acts.{Act, InSlots, IsActDone, AreActsDone, ActsReach, at_slots, accesses_of, act_steps}
 use Rattle.refinement.specs.Relation.{StateRelation, port_at}
 use Rattle.refinement.specs.Driven.{AnyAccess, AreDevices, IsBitOf, IsDrivenBy, IsSimulated, IsOf, LeavesPort, NoneWrites}
-use Rattle.refinement.specs.Driver.{DriverState, DriverRelation, ByDevice, Goes, EndsWith, IsPrepared, LeavesFree, MissesTable, serving}
+use Rattle.refinement.specs.Driver.{DriverState, DriverRelation, ByDevice, DriverAdvances, EndsWith, IsPrepared, LeavesFree, MissesTable, serving}
 use Rattle.refinement.specs.Follows.{SimulatesSteps}
 use Rattle.refinement.specs.Links.{SameAdapter, SparesRegister}
 use Rattle.refinement.specs.Places.{list_of}
@@ -135,14 +135,14 @@ pub record Laws : Type 0 where
   pub same : (access : Access) (old new : Device) → Does access old new → SameAdapter old new
   pub on : (access : Access) (old new : Device) → IsOn old → ((v : ℕ) → access ≡ Writing Ghc v → (bit v 31 ≡ true) × (bit v 0 ≡ false)) → Does access old new → IsOn new
   pub access : (k later : DriverState) (m : Machine) (access : Access) → IsSimulatedBySteps DriverRelation k later (ByDevice k.device later.device) → IsReachable m → DriverRelation m k
-      → Does access k.device later.device → (steps : List Step) × AllDevices steps × IsDone k m (record { access = Some access; steps = steps; later = later })
+      → Does access k.device later.device → (steps : List Step) × AllDevices steps × IsActDone k m (record { access = Some access; steps = steps; later = later })
   pub ends : (k later : DriverState) (m : Machine) (access : Access) (step : Step) → (e : EndsWith k m step later) → Does access k.device later.device
-      → IsDone k m (record { access = Some access; steps = step ∷ e.steps; later = later })
-  pub more : (early late : List Act) (a b c : DriverState) (m : Machine) → AreDone early a m b → AreDone late b (after m (act_steps early)) c → AreDone (early ++ late) a m c
+      → IsActDone k m (record { access = Some access; steps = step ∷ e.steps; later = later })
+  pub more : (early late : List Act) (a b c : DriverState) (m : Machine) → AreActsDone early a m b → AreActsDone late b (after m (act_steps early)) c → AreActsDone (early ++ late) a m c
   pub accesses : (early late : List Act) → accesses_of (early ++ late) ≡ accesses_of early ++ accesses_of late
   pub steps : (early late : List Act) → act_steps (early ++ late) ≡ act_steps late ++ act_steps early
-  pub goes : (acts : List Act) (k later : DriverState) (m : Machine) → DriverRelation m k → AreDone acts k m later → Goes k m (act_steps acts) later
-  pub reached : (k later : DriverState) (m : Machine) (steps : List Step) → IsReachable m → Goes k m steps later → IsReachable (after m steps)
+  pub goes : (acts : List Act) (k later : DriverState) (m : Machine) → DriverRelation m k → AreActsDone acts k m later → DriverAdvances k m (act_steps acts) later
+  pub reached : (k later : DriverState) (m : Machine) (steps : List Step) → IsReachable m → DriverAdvances k m steps later → IsReachable (after m steps)
   pub device : (late early : List Step) → AllDevices late → AllDevices early → AllDevices (late ++ early)
   pub due : (m : Machine) (steps : List Step) → IsReachable m → AllDevices steps → AllMay m steps → (mode : QueueMode) (e : Pending) → May m (Issue mode e)
       → May (after m steps) (Issue mode e)
@@ -192,7 +192,7 @@ IsUnissued u = (u ≡ Free) ⊎ (u ≡ Armed)
 -- Acts with these accesses lead to an armed slot, or to one that is free still. The device alone makes steps, and other slots go on as they are used.
 record Reaches (port : Port) (slot : ℕ) (queued : Bool) (accesses : List Access) (s : InSlots) (m : Machine) (from armed : Device) : Type 0 where
   acts : List Act
-  done : AreDone acts (at_slots s from) m (at_slots (with_armed queued port slot s) armed)
+  done : AreActsDone acts (at_slots s from) m (at_slots (with_armed queued port slot s) armed)
   accesses_are : accesses_of acts ≡ accesses
   device : AllDevices (act_steps acts)
   own : All (λ act. IsUnissued (act.later.uses port.0 slot)) acts
@@ -286,7 +286,7 @@ module _ (laws : Laws) where
     -- from a machine that agrees, acts lead to the armed slot, which is ready for PxCI
     record Stage (s : InSlots) (m : Machine) : Type 0 where
       reaches : Reaches port slot r.queued (b.stores.driven.accesses ++ arming_of port r.queued own) s m old armed
-      goes : Goes (at_slots s old) m (act_steps reaches.acts) (at_slots (with_armed r.queued port slot s) armed)
+      goes : DriverAdvances (at_slots s old) m (act_steps reaches.acts) (at_slots (with_armed r.queued port slot s) armed)
       reached : IsReachable (after m (act_steps reaches.acts))
       readied : IsReadied (with_armed r.queued port slot s).uses armed port.0 slot (meaning_of r) (addresses_of port.0 r.op r.range.count frames)
 
@@ -296,10 +296,10 @@ module _ (laws : Laws) where
         later : DriverState
         later = at_slots (with_armed r.queued port slot s) armed
 
-        x : Comes b.stores.driven.accesses (at_slots s old) m (at_slots s b.mid) (AreDevices (IsStoreFor r.op port.0 slot) s.uses)
+        x : ActsReach b.stores.driven.accesses (at_slots s old) m (at_slots s b.mid) (AreDevices (IsStoreFor r.op port.0 slot) s.uses)
         x = b.stores.comes s m reached knows free
 
-        g : Goes (at_slots s old) m (act_steps x.acts) (at_slots s b.mid)
+        g : DriverAdvances (at_slots s old) m (act_steps x.acts) (at_slots s b.mid)
         g = laws.goes x.acts (at_slots s old) (at_slots s b.mid) m knows x.done
 
         mid_reached : IsReachable (after m (act_steps x.acts))
@@ -327,7 +327,7 @@ module _ (laws : Laws) where
               (all_as (λ act. act.later.uses q ≡ s.uses q) P (λ act same. ap (λ (f : ℕ → SlotState). f k) same) x.acts (kept (port_at q))) (y.others q k other);
         }
 
-        goes : Goes (at_slots s old) m (act_steps reaches.acts) later
+        goes : DriverAdvances (at_slots s old) m (act_steps reaches.acts) later
         goes = laws.goes reaches.acts (at_slots s old) later m knows reaches.done
 
         readied : IsReadied (with_armed r.queued port slot s).uses armed port.0 slot (meaning_of r) (addresses_of port.0 r.op r.range.count frames)
@@ -408,7 +408,7 @@ module _ (laws : Laws) where
         head plain = is.head (is.kind ∙ ap not (sym (ap (is_plain mode) is.operation) ∙ plain))
 
         comes : (s : InSlots) (m : Machine) → IsReachable m → DriverRelation m (at_slots s old) → MayServe port slot mode e s m →
-            Comes accesses (at_slots s old) m (at_slots (with_serving port slot e.request.id s) new) (IssuesAtEnd port slot mode e s.uses)
+            ActsReach accesses (at_slots s old) m (at_slots (with_serving port slot e.request.id s) new) (IssuesAtEnd port slot mode e s.uses)
         comes s m reached knows fits = record {
           acts = x.reaches.acts ++ act ∷ [];
           done = laws.more x.reaches.acts (act ∷ []) (at_slots s old) before later m x.reaches.done (last, refl);
@@ -453,7 +453,7 @@ module _ (laws : Laws) where
             act : Act
             act = record { access = Some (Writing (Px port Ci) own); steps = Issue mode e ∷ ends.steps; later = later }
 
-            last : IsDone before m2 act
+            last : IsActDone before m2 act
             last = laws.ends before later m2 (Writing (Px port Ci) own) (Issue mode e) ends call
 
       -- ---- what it comes to

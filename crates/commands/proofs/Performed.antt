@@ -18,9 +18,9 @@ use Rattle.block_machine.specs.Left.{after}
 use Rattle.block_machine.specs.State.{Machine, Pending}
 use Rattle.block_machine.specs.Steps.{Step, Issue}
 use Rattle.block_machine.specs.declared.due.QueueMode.{QueueMode}
-use Rattle.refinement.specs.Acts.{Act, AreDone, Comes, InSlots, Performs, at_slots, act_steps}
+use Rattle.refinement.specs.Acts.{Act, AreActsDone, ActsReach, InSlots, Performs, at_slots, act_steps}
 use Rattle.refinement.specs.Driven.{AnyUse, IsRelated, IsSimulated, IsOf, SendsNone}
-use Rattle.refinement.specs.Driver.{EndsWith, Goes, IsBacked, DriverState, DriverRelation}
+use Rattle.refinement.specs.Driver.{EndsWith, DriverAdvances, IsBacked, DriverState, DriverRelation}
 use Rattle.refinement.specs.Slots.{Own, SlotState, op_of}
 use Rattle.commands.specs.Masks.{ReadsDone, IsFinding}
 use Rattle.commands.specs.Tasks.{IsIssuing, IsOnItsWay, IssuesAtEnd, IssuesTask, IsTaskOf, MayServe, with_serving}
@@ -51,10 +51,10 @@ finding_of port (Loading place bytes) here = absurd here
 
 -- what laws of acts say
 pub record Laws : Type 0 where
-  pub goes : (acts : List Act) (k later : DriverState) (m : Machine) → DriverRelation m k → AreDone acts k m later → Goes k m (act_steps acts) later
-  pub reached : (k later : DriverState) (m : Machine) (steps : List Step) → IsReachable m → Goes k m steps later → IsReachable (after m steps)
+  pub goes : (acts : List Act) (k later : DriverState) (m : Machine) → DriverRelation m k → AreActsDone acts k m later → DriverAdvances k m (act_steps acts) later
+  pub reached : (k later : DriverState) (m : Machine) (steps : List Step) → IsReachable m → DriverAdvances k m steps later → IsReachable (after m steps)
   pub silent : (acts : List Act) (k later : DriverState) (m : Machine) (port : ℕ) (o : Operation) → op_of o ≡ None → IsReachable m → DriverRelation m k → (k.uses port 0 ≡ Own o → ⊥)
-      → All (λ act. act.later.uses port 0 ≡ Own o → ⊥) acts → AreDone acts k m later → SendsNone port o k.device later.device
+      → All (λ act. act.later.uses port 0 ≡ Own o → ⊥) acts → AreActsDone acts k m later → SendsNone port o k.device later.device
 
 pub performs : (port : Port) (slot : ℕ) (r : Task) (frames : List Frame) (mode : QueueMode) (e : Pending) (old new : Device) → (i : IssuesTask port slot r frames old new)
     → IsTaskOf port slot r frames mode e
@@ -72,11 +72,11 @@ module _ (laws : Laws) (port : Port) (slot : ℕ) (r : Task) (frames : List Fram
   later : DriverState
   later = at_slots (with_serving port slot e.request.id s) new
 
-  x : Comes i.driven.accesses (at_slots s old) m later (IssuesAtEnd port slot mode e s.uses)
+  x : ActsReach i.driven.accesses (at_slots s old) m later (IssuesAtEnd port slot mode e s.uses)
   unfolding later
   x = i.comes mode e is s m reached knows fits
 
-  g : Goes (at_slots s old) m (act_steps x.acts) later
+  g : DriverAdvances (at_slots s old) m (act_steps x.acts) later
   g = laws.goes x.acts (at_slots s old) later m knows x.done
 
   pub ends : EndsWith (at_slots s old) m (Issue mode e) (at_slots (with_serving port slot e.request.id s) new)

@@ -12,7 +12,7 @@ use Rattle.block_machine.specs.Events.{AllDevices}
 use Rattle.block_machine.specs.Left.{after}
 use Rattle.block_machine.specs.State.{Machine}
 use Rattle.block_machine.specs.Steps.{NoneKept}
-use Rattle.refinement.specs.Acts.{Act, InSlots, ComesWith, act_steps}
+use Rattle.refinement.specs.Acts.{Act, InSlots, ActsReachWith, act_steps}
 use Rattle.refinement.specs.Driven.{IsDrivenBy}
 use Rattle.refinement.specs.Facts.{EndedIn}
 use Rattle.refinement.specs.Slots.{Serves, IsOver}
@@ -45,7 +45,7 @@ pub record ReadsDone (port : Port) (mask done : ℕ) (old new : Device) : Type 0
   pub driven : IsDrivenBy (IsFinding port) old new
   pub reads : driven.accesses ≡ Reading (Px port Ci) issued ∷ Reading (Px port Sact) active ∷ []
   pub tells : AreClear mask issued active done
-  pub comes : ComesWith driven.accesses (λ s m. Unit {0}) (λ s. s) (FindsEnds port done old new) old new
+  pub comes : ActsReachWith driven.accesses (λ s m. Unit {0}) (λ s. s) (FindsEnds port done old new) old new
 
 -- a slot of the mask whose bits were clear when the call began is done
 abbrev pub SeesClear : Port → ℕ → ℕ → Device → Type 0

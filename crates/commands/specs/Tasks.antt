@@ -23,7 +23,7 @@ use Rattle.block_machine.specs.Events.{AllDevices}
 use Rattle.block_machine.specs.State.{Pending, Machine}
 use Rattle.block_machine.specs.Steps.{Step, Issue, May}
 use Rattle.block_machine.specs.declared.due.QueueMode.{QueueMode}
-use Rattle.refinement.specs.Acts.{Act, InSlots, ComesWith, act_steps}
+use Rattle.refinement.specs.Acts.{Act, InSlots, ActsReachWith, act_steps}
 use Rattle.refinement.specs.Driven.{IsBitOf, IsDrivenBy}
 use Rattle.refinement.specs.Places.{list_of, scratch_of}
 use Rattle.refinement.specs.Slots.{SlotState, Free, Armed, Serves, SlotStates, put}
@@ -162,5 +162,5 @@ pub record IssuesTask (port : Port) (slot : ℕ) (r : Task) (frames : List Frame
   pub driven : IsDrivenBy (IsIssuing port slot) old new
   pub order : StoresThenWrites port slot r driven.accesses
   pub comes : (mode : QueueMode) (e : Pending) → IsTaskOf port slot r frames mode e
-      → ComesWith driven.accesses (MayServe port slot mode e) (with_serving port slot e.request.id)
+      → ActsReachWith driven.accesses (MayServe port slot mode e) (with_serving port slot e.request.id)
       (λ s m. IssuesAtEnd port slot mode e s.uses) old new

@@ -85,7 +85,8 @@ impl TakenCommands {
         is_clear_from(self.filled, u32::from(slot))
     }
 
-    /// A command is taken in a slot, of which nothing was moved yet; a trim alone. No more of it is copied than there is.
+    /// A command is taken in a slot, of which nothing was moved yet; a trim alone. No more of it is copied than there
+    /// is.
     pub fn put(&mut self, slot: u8, command: &TakenCommand)
         requires slot { slot < 32 }
         requires new { command.now.block ≡ None }

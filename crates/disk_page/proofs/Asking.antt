@@ -25,7 +25,7 @@ use Rattle.adapter.specs.Seen.{SeenAt, PutAt}
 use Rattle.adapter.specs.declared.tape.Entry.{Entry}
 use Rattle.refinement.specs.Driven.{IsRelated, IsDrivenBy, IsSimulated, IsSimulatedTo, IsOf, IsSimulatedAlong, IsSimulatedAlongTo, AnyUse, NoneWrites, AnyAccess, SendsNone}
 use Rattle.refinement.specs.Driver.{IsOwnPrepared}
-use Rattle.refinement.specs.Facts.{IsClear}
+use Rattle.refinement.specs.Facts.{IsSlotClear}
 use Rattle.refinement.specs.Places.{list_of, scratch_of}
 use Rattle.refinement.specs.Slots.{Free, Own, SlotStates, put as used, SlotDecodesTo, IsOver, op_of, Brought}
 use Rattle.command_table.specs.Places.{places_of}
@@ -36,7 +36,7 @@ use Rattle.disk_page.specs.declared.Page.{Page}
 use Rattle.disk_page.specs.declared.Page.TheVariants.{Identity, Errors}
 use Rattle.disk_page.specs.Laws.{Laws}
 use Rattle.std.proofs.lemmas.List.Elements.{All-nil, All-cons, All-append, All-weaker}
-use Rattle.disk_page.specs.Laws.Fragment.{Asking, Awaiting, Storing as Stored}
+use Rattle.disk_page.specs.Laws.AccessKind.{Asking, Awaiting, Storing as Stored}
 use Rattle.refinement.specs.Links.{SameAdapter}
 use Rattle.std.proofs.lemmas.Nat.Bits.{bit_at_ones_above}
 
@@ -66,7 +66,7 @@ pub record IsFoundOver (port : Port) (start d : Device) : Type 0 where
   pub on : IsOn d
   pub followed : IsSimulated (IsAsking port) AnyUse start d
   pub waiting : (o : Operation) (since : ℕ) (uses : SlotStates) (begun : Device) → IsPageAwaited port o since uses begun start → IsPageAwaited port o since uses begun d
-  pub over : (o : Operation) (since : ℕ) (uses : SlotStates) (begun : Device) → IsPageAwaited port o since uses begun start → IsClear (d.port port.0) 0
+  pub over : (o : Operation) (since : ℕ) (uses : SlotStates) (begun : Device) → IsPageAwaited port o since uses begun start → IsSlotClear (d.port port.0) 0
 
 abbrev next : Port → Port
 next port = record { 0 = port.0 + 1 }
@@ -351,7 +351,7 @@ module _ (laws : Laws) where
         }
 
     -- or it finds the command over
-    reads_over : bit v 0 ≡ false → (o : Operation) (since : ℕ) (uses : SlotStates) (begun : Device) → IsPageAwaited port o since uses begun d → IsClear (e.port port.0) 0
+    reads_over : bit v 0 ≡ false → (o : Operation) (since : ℕ) (uses : SlotStates) (begun : Device) → IsPageAwaited port o since uses begun d → IsSlotClear (e.port port.0) 0
     reads_over clear o since uses begun w =
         let a = w.agreed in
         (laws.page_is_found uses a.machine port o since v d e a.reached a.knows.agrees w.awaits call clear).0.clear
@@ -420,7 +420,7 @@ module _ (laws : Laws) where
     same,
   )
 
-  module _ (port : Port) (o : Operation) (since : ℕ) (uses : SlotStates) (begun old : Device) (below : port.0 < 4) (w : IsPageAwaited port o since uses begun old) (clear : IsClear (old.port port.0) 0) where
+  module _ (port : Port) (o : Operation) (since : ℕ) (uses : SlotStates) (begun old : Device) (below : port.0 < 4) (w : IsPageAwaited port o since uses begun old) (clear : IsSlotClear (old.port port.0) 0) where
     pub page_free : IsStable (IsUnowned (scratch_of port.0) 512) old
     page_free =
         let a = w.agreed in
@@ -431,7 +431,7 @@ module _ (laws : Laws) where
       pub load_on : IsOn new
       load_on = laws.access_on (Loading (scratch_of port.0) bytes) old new w.on (λ v e. absurd cc) call
 
-      pub load_clear : IsClear (new.port port.0) 0
+      pub load_clear : IsSlotClear (new.port port.0) 0
       load_clear = laws.access_clear port 0 (Loading (scratch_of port.0) bytes) old new (λ v e. absurd cc) (λ v e. absurd cc) call clear
 
       pub load_followed : IsSimulated (IsAsking port) AnyUse old new

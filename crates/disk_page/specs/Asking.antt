@@ -16,7 +16,7 @@ use Rattle.adapter.specs.declared.command.Operation.{Operation}
 use Rattle.adapter.specs.declared.command.Operation.TheVariants.{Identify, ReadLog}
 use Rattle.refinement.specs.Driven.{RelatesWith, IsRelated, IsSimulated, IsSimulatedAlongTo, SendsNone}
 use Rattle.refinement.specs.Driver.{AllFree}
-use Rattle.refinement.specs.Facts.{IsClear, IsRecorded}
+use Rattle.refinement.specs.Facts.{IsSlotClear, IsRecorded}
 use Rattle.refinement.specs.Places.{list_of, scratch_of}
 use Rattle.refinement.specs.Slots.{Own, SlotStates, op_of, put, Brought}
 use Rattle.command_table.specs.Written.{IsTableStore, IsUnused}
@@ -98,7 +98,7 @@ pub record WaitsInVain (port : Port) (accesses : List Access) : Type 0 where
 pub record BringsLastPage (port : ℕ) (o : Operation) (since : ℕ) (bytes : List ℕ) (d : Device) : Type 0 where
   pub brought : Brought d.memory d.tape port o since
   pub same : bytes ≡ brought.move.bytes.value
-  pub clear : IsClear (d.port port) 0
+  pub clear : IsSlotClear (d.port port) 0
 
 -- The page came: slot 0 isn't used any more. Or 64 readings of PxCI showed its bit, as the accesses tell: then the
 -- command may be in slot 0 still.

@@ -12,7 +12,7 @@ use Rattle.hba_regs.specs.declared.reg.PortReg.TheVariants.{Ci, Sact}
 use Rattle.refinement.specs.Started.{ClearsNoStart}
 use Rattle.adapter.specs.Device.{Device, DevicePort}
 use Rattle.adapter.specs.declared.tape.Entry.{Entry}
-use Rattle.refinement.specs.Facts.{FindsOwnPage, IsClear, IsRecorded}
+use Rattle.refinement.specs.Facts.{FindsOwnPage, IsSlotClear, IsRecorded}
 use Rattle.hba_regs.specs.declared.reg.Reg.TheVariants.{Ghc, Px}
 use Rattle.adapter.specs.Rules.{HasPort, IsUnowned, IsOn, MayWrite, IsStable}
 use Rattle.disk_page.specs.Asking.{IsAsking}
@@ -35,17 +35,17 @@ use Rattle.refinement.specs.Places.{scratch_of}
 
 -- A page is asked for in slot 0, which isn't used; or it is awaited and loaded, whatever the slots are used for; or
 -- header and table of slot 0 are stored first.
-pub data Fragment : Type 0 where
-  Asking : Port → Fragment
-  Awaiting : Port → Fragment
-  Storing : Port → Fragment
+pub data AccessKind : Type 0 where
+  Asking : Port → AccessKind
+  Awaiting : Port → AccessKind
+  Storing : Port → AccessKind
 
-abbrev pub may_of : Fragment → Access → Type 0
+abbrev pub may_of : AccessKind → Access → Type 0
 may_of (Asking port) = IsAsking port
 may_of (Awaiting port) = IsAsking port
 may_of (Storing port) = IsTableStore port.0 0
 
-abbrev pub fits_of : Fragment → SlotStates → Type 0
+abbrev pub fits_of : AccessKind → SlotStates → Type 0
 fits_of (Asking port) = IsUnused port.0 0
 fits_of (Awaiting port) = AnyUse
 fits_of (Storing port) = IsUnused port.0 0
@@ -67,7 +67,7 @@ pub record Laws : Type 0 where
   pub access_clear : (port : Port) (slot : ℕ) (access : Access) (old new : Device)
       → ((v : ℕ) → access ≡ Writing (Px port Ci) v → bit v slot ≡ false)
       → ((v : ℕ) → access ≡ Writing (Px port Sact) v → bit v slot ≡ false) → Does access old new
-      → IsClear (old.port port.0) slot → IsClear (new.port port.0) slot
+      → IsSlotClear (old.port port.0) slot → IsSlotClear (new.port port.0) slot
   pub steps_recorded : (port : ℕ) (old new : Device) → Steps old new → IsRecorded old.tape (old.port port) port
       → IsRecorded new.tape (new.port port) port
   pub reads_recorded : (port : ℕ) (r : Reg) (v : ℕ) (old new : Device) → Reads r v old new
@@ -125,4 +125,4 @@ pub record Laws : Type 0 where
       → (other_port ≡ port → other_slot ≡ slot → ⊥) → put uses port slot u other_port other_slot ≡ uses other_port
       other_slot
   -- this crate's kinds of accesses
-  pub fragments : FragmentLaws Fragment may_of fits_of
+  pub fragments : FragmentLaws AccessKind may_of fits_of

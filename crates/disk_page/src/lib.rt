@@ -11,7 +11,7 @@ ghost use Rattle.adapter.specs.Device.{Device};
 ghost use Rattle.adapter.specs.Rules.{IsOn, HasPort};
 ghost use Rattle.adapter.specs.declared.command.Operation.{Operation};
 ghost use Rattle.refinement.specs.Driven.{AnyUse, IsSimulated, IsSimulatedAlong};
-ghost use Rattle.refinement.specs.Facts.{IsClear};
+ghost use Rattle.refinement.specs.Facts.{IsSlotClear};
 ghost use Rattle.refinement.specs.Slots.{SlotStates};
 ghost use Rattle.disk_page.specs.Asking.{AreInVain, GetsPage, IsAsking, MayAwaitPage, MayGetPage, page_operation};
 ghost use Rattle.disk_page.specs.Waiting.{AsksForPage, IsPageAwaited};
@@ -85,7 +85,7 @@ fn wait<A: Adapter>(adapter: &mut A, port: Port) -> bool
         → IsPageAwaited port o since uses start (A.device adapter.new) }
     ensures over { result ≡ true → (o : Operation) (since : ℕ) (uses : SlotStates) (start : Device)
         → IsPageAwaited port o since uses start (A.device adapter.old)
-        → IsClear ((A.device adapter.new).port port.0) 0 }
+        → IsSlotClear ((A.device adapter.new).port port.0) 0 }
     ensures vain { result ≡ false
         → (((A.device adapter.new).port port.0).notes.command_count ≡ MOST_READINGS)
         × IsSimulatedAlong (AreInVain port MOST_READINGS) (IsAsking port) AnyUse (A.device adapter.old)

@@ -21,7 +21,7 @@ use Rattle.block_machine.specs.State.{Machine}
 use Rattle.block_machine.specs.Steps.{Step}
 use Rattle.identify.specs.declared.wanted.Wanted.{Wanted}
 use Rattle.driver_history.specs.Heeding.{IsDisturbed, IsLeftAlone, ServesReady, HeedsAt}
-use Rattle.driver_history.specs.Claims.{IsCalmlyTold, IsSpared}
+use Rattle.driver_history.specs.Claims.{IsFaultFreeOutcome, IsSpared}
 use Rattle.driver_history.specs.Evidence.{Gains, HasErrors, HasFatalErrors, IsEvidencedOf, IsGone, ShowsFailure, StaysHealthy}
 use Rattle.error_recovery.specs.Evidence.{GainsRunning, ShowsFatal}
 use Rattle.driver_history.specs.Histories.{LosesNoPortError, CallCorresponds}
@@ -159,7 +159,7 @@ module _ (told : EntryIsTold) (wanted : List Wanted) (old : JointState Device) (
     pub spared : IsSpared old h t.accesses port
     spared = record {
       same = alone.same;
-      told = λ e o here at. subst (λ (ask : Ask DeviceStep). IsCalmlyTold ask o) (sym asks) (⊎_elim (λ x. x) (λ x. x) (alone.told e o here at));
+      told = λ e o here at. subst (λ (ask : Ask DeviceStep). IsFaultFreeOutcome ask o) (sym asks) (⊎_elim (λ x. x) (λ x. x) (alone.told e o here at));
       engine = ⊎_elim (λ a. a) (λ i. absurd (alone.uninterrupted i)) ev.stopped_all;
     }
 

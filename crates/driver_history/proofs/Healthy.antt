@@ -11,7 +11,7 @@ use Rattle.block_machine.specs.Ports.{Ports, Evidence, SamePort}
 use Rattle.block_machine.specs.State.{Pending}
 use Rattle.block_machine.specs.Steps.{Step, Answer}
 use Rattle.identify.specs.declared.wanted.Wanted.{Wanted}
-use Rattle.driver_history.specs.Claims.{GoesWellFor, IsCalmlyTold, IsHealthyFor, IsSpared}
+use Rattle.driver_history.specs.Claims.{GoesWellFor, IsFaultFreeOutcome, IsHealthyFor, IsSpared}
 use Rattle.driver_history.specs.Histories.{IsDriverHistory, CallCorresponds}
 use Rattle.driver_history.specs.Trace.{LeavesEngine}
 use Rattle.driver_history.proofs.Calm.{EntryIsTold, engine_left, restarts_of, spared, tick_spares}
@@ -38,7 +38,7 @@ same_port Tick said old evidence steps new port a one two three = absurd (two re
 same_port Reset said old evidence steps new port a one two three = absurd (three refl)
 same_port ask said old evidence steps new port a one two three = absurd a
 
-tells_calmly : (ask : Ask DeviceStep) (ports : Ports) (e : Pending) (o : Outcome) → IsByServer ask ports (Answer e o) → ask ≢ Service → ask ≢ Tick → ask ≢ Reset → IsCalmlyTold ask o
+tells_calmly : (ask : Ask DeviceStep) (ports : Ports) (e : Pending) (o : Outcome) → IsByServer ask ports (Answer e o) → ask ≢ Service → ask ≢ Tick → ask ≢ Reset → IsFaultFreeOutcome ask o
 tells_calmly (RevokeOf client number) ports e o s one two three = s
 tells_calmly (Submit r) ports e o s one two three = absurd s
 tells_calmly (StoreAt client frame offset bytes) ports e o s one two three = absurd s

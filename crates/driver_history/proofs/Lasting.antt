@@ -16,7 +16,7 @@ use Rattle.adapter.specs.declared.access.DeviceStep.{DeviceStep}
 use Rattle.refinement.specs.Facts.{RunsWell, Undisturbed}
 use Rattle.refinement.specs.Links.{SparesRegister}
 use Rattle.block_machine.specs.Events.{Ask, Submit, StoreAt, LoadAt, Service, Tick, Reset, RevokeOf, Device as Told, CallResult, Submitted, Stored, Loaded, Served, WasRevoked, Stepped, HasTimedOut, AbstractState}
-use Rattle.driver_history.specs.Histories.{CameBy, IssuesOn, TendsPort}
+use Rattle.driver_history.specs.Histories.{ExplainsAccesses, IssuesOn, IsPortAlive}
 use Rattle.driver_history.specs.Trace.{IsServing, LeavesEngine}
 use Rattle.port_boot.specs.States.{RunsOn}
 
@@ -66,7 +66,7 @@ module _ (port : Port) (m : AbstractState) (accesses : List Access) (old new : D
   none made same = inl (subst (λ (list : List Access). All (LeavesRunning port) list × DoesAll list old new) (sym made) (All-nil (LeavesRunning port), same))
 
   -- how the call came there, if it leaves the engine alone
-  pub came_calmly : KeepsWell → (ask : Ask DeviceStep) (said : CallResult) → CameBy m ask said accesses old new → IsNoReset ask → All (LeavesEngine port) accesses → Calm
+  pub came_calmly : KeepsWell → (ask : Ask DeviceStep) (said : CallResult) → ExplainsAccesses m ask said accesses old new → IsNoReset ask → All (LeavesEngine port) accesses → Calm
   came_calmly laws (Told step) (Stepped true) c other leaves = inr (laws.asked step old new c.1)
   came_calmly laws (Submit r) (Submitted (Ok id)) c other leaves = inl ((λ i e small. issuing_leaves port c.1.0.port _ (c.1.2 i e small)), c.0)
   came_calmly laws (RevokeOf client number) (WasRevoked (Some replies)) c other leaves = inl ((λ i e small. issuing_leaves port c.1.0.0.port _ (c.1.1 i e small)), c.0)
@@ -74,7 +74,7 @@ module _ (port : Port) (m : AbstractState) (accesses : List Access) (old new : D
       inl (subst (All (LeavesRunning port)) (sym c.1) (one_leaves port (Storing (FRAME_BYTES * frame.0 + offset) bytes) (tt, (tt, tt))), c.0)
   came_calmly laws (LoadAt client frame offset count) (Loaded (Ok bytes)) c other leaves =
       inl (subst (All (LeavesRunning port)) (sym c.1) (one_leaves port (Loading (FRAME_BYTES * frame.0 + offset) bytes) (tt, (tt, tt))), c.0)
-  came_calmly laws Service (Served replies) c other leaves = inl (serving (TendsPort m.ports) c.1 leaves, c.0)
+  came_calmly laws Service (Served replies) c other leaves = inl (serving (IsPortAlive m.ports) c.1 leaves, c.0)
   came_calmly laws Tick (Served replies) c other leaves = inl (serving (HasTimedOut m) c.1 leaves, c.0)
   came_calmly laws Reset said c other leaves = absurd (other refl)
   came_calmly laws ask said c other leaves = none c.0 c.1

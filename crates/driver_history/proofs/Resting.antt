@@ -12,7 +12,7 @@ use Rattle.ata_types.specs.declared.request.Outcome.{Outcome}
 use Rattle.ata_types.specs.declared.request.Outcome.TheVariants as outcome
 use Rattle.adapter.specs.Device.{Device}
 use Rattle.adapter.specs.declared.access.DeviceStep.{DeviceStep}
-use Rattle.block_machine.specs.Events.{Ask, Submit, StoreAt, LoadAt, Service, Tick, Reset, RevokeOf, State, Device as Told, CallResult, AbstractState, AllLawful, AllMay, Belong, Happens, IsByDevice, IsLawful, IsByServer, abstract_after}
+use Rattle.block_machine.specs.Events.{Ask, Submit, StoreAt, LoadAt, Service, Tick, Reset, RevokeOf, State, Device as Told, CallResult, AbstractState, AllLawful, AllMay, AreStepsOfCall, Happens, IsByDevice, IsLawful, IsByServer, abstract_after}
 use Rattle.block_machine.specs.Histories.{JointState, Happening}
 use Rattle.block_machine.specs.Ports.{Ports, Evidence, AreFit}
 use Rattle.block_machine.specs.State.{Pending, Machine}
@@ -55,11 +55,11 @@ lawful_of : (old : AbstractState) (evidence : Evidence) (ports : Ports) (steps :
 lawful_of old evidence ports steps l e o h =
     All-contains (λ step. (e : Pending) (o : Outcome) → step ≡ Answer e o → IsLawful old evidence ports e o) steps (Answer e o) (all_lawful old evidence ports steps l) h e o refl
 
-all_belong : (ask : Ask DeviceStep) (ports : Ports) (steps : List Step) → Belong ask ports steps → All (λ step. IsByDevice step ⊎ IsByServer ask ports step) steps
+all_belong : (ask : Ask DeviceStep) (ports : Ports) (steps : List Step) → AreStepsOfCall ask ports steps → All (λ step. IsByDevice step ⊎ IsByServer ask ports step) steps
 all_belong ask ports [] l = All-nil (λ step. IsByDevice step ⊎ IsByServer ask ports step)
 all_belong ask ports (x ∷ before) l = All-cons (λ step. IsByDevice step ⊎ IsByServer ask ports step) x before l.1 (all_belong ask ports before l.0)
 
-pub belongs_of : (ask : Ask DeviceStep) (ports : Ports) (steps : List Step) → Belong ask ports steps → (step : Step) → Contains steps step → IsByDevice step ⊎ IsByServer ask ports step
+pub belongs_of : (ask : Ask DeviceStep) (ports : Ports) (steps : List Step) → AreStepsOfCall ask ports steps → (step : Step) → Contains steps step → IsByDevice step ⊎ IsByServer ask ports step
 belongs_of ask ports steps l step h = All-contains (λ step. IsByDevice step ⊎ IsByServer ask ports step) steps step (all_belong ask ports steps l) h
 
 -- a reset tells no fault

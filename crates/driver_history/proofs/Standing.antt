@@ -16,7 +16,7 @@ use Rattle.adapter.specs.Rules.{IsStable}
 use Rattle.adapter.specs.declared.access.DeviceStep.{DeviceStep}
 use Rattle.adapter.specs.declared.tape.Entry.{Entry}
 use Rattle.refinement.specs.Relation.{StateRelation, port_at}
-use Rattle.refinement.specs.Facts.{IsStill}
+use Rattle.refinement.specs.Facts.{DeviceSparesFrame}
 use Rattle.refinement.specs.Links.{IsPlugging, PlugsNone}
 use Rattle.refinement.specs.Slots.{ServesRequest, Stage, SlotStates}
 use Rattle.block_machine.specs.Events.{Ask, Service, abstract_after}
@@ -35,10 +35,10 @@ use Rattle.driver_history.proofs.Resting.{lost_then}
 
 -- what the law on frames says
 abbrev pub UnlentIsStill : Type 0
-UnlentIsStill = (uses : SlotStates) (m : Machine) (d : Device) (frame : Frame) → IsReachable m → StateRelation uses m d → m.lent frame ≡ None → DRIVER_FRAMES ≤ frame.0 → IsStable (IsStill frame) d
+UnlentIsStill = (uses : SlotStates) (m : Machine) (d : Device) (frame : Frame) → IsReachable m → StateRelation uses m d → m.lent frame ≡ None → DRIVER_FRAMES ≤ frame.0 → IsStable (DeviceSparesFrame frame) d
 
 pub unlent_still : UnlentIsStill → RunLaws → (wanted : List Wanted) (first : JointState Device) (past : List (Happening Device DeviceStep)) (frame : Frame) → IsDriverHistory wanted first past
-    → DRIVER_FRAMES ≤ frame.0 → (now first past).abstract.machine.lent frame ≡ None → IsStable (IsStill frame) (now first past).device
+    → DRIVER_FRAMES ≤ frame.0 → (now first past).abstract.machine.lent frame ≡ None → IsStable (DeviceSparesFrame frame) (now first past).device
 unlent_still law runs wanted first past frame history low free =
     let h = holds_at wanted first past history in
     law h.0.uses (now first past).abstract.machine (now first past).device frame (history_reached runs wanted first past history) h.1.knows.agrees free low

@@ -22,7 +22,7 @@ use Rattle.block_machine.specs.Histories.{JointState}
 use Rattle.block_machine.specs.Ports.{Evidence, IsInterrupted, Ports, SamePort}
 use Rattle.error_recovery.specs.Evidence.{GainsRunning, ShowsFatal}
 use Rattle.driver_history.specs.Evidence.{Gains, ShowsChange, ShowsFailure}
-use Rattle.driver_history.specs.Histories.{BootsAnew, IsUnfitOrForeign, HasFaultAlone, IsFreshOrUnshown, LosesNoPortError, RunsWellAnew, TendsPort, ProbesDisk}
+use Rattle.driver_history.specs.Histories.{BootsAnew, IsUnfitOrForeign, HasFaultAlone, IsFreshOrUnshown, LosesNoPortError, RunsWellAnew, IsPortAlive, ProbesDisk}
 use Rattle.driver_history.specs.Laws.{Laws}
 use Rattle.driver_history.specs.Parts.{EndsLinked, HasTurnIn, IsOfOther, NamesAlike, all_of}
 use Rattle.driver_history.specs.Trace.{ResetsLink}
@@ -284,7 +284,7 @@ module _ (laws : Laws) (port : Port) where
                 g)
                 port_error;
             changes = λ tends port_error.
-                let tends_then : TendsPort begun.ports port = (was.0 ∙ tends.0, λ dead. tends.1 (sym was.1 ∙ dead)) in
+                let tends_then : IsPortAlive begun.ports port = (was.0 ∙ tends.0, λ dead. tends.1 (sym was.1 ∙ dead)) in
                 ⊎_elim
                 (λ shown. still disks (its.changes tends_then (inl (change_still port.0 old.device t.start first.trouble_shown shown))))
                 (came disks (its.changes tends_then))

@@ -19,13 +19,13 @@ use Rattle.port_control.specs.Engines.{Stops}
 use Rattle.error_recovery.specs.Evidence.{ShowsFatal}
 use Rattle.driver_history.specs.Heeding.{AreTold, tells_fault}
 use Rattle.driver_history.specs.Evidence.{IsEndedReset, IsFaultTold, IsLost, StaysHealthy}
-use Rattle.driver_history.specs.Histories.{CameBy, FindsIn, Issues, TellsPlainFaults}
+use Rattle.driver_history.specs.Histories.{ExplainsAccesses, FindsIn, Issues, TellsPlainFaults}
 use Rattle.driver_history.specs.Trace.{LeavesEngine}
 
 -- what a call may tell where nothing goes wrong: Ok; or Revoked, where it revokes a grant
-abbrev pub IsCalmlyTold : Ask DeviceStep → Outcome → Type 0
-IsCalmlyTold (RevokeOf client number) o = o ≡ outcome.Revoked
-IsCalmlyTold ask o = o ≡ outcome.Ok
+abbrev pub IsFaultFreeOutcome : Ask DeviceStep → Outcome → Type 0
+IsFaultFreeOutcome (RevokeOf client number) o = o ≡ outcome.Revoked
+IsFaultFreeOutcome ask o = o ≡ outcome.Ok
 
 -- A call that made these accesses leaves a port alone: it is what it was, what it tells there is told calmly, and
 -- neither PxCMD nor PxSCTL of it is written.
@@ -33,7 +33,7 @@ pub record IsSpared (old : JointState Device) (h : Happening Device DeviceStep) 
     (port : Port) : Type 0 where
   pub same : SamePort old.abstract.ports h.event.ports port
   pub told : (e : Pending) (o : Outcome) → Contains h.event.steps (Answer e o) → e.request.port ≡ port
-      → IsCalmlyTold h.event.ask o
+      → IsFaultFreeOutcome h.event.ask o
   pub engine : All (LeavesEngine port) accesses
 
 -- What an answer of a call that made these accesses rests on, in the device's terms. Ok: the request was issued when
@@ -68,7 +68,7 @@ pub record IsHealthyFor (old : JointState Device) (h : Happening Device DeviceSt
 -- answered exactly what they show done; and what is due is issued.
 pub record GoesWellFor (old : JointState Device) (h : Happening Device DeviceStep) (port : Port) : Type 0 where
   pub accesses : List Access
-  pub came : CameBy old.abstract h.event.ask h.event.said accesses old.device h.device
+  pub came : ExplainsAccesses old.abstract h.event.ask h.event.said accesses old.device h.device
   pub spared : IsSpared old h accesses port
   pub well : RunsWell (h.device.port port.0)
   pub finds : FindsIn h.event.ask accesses old h.event.steps port
@@ -81,7 +81,7 @@ pub record GoesWellFor (old : JointState Device) (h : Happening Device DeviceSte
 -- told a fault at most, and none where a fatal error was shown. And where TFES alone was, with no fatal error in the
 -- call, and no disk that goes or comes, a plain one that was outstanding, and hadn't ended, is told its fault, unless
 -- the port ends dead. So it isn't tried again.
-pub record HeedsFailure (port : Port) (old : JointState Device) (h : Happening Device DeviceStep) : Type 0 where
+pub record HandlesShownFailure (port : Port) (old : JointState Device) (h : Happening Device DeviceStep) : Type 0 where
   pub ended : AnswersEnded old.abstract.machine h.event.steps port
   pub stopped : IsInterrupted h.event.evidence port
   pub anew : NoneKeepsIssue h.event.steps (abstract_after old.abstract h.event).machine port
@@ -94,7 +94,7 @@ pub record HeedsFailure (port : Port) (old : JointState Device) (h : Happening D
 -- A service heeds that a port showed when it began that its disk was lost: what had ended on the port is answered Ok,
 -- and each of its other requests is answered, too, all with Unplugged, or all with PortDead. The port was stopped, or
 -- got stuck.
-pub record HeedsLoss (port : Port) (old : JointState Device) (h : Happening Device DeviceStep) : Type 0 where
+pub record HandlesShownLoss (port : Port) (old : JointState Device) (h : Happening Device DeviceStep) : Type 0 where
   pub ended : AnswersEnded old.abstract.machine h.event.steps port
   pub emptied : (e : Pending) → Contains (abstract_after old.abstract h.event).machine.book e → e.request.port ≢ port
   pub told : AreTold outcome.Unplugged h.event.steps port ⊎ AreTold outcome.PortDead h.event.steps port

@@ -11,21 +11,22 @@ use Rattle.block_machine.specs.State.{Pending}
 use Rattle.block_machine.specs.Steps.{Step, Again, Answer}
 
 -- requests wait again, are aborted, are told Revoked, or have a fault told of them, on ports that failed
-abbrev pub AllGrounded : Evidence → List Step → Type 0
-AllGrounded evidence [] = Unit {0}
-AllGrounded evidence (Again e ∷ before) = AllGrounded evidence before × Contains evidence.failed e.request.port
-AllGrounded evidence (Answer e outcome.Aborted ∷ before) = AllGrounded evidence before
+abbrev pub OnlyFailedPortsRequeue : Evidence → List Step → Type 0
+OnlyFailedPortsRequeue evidence [] = Unit {0}
+OnlyFailedPortsRequeue evidence (Again e ∷ before) = OnlyFailedPortsRequeue evidence before
     × Contains evidence.failed e.request.port
-AllGrounded evidence (Answer e outcome.Revoked ∷ before) = AllGrounded evidence before
+OnlyFailedPortsRequeue evidence (Answer e outcome.Aborted ∷ before) = OnlyFailedPortsRequeue evidence before
     × Contains evidence.failed e.request.port
-AllGrounded evidence (Answer e (outcome.DeviceError status error) ∷ before) = AllGrounded evidence before
+OnlyFailedPortsRequeue evidence (Answer e outcome.Revoked ∷ before) = OnlyFailedPortsRequeue evidence before
     × Contains evidence.failed e.request.port
-AllGrounded evidence (step ∷ before) = AllGrounded evidence before
+OnlyFailedPortsRequeue evidence (Answer e (outcome.DeviceError status error) ∷ before) =
+    OnlyFailedPortsRequeue evidence before × Contains evidence.failed e.request.port
+OnlyFailedPortsRequeue evidence (step ∷ before) = OnlyFailedPortsRequeue evidence before
 
 -- so they are in a service
-abbrev pub IsGrounded : {D : Type 0} → Ask D → Evidence → List Step → Type 0
-IsGrounded Service evidence steps = AllGrounded evidence steps
-IsGrounded ask evidence steps = Unit {0}
+abbrev pub OnlyFailedPortsRequeueIn : {D : Type 0} → Ask D → Evidence → List Step → Type 0
+OnlyFailedPortsRequeueIn Service evidence steps = OnlyFailedPortsRequeue evidence steps
+OnlyFailedPortsRequeueIn ask evidence steps = Unit {0}
 
 -- each answer to a request of the port is Ok, or this one
 abbrev pub AreTold : Outcome → List Step → Port → Type 0

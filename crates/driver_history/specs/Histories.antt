@@ -35,7 +35,7 @@ use Rattle.identify.specs.declared.wanted.Wanted.{Wanted}
 use Rattle.host_boot.specs.Resets.{AwaitsReset, BeginsReset}
 use Rattle.error_recovery.specs.Evidence.{GainsRunning, ShowsFatal}
 use Rattle.driver_history.specs.Evidence.{Gains, ShowsChange, ShowsFailure, ShowsLoss, IsEvidenced}
-use Rattle.driver_history.specs.Heeding.{HeedsAt, IsGrounded}
+use Rattle.driver_history.specs.Heeding.{HeedsAt, OnlyFailedPortsRequeueIn}
 use Rattle.driver_history.specs.Holds.{HoldsAt}
 use Rattle.driver_history.specs.Trace.{ReadsMasks, ResetsLink, IsServing, IsDriversOwn, IsOfPorts}
 
@@ -55,8 +55,8 @@ abbrev pub IsPortServed : Ports → Port → Type 0
 IsPortServed ports port = ports.served port ≡ true
 
 -- and it isn't dead
-abbrev pub TendsPort : Ports → Port → Type 0
-TendsPort ports port = IsPortServed ports port × (ports.state port ≢ Dead)
+abbrev pub IsPortAlive : Ports → Port → Type 0
+IsPortAlive ports port = IsPortServed ports port × (ports.state port ≢ Dead)
 
 -- The adapter is on, and tells of its causes (AHCI 1.3.1, 3.1.2: AE and IE).
 abbrev pub IsOnAndTells : Device → Type 0
@@ -69,27 +69,27 @@ IsOnAndTells d = IsOn d × (d.ie ≡ true)
 -- alone, a service of those that aren't dead, and a tick of those that are hung. Neither a service nor a tick writes
 -- GHC. A reset that ends leaves the adapter on; of one that doesn't, no more is seen than that (how often HR was read
 -- is the server's own contract). Each other call makes none, a refused one among them.
-abbrev pub CameBy : AbstractState → Ask DeviceStep → CallResult → List Access → Device → Device → Type 0
-CameBy now (Told step) (Stepped true) accesses old new = (accesses ≡ []) × Asked step old new
-CameBy now (Submit r) (Submitted (Ok id)) accesses old new =
+abbrev pub ExplainsAccesses : AbstractState → Ask DeviceStep → CallResult → List Access → Device → Device → Type 0
+ExplainsAccesses now (Told step) (Stepped true) accesses old new = (accesses ≡ []) × Asked step old new
+ExplainsAccesses now (Submit r) (Submitted (Ok id)) accesses old new =
     DoesAll accesses old new × ((row : GrantRow) × IsNamed now.machine.rows r row × All (IssuesOn row.port) accesses)
-CameBy now (RevokeOf client number) (WasRevoked (Some replies)) accesses old new = DoesAll accesses old new
+ExplainsAccesses now (RevokeOf client number) (WasRevoked (Some replies)) accesses old new = DoesAll accesses old new
     × ((has : HasRow client number now.machine.rows) × All (IssuesOn has.0.port) accesses
     × (now.ports.state has.0.port ≢ Ready → accesses ≡ []))
-CameBy now (StoreAt client frame offset bytes) (Stored None) accesses old new =
+ExplainsAccesses now (StoreAt client frame offset bytes) (Stored None) accesses old new =
     DoesAll accesses old new × (accesses ≡ Storing (FRAME_BYTES * frame.0 + offset) bytes ∷ [])
-CameBy now (LoadAt client frame offset count) (Loaded (Ok bytes)) accesses old new =
+ExplainsAccesses now (LoadAt client frame offset count) (Loaded (Ok bytes)) accesses old new =
     DoesAll accesses old new × (accesses ≡ Loading (FRAME_BYTES * frame.0 + offset) bytes ∷ [])
-CameBy now Service (Served replies) accesses old new = DoesAll accesses old new
-    × All (IsServing (TendsPort now.ports)) accesses
-CameBy now Tick (Served replies) accesses old new = DoesAll accesses old new
+ExplainsAccesses now Service (Served replies) accesses old new = DoesAll accesses old new
+    × All (IsServing (IsPortAlive now.ports)) accesses
+ExplainsAccesses now Tick (Served replies) accesses old new = DoesAll accesses old new
     × All (IsServing (HasTimedOut now)) accesses
-CameBy now Reset (WasReset (Some replies)) accesses old new =
+ExplainsAccesses now Reset (WasReset (Some replies)) accesses old new =
     DoesAll accesses old new × All IsDriversOwn accesses × All (IsOfPorts (IsPortServed now.ports)) accesses
     × BeginsReset accesses
     × IsOnAndTells new
-CameBy now Reset (WasReset None) accesses old new = DoesAll accesses old new × AwaitsReset accesses
-CameBy now ask said accesses old new = (accesses ≡ []) × (new ≡ old)
+ExplainsAccesses now Reset (WasReset None) accesses old new = DoesAll accesses old new × AwaitsReset accesses
+ExplainsAccesses now ask said accesses old new = (accesses ≡ []) × (new ≡ old)
 
 -- ---- what is issued
 
@@ -232,7 +232,7 @@ pub record LosesNoPortError (evidence : Evidence) (old : JointState Device) (por
       → ShowsFailure (old.device.port port.0)
       ⊎ (Gains (IsFaultOf port.0) old.device new ⊎ Gains (IsFatalOf port.0) old.device new)
       → IsInterrupted evidence port ⊎ ShowsFailure (new.port port.0)
-  pub changes : TendsPort old.abstract.ports port → ShowsChange (old.device.port port.0)
+  pub changes : IsPortAlive old.abstract.ports port → ShowsChange (old.device.port port.0)
       ⊎ Gains (IsPlugging port.0) old.device new
       → IsInterrupted evidence port ⊎ ShowsChange (new.port port.0)
   pub fault : ports.state port ≡ Ready → GainsRunning (IsFaultOf port.0) port.0 old.device new
@@ -272,10 +272,10 @@ pub record PortCorresponds (old : JointState Device) (h : Happening Device Devic
 pub record CallCorresponds (wanted : List Wanted) (old : JointState Device)
     (h : Happening Device DeviceStep) : Type 0 where
   pub accesses : List Access
-  pub came : CameBy old.abstract h.event.ask h.event.said accesses old.device h.device
+  pub came : ExplainsAccesses old.abstract h.event.ask h.event.said accesses old.device h.device
   pub backed : IsBacked old.device h.device old.abstract.machine h.event.steps
   pub evidenced : IsEvidenced h.event.ask h.event.said accesses old h.event.ports h.device h.event.evidence
-  pub grounded : IsGrounded h.event.ask h.event.evidence h.event.steps
+  pub grounded : OnlyFailedPortsRequeueIn h.event.ask h.event.evidence h.event.steps
   pub issues : (port : Port)
       → Issues h.event.ask h.event.steps (abstract_after old.abstract h.event).machine h.event.ports
       port

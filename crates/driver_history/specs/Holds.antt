@@ -65,7 +65,7 @@ pub record ServesIn (s : InSlots) (i : JointState Device) (port : Port) (slot : 
   pub serves : s.uses port.0 slot ≡ Serves e.request.id
 
 -- the command that header and table of the slot say is queued exactly if the request isn't plain
-pub record IsOfKind (mode : QueueMode) (d : Device) (port slot : ℕ) (e : Pending) : Type 0 where
+pub record IsQueuedAsAsked (mode : QueueMode) (d : Device) (port slot : ℕ) (e : Pending) : Type 0 where
   pub command : Meaning
   pub places : List ℕ
   pub told : SlotDecodesTo d.memory (d.port port).bases.clb port slot command places
@@ -78,7 +78,7 @@ pub record HasRequests (s : InSlots) (i : JointState Device) (port : Port) (mode
   pub low : (slot : ℕ) → mode.usable ≤ slot → s.uses port.0 slot ≡ Free
   pub unparked : s.parked port.0 ≡ []
   pub kinds : (slot : ℕ) (e : Pending) → ServesIn s i port slot e → e.ended ≡ false
-      → IsOfKind mode i.device port.0 slot e
+      → IsQueuedAsAsked mode i.device port.0 slot e
   pub alone : (slot : ℕ) (e : Pending) → ServesIn s i port slot e → is_plain mode e.request.asked.op ≡ true
       → (slot ≡ 0) × ((other : ℕ) → other ≢ 0 → s.uses port.0 other ≡ Free)
 

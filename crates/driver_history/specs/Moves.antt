@@ -28,10 +28,10 @@ pub record IsConfinedMove (start : Machine) (earlier steps : List Step) (op : Op
 
 -- A move by a read or a write of a client's is confined; any other, of a page or of a trim's block, goes to the scratch
 -- frame of its port or comes from there.
-abbrev pub KeepsTo : Option Op → Machine → List Step → List Step → tape_move.Move → Type 0
-KeepsTo (Some Read) start earlier steps move = IsConfinedMove start earlier steps Read move
-KeepsTo (Some Write) start earlier steps move = IsConfinedMove start earlier steps Write move
-KeepsTo other start earlier steps move = move.address ≡ scratch_of move.port.0
+abbrev pub KeepsToItsFrames : Option Op → Machine → List Step → List Step → tape_move.Move → Type 0
+KeepsToItsFrames (Some Read) start earlier steps move = IsConfinedMove start earlier steps Read move
+KeepsToItsFrames (Some Write) start earlier steps move = IsConfinedMove start earlier steps Write move
+KeepsToItsFrames other start earlier steps move = move.address ≡ scratch_of move.port.0
 
 -- Among a call's steps, which followed these earlier ones, the clear is of touches in a row. Before the first of them,
 -- its sectors are of a trim of its port that is issued or kept, within the trim's own range; and the trim was accepted,
@@ -50,5 +50,5 @@ pub record KeepsMoves (start : Machine) (earlier steps : List Step) (old new : D
   pub gained : List Entry
   pub tape : new.tape ≡ old.tape ++ gained
   pub moves : (move : tape_move.Move) → Contains gained (entry.Move move)
-      → KeepsTo (op_of move.operation) start earlier steps move
+      → KeepsToItsFrames (op_of move.operation) start earlier steps move
   pub clears : (c : tape_clear.Clear) → Contains gained (entry.Clear c) → IsConfinedClear start earlier steps c

@@ -13,7 +13,7 @@ ghost use Rattle.adapter.specs.declared.access.DeviceStep.{DeviceStep};
 ghost use Rattle.adapter.specs.declared.command.Operation.TheVariants.{ReadLog};
 ghost use Rattle.adapter.specs.declared.tape.Fault.{Fault};
 ghost use Rattle.refinement.specs.Driven.{SendsNone};
-ghost use Rattle.refinement.specs.Facts.{IsStill, RunsWell};
+ghost use Rattle.refinement.specs.Facts.{DeviceSparesFrame, RunsWell};
 ghost use Rattle.refinement.specs.Links.{PlugsNone};
 ghost use Rattle.refinement.specs.Slots.{ServesRequest};
 ghost use Rattle.block_machine.specs.Events.{Ask, AbstractState, CallResult, steps_of, Service, Tick, Reset, HasTimedOut, IsRun, EveryReadHolds, NoneKeepsIssue};
@@ -160,7 +160,7 @@ pub fn law_unlent_frames_are_still()
     ensures { (wanted : List Wanted) (first : JointState Device) (past : List (Happening Device DeviceStep))
         (frame : Frame) → IsDriverHistory wanted first past
         → DRIVER_FRAMES ≤ frame.0 → (now first past).abstract.machine.lent frame ≡ None
-        → IsStable (IsStill frame) (now first past).device }
+        → IsStable (DeviceSparesFrame frame) (now first past).device }
 {
     law_runs();
     law_frames_are_still();

@@ -17,7 +17,7 @@ ghost use Rattle.block_machine.specs.Events.{AbstractState, CallResult, Service}
 ghost use Rattle.block_machine.specs.Histories.{Happening, JointState, now};
 ghost use Rattle.block_machine.specs.Ports.{Evidence, IsInterrupted, Ports, SamePort};
 ghost use Rattle.error_recovery.specs.Evidence.{GainsRunning};
-ghost use Rattle.driver_history.specs.Claims.{HeedsFailure, HeedsLoss};
+ghost use Rattle.driver_history.specs.Claims.{HandlesShownFailure, HandlesShownLoss};
 ghost use Rattle.driver_history.specs.Evidence.{ShowsChange, ShowsFailure, ShowsLoss};
 ghost use Rattle.driver_history.specs.Histories.{BootsAnew, IsUnfitOrForeign, HasFaultAlone, IsDriverHistory, LosesNoPortError, RunsWellAnew, ProbesDisk};
 ghost use Rattle.driver_history.specs.Parts.{EndsLinked, HasTurnIn, NamesAlike, all_of};
@@ -36,7 +36,7 @@ pub fn law_shown_faults_are_heeded()
         (h : Happening Device DeviceStep)
         (port : Port) → IsDriverHistory wanted first (h ∷ past) → h.event.ask ≡ Service
         → (now first past).abstract.ports.state port ≡ Ready
-        → ShowsFailure ((now first past).device.port port.0) → HeedsFailure port (now first past) h }
+        → ShowsFailure ((now first past).device.port port.0) → HandlesShownFailure port (now first past) h }
 {}
 
 /// A service heeds that a ready port showed a change of its link when it began, or no device, with no disk that comes
@@ -47,7 +47,7 @@ pub fn law_shown_losses_are_heeded()
         (h : Happening Device DeviceStep)
         (port : Port) → IsDriverHistory wanted first (h ∷ past) → h.event.ask ≡ Service
         → (now first past).abstract.ports.state port ≡ Ready
-        → ShowsLoss port (now first past).device h.device → HeedsLoss port (now first past) h }
+        → ShowsLoss port (now first past).device h.device → HandlesShownLoss port (now first past) h }
 {}
 
 /// Accesses that leave the adapter on, and clear no bit that tells of a port's trouble, lose none of it; nor does the

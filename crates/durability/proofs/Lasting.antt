@@ -10,7 +10,7 @@ use Rattle.block_machine.specs.State.{Block, DiskBytes, Accepted, Pending, Machi
 use Rattle.block_machine.specs.Due.{is_flush, is_writer}
 use Rattle.block_machine.specs.Steps.{Step, Accept, Issue, Touch, End, Age, Again, Answer, Release, Revoke, Unplug, Replace, Store, Load, May, MayStillMove, after_step, at, newly_issued, touch, mark_ended, requeued, older, newly_accepted, put_sector, SameBytes, HasHeld}
 use Rattle.block_machine.specs.Left.{after, IsLegal, IsInitial, IsAccept, IsTouch, HasTouched, plug_count}
-use Rattle.durability.specs.Durable.{IsOk, takes_out, brings_other, WriteAccepted, WriteAnswered, FlushAccepted, FlushAnswered, IsSince, FindsFlushed, EveryPlugFinds}
+use Rattle.durability.specs.Durable.{IsOk, takes_out, brings_other, WriteAccepted, WriteAnswered, FlushAccepted, FlushAnswered, IsWrittenSince, FindsFlushed, EveryPlugFinds}
 use Rattle.block_machine.proofs.Members.{map_in, at_cases, without_in, append_in}
 use Rattle.block_machine.proofs.Sound.{Sound}
 use Rattle.block_machine.proofs.Keeps.{older_keeps, older_touched}
@@ -154,17 +154,17 @@ stays_in m Release port may out here = here
 stays_in m (Store client frame offset bytes) port may out here = here
 stays_in m (Load client frame offset bytes) port may out here = here
 
-since_more : (w : Accepted) (k : ℕ) (step : Step) (h : List Step) (block : Block) → IsSince w k h block → IsSince w k (step ∷ h) block
+since_more : (w : Accepted) (k : ℕ) (step : Step) (h : List Step) (block : Block) → IsWrittenSince w k h block → IsWrittenSince w k (step ∷ h) block
 since_more w k step h block s = record { writer = s.writer; writes = s.writes; here = s.here; later = s.later; disk = s.disk; touched = inr s.touched; is = s.is }
 
-since_bytes : (w : Accepted) (k : ℕ) (h : List Step) (a b : Block) → SameBytes a b → IsSince w k h b → IsSince w k h a
+since_bytes : (w : Accepted) (k : ℕ) (h : List Step) (a b : Block) → SameBytes a b → IsWrittenSince w k h b → IsWrittenSince w k h a
 since_bytes w k h a b e s = record { writer = s.writer; writes = s.writes; here = s.here; later = s.later; disk = s.disk; touched = s.touched; is = λ x lt. e x lt ∙ s.is x lt }
 
-since_same : (w : Accepted) (k : ℕ) (h : List Step) (a b : Block) → a ≡ b → IsSince w k h b → IsSince w k h a
+since_same : (w : Accepted) (k : ℕ) (h : List Step) (a b : Block) → a ≡ b → IsWrittenSince w k h b → IsWrittenSince w k h a
 since_same w k h a b e s = since_bytes w k h a b (λ x lt. ap (λ (c : Block). c x) e) s
 
 -- a writer's touch after w's is of w or a later request
-since_written : (m : Machine) (step : Step) (h : List Step) (w : Accepted) (k : ℕ) → Seen m w k → is_writer w.asked.op ≡ true → (t : IsWritten m step w.port k) → IsSince w k (step ∷ h) ((after_step m step).disks w.port k)
+since_written : (m : Machine) (step : Step) (h : List Step) (w : Accepted) (k : ℕ) → Seen m w k → is_writer w.asked.op ≡ true → (t : IsWritten m step w.port k) → IsWrittenSince w k (step ∷ h) ((after_step m step).disks w.port k)
 since_written m step h w k seen writes t = record {
   writer = t.entry.request;
   writes = t.writes;
@@ -184,7 +184,7 @@ record Stage (start : Machine) (h : List Step) (w : Accepted) (k : ℕ) : Type 0
   inside : k < (after start h).sizes w.port
   disk : ℕ
   touched : HasTouched w k disk h
-  since : IsSince w k h ((after start h).disks w.port k)
+  since : IsWrittenSince w k h ((after start h).disks w.port k)
 
 -- the disk keeps its size, unless another comes
 sizes_stay : (m : Machine) (step : Step) (port : Port) → May m step → brings_other m port step ≡ false → (after_step m step).sizes port ≡ m.sizes port
@@ -364,7 +364,7 @@ record Lasts (start : Machine) (h : List Step) (w : Accepted) (k : ℕ) : Type 0
   inside : k < (after start h).sizes w.port
   disk : ℕ
   touched : HasTouched w k disk h
-  since : (block : Block) → HeldSince start w.port k block h → IsSince w k h block
+  since : (block : Block) → HeldSince start w.port k block h → IsWrittenSince w k h block
 
 pub held_now : (start : Machine) (port : Port) (k : ℕ) (h : List Step) → HeldSince start port k ((after start h).disks port k) h
 held_now start port k [] = inl (λ b lt. refl)
@@ -395,7 +395,7 @@ lasts_step start step past w k s legal writes back other g = record {
       held;
 }
   where
-    current : IsSince w k (step ∷ past) ((after start (step ∷ past)).disks w.port k)
+    current : IsWrittenSince w k (step ∷ past) ((after start (step ∷ past)).disks w.port k)
     current = ⊎_elim
         (λ (idle : IsIdle (after start past) step w.port k). since_same w k (step ∷ past) _ _ idle.same (since_more w k step past _ (g.since _ (held_now start w.port k past))))
         (λ (x : IsWritten (after start past) step w.port k ⊎ IsReplaced (after start past) step w.port). ⊎_elim

@@ -58,7 +58,7 @@ pub record IsFlushed (start : Machine) (w flush : Accepted) (history : List Step
 -- The block is what w, or a write or trim of its port accepted later, put on sector k of the disk that was in,
 -- whichever it was. (The law is on flushed writes and trims. Since such a one was accepted one disk alone was in at its
 -- port, maybe several times.)
-pub record IsSince (w : Accepted) (k : ℕ) (history : List Step) (block : Block) : Type 0 where
+pub record IsWrittenSince (w : Accepted) (k : ℕ) (history : List Step) (block : Block) : Type 0 where
   pub writer : Accepted
   pub writes : is_writer writer.asked.op ≡ true
   pub here : writer.port ≡ w.port
@@ -68,13 +68,14 @@ pub record IsSince (w : Accepted) (k : ℕ) (history : List Step) (block : Block
   pub is : SameBytes block (written_by writer.asked.op writer.held (k - writer.asked.first.0))
 
 -- each sector of the write or trim has, on this disk, what it put there, or what one accepted later did
-abbrev pub HasWrite : Accepted → List Step → DiskBytes → Type 0
-HasWrite w history disk = (i : ℕ) → i < w.asked.count → IsSince w (sector_of w i) history (disk (sector_of w i))
+abbrev pub HoldsWrite : Accepted → List Step → DiskBytes → Type 0
+HoldsWrite w history disk = (i : ℕ) → i < w.asked.count
+    → IsWrittenSince w (sector_of w i) history (disk (sector_of w i))
 
 -- a disk that comes back with this step has the writes and trims that were flushed
 abbrev pub FindsFlushed : Machine → List Step → Step → Type 0
 FindsFlushed start past (Replace port id size disk) = id ≡ (after start past).disk_ids port
-    → (w flush : Accepted) → w.port ≡ port → IsFlushed start w flush past → HasWrite w past disk
+    → (w flush : Accepted) → w.port ≡ port → IsFlushed start w flush past → HoldsWrite w past disk
 FindsFlushed start past _ = Unit {0}
 
 -- so it is with each step of the history

@@ -22,12 +22,12 @@ use Rattle.refinement.specs.Links.{SparesRegister}
 use Rattle.refinement.specs.Slots.{Free, Serves, SlotState, SlotStates, put}
 use Rattle.refinement.specs.Witness.{FirstIsKnown, first_id, first_uses}
 use Rattle.port_control.specs.Engines.{Stops}
-use Rattle.port_control.specs.Ports.{PortStops, IsStopped, WritesCommand}
+use Rattle.port_control.specs.Ports.{PortStops, IsStopped, IsCommandRegister}
 use Rattle.error_recovery.specs.Evidence.{ShowsFatal}
-use Rattle.error_recovery.specs.Laws.{Laws, Fragment}
-use Rattle.error_recovery.specs.Laws.Fitting.{AnyUses}
+use Rattle.error_recovery.specs.Laws.{Laws, AccessKind}
+use Rattle.error_recovery.specs.Laws.SlotCondition.{AnyUses}
 use Rattle.error_recovery.specs.Laws.RegisterSet.{Commanding}
-use Rattle.error_recovery.specs.Laws.Fragment.{Controlling}
+use Rattle.error_recovery.specs.Laws.AccessKind.{Controlling}
 use Rattle.error_recovery.specs.Witness.{MayBeGivenUp}
 use Rattle.error_recovery.proofs.GivingUp.{gives_up_stopped}
 use Rattle.error_recovery.proofs.Stretching.{told_both}
@@ -112,9 +112,9 @@ module _ (laws : Laws)
     may_stop = permits (port_at 0) 0xc011 0xc010 commanded is_on (omega arith, refl) noted_so.0 (subst (λ (fre : Bool). IsWrittenBack false fre 0xc011 0xc010) (sym noted_so.1) written_back)
 
     abbrev Commands : List Access → Device → Device → Type 0
-    Commands accesses old new = IsSimulatedAlong (λ made. made ≡ accesses) (IsControl WritesCommand (port_at 0)) AnyUse old new
+    Commands accesses old new = IsSimulatedAlong (λ made. made ≡ accesses) (IsControl IsCommandRegister (port_at 0)) AnyUse old new
 
-    abbrev kind : Fragment
+    abbrev kind : AccessKind
     kind = Controlling Commanding AnyUses (port_at 0)
 
     found : Commands (Reading (Px (port_at 0) Cmd) 0xc011 ∷ []) seen commanded

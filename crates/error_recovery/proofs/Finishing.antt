@@ -22,7 +22,7 @@ use Rattle.command_table.specs.Written.{IsUnused}
 use Rattle.identify.specs.Log.{TellsNoError}
 use Rattle.identify.specs.declared.error_log.FailedSlot.{FailedSlot}
 use Rattle.port_control.specs.Engines.{FailsToStop, Sticks, Stops}
-use Rattle.port_control.specs.Ports.{FailsToStopPort, PortStops, HasStopped, WritesCommand}
+use Rattle.port_control.specs.Ports.{FailsToStopPort, PortStops, HasStopped, IsCommandRegister}
 use Rattle.port_control.specs.declared.Running as running_token
 use Rattle.port_control.specs.declared.Stopped as stopped_token
 use Rattle.error_recovery.specs.Evidence.{BringsLog}
@@ -30,11 +30,11 @@ use Rattle.error_recovery.specs.declared.Next.{Next}
 use Rattle.error_recovery.specs.declared.Next.TheVariants.{Running, Restart, Dead}
 use Rattle.error_recovery.specs.declared.Recovered as recovered
 use Rattle.error_recovery.specs.Laws.{Laws}
-use Rattle.error_recovery.specs.Laws.Fitting.{AnyUses, PortUnused}
+use Rattle.error_recovery.specs.Laws.SlotCondition.{AnyUses, PortUnused}
 use Rattle.error_recovery.specs.Laws.RegisterSet.{ButIssued, Commanding}
-use Rattle.error_recovery.specs.Laws.Fragment.{Asking, Controlling, Recovering}
-use Rattle.error_recovery.specs.Parts.{StopGetsStuck, StartsAgain, HasDriverMemory, MayGoOn, ReadsLog, Resumes}
-use Rattle.error_recovery.specs.Recovery.{EndsIn, IsRecovering, LeavesRecovery, LeavesSlots, MayRecover, RecoversOrStops, NamesForeign, Parts, Recovers, Rests, WaitsAnew}
+use Rattle.error_recovery.specs.Laws.AccessKind.{Asking, Controlling, Recovering}
+use Rattle.error_recovery.specs.Parts.{StopGetsStuck, StartsAgain, HasDriverMemory, MayStartAgain, ReadsLog, IsQuietedForRecovery}
+use Rattle.error_recovery.specs.Recovery.{EndsAsNext, IsRecovering, LeavesRecovery, LeavesSlots, MayRecover, RecoversOrStops, NamesUnknownSlot, Parts, Recovers, Rests, WaitsAnew}
 use Rattle.error_recovery.proofs.Going.{Asks, Goes, asks_over, goes_over}
 use Rattle.error_recovery.proofs.Quieting.{commands_silent, starting_silent}
 use Rattle.error_recovery.proofs.Resting.{IsTold, brings_log}
@@ -67,17 +67,17 @@ is_named outstanding None none set = absurd (true≢false (sym set ∙ none))
 is_named outstanding (Some f) none set = λ e. absurd cc
 
 -- ST may be set
-pub may_go_on : (port : Port) (outstanding : ℕ) (queued : Bool) (before after : ℕ) (old d : Device) → Resumes port outstanding queued before after old d → bit after 7 || bit after 3 ≡ false → MayGoOn port.0 d
+pub may_go_on : (port : Port) (outstanding : ℕ) (queued : Bool) (before after : ℕ) (old d : Device) → IsQuietedForRecovery port outstanding queued before after old d → bit after 7 || bit after 3 ≡ false → MayStartAgain port.0 d
 may_go_on port outstanding queued before after old d r idle =
     let q = r.quiets in
     record { room = q.room; receives = q.receives; linked = q.linked; idle = ap (λ (v : ℕ). bit v 7 || bit v 3) q.file ∙ idle; quiet = q.quiet; agreed = q.agreed }
 
 -- of what a call is asked, so it goes on
-pub resumes_at : (port at : Port) (outstanding : ℕ) (queued is : Bool) (before after : ℕ) (old d : Device) → at ≡ port → queued ≡ is → Resumes port outstanding queued before after old d →
-    Resumes at outstanding is before after old d
+pub resumes_at : (port at : Port) (outstanding : ℕ) (queued is : Bool) (before after : ℕ) (old d : Device) → at ≡ port → queued ≡ is → IsQuietedForRecovery port outstanding queued before after old d →
+    IsQuietedForRecovery at outstanding is before after old d
 resumes_at port at outstanding queued is before after old d names same r =
-    let P : Port → Type 0 = λ p. Resumes p outstanding is before after old d in
-    subst P (sym names) (subst (λ (q : Bool). Resumes port outstanding q before after old d) same r)
+    let P : Port → Type 0 = λ p. IsQuietedForRecovery p outstanding is before after old d in
+    subst P (sym names) (subst (λ (q : Bool). IsQuietedForRecovery port outstanding q before after old d) same r)
 
 pub recovers_at : (port at : Port) (outstanding : ℕ) (queued is : Bool) (result : recovered.Recovered) (old new : Device) → at ≡ port → queued ≡ is → Recovers at outstanding is result old new →
     Recovers port outstanding queued result old new
@@ -126,12 +126,12 @@ module _ (laws : Laws) where
     tells = record { named = λ token is run. absurd cc; told = λ is set alive. absurd (alive refl); restarts = λ token run. absurd cc };
   }
 
-  module _ (port : Port) (outstanding : ℕ) (queued : Bool) (before after : ℕ) (old d : Device) (r : Resumes port outstanding queued before after old d) where
+  module _ (port : Port) (outstanding : ℕ) (queued : Bool) (before after : ℕ) (old d : Device) (r : IsQuietedForRecovery port outstanding queued before after old d) where
     went : Goes port old d
     went = goes laws port outstanding queued before after old d r (λ uses. uses) d (quieted laws port outstanding queued before after old d r)
 
     -- what a recovery leaves, however it ends
-    leaves : (next : Next) (new : Device) → Goes port old new → EndsIn queued port next old new → (RelatesWith (λ uses. uses port.0 0 ≡ Own Identify → ⊥) old → SendsNone port.0 Identify old new) →
+    leaves : (next : Next) (new : Device) → Goes port old new → EndsAsNext queued port next old new → (RelatesWith (λ uses. uses port.0 0 ≡ Own Identify → ⊥) old → SendsNone port.0 Identify old new) →
         ((q : Port) (o : Operation) → q.0 ≢ port.0 → op_of o ≡ None → RelatesWith (λ uses. uses q.0 0 ≡ Own o → ⊥) old → SendsNone q.0 o old new) → LeavesRecovery port queued next old new
     leaves next new w ends silent others = record { ends = ends; det = w.det; written = w.written; enabled = w.enabled; silent = silent; others = others }
 
@@ -281,15 +281,15 @@ module _ (laws : Laws) where
           page_free a = let g = s.agreed in (g.0, g.1, laws.fragments.agreed (Asking port) (λ uses. uses) g.0 start log (g.1 0) a g.2)
 
           -- no page of IDENTIFY DEVICE comes meanwhile
-          stop_silent : (uses : SlotStates) → IsRelated uses log → (uses port.0 0 ≡ Own Identify → ⊥) → IsSimulated (IsControl WritesCommand port) AnyUse log new →
+          stop_silent : (uses : SlotStates) → IsRelated uses log → (uses port.0 0 ≡ Own Identify → ⊥) → IsSimulated (IsControl IsCommandRegister port) AnyUse log new →
               RelatesWith (λ uses. uses port.0 0 ≡ Own Identify → ⊥) old → SendsNone port.0 Identify old new
           stop_silent uses agreed none a o = laws.silent_more port.0 Identify old log new (silent_now o) (commands_silent laws port uses log new a agreed none)
 
-          page_silent : IsSimulated (IsAsking port) (IsUnused port.0 0) start log → IsSimulated (IsControl WritesCommand port) AnyUse log new →
+          page_silent : IsSimulated (IsAsking port) (IsUnused port.0 0) start log → IsSimulated (IsControl IsCommandRegister port) AnyUse log new →
               RelatesWith (λ uses. uses port.0 0 ≡ Own Identify → ⊥) old → SendsNone port.0 Identify old new
           page_silent a c = let g = page_free a in stop_silent g.0 g.2 (λ own. let e : Free ≡ Own Identify = sym (g.1 0) ∙ own in absurd cc) c
 
-          vain_silent : IsSimulatedTo (IsAsking port) (IsUnused port.0 0) (λ uses. put uses port.0 0 (Own ReadLog)) start log → IsSimulated (IsControl WritesCommand port) AnyUse log new →
+          vain_silent : IsSimulatedTo (IsAsking port) (IsUnused port.0 0) (λ uses. put uses port.0 0 (Own ReadLog)) start log → IsSimulated (IsControl IsCommandRegister port) AnyUse log new →
               RelatesWith (λ uses. uses port.0 0 ≡ Own Identify → ⊥) old → SendsNone port.0 Identify old new
           vain_silent a c =
               let g = s.agreed in
@@ -297,22 +297,22 @@ module _ (laws : Laws) where
               stop_silent (put g.0 port.0 0 (Own ReadLog)) agreed (λ own. let e : Own ReadLog ≡ Own Identify = sym (laws.put_here g.0 port.0 0 ReadLog) ∙ own in absurd cc) c
 
           -- the page that came is the last one still
-          still_last : (page : List ℕ) → BringsLastPage port.0 ReadLog (length start.tape) page log → IsSimulated (IsAsking port) (IsUnused port.0 0) start log → IsDrivenBy (IsControl WritesCommand port) log new →
+          still_last : (page : List ℕ) → BringsLastPage port.0 ReadLog (length start.tape) page log → IsSimulated (IsAsking port) (IsUnused port.0 0) start log → IsDrivenBy (IsControl IsCommandRegister port) log new →
               BringsLog port old new page
           still_last page brings a c =
               let w = goes laws port outstanding queued before after old d r (λ uses. uses) log (b_log a) in
               let runs = asked_running laws port.0 start log s.runs l brings.clear.over in
-              let others : (q : PortReg) → WritesCommand q → q ≢ Ci = λ q is same. let e : Cmd ≡ Ci = sym is ∙ same in absurd cc in
+              let others : (q : PortReg) → IsCommandRegister q → q ≢ Ci = λ q is same. let e : Cmd ≡ Ci = sym is ∙ same in absurd cc in
               let unissued : IsDrivenBy (IsControl (λ q. q ≢ Ci) port) log new = record {
                 accesses = c.accesses;
                 all = c.all;
-                only = All-weaker (IsControl WritesCommand port) (IsControl (λ q. q ≢ Ci) port) (laws.control_wider Commanding ButIssued port others) c.accesses c.only;
+                only = All-weaker (IsControl IsCommandRegister port) (IsControl (λ q. q ≢ Ci) port) (laws.control_wider Commanding ButIssued port others) c.accesses c.only;
               } in
               brings_log port old start log new page goes_start.grows w.grows brings (laws.controls_unmoving port ReadLog log new unissued (no_command port.0 (log.port port.0) runs)).0
 
           -- the engine stopped: the port has to be booted
           stopped : (token : stopped_token.Stopped) → token.port ≡ port → (b : IsSimulated (IsRecovering port) (λ uses. AllFree uses port.0) r.quiets.stopped new) → PortStops port log new →
-              (WaitsAnew port (total laws port outstanding queued before after old d r (λ uses. uses) new b) new ⊎ ((page : List ℕ) × BringsLog port old new page × (TellsNoError page ⊎ NamesForeign outstanding page))) →
+              (WaitsAnew port (total laws port outstanding queued before after old d r (λ uses. uses) new b) new ⊎ ((page : List ℕ) × BringsLog port old new page × (TellsNoError page ⊎ NamesUnknownSlot outstanding page))) →
               (RelatesWith (λ uses. uses port.0 0 ≡ Own Identify → ⊥) old → SendsNone port.0 Identify old new) →
               Recovers port outstanding queued (record { failed = None; again = outstanding; next = Restart token }) old new
           stopped token names b halts why silent = record {

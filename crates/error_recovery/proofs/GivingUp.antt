@@ -9,13 +9,13 @@ use Rattle.adapter.specs.Rules.{IsOn}
 use Rattle.refinement.specs.Driven.{AnyUse, IsControl, IsSimulatedAlong}
 use Rattle.refinement.specs.Driver.{AllFree}
 use Rattle.port_control.specs.Engines.{Sticks, Stops}
-use Rattle.port_control.specs.Ports.{FailsToStopPort, PortStops, HasStopped, WritesCommand}
+use Rattle.port_control.specs.Ports.{FailsToStopPort, PortStops, HasStopped, IsCommandRegister}
 use Rattle.port_control.specs.declared.Stopped as stopped_token
 use Rattle.error_recovery.specs.declared.Next.TheVariants.{Dead, Restart}
 use Rattle.error_recovery.specs.Laws.{Laws}
-use Rattle.error_recovery.specs.Laws.Fitting.{AnyUses, PortUnused}
+use Rattle.error_recovery.specs.Laws.SlotCondition.{AnyUses, PortUnused}
 use Rattle.error_recovery.specs.Laws.RegisterSet.{Commanding}
-use Rattle.error_recovery.specs.Laws.Fragment.{Controlling, Recovering}
+use Rattle.error_recovery.specs.Laws.AccessKind.{Controlling, Recovering}
 use Rattle.error_recovery.specs.Parts.{StopGetsStuck}
 use Rattle.error_recovery.specs.Recovery.{StopsForReset, IsRecovering}
 use Rattle.error_recovery.proofs.Finishing.{accesses_stuck, all_go_again, mends_stuck}
@@ -29,12 +29,12 @@ module _ (laws : Laws) (port : Port) (outstanding : ℕ) (queued : Bool) (old ne
   pub gives_up_stuck : HasStopped (old.port port.0) (new.port port.0) → FailsToStopPort port old new → StopsForReset port outstanding queued (record { failed = None; again = outstanding; next = Dead }) old new
   gives_up_stuck has fails = record {
     handling = mends_stuck laws port outstanding queued old new on gets;
-    only = subst (All (IsControl WritesCommand port)) (sym (accesses_stuck laws port outstanding queued old new on gets)) (only_commands laws (Sticks port) AnyUses port old new sticks);
+    only = subst (All (IsControl IsCommandRegister port)) (sym (accesses_stuck laws port outstanding queued old new on gets)) (only_commands laws (Sticks port) AnyUses port old new sticks);
     nobody = refl;
     halts = λ token run. absurd cc;
   }
     where
-      sticks : IsSimulatedAlong (Sticks port) (IsControl WritesCommand port) AnyUse old new
+      sticks : IsSimulatedAlong (Sticks port) (IsControl IsCommandRegister port) AnyUse old new
       sticks = told_wider laws (Sticks port) (Controlling Commanding AnyUses port) (Controlling Commanding AnyUses port) (λ uses. uses) old new (λ access is. is) (λ uses fits. fits)
           (record { followed = fails.told.followed; tells = laws.failing_sticks port fails.told.followed.driven.accesses fails.told.tells })
 
@@ -67,8 +67,8 @@ module _ (laws : Laws) (port : Port) (outstanding : ℕ) (queued : Bool) (old ne
             laws.fragments.silent (Recovering AnyUses port) (λ uses. uses) uses q o old new tt (spares_other laws port q Ci apart) (spares_other laws port q Sact apart) own none t.followed agreed;
       };
     };
-    only = All-append (IsControl WritesCommand port) t.followed.driven.accesses rest.followed.driven.accesses (only_commands laws (Stops port) AnyUses port old new halts.told)
-        (subst (All (IsControl WritesCommand port)) (sym rest.tells) (All-nil (IsControl WritesCommand port)));
+    only = All-append (IsControl IsCommandRegister port) t.followed.driven.accesses rest.followed.driven.accesses (only_commands laws (Stops port) AnyUses port old new halts.told)
+        (subst (All (IsControl IsCommandRegister port)) (sym rest.tells) (All-nil (IsControl IsCommandRegister port)));
     nobody = refl;
     halts = λ at run. absurd cc;
   }

@@ -19,7 +19,7 @@ use Rattle.refinement.specs.Started.{ClearsNoStart}
 use Rattle.disk_page.specs.Asking.{IsAsking}
 use Rattle.error_recovery.specs.Laws.{Laws}
 use Rattle.error_recovery.specs.Laws.RegisterSet.{Recovered}
-use Rattle.error_recovery.specs.Recovery.{IsRecovered, IsRecovering}
+use Rattle.error_recovery.specs.Recovery.{IsRecoveryRegister, IsRecovering}
 
 -- ---- which registers are spared
 
@@ -30,17 +30,17 @@ asking_spares port r other (Writing q v) is = λ (e : q ≡ Px port r). let both
 asking_spares port r other (Loading at bytes) is = tt
 asking_spares port r other (Storing at bytes) is = tt
 
-not_link : IsRecovered Sctl → ⊥
+not_link : IsRecoveryRegister Sctl → ⊥
 not_link (inl e) = absurd (let k : Sctl ≡ Cmd = e in cc)
 not_link (inr (inl e)) = absurd (let k : Sctl ≡ Serr = e in cc)
 not_link (inr (inr e)) = absurd (let k : Sctl ≡ Is = e in cc)
 
-not_enabled : IsRecovered Ie → ⊥
+not_enabled : IsRecoveryRegister Ie → ⊥
 not_enabled (inl e) = absurd (let k : Ie ≡ Cmd = e in cc)
 not_enabled (inr (inl e)) = absurd (let k : Ie ≡ Serr = e in cc)
 not_enabled (inr (inr e)) = absurd (let k : Ie ≡ Is = e in cc)
 
-not_active : IsRecovered Sact → ⊥
+not_active : IsRecoveryRegister Sact → ⊥
 not_active (inl e) = absurd (let k : Sact ≡ Cmd = e in cc)
 not_active (inr (inl e)) = absurd (let k : Sact ≡ Serr = e in cc)
 not_active (inr (inr e)) = absurd (let k : Sact ≡ Is = e in cc)
@@ -84,7 +84,7 @@ pub record Asks (port : Port) (old new : Device) : Type 0 where
   pub runs : PlugsNone port.0 old new → NoneFatal port.0 old new → RunsLinked (old.port port.0) → RunsLinked (new.port port.0)
 
 module _ (laws : Laws) where
-  recovering_spares : (port : Port) (r : PortReg) → (IsRecovered r → ⊥) → r ≢ Ci → (access : Access) → IsRecovering port access → SparesRegister (Px port r) access
+  recovering_spares : (port : Port) (r : PortReg) → (IsRecoveryRegister r → ⊥) → r ≢ Ci → (access : Access) → IsRecovering port access → SparesRegister (Px port r) access
   recovering_spares port r not_written other access (inl is) = laws.control_spares Recovered port r not_written access is
   recovering_spares port r not_written other access (inr is) = asking_spares port r other access is
 

@@ -19,9 +19,9 @@ use Rattle.refinement.specs.Slots.{IsMove}
 use Rattle.disk_page.specs.Asking.{BringsLastPage}
 use Rattle.error_recovery.specs.Evidence.{BringsLog, HasFailed}
 use Rattle.error_recovery.specs.Laws.{Laws}
-use Rattle.error_recovery.specs.Laws.Fitting.{AnyUses}
-use Rattle.error_recovery.specs.Laws.Fragment.{Recovering}
-use Rattle.error_recovery.specs.Parts.{Resumes}
+use Rattle.error_recovery.specs.Laws.SlotCondition.{AnyUses}
+use Rattle.error_recovery.specs.Laws.AccessKind.{Recovering}
+use Rattle.error_recovery.specs.Parts.{IsQuietedForRecovery}
 use Rattle.error_recovery.proofs.Lists.{behind, stands}
 
 -- A fault that is told of the port, in its slot, with status and error as PxTFD showed them.
@@ -55,7 +55,7 @@ brings_log port old start asked new page early whole b (gained, later, none) =
       bytes = b.same;
     }
 
-module _ (laws : Laws) (port : Port) (outstanding : ℕ) (queued : Bool) (before after : ℕ) (old d : Device) (r : Resumes port outstanding queued before after old d) where
+module _ (laws : Laws) (port : Port) (outstanding : ℕ) (queued : Bool) (before after : ℕ) (old d : Device) (r : IsQuietedForRecovery port outstanding queued before after old d) where
   told_by : (rest : List Access) (new : Device) → DoesAll (Reading (Px port Tfd) before ∷ rest) old new → IsTold port queued before (Reading (Px port Tfd) before ∷ rest) old new
   told_by rest new (at, read, more) =
       let off = r.on.no_reset in

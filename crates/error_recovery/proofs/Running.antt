@@ -18,7 +18,7 @@ use Rattle.disk_page.specs.Asking.{LeavesRunning}
 use Rattle.port_control.specs.Ports.{IsRunning}
 use Rattle.error_recovery.specs.Evidence.{GainsRunning, ShowsFatal, ShowsTrouble}
 use Rattle.error_recovery.specs.Laws.{Laws}
-use Rattle.error_recovery.specs.Parts.{StartsAgain, Resumes}
+use Rattle.error_recovery.specs.Parts.{StartsAgain, IsQuietedForRecovery}
 use Rattle.error_recovery.specs.Recovery.{RunsAgain}
 use Rattle.error_recovery.proofs.Going.{Asks, Goes, plugs_in_parts}
 use Rattle.error_recovery.proofs.Lists.{behind, stands}
@@ -104,7 +104,7 @@ asked_running laws port start new runs l over =
       taken = λ slot. (none slot).free;
     }
 
-module _ (laws : Laws) (port : Port) (outstanding : ℕ) (queued : Bool) (before after : ℕ) (old d : Device) (r : Resumes port outstanding queued before after old d) (first : Goes port old d) where
+module _ (laws : Laws) (port : Port) (outstanding : ℕ) (queued : Bool) (before after : ℕ) (old d : Device) (r : IsQuietedForRecovery port outstanding queued before after old d) (first : Goes port old d) where
   -- ---- that was started, and no more
 
   module _ (new : Device) (s : StartsAgain port d new) (then : Goes port d new) (whole : Goes port old new) where

@@ -18,10 +18,10 @@ use Rattle.disk_page.specs.Asking.{IsAsking}
 use Rattle.command_table.specs.Written.{IsUnused}
 use Rattle.port_control.specs.Engines.{Stops}
 use Rattle.error_recovery.specs.Laws.{Laws}
-use Rattle.error_recovery.specs.Laws.Fitting.{AnyUses, PortUnused}
+use Rattle.error_recovery.specs.Laws.SlotCondition.{AnyUses, PortUnused}
 use Rattle.error_recovery.specs.Laws.RegisterSet.{Recovered}
-use Rattle.error_recovery.specs.Laws.Fragment.{Asking, Recovering}
-use Rattle.error_recovery.specs.Parts.{StartsAgain, Resumes}
+use Rattle.error_recovery.specs.Laws.AccessKind.{Asking, Recovering}
+use Rattle.error_recovery.specs.Parts.{StartsAgain, IsQuietedForRecovery}
 use Rattle.error_recovery.specs.Recovery.{IsRecovering, IssueNone}
 use Rattle.error_recovery.proofs.Going.{Goes, goes_over}
 use Rattle.error_recovery.proofs.Resting.{IsTold, is_told}
@@ -31,7 +31,7 @@ use Rattle.error_recovery.proofs.Stretching.{followed_commands, told_both, told_
 pub spares_other : Laws → (port q : Port) (r : PortReg) → q.0 ≢ port.0 → NoneWrites (IsRecovering port) (Px q r)
 spares_other laws port q r apart access is = laws.of_spares port q r apart access (⊎_elim (laws.control_of Recovered port access) (laws.asking_is_of port access) is)
 
-module _ (laws : Laws) (port : Port) (outstanding : ℕ) (queued : Bool) (before after : ℕ) (old d : Device) (r : Resumes port outstanding queued before after old d) where
+module _ (laws : Laws) (port : Port) (outstanding : ℕ) (queued : Bool) (before after : ℕ) (old d : Device) (r : IsQuietedForRecovery port outstanding queued before after old d) where
   abbrev first : List Access
   first = r.quiets.stops.followed.driven.accesses
 

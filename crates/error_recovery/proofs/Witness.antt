@@ -18,8 +18,8 @@ use Rattle.refinement.specs.Slots.{Free, Serves, SlotState, SlotStates, put}
 use Rattle.refinement.specs.Witness.{FirstIsKnown, first_id, first_uses}
 use Rattle.port_control.specs.Ports.{programmed}
 use Rattle.error_recovery.specs.Laws.{Laws}
-use Rattle.error_recovery.specs.Laws.Fitting.{AnyUses}
-use Rattle.error_recovery.specs.Laws.Fragment.{Recovering}
+use Rattle.error_recovery.specs.Laws.SlotCondition.{AnyUses}
+use Rattle.error_recovery.specs.Laws.AccessKind.{Recovering}
 use Rattle.error_recovery.specs.Parts.{HasDriverMemory}
 use Rattle.error_recovery.specs.Recovery.{IsAloneIn, IsRecovering, MayRecover}
 use Rattle.error_recovery.specs.Witness.{MayBeAsked}

@@ -30,8 +30,8 @@ use Rattle.refinement.specs.Started.{ClearsNoStart, IsStarted, IsUp}
 use Rattle.command_table.specs.Written.{IsUnused}
 use Rattle.disk_page.specs.Asking.{IsAsking, LeavesRunning, WaitsInVain}
 use Rattle.port_control.specs.Engines.{FailsToStop, Falls, Sticks}
-use Rattle.port_control.specs.Ports.{IsClearing, WritesCommand}
-use Rattle.error_recovery.specs.Recovery.{IsRecovered, IsRecovering}
+use Rattle.port_control.specs.Ports.{IsErrorRegister, IsCommandRegister}
+use Rattle.error_recovery.specs.Recovery.{IsRecoveryRegister, IsRecovering}
 
 -- ---- kinds of accesses
 
@@ -43,32 +43,32 @@ pub data RegisterSet : Type 0 where
   ButIssued : RegisterSet
 
 abbrev pub registers_of : RegisterSet → PortReg → Type 0
-registers_of Commanding = WritesCommand
-registers_of Clearing = IsClearing
-registers_of Recovered = IsRecovered
+registers_of Commanding = IsCommandRegister
+registers_of Clearing = IsErrorRegister
+registers_of Recovered = IsRecoveryRegister
 registers_of ButIssued = λ r. r ≢ Ci
 
 -- the uses of slots that fit: any, or with none of the port's slots used
-pub data Fitting : Type 0 where
-  AnyUses : Fitting
-  PortUnused : Fitting
+pub data SlotCondition : Type 0 where
+  AnyUses : SlotCondition
+  PortUnused : SlotCondition
 
-abbrev pub uses_of : Fitting → Port → SlotStates → Type 0
+abbrev pub uses_of : SlotCondition → Port → SlotStates → Type 0
 uses_of AnyUses port = AnyUse
 uses_of PortUnused port = λ uses. AllFree uses port.0
 
 -- a port's registers are read, and those of a set written; its disk is asked for the log; or it is recovered
-pub data Fragment : Type 0 where
-  Controlling : RegisterSet → Fitting → Port → Fragment
-  Asking : Port → Fragment
-  Recovering : Fitting → Port → Fragment
+pub data AccessKind : Type 0 where
+  Controlling : RegisterSet → SlotCondition → Port → AccessKind
+  Asking : Port → AccessKind
+  Recovering : SlotCondition → Port → AccessKind
 
-abbrev pub may_of : Fragment → Access → Type 0
+abbrev pub may_of : AccessKind → Access → Type 0
 may_of (Controlling set fitting port) = IsControl (registers_of set) port
 may_of (Asking port) = IsAsking port
 may_of (Recovering fitting port) = IsRecovering port
 
-abbrev pub fits_of : Fragment → SlotStates → Type 0
+abbrev pub fits_of : AccessKind → SlotStates → Type 0
 fits_of (Controlling set fitting port) = uses_of fitting port
 fits_of (Asking port) = IsUnused port.0 0
 fits_of (Recovering fitting port) = uses_of fitting port
@@ -159,4 +159,4 @@ pub record Laws : Type 0 where
   pub control_wider : (set more : RegisterSet) (port : Port)
       → ((r : PortReg) → registers_of set r → registers_of more r) → (access : Access)
       → IsControl (registers_of set) port access → IsControl (registers_of more) port access
-  pub fragments : FragmentLaws Fragment may_of fits_of
+  pub fragments : FragmentLaws AccessKind may_of fits_of

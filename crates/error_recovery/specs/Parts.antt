@@ -23,9 +23,9 @@ use Rattle.disk_page.specs.Asking.{LeavesRunning, ReadsPage}
 use Rattle.identify.specs.Log.{TellsError, TellsNoError}
 use Rattle.identify.specs.declared.error_log.FailedSlot.{FailedSlot}
 use Rattle.port_control.specs.Engines.{Sticks, Stops}
-use Rattle.port_control.specs.Ports.{HasClearErrors, IsRunning, ReceivesFises, SameButStart, BacksFault, ShowsIdle, WritesCommand}
+use Rattle.port_control.specs.Ports.{HasClearErrors, IsRunning, ReceivesFises, SameButStart, BacksFault, ShowsIdle, IsCommandRegister}
 use Rattle.port_control.specs.declared.PortFault.TheVariants.{EngineStuck}
-use Rattle.error_recovery.specs.Recovery.{FitsFor, IsAloneIn, IsRecovering, IssueNone, MayRecover, NamesForeign}
+use Rattle.error_recovery.specs.Recovery.{FitsFor, IsAloneIn, IsRecovering, IssueNone, MayRecover, NamesUnknownSlot}
 
 -- the adapter is on and has the port and memory for the driver's frames
 pub record HasDriverMemory (port : ℕ) (d : Device) : Type 0 where
@@ -76,7 +76,7 @@ pub record StopGetsStuck (port : Port) (old new : Device) : Type 0 where
 
 -- ST may be set: what was read last was a device with a link, neither busy nor asking for a transfer, and no slot of
 -- the port is used.
-pub record MayGoOn (port : ℕ) (d : Device) : Type 0 where
+pub record MayStartAgain (port : ℕ) (d : Device) : Type 0 where
   pub room : HasDriverMemory port d
   pub receives : ReceivesFises port (d.port port)
   pub linked : (d.port port).notes.last_ssts % 16 ≡ 3
@@ -89,7 +89,7 @@ pub record MayGoOn (port : ℕ) (d : Device) : Type 0 where
 -- came.
 pub record StartsAgain (port : Port) (old new : Device) : Type 0 where
   pub room : HasDriverMemory port.0 new
-  pub starts : IsSimulated (IsControl WritesCommand port) (λ uses. AllFree uses port.0) old new
+  pub starts : IsSimulated (IsControl IsCommandRegister port) (λ uses. AllFree uses port.0) old new
   pub runs : IsRunning port.0 (new.port port.0)
   pub same : SameButStart (old.port port.0) (new.port port.0)
   pub set : (new.port port.0).notes.st_set_at ≡ length new.tape
@@ -103,7 +103,8 @@ pub record StartsAgain (port : Port) (old new : Device) : Type 0 where
 -- ---- what a recovery goes on from
 
 -- The port could be recovered, with these slots outstanding, and was quieted since.
-pub record Resumes (port : Port) (outstanding : ℕ) (queued : Bool) (before after : ℕ) (old d : Device) : Type 0 where
+pub record IsQuietedForRecovery (port : Port) (outstanding : ℕ) (queued : Bool) (before after : ℕ) (old d : Device) :
+    Type 0 where
   pub on : IsOn old
   pub agreed : RelatesWith (FitsFor queued port.0) old
   pub may : MayRecover port.0 old
@@ -119,7 +120,7 @@ ReadsLog port outstanding (Some failed) old new = (page : List ℕ) × ReadsPage
     × TellsError page failed.slot.0 failed.status failed.error × (bit outstanding failed.slot.0 ≡ true)
 ReadsLog port outstanding None old new = ReadsPage port ReadLog None old new
     ⊎ ((page : List ℕ) × ReadsPage port ReadLog (Some page) old new
-    × (TellsNoError page ⊎ NamesForeign outstanding page))
+    × (TellsNoError page ⊎ NamesUnknownSlot outstanding page))
 
 -- The log was asked for. The port runs still, without a halt where a slot is named, and no other command of the
 -- driver's own was sent.

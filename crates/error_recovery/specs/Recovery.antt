@@ -26,7 +26,7 @@ use Rattle.disk_page.specs.Asking.{IsAsking, WaitsInVain}
 use Rattle.identify.specs.Log.{TellsError, TellsNoError}
 use Rattle.identify.specs.declared.error_log.FailedSlot.{FailedSlot}
 use Rattle.port_control.specs.Engines.{Sticks, Stops}
-use Rattle.port_control.specs.Ports.{IsClearing, IsRunning, IsStopped, BacksFault, ShowsIdle, WritesCommand, programmed}
+use Rattle.port_control.specs.Ports.{IsErrorRegister, IsRunning, IsStopped, BacksFault, ShowsIdle, IsCommandRegister, programmed}
 use Rattle.port_control.specs.declared.PortFault.TheVariants.{EngineStuck}
 use Rattle.port_control.specs.declared.Running as running_token
 use Rattle.port_control.specs.declared.Stopped as stopped_token
@@ -69,13 +69,13 @@ pub record MayRecover (port : ℕ) (d : Device) : Type 0 where
 -- ---- what is done
 
 -- PxCMD, PxSERR and PxIS
-abbrev pub IsRecovered : PortReg → Type 0
-IsRecovered r = WritesCommand r ⊎ IsClearing r
+abbrev pub IsRecoveryRegister : PortReg → Type 0
+IsRecoveryRegister r = IsCommandRegister r ⊎ IsErrorRegister r
 
 -- it reads a register of the port, writes one of these three, or asks for the log: by slot 0's header and table, bit 0
 -- of PxCI, and a load of the scratch frame
 abbrev pub IsRecovering : Port → Access → Type 0
-IsRecovering port access = IsControl IsRecovered port access ⊎ IsAsking port access
+IsRecovering port access = IsControl IsRecoveryRegister port access ⊎ IsAsking port access
 
 -- slot 0 has a command of the driver's own
 abbrev pub with_own : ℕ → Operation → InSlots → InSlots
@@ -136,7 +136,7 @@ Rests false port outstanding accesses old new (Some failed) = RestsOnFault port 
 Rests true port outstanding accesses old new (Some failed) = RestsOnLog port outstanding accesses old new failed
 
 -- the page names a slot that isn't outstanding
-pub record NamesForeign (outstanding : ℕ) (page : List ℕ) : Type 0 where
+pub record NamesUnknownSlot (outstanding : ℕ) (page : List ℕ) : Type 0 where
   pub tag : ℕ
   pub status : ℕ
   pub error : ℕ
@@ -161,11 +161,11 @@ pub record WaitsAnew (port : Port) (accesses : List Access) (new : Device) : Typ
 -- Why a port has to be booted: BSY or DRQ is what was read last of PxTFD, and no command was issued of which they could
 -- be. Or, where queued commands are outstanding, the log named none of them: once the port had stopped, the last 64
 -- readings showed READ LOG EXT issued, or its page names no command, or one that isn't outstanding.
-abbrev pub MayRestart : Bool → Port → ℕ → List Access → Device → Device → Type 0
-MayRestart queued port outstanding accesses old new =
+abbrev pub ExplainsReboot : Bool → Port → ℕ → List Access → Device → Device → Type 0
+ExplainsReboot queued port outstanding accesses old new =
     (IssueNone port accesses × (ShowsIdle (new.port port.0).notes.last_tfd → ⊥))
     ⊎ ((queued ≡ true) × (WaitsAnew port accesses new
-    ⊎ ((page : List ℕ) × BringsLog port old new page × (TellsNoError page ⊎ NamesForeign outstanding page))))
+    ⊎ ((page : List ℕ) × BringsLog port old new page × (TellsNoError page ⊎ NamesUnknownSlot outstanding page))))
 
 -- ---- how it ends
 
@@ -187,10 +187,10 @@ pub record RunsAgain (queued : Bool) (port : ℕ) (old new : Device) : Type 0 wh
       → (queued ≡ false → WorksPlainly (old.port port)) → RunsWell (new.port port)
 
 -- It is as `next` says: it runs; it is stopped, so that it can be booted; or its engine was awaited in vain.
-abbrev pub EndsIn : Bool → Port → Next → Device → Device → Type 0
-EndsIn queued port (Running token) old new = (token.port ≡ port) × RunsAgain queued port.0 old new
-EndsIn queued port (Restart token) old new = (token.port ≡ port) × IsStopped (new.port port.0)
-EndsIn queued port Dead old new = ((new.port port.0).st ≡ false) × BacksFault EngineStuck (new.port port.0).notes
+abbrev pub EndsAsNext : Bool → Port → Next → Device → Device → Type 0
+EndsAsNext queued port (Running token) old new = (token.port ≡ port) × RunsAgain queued port.0 old new
+EndsAsNext queued port (Restart token) old new = (token.port ≡ port) × IsStopped (new.port port.0)
+EndsAsNext queued port Dead old new = ((new.port port.0).st ≡ false) × BacksFault EngineStuck (new.port port.0).notes
 
 -- ---- the whole
 
@@ -217,13 +217,13 @@ pub record TellsRecovery (port : Port) (outstanding : ℕ) (queued : Bool) (resu
   pub named : (token : running_token.Running) → queued ≡ true → result.next ≡ Running token → result.failed ≢ None
   pub told : queued ≡ false → bit outstanding 0 ≡ true → result.next ≢ Dead → result.failed ≢ None
   pub restarts : (token : stopped_token.Stopped) → result.next ≡ Restart token
-      → MayRestart queued port outstanding accesses old new
+      → ExplainsReboot queued port outstanding accesses old new
 
 -- What it leaves: the port as `next` says; DET of PxSCTL and when it was written, and PxIE, as they were. And where
 -- slot 0 had no IDENTIFY DEVICE, the disk has sent no page of it; nor has another port's disk sent a page for a command
 -- that its slot 0 hadn't.
 pub record LeavesRecovery (port : Port) (queued : Bool) (next : Next) (old new : Device) : Type 0 where
-  pub ends : EndsIn queued port next old new
+  pub ends : EndsAsNext queued port next old new
   pub det : (new.port port.0).sctl_det ≡ (old.port port.0).sctl_det
   pub written : (new.port port.0).notes.sctl_written_at ≡ (old.port port.0).notes.sctl_written_at
   pub enabled : (new.port port.0).ie ≡ (old.port port.0).ie
@@ -251,6 +251,6 @@ pub record Recovers (port : Port) (outstanding : ℕ) (queued : Bool) (result : 
 pub record StopsForReset (port : Port) (outstanding : ℕ) (queued : Bool) (result : Recovered)
     (old new : Device) : Type 0 where
   pub handling : RecoversOrStops port outstanding queued result old new
-  pub only : All (IsControl WritesCommand port) handling.accesses
+  pub only : All (IsControl IsCommandRegister port) handling.accesses
   pub nobody : result.failed ≡ None
   pub halts : (token : running_token.Running) → result.next ≢ Running token

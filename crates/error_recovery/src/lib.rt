@@ -14,7 +14,7 @@ ghost use Rattle.adapter.specs.Rules.{IsOn, HasPort};
 ghost use Rattle.refinement.specs.Driven.{RelatesWith, AnyUse};
 ghost use Rattle.refinement.specs.Driver.{AllFree};
 ghost use Rattle.disk_page.specs.Asking.{MayAsk};
-ghost use Rattle.error_recovery.specs.Parts.{AsksLog, StopGetsStuck, StartsAgain, HasDriverMemory, MayGoOn, Quiets, Resumes};
+ghost use Rattle.error_recovery.specs.Parts.{AsksLog, StopGetsStuck, StartsAgain, HasDriverMemory, MayStartAgain, Quiets, IsQuietedForRecovery};
 ghost use Rattle.error_recovery.specs.Recovery.{StopsForReset, IsNamedSlot, MayHandleError, MayRecover, Parts, Recovers};
 ghost use Rattle.adapter.specs.Counted.{MakesAtMost};
 ghost use Rattle.disk_page.specs.Costs.{PAGE_ACCESSES};
@@ -93,7 +93,7 @@ fn quiet<A: Adapter>(adapter: &mut A, port: Port) -> Option<StoppedAndCleared>
 
 /// Has a port that was quieted, and is idle, work on its command list again.
 fn go_on<A: Adapter>(adapter: &mut A, stopped: Stopped) -> Running
-    requires may { MayGoOn stopped.port.0 (A.device adapter.old) }
+    requires may { MayStartAgain stopped.port.0 (A.device adapter.old) }
     ensures names { result.port ≡ stopped.port }
     ensures goes { StartsAgain stopped.port (A.device adapter.old) (A.device adapter.new) }
     ensures cost { MakesAtMost START_ACCESSES (A.access_count adapter.old) (A.access_count adapter.new) }
@@ -161,10 +161,12 @@ fn finish_plain<A: Adapter>(
     quieted: StoppedAndCleared,
     outstanding: u32,
 ) -> Recovered
-    requires resumes { (old : Device) × Resumes quieted.stopped.port outstanding false quieted.fault.0 quieted.shown.0
+    requires resumes { (old : Device)
+        × IsQuietedForRecovery quieted.stopped.port outstanding false quieted.fault.0 quieted.shown.0
         old (A.device adapter.old) }
     ensures on { IsOn (A.device adapter.new) }
-    ensures recovers { (old : Device) → Resumes quieted.stopped.port outstanding false quieted.fault.0 quieted.shown.0
+    ensures recovers { (old : Device)
+        → IsQuietedForRecovery quieted.stopped.port outstanding false quieted.fault.0 quieted.shown.0
         old (A.device adapter.old)
         → Recovers quieted.stopped.port outstanding false result old (A.device adapter.new) }
     ensures cost { MakesAtMost START_ACCESSES (A.access_count adapter.old) (A.access_count adapter.new) }
@@ -195,10 +197,12 @@ fn finish_queued<A: Adapter>(
     quieted: StoppedAndCleared,
     outstanding: u32,
 ) -> Recovered
-    requires resumes { (old : Device) × Resumes quieted.stopped.port outstanding true quieted.fault.0 quieted.shown.0
+    requires resumes { (old : Device)
+        × IsQuietedForRecovery quieted.stopped.port outstanding true quieted.fault.0 quieted.shown.0
         old (A.device adapter.old) }
     ensures on { IsOn (A.device adapter.new) }
-    ensures recovers { (old : Device) → Resumes quieted.stopped.port outstanding true quieted.fault.0 quieted.shown.0
+    ensures recovers { (old : Device)
+        → IsQuietedForRecovery quieted.stopped.port outstanding true quieted.fault.0 quieted.shown.0
         old (A.device adapter.old)
         → Recovers quieted.stopped.port outstanding true result old (A.device adapter.new) }
     ensures cost { MakesAtMost NAMING_ACCESSES (A.access_count adapter.old) (A.access_count adapter.new) }

@@ -13,7 +13,7 @@ use Rattle.refinement.specs.Driven.{AnyUse, IsSimulatedAlong}
 use Rattle.refinement.specs.Links.{SameAdapter}
 use Rattle.host_boot.specs.Resets.{ReadsGlobalControl, AwaitsHr, AwaitsReset, IsOfReset, Resets, StaysReset}
 use Rattle.host_boot.specs.Laws.{Laws}
-use Rattle.host_boot.specs.Laws.Fragment.{Resetting}
+use Rattle.host_boot.specs.Laws.AccessKind.{Resetting}
 use Rattle.host_boot.proofs.Stretching.{told_both, told_more}
 
 -- HR was set, and GHC alone was read so many times, at last with HR still one

@@ -14,13 +14,13 @@ use Rattle.refinement.specs.Driver.{AllFree}
 use Rattle.identify.specs.declared.wanted.Wanted.{Wanted}
 use Rattle.identify.specs.declared.wanted.Wanted.TheVariants.{Nothing}
 use Rattle.port_control.specs.Engines.{Stops, StopsBoth}
-use Rattle.port_control.specs.Ports.{IsClearing, IsStopped, BacksFault, WritesCommand}
+use Rattle.port_control.specs.Ports.{IsErrorRegister, IsStopped, BacksFault, IsCommandRegister}
 use Rattle.port_control.specs.declared.PortFault.TheVariants.{NoDevice}
 use Rattle.port_boot.specs.States.{IsBootTo, IsBootable, IsOfBoot}
-use Rattle.host_boot.specs.Again.{BootsAgain, BootsIfThere, BootsStopped, IsOfStart}
+use Rattle.host_boot.specs.Again.{RebootsPort, RebootsIfPresent, BootsStopped, IsSurveyOrBoot}
 use Rattle.host_boot.specs.Laws.{Laws}
-use Rattle.host_boot.specs.Laws.Fragment.{Clearing, Starting, Surveying}
-use Rattle.host_boot.specs.Taken.{Boots, GoesThrough, HaltsFound, IsSurvey, StandsBehind, WroteControl}
+use Rattle.host_boot.specs.Laws.AccessKind.{Clearing, Starting, Surveying}
+use Rattle.host_boot.specs.Taken.{Boots, StopsAndBootsPort, HaltsFound, IsSurvey, StandsBehind, WroteControl}
 use Rattle.host_boot.specs.declared.Booted.{Booted}
 use Rattle.host_boot.specs.declared.ProbeResult.{ProbeResult}
 use Rattle.host_boot.specs.declared.ProbeResult.TheVariants.{Unserved, Ready, Unready}
@@ -46,7 +46,7 @@ pub found_halts : (wanted : Wanted) (port : Port) (old new : Device) (found : Pr
 found_halts wanted port old new found b info is = (subst (λ (f : ProbeResult). BootsStopped wanted port f old new) is b).halts
 
 -- looking at a port is of its boot
-clearing_of_start : (port : Port) (access : Access) → IsControl IsClearing port access → IsOfStart port access
+clearing_of_start : (port : Port) (access : Access) → IsControl IsErrorRegister port access → IsSurveyOrBoot port access
 clearing_of_start port (Reading (Px at r) v) is = inr (inl is)
 clearing_of_start port (Writing (Px at r) v) (here, kind) = inr (inl (here, inr (inl (inr kind))))
 clearing_of_start port (Reading r v) is = absurd is
@@ -55,8 +55,8 @@ clearing_of_start port (Loading at bytes) is = absurd is
 clearing_of_start port (Storing at bytes) is = absurd is
 
 -- a port was booted, once this was read of CAP, which is as it was
-abbrev boots_again : (port : Port) (v : ℕ) (booted : Booted) (wanted : Wanted) (old asked new : Device) → IsSimulated (IsOfStart port) (λ uses. AllFree uses port.0) old asked →
-    BootsStopped wanted port booted.found asked new → booted.slots ≡ field v 8 5 + 1 → booted.queued ≡ bit v 30 → v ≡ new.cap → BootsAgain wanted port booted old new
+abbrev boots_again : (port : Port) (v : ℕ) (booted : Booted) (wanted : Wanted) (old asked new : Device) → IsSimulated (IsSurveyOrBoot port) (λ uses. AllFree uses port.0) old asked →
+    BootsStopped wanted port booted.found asked new → booted.slots ≡ field v 8 5 + 1 → booted.queued ≡ bit v 30 → v ≡ new.cap → RebootsPort wanted port booted old new
 boots_again port v booted wanted old asked new asks boots slots queued cap = record {
   asked = asked;
   asks = asks;
@@ -74,7 +74,7 @@ module _ (laws : Laws) where
 
   -- ---- when the adapter is taken over: the port was stopped before
 
-  module _ (port : Port) (old mid : Device) (stops : IsSimulatedAlong (Stops port) (IsControl WritesCommand port) AnyUse old mid) (wanted : Wanted) (new : Device) where
+  module _ (port : Port) (old mid : Device) (stops : IsSimulatedAlong (Stops port) (IsControl IsCommandRegister port) AnyUse old mid) (wanted : Wanted) (new : Device) where
     pub found_boots : (found : ProbeResult) → BootsStopped wanted port found mid new → Boots port found old new
     found_boots Unserved b = absurd b
     found_boots (Ready info) b = then_boot laws port old mid stops new b.boots
@@ -90,7 +90,7 @@ module _ (laws : Laws) where
     found_reset (Ready info) b = since_stop laws port old mid stops _ b.since
     found_reset (Unready state) b = ended_since laws port old mid stops new state b.since
 
-    pub found_way : (found : ProbeResult) → BootsStopped wanted port found mid new → GoesThrough port found old new
+    pub found_way : (found : ProbeResult) → BootsStopped wanted port found mid new → StopsAndBootsPort port found old new
     found_way Unserved b = absurd b
     found_way (Ready info) b = (mid, stops.followed.driven, b.boots.followed.driven, b.way, b.news)
     found_way (Unready state) b = (
@@ -113,7 +113,7 @@ module _ (laws : Laws) where
     asked_cap May new driven = asks.shows ∙ (sym (ap (λ (d : Device). d.cap) asks.effect) ∙ sym (same_over laws May asked new driven).cap)
 
     module _ (port : Port) where
-      pub asked_starts : IsSimulated (IsOfStart port) (λ uses. AllFree uses port.0) old asked
+      pub asked_starts : IsSimulated (IsSurveyOrBoot port) (λ uses. AllFree uses port.0) old asked
       asked_starts = (laws.fragments.wider Surveying (Starting port) (λ uses. uses) (λ access is. inl is) (λ uses free. tt) old asked asked_followed).followed
 
       pub asked_bootable : IsBootable port old → IsBootable port asked
@@ -123,13 +123,13 @@ module _ (laws : Laws) where
       asked_stopped = stopped_on (old.port port.0) (asked.port port.0)
 
       pub asked_boots : (booted : Booted) (wanted : Wanted) (new : Device) → BootsStopped wanted port booted.found asked new → booted.slots ≡ field v 8 5 + 1 → booted.queued ≡ bit v 30 →
-          BootsAgain wanted port booted old new
+          RebootsPort wanted port booted old new
       asked_boots booted wanted new boots slots queued =
           boots_again port v booted wanted old asked new asked_starts boots slots queued (asked_cap (IsOfBoot port) new (booted_driven wanted port booted.found asked new boots))
 
       -- and then the port is looked at
-      module _ (seen : Device) (looks : IsSimulated (IsControl IsClearing port) AnyUse asked seen) where
-        pub seen_starts : IsSimulated (IsOfStart port) (λ uses. AllFree uses port.0) old seen
+      module _ (seen : Device) (looks : IsSimulated (IsControl IsErrorRegister port) AnyUse asked seen) where
+        pub seen_starts : IsSimulated (IsSurveyOrBoot port) (λ uses. AllFree uses port.0) old seen
         seen_starts = (laws.fragments.both (Starting port) (Clearing port) (λ uses. uses) (λ uses. uses) (clearing_of_start port) (λ uses free. tt) old asked seen asked_starts looks).followed
 
         pub seen_bootable : IsOn seen → IsBootable port asked → IsBootable port seen
@@ -137,13 +137,13 @@ module _ (laws : Laws) where
 
         -- it shows a device, and is booted
         pub seen_boots : (booted : Booted) (wanted : Wanted) (new : Device) → (seen.port port.0).ssts_det ≡ 3 → BootsStopped wanted port booted.found seen new →
-            booted.slots ≡ field v 8 5 + 1 → booted.queued ≡ bit v 30 → BootsIfThere wanted port booted old new
+            booted.slots ≡ field v 8 5 + 1 → booted.queued ≡ bit v 30 → RebootsIfPresent wanted port booted old new
         seen_boots booted wanted new there boots slots queued =
-            let its : IsDrivenBy (IsOfStart port) seen new = driven_as (IsOfBoot port) (IsOfStart port) seen new (λ access is. inr is) (booted_driven wanted port booted.found seen new boots) in
-            let all : IsDrivenBy (IsOfStart port) asked new = by_then laws (driven_as (IsControl IsClearing port) (IsOfStart port) asked seen (clearing_of_start port) looks.driven) its in
-            inl (boots_again port v booted wanted old seen new seen_starts boots slots queued (asked_cap (IsOfStart port) new all), there)
+            let its : IsDrivenBy (IsSurveyOrBoot port) seen new = driven_as (IsOfBoot port) (IsSurveyOrBoot port) seen new (λ access is. inr is) (booted_driven wanted port booted.found seen new boots) in
+            let all : IsDrivenBy (IsSurveyOrBoot port) asked new = by_then laws (driven_as (IsControl IsErrorRegister port) (IsSurveyOrBoot port) asked seen (clearing_of_start port) looks.driven) its in
+            inl (boots_again port v booted wanted old seen new seen_starts boots slots queued (asked_cap (IsSurveyOrBoot port) new all), there)
 
         -- or it shows none, and is absent
         pub seen_absent : (booted : Booted) (wanted : Wanted) (new : Device) → new ≡ seen → booted.found ≡ Unready Absent → IsStopped (seen.port port.0) →
-            BacksFault NoDevice (seen.port port.0).notes → BootsIfThere wanted port booted old new
-        seen_absent booted wanted new same found stopped none = subst (BootsIfThere wanted port booted old) (sym same) (inr (found, seen_starts, (stopped, none)))
+            BacksFault NoDevice (seen.port port.0).notes → RebootsIfPresent wanted port booted old new
+        seen_absent booted wanted new same found stopped none = subst (RebootsIfPresent wanted port booted old) (sym same) (inr (found, seen_starts, (stopped, none)))

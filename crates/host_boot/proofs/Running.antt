@@ -16,7 +16,7 @@ use Rattle.refinement.specs.Facts.{IsRecorded, RunsWell, Undisturbed}
 use Rattle.refinement.specs.Driven.{Grows}
 use Rattle.identify.specs.declared.DiskInfo.{DiskInfo}
 use Rattle.port_boot.specs.States.{IsOfBoot, RunsOn, ShowsOwnDisk}
-use Rattle.host_boot.specs.Taken.{GoesOver, GoesThrough, GoThrough, IsSurvey, probe_result_of}
+use Rattle.host_boot.specs.Taken.{SwitchesOnAndBoots, StopsAndBootsPort, FindsEachPort, IsSurvey, probe_result_of}
 use Rattle.host_boot.specs.declared.ProbeResult.{ProbeResult}
 use Rattle.host_boot.specs.declared.ProbeResult.TheVariants.{Unserved, Ready, Unready}
 use Rattle.host_boot.specs.Laws.{Laws}
@@ -56,19 +56,19 @@ module _ (laws : Laws) where
 
   -- ---- the way of a port
 
-  through_driven : (port : Port) (found : ProbeResult) (old new : Device) → GoesThrough port found old new → IsDrivenBy (IsOf port) old new
+  through_driven : (port : Port) (found : ProbeResult) (old new : Device) → StopsAndBootsPort port found old new → IsDrivenBy (IsOf port) old new
   through_driven port Unserved old new same = subst (λ (d : Device). IsDrivenBy (IsOf port) old d) (sym same) (by_none (IsOf port) old)
   through_driven port (Ready info) old new (stopped, stop, boot, ready, news) =
       by_then laws (stop_driven laws port old stopped stop) (driven_as (IsOfBoot port) (IsOf port) stopped new (laws.of_boot port) boot)
   through_driven port (Unready state) old new (stopped, stop, boot, early, late, sticks) =
       by_then laws (stop_driven laws port old stopped stop) (driven_as (IsOfBoot port) (IsOf port) stopped new (laws.of_boot port) boot)
 
-  through_well : (port : Port) (info : DiskInfo) (old new : Device) → GoesThrough port (Ready info) old new → Undisturbed port.0 old new → RunsWell (new.port port.0)
+  through_well : (port : Port) (info : DiskInfo) (old new : Device) → StopsAndBootsPort port (Ready info) old new → Undisturbed port.0 old new → RunsWell (new.port port.0)
   through_well port info old new (stopped, stop, boot, ready, news) calm =
       news.well (calm_in_parts laws port.0 old stopped new (tape_over laws (IsOf port) old stopped (stop_driven laws port old stopped stop)) (tape_over laws (IsOfBoot port) stopped new boot) calm).1
 
   -- of ports one after another
-  go_driven : (n first : ℕ) (ports : List ProbeResult) (old new : Device) → n ≤ first → GoThrough first ports old new → IsDrivenBy (IsOfFrom n) old new
+  go_driven : (n first : ℕ) (ports : List ProbeResult) (old new : Device) → n ≤ first → FindsEachPort first ports old new → IsDrivenBy (IsOfFrom n) old new
   go_driven n first [] old new less same = subst (λ (d : Device). IsDrivenBy (IsOfFrom n) old d) (sym same) (by_none (IsOfFrom n) old)
   go_driven n first (found ∷ rest) old new less (mid, way, more) =
       by_then laws (driven_as (IsOf (port_at first)) (IsOfFrom n) old mid (λ access is. (port_at first, less, is)) (through_driven (port_at first) found old mid way))
@@ -78,12 +78,12 @@ module _ (laws : Laws) where
   from_spares_ghc n access (at, less, is) = laws.of_spares_ghc at access is
 
   -- the one that was found ready runs well once it was booted, and after the others were
-  go_well : (port : Port) (info : DiskInfo) (first : ℕ) (ports : List ProbeResult) (k : ℕ) (old new : Device) → port.0 ≡ first + k → slice_index_or ports k Unserved ≡ Ready info → IsOn old → GoThrough first ports old new →
+  go_well : (port : Port) (info : DiskInfo) (first : ℕ) (ports : List ProbeResult) (k : ℕ) (old new : Device) → port.0 ≡ first + k → slice_index_or ports k Unserved ≡ Ready info → IsOn old → FindsEachPort first ports old new →
       Undisturbed port.0 old new → RunsWell (new.port port.0)
   go_well port info first [] k old new at is on way calm = absurd (let e : Unserved ≡ Ready info = is in cc)
   go_well port info first (found ∷ rest) zero old new at is on (mid, way, more) calm =
       let same : port_at first ≡ port = ap port_at (sym (at ∙ (omega arith))) in
-      let its : GoesThrough port (Ready info) old mid = subst (λ (p : Port). GoesThrough p (Ready info) old mid) same (subst (λ (f : ProbeResult). GoesThrough (port_at first) f old mid) is way) in
+      let its : StopsAndBootsPort port (Ready info) old mid = subst (λ (p : Port). StopsAndBootsPort p (Ready info) old mid) same (subst (λ (f : ProbeResult). StopsAndBootsPort (port_at first) f old mid) is way) in
       let early = through_driven (port_at first) found old mid way in
       let late = go_driven (first + 1) (first + 1) rest mid new (omega arith) more in
       let parts = calm_in_parts laws port.0 old mid new (tape_over laws (IsOf (port_at first)) old mid early) (tape_over laws (IsOfFrom (first + 1)) mid new late) calm in
@@ -99,13 +99,13 @@ module _ (laws : Laws) where
   -- ---- what lasts, whatever goes wrong
 
   -- What holds once a port went its way, and lasts over accesses of other ports, holds once they all went theirs.
-  go_last : (P : Device → Type 0) (port : Port) (its : ProbeResult) → its ≢ Unserved → ((old new : Device) → IsOn old → GoesThrough port its old new → P new)
+  go_last : (P : Device → Type 0) (port : Port) (its : ProbeResult) → its ≢ Unserved → ((old new : Device) → IsOn old → StopsAndBootsPort port its old new → P new)
       → ((old new : Device) → IsOn old → IsDrivenBy (IsOfOther port.0) old new → P old → P new)
-      → (first : ℕ) (ports : List ProbeResult) (k : ℕ) (old new : Device) → port.0 ≡ first + k → slice_index_or ports k Unserved ≡ its → IsOn old → GoThrough first ports old new → P new
+      → (first : ℕ) (ports : List ProbeResult) (k : ℕ) (old new : Device) → port.0 ≡ first + k → slice_index_or ports k Unserved ≡ its → IsOn old → FindsEachPort first ports old new → P new
   go_last P port its served through lasting first [] k old new at is on way = absurd (served (sym is))
   go_last P port its served through lasting first (found ∷ rest) zero old new at is on (mid, way, more) =
       let same : port_at first ≡ port = ap port_at (sym (at ∙ (omega arith))) in
-      let own : GoesThrough port its old mid = subst (λ (p : Port). GoesThrough p its old mid) same (subst (λ (f : ProbeResult). GoesThrough (port_at first) f old mid) is way) in
+      let own : StopsAndBootsPort port its old mid = subst (λ (p : Port). StopsAndBootsPort p its old mid) same (subst (λ (f : ProbeResult). StopsAndBootsPort (port_at first) f old mid) is way) in
       let early = through_driven (port_at first) found old mid way in
       let late = go_driven (first + 1) (first + 1) rest mid new (omega arith) more in
       lasting mid new (on_over laws (IsOf (port_at first)) old mid early (laws.of_spares_ghc (port_at first)) on)
@@ -115,7 +115,7 @@ module _ (laws : Laws) where
       let early = through_driven (port_at first) found old mid way in
       go_last P port its served through lasting (first + 1) rest k mid new (omega (arith, at)) is (on_over laws (IsOf (port_at first)) old mid early (laws.of_spares_ghc (port_at first)) on) more
 
-  pub taken_well : (port : Port) (info : DiskInfo) (ports : List ProbeResult) (old new : Device) → IsIdle old → probe_result_of ports port.0 ≡ Ready info → GoesOver ports old new → Undisturbed port.0 old new → RunsWell (new.port port.0)
+  pub taken_well : (port : Port) (info : DiskInfo) (ports : List ProbeResult) (old new : Device) → IsIdle old → probe_result_of ports port.0 ≡ Ready info → SwitchesOnAndBoots ports old new → Undisturbed port.0 old new → RunsWell (new.port port.0)
   taken_well port info ports old new idle is way calm =
       let on : IsOn way.switched = laws.switches_on 0x80000000 old way.switched idle.no_reset refl refl way.switches in
       let surveyed : IsOn way.surveyed = on_over laws IsSurvey way.switched way.surveyed way.surveys survey_spares_ghc on in
@@ -130,9 +130,9 @@ module _ (laws : Laws) where
       laws.well_on port.0 way.booted new last parts.1 (go_well port info 0 ports port.0 way.surveyed way.booted (omega arith) is surveyed way.boots within.1)
 
   -- and once the adapter was let interrupt, if that leaves it
-  pub taken_last : (P : Device → Type 0) (port : Port) (its : ProbeResult) → its ≢ Unserved → ((old new : Device) → IsOn old → GoesThrough port its old new → P new)
+  pub taken_last : (P : Device → Type 0) (port : Port) (its : ProbeResult) → its ≢ Unserved → ((old new : Device) → IsOn old → StopsAndBootsPort port its old new → P new)
       → ((old new : Device) → IsOn old → IsDrivenBy (IsOfOther port.0) old new → P old → P new) → ((old new : Device) → IsOn old → Writes Ghc 0x80000002 old new → P old → P new)
-      → (ports : List ProbeResult) (old new : Device) → IsIdle old → probe_result_of ports port.0 ≡ its → GoesOver ports old new → P new
+      → (ports : List ProbeResult) (old new : Device) → IsIdle old → probe_result_of ports port.0 ≡ its → SwitchesOnAndBoots ports old new → P new
   taken_last P port its served through lasting enabling ports old new idle is way =
       let on : IsOn way.switched = laws.switches_on 0x80000000 old way.switched idle.no_reset refl refl way.switches in
       let surveyed : IsOn way.surveyed = on_over laws IsSurvey way.switched way.surveyed way.surveys survey_spares_ghc on in
@@ -140,7 +140,7 @@ module _ (laws : Laws) where
       let booted : IsOn way.booted = on_over laws (IsOfFrom 0) way.surveyed way.booted driven (from_spares_ghc 0) surveyed in
       enabling way.booted new booted way.enables (go_last P port its served through lasting 0 ports port.0 way.surveyed way.booted (omega arith) is surveyed way.boots)
 
-  pub taken_recorded : (port : Port) (info : DiskInfo) (ports : List ProbeResult) (old new : Device) → IsIdle old → probe_result_of ports port.0 ≡ Ready info → GoesOver ports old new → IsRecorded new.tape (new.port port.0) port.0
+  pub taken_recorded : (port : Port) (info : DiskInfo) (ports : List ProbeResult) (old new : Device) → IsIdle old → probe_result_of ports port.0 ≡ Ready info → SwitchesOnAndBoots ports old new → IsRecorded new.tape (new.port port.0) port.0
   taken_recorded port info =
       taken_last (λ d. IsRecorded d.tape (d.port port.0) port.0) port (Ready info) (λ e. absurd (let z : Ready info ≡ Unserved = e in cc))
       (λ old new on its. its.4.recorded)
@@ -148,7 +148,7 @@ module _ (laws : Laws) where
       (λ old new on does h. (laws.runs_over port (Writing Ghc 0x80000002) old new on (λ (e : Ghc ≡ Px port Sctl). absurd cc) (λ (e : Ghc ≡ Px port Cmd). absurd cc) does).recorded h)
 
   -- where it shows a device, a disk is in
-  pub taken_own : (port : Port) (info : DiskInfo) (ports : List ProbeResult) (old new : Device) → IsIdle old → probe_result_of ports port.0 ≡ Ready info → GoesOver ports old new → ShowsOwnDisk (new.port port.0)
+  pub taken_own : (port : Port) (info : DiskInfo) (ports : List ProbeResult) (old new : Device) → IsIdle old → probe_result_of ports port.0 ≡ Ready info → SwitchesOnAndBoots ports old new → ShowsOwnDisk (new.port port.0)
   taken_own port info =
       taken_last (λ d. ShowsOwnDisk (d.port port.0)) port (Ready info) (λ e. absurd (let z : Ready info ≡ Unserved = e in cc))
       (λ old new on its. laws.own_begins port its.0 new its.3)

@@ -13,9 +13,9 @@ use Rattle.adapter.specs.Rules.{IsOn}
 use Rattle.refinement.specs.Driven.{IsControl, IsDrivenBy, IsOf}
 use Rattle.refinement.specs.Links.{HasDeviceOrNone}
 use Rattle.identify.specs.declared.wanted.Wanted.{Wanted}
-use Rattle.port_control.specs.Ports.{WritesCommand}
+use Rattle.port_control.specs.Ports.{IsCommandRegister}
 use Rattle.port_boot.specs.States.{IsBootTo, IsOfBoot, StopsOnWay}
-use Rattle.host_boot.specs.Again.{BootsAgain, BootsIfThere, BootsStopped, IsOfStart}
+use Rattle.host_boot.specs.Again.{RebootsPort, RebootsIfPresent, BootsStopped, IsSurveyOrBoot}
 use Rattle.host_boot.specs.Laws.{Laws}
 use Rattle.host_boot.specs.Taken.{FoundBadDisk, IsServed, IsSurvey, StandsBehind}
 use Rattle.host_boot.specs.declared.Booted.{Booted}
@@ -36,18 +36,18 @@ survey_of port (Loading at bytes) is = absurd is
 survey_of port (Storing at bytes) is = absurd is
 
 module _ (laws : Laws) where
-  pub start_of : (port : Port) (access : Access) → IsOfStart port access → IsOf port access
+  pub start_of : (port : Port) (access : Access) → IsSurveyOrBoot port access → IsOf port access
   start_of port access (inl is) = survey_of port access is
   start_of port access (inr is) = laws.of_boot port access is
 
-  start_driven : (port : Port) (old new : Device) → IsDrivenBy (IsOfStart port) old new → IsDrivenBy (IsOf port) old new
-  start_driven port old new = driven_as (IsOfStart port) (IsOf port) old new (start_of port)
+  start_driven : (port : Port) (old new : Device) → IsDrivenBy (IsSurveyOrBoot port) old new → IsDrivenBy (IsOf port) old new
+  start_driven port old new = driven_as (IsSurveyOrBoot port) (IsOf port) old new (start_of port)
 
   -- the adapter has the port still
   served_over : (wanted : Wanted) (port : Port) (old new : Device) → IsDrivenBy (IsOf port) old new → IsServed wanted port.0 old → IsServed wanted port.0 new
   served_over wanted port old new driven served = (served.0, ap (λ (pi : ℕ). bit pi port.0) (same_over laws (IsOf port) old new driven).pi ∙ served.1)
 
-  module _ (wanted : Wanted) (port : Port) (booted : Booted) (old new : Device) (b : BootsAgain wanted port booted old new) where
+  module _ (wanted : Wanted) (port : Port) (booted : Booted) (old new : Device) (b : RebootsPort wanted port booted old new) where
     surveyed : IsDrivenBy (IsOf port) old b.asked
     surveyed = start_driven port old b.asked b.asks.driven
 
@@ -74,7 +74,7 @@ module _ (laws : Laws) where
         let asked : IsOn b.asked = on_over laws (IsOf port) old b.asked surveyed (laws.of_spares_ghc port) on in
         way_shown laws port state b.asked new bad asked (
           b.asked,
-          by_none (IsControl WritesCommand port) b.asked,
+          by_none (IsControl IsCommandRegister port) b.asked,
           booted_driven laws wanted port (Unready state) b.asked new boots,
           boots.early,
           boots.late,
@@ -84,16 +84,16 @@ module _ (laws : Laws) where
   -- ---- or it is booted only if a device shows
 
   module _ (wanted : Wanted) (port : Port) (booted : Booted) (old new : Device) where
-    pub there_driven : BootsIfThere wanted port booted old new → IsDrivenBy (IsOf port) old new
+    pub there_driven : RebootsIfPresent wanted port booted old new → IsDrivenBy (IsOf port) old new
     there_driven (inl is) = again_driven wanted port booted old new is.0
     there_driven (inr is) = start_driven port old new is.1.driven
 
-    pub there_stands : BootsIfThere wanted port booted old new → IsServed wanted port.0 old → StandsBehind wanted booted.found port.0 new
+    pub there_stands : RebootsIfPresent wanted port booted old new → IsServed wanted port.0 old → StandsBehind wanted booted.found port.0 new
     there_stands (inl is) served = again_stands wanted port booted old new is.0 served
     there_stands (inr is) served =
         subst (λ (found : ProbeResult). StandsBehind wanted found port.0 new) (sym is.0) (served_over wanted port old new (start_driven port old new is.1.driven) served, is.2)
 
-    pub there_shown : (state : PortState) → IsOn old → BootsIfThere wanted port booted old new → FoundBadDisk state → booted.found ≡ Unready state → HasDeviceOrNone (new.port port.0)
+    pub there_shown : (state : PortState) → IsOn old → RebootsIfPresent wanted port booted old new → FoundBadDisk state → booted.found ≡ Unready state → HasDeviceOrNone (new.port port.0)
     there_shown state on (inl is) bad found = again_shown wanted port booted old new is.0 state on bad found
     there_shown state on (inr is) bad found =
         let absent : Absent ≡ state = let k : Unready Absent ≡ Unready state = sym is.0 ∙ found in cc in

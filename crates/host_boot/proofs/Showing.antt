@@ -16,11 +16,11 @@ use Rattle.adapter.specs.Rules.{IsOn}
 use Rattle.refinement.specs.Driven.{IsControl, IsDrivenBy, IsOf}
 use Rattle.refinement.specs.Links.{HasDeviceOrNone, SparesRegister}
 use Rattle.disk_page.specs.Asking.{IsAsking}
-use Rattle.port_control.specs.Ports.{FindsLink, FindsSignature, HasLink, IsPlacing, Looks, ReadsNot, ReadsUntil, ReadsWithout, ShowsIdle, WasReset, WritesCommand}
+use Rattle.port_control.specs.Ports.{FindsLink, FindsSignature, HasLink, IsPlacingRegister, LooksAfterReset, ReadsNot, ReadsUntil, ReadsWithout, ShowsIdle, WasReset, IsCommandRegister}
 use Rattle.port_control.specs.declared.PortFault.{PortFault}
 use Rattle.port_control.specs.declared.PortFault.TheVariants.{NoDevice, Busy, EngineStuck, NotAta}
-use Rattle.port_boot.specs.States.{EndsEarly, EndsLate, IsStateOfFault}
-use Rattle.host_boot.specs.Taken.{FoundBadDisk, GoesOver, GoesThrough, probe_result_of}
+use Rattle.port_boot.specs.States.{EndsBeforeStart, EndsAfterStart, IsStateOfFault}
+use Rattle.host_boot.specs.Taken.{FoundBadDisk, SwitchesOnAndBoots, StopsAndBootsPort, probe_result_of}
 use Rattle.host_boot.specs.declared.ProbeResult.{ProbeResult}
 use Rattle.host_boot.specs.declared.ProbeResult.TheVariants.{Unserved, Unready}
 use Rattle.host_boot.proofs.Running.{IsOfOther, other_spares, taken_last}
@@ -91,7 +91,7 @@ module _ (laws : Laws) where
         (by_then laws (until_gentle port Tfd ShowsIdle f.linked f.idle f.waits) (read_gentle port Sig signature f.idle new f.reads))
         (link_shown old f.linked on f.links)
 
-    looks_shown : (fault : PortFault) (old new : Device) → fault ≢ NoDevice → IsOn old → Looks port fault old new → Shown new
+    looks_shown : (fault : PortFault) (old new : Device) → fault ≢ NoDevice → IsOn old → LooksAfterReset port fault old new → Shown new
     looks_shown NoDevice old new other on l = absurd (other refl)
     looks_shown Busy old new other on l =
         gently l.linked new (link_on old l.linked on l.links) (without_gentle port Tfd ShowsIdle MOST_READINGS l.linked new l.waits) (link_shown old l.linked on l.links)
@@ -105,17 +105,17 @@ module _ (laws : Laws) where
         (by_then laws (by_one (IsOf port) (Writing (Px port Sctl) 1) old w.sent refl w.sends) (by_one (IsOf port) (Writing (Px port Sctl) 0) w.sent w.ended refl w.ends))
         (laws.of_spares_ghc port) on
 
-    placing_on : (old new : Device) → IsOn old → IsDrivenBy (IsControl IsPlacing port) old new → IsOn new
+    placing_on : (old new : Device) → IsOn old → IsDrivenBy (IsControl IsPlacingRegister port) old new → IsOn new
     placing_on old new on driven = on_over laws (IsOf port) old new (placing_driven laws port old new driven) (laws.of_spares_ghc port) on
 
-    early_shown : (state : PortState) (old new : Device) → state ≢ Absent → IsOn old → EndsEarly port state old new → Shown new
+    early_shown : (state : PortState) (old new : Device) → state ≢ Absent → IsOn old → EndsBeforeStart port state old new → Shown new
     early_shown state old new other on e =
         looks_shown e.fault e.resets.ended new (λ none. other (subst (IsStateOfFault state) none e.told))
-        (reset_on (Looks port e.fault) e.placed new (placing_on old e.placed on e.places) e.resets) e.resets.rest
+        (reset_on (LooksAfterReset port e.fault) e.placed new (placing_on old e.placed on e.places) e.resets) e.resets.rest
 
-    stop_gentle : (old new : Device) → IsDrivenBy (IsControl WritesCommand port) old new → IsDrivenBy (IsGentle port) old new
+    stop_gentle : (old new : Device) → IsDrivenBy (IsControl IsCommandRegister port) old new → IsDrivenBy (IsGentle port) old new
     stop_gentle old new driven =
-        driven_as (IsControl WritesCommand port) (IsGentle port) old new
+        driven_as (IsControl IsCommandRegister port) (IsGentle port) old new
         (λ access is. let c = laws.commanding port access is in (laws.of_spares_ghc port access c.0, c.1)) driven
 
     asking_gentle : (access : Access) → IsAsking port access → IsGentle port access
@@ -125,7 +125,7 @@ module _ (laws : Laws) where
     asking_gentle (Loading at bytes) is = (tt, tt)
     asking_gentle (Storing at bytes) is = (tt, tt)
 
-    late_shown : (old new : Device) → IsOn old → EndsLate port old new → Shown new
+    late_shown : (old new : Device) → IsOn old → EndsAfterStart port old new → Shown new
     late_shown old new on e =
         let up = e.first in
         let ended : IsOn up.resets.ended = reset_on (FindsSignature port 0x101) up.placed up.found (placing_on old up.placed on up.places) up.resets in
@@ -141,7 +141,7 @@ module _ (laws : Laws) where
             (by_then laws (until_gentle port Tfd ShowsIdle f.linked f.idle f.waits) (read_gentle port Sig 0x101 f.idle b f.reads))
 
     -- where a disk was found that isn't served, its way ends so
-    pub way_shown : (state : PortState) (old new : Device) → FoundBadDisk state → IsOn old → GoesThrough port (Unready state) old new → Shown new
+    pub way_shown : (state : PortState) (old new : Device) → FoundBadDisk state → IsOn old → StopsAndBootsPort port (Unready state) old new → Shown new
     way_shown Foreign old new bad on (stopped, stop, boot, early, late, sticks) =
         late_shown stopped new (on_over laws (IsOf port) old stopped (stop_driven laws port old stopped stop) (laws.of_spares_ghc port) on) (late tt)
     way_shown (Unfit n) old new bad on (stopped, stop, boot, early, late, sticks) = ⊎_elim
@@ -160,7 +160,7 @@ module _ (laws : Laws) where
 
   -- and so it is once all were booted
   pub taken_shown : (port : Port) (state : PortState) (ports : List ProbeResult) (old new : Device) → IsIdle old → FoundBadDisk state → probe_result_of ports port.0 ≡ Unready state
-      → GoesOver ports old new → HasDeviceOrNone (new.port port.0)
+      → SwitchesOnAndBoots ports old new → HasDeviceOrNone (new.port port.0)
   taken_shown port state ports old new idle bad is way =
       taken_last laws (λ d. HasDeviceOrNone (d.port port.0)) port (Unready state) (λ e. absurd (let z : Unready state ≡ Unserved = e in cc))
       (λ a b on through. way_shown port state a b bad on through)

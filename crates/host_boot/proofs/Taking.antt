@@ -29,19 +29,19 @@ use Rattle.identify.specs.declared.wanted.Wanted.{Wanted}
 use Rattle.identify.specs.declared.wanted.Wanted.TheVariants.{Nothing}
 use Rattle.port_control.specs.Engines.{StopsBoth}
 use Rattle.port_boot.specs.States.{IsBoot, IsBootTo, IsOfBoot}
-use Rattle.host_boot.specs.Taken.{Boots, GoesOver, HaltsFound, IsUnusedOrDead, IsOfHost, IsOfTaking, LeavesPorts, StandsBehind, TakesOver, TellsEngines, WroteControl, probe_result_of, unused, wanted_of}
+use Rattle.host_boot.specs.Taken.{Boots, SwitchesOnAndBoots, HaltsFound, IsUnusedOrDead, IsOfHost, IsOfTaking, LeavesPorts, StandsBehind, TakesOver, TellsEngines, WroteControl, probe_result_of, unused, wanted_of}
 use Rattle.host_boot.specs.declared.Host.{Host}
 use Rattle.host_boot.specs.declared.ProbeResult.{ProbeResult}
 use Rattle.host_boot.specs.declared.ProbeResult.TheVariants.{Unserved, Ready, Unready}
 use Rattle.host_boot.proofs.Stopping.{tells_then, tells_since}
 use Rattle.host_boot.proofs.Leaving.{idle_on, is_served, stands_on, reset_on}
-use Rattle.refinement.specs.Acts.{Comes, InSlots, at_slots}
-use Rattle.host_boot.specs.Laws.{Laws, Fitting, uses_of}
+use Rattle.refinement.specs.Acts.{ActsReach, InSlots, at_slots}
+use Rattle.host_boot.specs.Laws.{Laws, SlotCondition, uses_of}
 use Rattle.block_machine.specs.Steps.{May}
 use Rattle.refinement.specs.Tape.{TapeTells}
 use Rattle.host_boot.proofs.Stretching.{driven_as, same_over, tape_over, told_both, told_more, told_wider}
-use Rattle.host_boot.specs.Laws.Fitting.{AnyUses, PortUnused, Only}
-use Rattle.host_boot.specs.Laws.Fragment.{Booting, Hosting, Taking}
+use Rattle.host_boot.specs.Laws.SlotCondition.{AnyUses, PortUnused, Only}
+use Rattle.host_boot.specs.Laws.AccessKind.{Booting, Hosting, Taking}
 
 -- the uses are these at last
 abbrev GoesTo : (Access → Type 0) → SlotStates → SlotStates → Device → Device → Type 0
@@ -97,11 +97,11 @@ module _ (laws : Laws) where
     goes_on old new a = record {
       driven = a.driven;
       comes = λ s m reached x is.
-          subst (λ (u : SlotStates). Comes a.driven.accesses (at_slots s old) m (at_slots (record s { uses = u }) new) (AreDevices (IsOfTaking wanted) s.uses)) is (a.comes s m reached x tt);
+          subst (λ (u : SlotStates). ActsReach a.driven.accesses (at_slots s old) m (at_slots (record s { uses = u }) new) (AreDevices (IsOfTaking wanted) s.uses)) is (a.comes s m reached x tt);
     }
 
     -- and then others, with what is told of both
-    pub then_told : (Before Here TapeTells : List Access → Type 0) → ((early late : List Access) → Before early → Here late → TapeTells (early ++ late)) → (fitting : Fitting) (next : SlotStates → SlotStates) (uses : SlotStates)
+    pub then_told : (Before Here TapeTells : List Access → Type 0) → ((early late : List Access) → Before early → Here late → TapeTells (early ++ late)) → (fitting : SlotCondition) (next : SlotStates → SlotStates) (uses : SlotStates)
         (old mid new : Device) → uses_of fitting uses → IsSimulatedAlongTo Before (IsOfTaking wanted) (IsUse first) (λ _. uses) old mid → IsSimulatedAlongTo Here (IsOfTaking wanted) (uses_of fitting) next mid new →
         IsSimulatedAlongTo TapeTells (IsOfTaking wanted) (IsUse first) (λ _. next uses) old new
     then_told Before Here TapeTells join fitting next uses old mid new fits a b =
@@ -424,7 +424,7 @@ module _ (laws : Laws) where
       all_told = then_told wanted unused (TellsFirst ports 4) (λ late. Unit {0}) (TellsFirst ports 4) (λ early late is any port less. tells_then laws (port_at port) (probe_result_of ports port) early late (is port less))
           AnyUses (λ uses. uses) u.uses start d new tt u.told (record { followed = hosting wanted d new f; tells = tt })
 
-      pub ends : (host : Host) → host.ports ≡ ports → host.slots ≡ new.cap / 256 % 32 + 1 → host.queued ≡ bit new.cap 30 → IsOn new → new.ie ≡ true → GoesOver ports start new → TakesOver wanted host start new
+      pub ends : (host : Host) → host.ports ≡ ports → host.slots ≡ new.cap / 256 % 32 + 1 → host.queued ≡ bit new.cap 30 → IsOn new → new.ie ≡ true → SwitchesOnAndBoots ports start new → TakesOver wanted host start new
       ends host is slots queued on tells way = record {
         on = on;
         interrupts = tells;
@@ -441,7 +441,7 @@ module _ (laws : Laws) where
             let P : List ProbeResult → Type 0 = λ ps. HaltsFound (probe_result_of ps port) port new in
             subst P (sym is) (still_halts IsOfHost AnyUse (λ uses. uses) u.uses port d new (host_spares (port_at port) Cmd) tt f u.agreed (wanted_of wanted port) (probe_result_of ports port)
             (stands_on laws.found port d new (leaves port) (same_over laws IsOfHost d new f.driven) (wanted_of wanted port) (probe_result_of ports port) (silent port) (u.stands port less)) (u.halts port less));
-        way = let P : List ProbeResult → Type 0 = λ ps. GoesOver ps start new in subst P (sym is) way;
+        way = let P : List ProbeResult → Type 0 = λ ps. SwitchesOnAndBoots ps start new in subst P (sym is) way;
         uses = u.uses;
         left = λ port slot. let P : List ProbeResult → Type 0 = λ ps. IsUnusedOrDead ps u.uses port slot in subst P (sym is) (u.left port slot);
         followed = all_told.followed;

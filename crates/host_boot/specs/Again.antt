@@ -23,21 +23,21 @@ BootsStopped wanted port (Ready info) old new = EndsReady (serial_of wanted) por
 BootsStopped wanted port (Unready state) old new = EndsUnready (serial_of wanted) port state old new
 
 -- CAP or PI is read, or it is an access of the port's boot
-abbrev pub IsOfStart : Port → Access → Type 0
-IsOfStart port access = IsSurvey access ⊎ IsOfBoot port access
+abbrev pub IsSurveyOrBoot : Port → Access → Type 0
+IsSurveyOrBoot port access = IsSurvey access ⊎ IsOfBoot port access
 
 -- The adapter was asked what it is capable of (CAP), the port was looked at, if at all, and then it was booted.
-pub record BootsAgain (wanted : Wanted) (port : Port) (booted : Booted) (old new : Device) : Type 0 where
+pub record RebootsPort (wanted : Wanted) (port : Port) (booted : Booted) (old new : Device) : Type 0 where
   pub asked : Device
-  pub asks : IsSimulated (IsOfStart port) (λ uses. AllFree uses port.0) old asked
+  pub asks : IsSimulated (IsSurveyOrBoot port) (λ uses. AllFree uses port.0) old asked
   pub boots : BootsStopped wanted port booted.found asked new
   pub slots : booted.slots ≡ new.cap / 256 % 32 + 1
   pub queued : booted.queued ≡ bit new.cap 30
 
 -- A port is booted if a device shows: PxSSTS.DET is 3 where its boot begins; or it is found absent, and is left as an
 -- absent one is.
-abbrev pub BootsIfThere : Wanted → Port → Booted → Device → Device → Type 0
-BootsIfThere wanted port booted old new =
-    ((b : BootsAgain wanted port booted old new) × ((b.asked.port port.0).ssts_det ≡ 3))
-    ⊎ ((booted.found ≡ Unready Absent) × IsSimulated (IsOfStart port) (λ uses. AllFree uses port.0) old new
+abbrev pub RebootsIfPresent : Wanted → Port → Booted → Device → Device → Type 0
+RebootsIfPresent wanted port booted old new =
+    ((b : RebootsPort wanted port booted old new) × ((b.asked.port port.0).ssts_det ≡ 3))
+    ⊎ ((booted.found ≡ Unready Absent) × IsSimulated (IsSurveyOrBoot port) (λ uses. AllFree uses port.0) old new
     × EndsAs (serial_of wanted) Absent port.0 new)

@@ -10,23 +10,23 @@ use Rattle.hba_regs.specs.declared.reg.PortReg.TheVariants.{Cmd, Sctl, Ssts}
 use Rattle.ata_types.specs.declared.PortState.TheVariants.{Dead}
 use Rattle.adapter.specs.Device.{Device, DevicePort}
 use Rattle.identify.specs.declared.DiskInfo.{DiskInfo}
-use Rattle.port_boot.specs.States.{EndsAs, GetsReady, HasFitDisk, IsBootTo, IsOfBoot, IsReady, RunsOn, ShowsOwnDisk, StopsOnWay}
+use Rattle.port_boot.specs.States.{EndsAs, BringsReady, HasFitDisk, IsBootTo, IsOfBoot, IsReady, RunsOn, ShowsOwnDisk, StopsOnWay}
 use Rattle.adapter.specs.declared.tape.Entry.{Entry}
 use Rattle.port_control.specs.Engines.{FailsToStop, Falls, Sticks, StopsBoth}
 use Rattle.refinement.specs.Slots.{Free, SlotState, SlotStates, put}
 use Rattle.hba_regs.specs.declared.reg.Reg.TheVariants.{Ghc, Px}
-use Rattle.refinement.specs.Acts.{Act, AreDone, accesses_of}
+use Rattle.refinement.specs.Acts.{Act, AreActsDone, accesses_of}
 use Rattle.refinement.specs.Halting.{IsHaltedAsTaken}
 use Rattle.refinement.specs.Links.{HasDeviceOrNone, SameAdapter, SparesRegister}
 use Rattle.block_machine.specs.Histories.{IsReachable}
 use Rattle.block_machine.specs.State.{Machine}
 use Rattle.adapter.specs.declared.command.Operation.TheVariants.{Identify}
 use Rattle.adapter.specs.Idle.{IsIdle, TellsDisks}
-use Rattle.host_boot.specs.Again.{IsOfStart}
+use Rattle.host_boot.specs.Again.{IsSurveyOrBoot}
 use Rattle.host_boot.specs.Resets.{IsOfReset}
 use Rattle.host_boot.specs.Taken.{IsOfHost, IsOfTaking, IsSurvey}
 use Rattle.adapter.specs.Rules.{IsOn}
-use Rattle.port_control.specs.Ports.{IsClearing, IsPlacing, WritesCommand}
+use Rattle.port_control.specs.Ports.{IsErrorRegister, IsPlacingRegister, IsCommandRegister}
 use Rattle.adapter.specs.Kept.{Keeps}
 use Rattle.hba_regs.specs.declared.reg.PortReg.{PortReg}
 use Rattle.adapter.specs.Access.Access.{Writing}
@@ -38,12 +38,12 @@ use Rattle.hba_regs.specs.Bits.{bit}
 -- ---- kinds of accesses
 
 -- the uses of slots that fit: any, with none of a port's slots used, or these alone
-pub data Fitting : Type 0 where
-  AnyUses : Fitting
-  PortUnused : Port → Fitting
-  Only : SlotStates → Fitting
+pub data SlotCondition : Type 0 where
+  AnyUses : SlotCondition
+  PortUnused : Port → SlotCondition
+  Only : SlotStates → SlotCondition
 
-abbrev pub uses_of : Fitting → SlotStates → Type 0
+abbrev pub uses_of : SlotCondition → SlotStates → Type 0
 uses_of AnyUses = AnyUse
 uses_of (PortUnused port) = λ uses. AllFree uses port.0
 uses_of (Only uses) = IsUse uses
@@ -51,27 +51,27 @@ uses_of (Only uses) = IsUse uses
 -- a port is stopped, or booted, with none of its slots used; registers of the adapter's own are read and written, or
 -- CAP and PI alone are read; a port is looked at, or all of this is done for its boot; or all ports are taken over; or
 -- the adapter is reset
-pub data Fragment : Type 0 where
-  Commanding : Port → Fragment
-  Booting : Port → Fragment
-  Hosting : Fragment
-  Surveying : Fragment
-  Clearing : Port → Fragment
-  Starting : Port → Fragment
-  Taking : List Wanted → Fitting → Fragment
-  Resetting : Fragment
+pub data AccessKind : Type 0 where
+  Commanding : Port → AccessKind
+  Booting : Port → AccessKind
+  Hosting : AccessKind
+  Surveying : AccessKind
+  Clearing : Port → AccessKind
+  Starting : Port → AccessKind
+  Taking : List Wanted → SlotCondition → AccessKind
+  Resetting : AccessKind
 
-abbrev pub may_of : Fragment → Access → Type 0
-may_of (Commanding port) = IsControl WritesCommand port
+abbrev pub may_of : AccessKind → Access → Type 0
+may_of (Commanding port) = IsControl IsCommandRegister port
 may_of (Booting port) = IsOfBoot port
 may_of Hosting = IsOfHost
 may_of Surveying = IsSurvey
-may_of (Clearing port) = IsControl IsClearing port
-may_of (Starting port) = IsOfStart port
+may_of (Clearing port) = IsControl IsErrorRegister port
+may_of (Starting port) = IsSurveyOrBoot port
 may_of (Taking wanted fitting) = IsOfTaking wanted
 may_of Resetting = IsOfReset
 
-abbrev pub fits_of : Fragment → SlotStates → Type 0
+abbrev pub fits_of : AccessKind → SlotStates → Type 0
 fits_of (Commanding port) = AnyUse
 fits_of (Booting port) = λ uses. AllFree uses port.0
 fits_of Hosting = AnyUse
@@ -116,7 +116,7 @@ pub record Laws : Type 0 where
       → ShowsOwnDisk (new.port port)
   pub own_all : (port : ℕ) (accesses : List Access) (old new : Device) → DoesAll accesses old new
       → ShowsOwnDisk (old.port port) → ShowsOwnDisk (new.port port)
-  pub own_begins : (port : Port) (old new : Device) → GetsReady port old new → ShowsOwnDisk (new.port port.0)
+  pub own_begins : (port : Port) (old new : Device) → BringsReady port old new → ShowsOwnDisk (new.port port.0)
   pub shows_device : (port : Port) (v : ℕ) (old new : Device) → Reads (Px port Ssts) v old new → v % 16 ≡ 3
       → HasDeviceOrNone (new.port port.0)
   -- fragments
@@ -141,9 +141,9 @@ pub record Laws : Type 0 where
       → (other_port ≡ port → other_slot ≡ slot → ⊥) → put uses port slot u other_port other_slot ≡ uses other_port
       other_slot
   -- a port
-  pub commanding : (port : Port) (access : Access) → IsControl WritesCommand port access → IsOf port access
+  pub commanding : (port : Port) (access : Access) → IsControl IsCommandRegister port access → IsOf port access
       × SparesRegister (Px port Sctl) access
-  pub placing : (port : Port) (access : Access) → IsControl IsPlacing port access → IsOf port access
+  pub placing : (port : Port) (access : Access) → IsControl IsPlacingRegister port access → IsOf port access
       × SparesRegister (Px port Sctl) access
   pub failing_sticks : (port : Port) (accesses : List Access) → FailsToStop port accesses → Sticks port accesses
   pub falls_then : (early late : List Access) (start running : ℕ) (port : Port) → Falls start running port early
@@ -157,7 +157,7 @@ pub record Laws : Type 0 where
       → IsBootTo (StopsOnWay port state) port state old new → IsDrivenBy (IsOfBoot port) old new
   pub stops_driven : (port : Port) (state : ShownState) (old new : Device)
       → IsBootTo (StopsBoth port) port state old new → IsDrivenBy (IsOfBoot port) old new
-  pub command_of_boot : (port : Port) (access : Access) → IsControl WritesCommand port access → IsOfBoot port access
+  pub command_of_boot : (port : Port) (access : Access) → IsControl IsCommandRegister port access → IsOfBoot port access
   pub runs_over : (port : Port) (access : Access) (old new : Device) → IsOn old → SparesRegister (Px port Sctl) access
       → SparesRegister (Px port Cmd) access → Does access old new → RunsOn port.0 old new
   pub runs_on : (port : Port) (accesses : List Access) (old new : Device) → IsOn old → DoesAll accesses old new
@@ -167,7 +167,7 @@ pub record Laws : Type 0 where
       → RunsWell (old.port port) → RunsWell (new.port port)
   pub halts_acts : (port : Port) (acts : List Act) (k later : DriverState) (m : Machine) → IsReachable m
       → DriverRelation m k
-      → AreDone acts k m later → All (SparesRegister (Px port Cmd)) (accesses_of acts)
+      → AreActsDone acts k m later → All (SparesRegister (Px port Cmd)) (accesses_of acts)
       → IsHaltedAsTaken (k.device.port port.0) → IsHaltedAsTaken (later.device.port port.0)
   -- this crate's kinds of accesses
-  pub fragments : FragmentLaws Fragment may_of fits_of
+  pub fragments : FragmentLaws AccessKind may_of fits_of

@@ -24,8 +24,8 @@ use Rattle.identify.specs.declared.DiskInfo.{DiskInfo}
 use Rattle.identify.specs.declared.wanted.Wanted.{Wanted}
 use Rattle.identify.specs.declared.wanted.Wanted.TheVariants.{Nothing}
 use Rattle.port_control.specs.Engines.{StopsBoth, Sticks}
-use Rattle.port_control.specs.Ports.{WritesCommand}
-use Rattle.port_boot.specs.States.{EndsAs, EndsEarly, EndsLate, GetsReady, HasFitDisk, IsBoot, IsBootTo, IsEarly, IsLate, IsOfBoot, IsReady, ShowsNews}
+use Rattle.port_control.specs.Ports.{IsCommandRegister}
+use Rattle.port_boot.specs.States.{EndsAs, EndsBeforeStart, EndsAfterStart, BringsReady, HasFitDisk, IsBoot, IsBootTo, IsBeforeStart, IsAfterStart, IsOfBoot, IsReady, ShowsNews}
 use Rattle.host_boot.specs.declared.ProbeResult.{ProbeResult}
 use Rattle.host_boot.specs.declared.ProbeResult.TheVariants.{Unserved, Ready, Unready}
 use Rattle.host_boot.specs.declared.Host.{Host}
@@ -128,13 +128,15 @@ pub record SticksOnWay (port : Port) (old new : Device) : Type 0 where
 -- The port was stopped, and then booted, by accesses of a boot of this port alone: it is ready, and each access of that
 -- is told, with what it shows of trouble; or it isn't, and what was seen is told. Of each dead one the engine that is
 -- stuck is told.
-abbrev pub GoesThrough : Port → ProbeResult → Device → Device → Type 0
-GoesThrough port Unserved old new = new ≡ old
-GoesThrough port (Ready info) old new = (stopped : Device) × IsDrivenBy (IsControl WritesCommand port) old stopped
-    × IsDrivenBy (IsOfBoot port) stopped new × GetsReady port stopped new × ShowsNews port.0 stopped new
-GoesThrough port (Unready state) old new = (stopped : Device) × IsDrivenBy (IsControl WritesCommand port) old stopped
-    × IsDrivenBy (IsOfBoot port) stopped new × (IsEarly state → EndsEarly port state stopped new)
-    × (IsLate state → EndsLate port stopped new) × (state ≡ Dead → SticksOnWay port old new)
+abbrev pub StopsAndBootsPort : Port → ProbeResult → Device → Device → Type 0
+StopsAndBootsPort port Unserved old new = new ≡ old
+StopsAndBootsPort port (Ready info) old new = (stopped : Device)
+    × IsDrivenBy (IsControl IsCommandRegister port) old stopped
+    × IsDrivenBy (IsOfBoot port) stopped new × BringsReady port stopped new × ShowsNews port.0 stopped new
+StopsAndBootsPort port (Unready state) old new = (stopped : Device)
+    × IsDrivenBy (IsControl IsCommandRegister port) old stopped
+    × IsDrivenBy (IsOfBoot port) stopped new × (IsBeforeStart state → EndsBeforeStart port state stopped new)
+    × (IsAfterStart state → EndsAfterStart port stopped new) × (state ≡ Dead → SticksOnWay port old new)
 
 -- ---- one port
 
@@ -155,25 +157,25 @@ pub record FindsPort (wanted : Wanted) (port : Port) (found : ProbeResult) (old 
   pub reset : WroteControl found port.0 (length old.tape) new
   pub halts : HaltsFound found port.0 new
   pub boots : Boots port found old new
-  pub way : GoesThrough port found old new
+  pub way : StopsAndBootsPort port found old new
 
 -- ---- the whole way
 
 -- so it was with these ports, one after another, of which the first has this number
-abbrev pub GoThrough : ℕ → List ProbeResult → Device → Device → Type 0
-GoThrough port [] old new = new ≡ old
-GoThrough port (found ∷ rest) old new = (mid : Device) × GoesThrough (port_at port) found old mid
-    × GoThrough (port + 1) rest mid new
+abbrev pub FindsEachPort : ℕ → List ProbeResult → Device → Device → Type 0
+FindsEachPort port [] old new = new ≡ old
+FindsEachPort port (found ∷ rest) old new = (mid : Device) × StopsAndBootsPort (port_at port) found old mid
+    × FindsEachPort (port + 1) rest mid new
 
 -- The adapter was switched on with interrupts off, and CAP and PI were read; then each port went its way, in rising
 -- number; and last of all the adapter was let interrupt (AHCI 1.3.1, 3.1.2 and 10.1.2).
-pub record GoesOver (ports : List ProbeResult) (old new : Device) : Type 0 where
+pub record SwitchesOnAndBoots (ports : List ProbeResult) (old new : Device) : Type 0 where
   pub switched : Device
   pub switches : Writes Ghc 0x80000000 old switched
   pub surveyed : Device
   pub surveys : IsDrivenBy IsSurvey switched surveyed
   pub booted : Device
-  pub boots : GoThrough 0 ports surveyed booted
+  pub boots : FindsEachPort 0 ports surveyed booted
   pub enables : Writes Ghc 0x80000002 booted new
 
 -- ---- the whole
@@ -199,7 +201,7 @@ pub record TakesOver (wanted : List Wanted) (host : Host) (old new : Device) : T
   pub stands : (port : ℕ) → port < 4 → StandsBehind (wanted_of wanted port) (probe_result_of host.ports port) port new
   pub reset : (port : ℕ) → port < 4 → WroteControl (probe_result_of host.ports port) port (length old.tape) new
   pub halts : (port : ℕ) → port < 4 → HaltsFound (probe_result_of host.ports port) port new
-  pub way : GoesOver host.ports old new
+  pub way : SwitchesOnAndBoots host.ports old new
   pub uses : SlotStates
   pub left : (port slot : ℕ) → IsUnusedOrDead host.ports uses port slot
   pub followed : IsSimulatedTo (IsOfTaking wanted) (IsUse unused) (λ _. uses) old new

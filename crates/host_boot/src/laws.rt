@@ -15,7 +15,7 @@ ghost use Rattle.refinement.specs.Links.{HasDeviceOrNone, SameAdapter};
 ghost use Rattle.refinement.specs.Places.{list_of};
 ghost use Rattle.identify.specs.declared.DiskInfo.{DiskInfo};
 ghost use Rattle.identify.specs.declared.wanted.Wanted.{Wanted};
-ghost use Rattle.host_boot.specs.Again.{BootsAgain, BootsIfThere, IsOfStart};
+ghost use Rattle.host_boot.specs.Again.{RebootsPort, RebootsIfPresent, IsSurveyOrBoot};
 ghost use Rattle.host_boot.specs.Taken.{FoundBadDisk, IsServed, LeavesFound, LeavesPorts, StandsBehind, StillStandsBehind, TakesOver, probe_result_of};
 ghost use Rattle.host_boot.specs.declared.Booted.{Booted};
 ghost use Rattle.host_boot.specs.declared.ProbeResult.{ProbeResult};
@@ -85,22 +85,22 @@ pub fn law_other_ports_run_well()
 /// accesses of either of the port, one by one.
 pub fn law_what_was_booted_again_may_be_served()
     ensures driven { (wanted : Wanted) (port : Port) (booted : Booted) (old new : Device)
-        → BootsAgain wanted port booted old new → IsDrivenBy (IsOf port) old new }
+        → RebootsPort wanted port booted old new → IsDrivenBy (IsOf port) old new }
     ensures stands { (wanted : Wanted) (port : Port) (booted : Booted) (old new : Device)
-        → BootsAgain wanted port booted old new → IsServed wanted port.0 old
+        → RebootsPort wanted port booted old new → IsServed wanted port.0 old
         → StandsBehind wanted booted.found port.0 new }
     ensures shown { (wanted : Wanted) (port : Port) (booted : Booted) (state : PortState) (old new : Device) → IsOn old
-        → BootsAgain wanted port booted old new → FoundBadDisk state → booted.found ≡ Unready state
+        → RebootsPort wanted port booted old new → FoundBadDisk state → booted.found ≡ Unready state
         → HasDeviceOrNone (new.port port.0) }
     ensures there_driven { (wanted : Wanted) (port : Port) (booted : Booted) (old new : Device)
-        → BootsIfThere wanted port booted old new → IsDrivenBy (IsOf port) old new }
+        → RebootsIfPresent wanted port booted old new → IsDrivenBy (IsOf port) old new }
     ensures there_stands { (wanted : Wanted) (port : Port) (booted : Booted) (old new : Device)
-        → BootsIfThere wanted port booted old new → IsServed wanted port.0 old
+        → RebootsIfPresent wanted port booted old new → IsServed wanted port.0 old
         → StandsBehind wanted booted.found port.0 new }
     ensures there_shown { (wanted : Wanted) (port : Port) (booted : Booted) (state : PortState) (old new : Device)
-        → IsOn old → BootsIfThere wanted port booted old new → FoundBadDisk state → booted.found ≡ Unready state
+        → IsOn old → RebootsIfPresent wanted port booted old new → FoundBadDisk state → booted.found ≡ Unready state
         → HasDeviceOrNone (new.port port.0) }
-    ensures start_of { (port : Port) (access : Access) → IsOfStart port access → IsOf port access }
+    ensures start_of { (port : Port) (access : Access) → IsSurveyOrBoot port access → IsOf port access }
     ensures beside { (port other : Port) (old new : Device) → port.0 ≢ other.0 → IsOn old
         → IsDrivenBy (IsOf other) old new → HasDeviceOrNone (old.port port.0) → HasDeviceOrNone (new.port port.0) }
 {

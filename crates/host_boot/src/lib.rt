@@ -16,7 +16,7 @@ ghost use Rattle.adapter.specs.Rules.{IsOn};
 ghost use Rattle.refinement.specs.Driven.{AnyUse, IsDrivenBy, IsSimulated};
 ghost use Rattle.port_boot.specs.States.{IsBootable};
 ghost use Rattle.port_control.specs.Ports.{IsStopped};
-ghost use Rattle.host_boot.specs.Again.{BootsAgain, BootsIfThere, BootsStopped};
+ghost use Rattle.host_boot.specs.Again.{RebootsPort, RebootsIfPresent, BootsStopped};
 ghost use Rattle.host_boot.specs.Taken.{FindsPort, IsOfHost, IsSurvey, MayBootIdle, LeavesPorts, TakesOver};
 ghost use Rattle.adapter.specs.Counted.{MakesAtMost};
 ghost use Rattle.port_boot.specs.Costs.{BOOT_ACCESSES};
@@ -192,7 +192,7 @@ pub fn reboot_port<A: Adapter>(adapter: &mut A, stopped: Stopped, wanted: &Wante
     requires bootable { IsBootable stopped.port (A.device adapter.old) }
     requires stopped { IsStopped ((A.device adapter.old).port stopped.port.0) }
     ensures on { IsOn (A.device adapter.new) }
-    ensures boots { BootsAgain wanted.now stopped.port result (A.device adapter.old) (A.device adapter.new) }
+    ensures boots { RebootsPort wanted.now stopped.port result (A.device adapter.old) (A.device adapter.new) }
     ensures cost { MakesAtMost BOOT_AGAIN_ACCESSES (A.access_count adapter.old) (A.access_count adapter.new) }
 {
     law_base();
@@ -209,7 +209,7 @@ pub fn reboot_if_present<A: Adapter>(adapter: &mut A, stopped: Stopped, wanted: 
     requires stopped { IsStopped ((A.device adapter.old).port stopped.port.0) }
     requires saw { ((A.device adapter.old).port stopped.port.0).notes.link_count ≡ MOST_READINGS }
     ensures on { IsOn (A.device adapter.new) }
-    ensures boots { BootsIfThere wanted.now stopped.port result (A.device adapter.old) (A.device adapter.new) }
+    ensures boots { RebootsIfPresent wanted.now stopped.port result (A.device adapter.old) (A.device adapter.new) }
     ensures cost { MakesAtMost BOOT_IF_THERE_ACCESSES (A.access_count adapter.old) (A.access_count adapter.new) }
 {
     law_base();

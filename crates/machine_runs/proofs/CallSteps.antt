@@ -7,9 +7,9 @@ use Rattle.ata_types.specs.declared.grant.GrantRow.{GrantRow}
 use Rattle.ata_types.specs.declared.request.Request.{Request}
 use Rattle.block_machine.specs.Ports.{Ports}
 use Rattle.block_machine.specs.State.{Accepted, Pending, Machine}
-use Rattle.block_machine.specs.Steps.{Step, Accept, Issue, Touch, End, Age, Again, Answer, Release, Revoke, Unplug, Replace, Store, Load, IsNew, after_step, newly_issued, touch, mark_ended, requeued, older}
+use Rattle.block_machine.specs.Steps.{Step, Accept, Issue, Touch, End, Age, Again, Answer, Release, Revoke, Unplug, Replace, Store, Load, MayAccept, after_step, newly_issued, touch, mark_ended, requeued, older}
 use Rattle.block_machine.specs.Left.{after, IsAccept}
-use Rattle.block_machine.specs.Events.{Ask, Submit, StoreAt, LoadAt, Service, Tick, Reset, State, Device, RevokeOf, AllMay, IsByDevice, IsByServer, Belong, accepts_of, issues_it, IsIssuedIn}
+use Rattle.block_machine.specs.Events.{Ask, Submit, StoreAt, LoadAt, Service, Tick, Reset, State, Device, RevokeOf, AllMay, IsByDevice, IsByServer, AreStepsOfCall, accepts_of, issues_it, IsIssuedIn}
 use Rattle.block_machine.proofs.Members.{contains_none, contains_here, contains_there, contains_cases, map_in, at_cases, without_in, append_in}
 use Rattle.block_machine.proofs.Keeps.{older_keeps, older_issued}
 use Rattle.block_machine.proofs.Counting.{count_cons}
@@ -179,10 +179,10 @@ since m (step ∷ before) e h = ⊎_elim
     (came (after m before) step e h)
 
 -- a request that the steps accept was new to a machine whose rows are all of the first
-pub accepted_new : (m : Machine) (steps : List Step) (r : Accepted) → AllMay m steps → Contains (accepts_of steps) r → (n : Machine) × ((row : GrantRow) → Contains n.rows row → Contains m.rows row) × IsNew n r
+pub accepted_new : (m : Machine) (steps : List Step) (r : Accepted) → AllMay m steps → Contains (accepts_of steps) r → (n : Machine) × ((row : GrantRow) → Contains n.rows row → Contains m.rows row) × MayAccept n r
 accepted_new m [] r may h = absurd (contains_none r h)
 accepted_new m (Accept new ∷ before) r may h = ⊎_elim
-    (λ p. (after m before, rows_shrink m before, subst (λ (x : Accepted). IsNew (after m before) x) (sym p) may.1))
+    (λ p. (after m before, rows_shrink m before, subst (λ (x : Accepted). MayAccept (after m before) x) (sym p) may.1))
     (λ i. accepted_new m before r may.0 i)
     (contains_cases new (accepts_of before) r h)
 accepted_new m (_ ∷ before) r may h = accepted_new m before r may.0 h
@@ -249,12 +249,12 @@ abbrev pub AllFit : {D : Type 0} → Ask D → List Step → Type 0
 AllFit ask [] = Unit {0}
 AllFit ask (step ∷ before) = AllFit ask before × Fits ask step
 
-pub all_fit : {D : Type 0} (ask : Ask D) (ports : Ports) (steps : List Step) → Belong ask ports steps → AllFit ask steps
+pub all_fit : {D : Type 0} (ask : Ask D) (ports : Ports) (steps : List Step) → AreStepsOfCall ask ports steps → AllFit ask steps
 all_fit ask ports [] b = tt
 all_fit ask ports (step ∷ before) b = (all_fit ask ports before b.0, ⊎_elim (devices_fit ask step) (servers_fit ask ports step) b.1)
 
 -- what a submit accepts is what it asked
-pub accepted_asked : (D : Type 0) (q : Request) (ports : Ports) (steps : List Step) (r : Accepted) → Belong {D = D} (Submit q) ports steps → Contains (accepts_of steps) r → r.asked ≡ q
+pub accepted_asked : (D : Type 0) (q : Request) (ports : Ports) (steps : List Step) (r : Accepted) → AreStepsOfCall {D = D} (Submit q) ports steps → Contains (accepts_of steps) r → r.asked ≡ q
 accepted_asked D q ports [] r b h = absurd (contains_none r h)
 accepted_asked D q ports (Accept new ∷ before) r b h = ⊎_elim
     (λ p. ap (λ (x : Accepted). x.asked) p ∙ ⊎_elim (λ d. absurd d) (λ s. s) b.1)

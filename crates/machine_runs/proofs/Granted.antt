@@ -13,7 +13,7 @@ use Rattle.block_machine.specs.Rules.{HasRow, IsUnder, is_under}
 use Rattle.block_machine.specs.State.{Accepted, Pending, Machine}
 use Rattle.block_machine.specs.Steps.{Step, Accept, Issue, Touch, End, Age, Again, Answer, Revoke, HasGrant, May, MayStillMove, after_step, at, newly_issued, touch, mark_ended, requeued, older, newly_accepted}
 use Rattle.block_machine.specs.Left.{after}
-use Rattle.block_machine.specs.Events.{AbstractState, Ask, RevokeOf, CallResult, WasRevoked, CallRecord, AllMay, Belong, IsAnswered, IsByDevice, IsRun, IsByServer, abstract_after_all, steps_of}
+use Rattle.block_machine.specs.Events.{AbstractState, Ask, RevokeOf, CallResult, WasRevoked, CallRecord, AllMay, AreStepsOfCall, IsAnswered, IsByDevice, IsRun, IsByServer, abstract_after_all, steps_of}
 use Rattle.block_machine.proofs.Accepts.{law_accepted_is_granted}
 use Rattle.block_machine.proofs.EventLemmas.{moment_is, run_legal, run_starts}
 use Rattle.block_machine.proofs.Keeps.{keeps, older_issued}
@@ -114,7 +114,7 @@ servers_leave (RevokeOf client number) ports step other h = absurd (true≢false
 servers_leave ask ports (Revoke client number) other h = absurd h
 servers_leave ask ports _ other h = tt
 
-all_leave : {D : Type 0} (ask : Ask D) (ports : Ports) (steps : List Step) → is_revocation ask ≡ false → Belong ask ports steps → AllLeaveRows steps
+all_leave : {D : Type 0} (ask : Ask D) (ports : Ports) (steps : List Step) → is_revocation ask ≡ false → AreStepsOfCall ask ports steps → AllLeaveRows steps
 all_leave ask ports [] other b = tt
 all_leave ask ports (step ∷ before) other b = (all_leave ask ports before other b.0, ⊎_elim (devices_leave step) (servers_leave ask ports step other) b.1)
 
@@ -122,7 +122,7 @@ all_leave ask ports (step ∷ before) other b = (all_leave ask ports before othe
 
 module _ (D : Type 0) (client : ClientId) (number : ℕ) (ports : Ports) (m : Machine) (s : Sound m) where
   abbrev Its : List Step → Type 0
-  Its steps = Belong {D = D} (RevokeOf client number) ports steps
+  Its steps = AreStepsOfCall {D = D} (RevokeOf client number) ports steps
 
   not_newer : (step : Step) → IsByDevice step ⊎ IsByServer {D = D} (RevokeOf client number) ports step → IsNewer step → ⊥
   not_newer (Accept r) (inl d) newer = d
@@ -170,7 +170,7 @@ in_filter {A} passes (y ∷ ys) x h is = ⊎_elim
 -- ---- each call
 
 granted_event : {D : Type 0} (ask : Ask D) (said : CallResult) (old : AbstractState) (evidence : Evidence) (steps : List Step) (ports : Ports) → IsAnswered ask said old evidence steps (record { machine = after old.machine steps; ports = ports })
-    → Sound old.machine → AllMay old.machine steps → Belong ask ports steps → IsGrantedAll old.machine → IsGrantedAll (after old.machine steps)
+    → Sound old.machine → AllMay old.machine steps → AreStepsOfCall ask ports steps → IsGrantedAll old.machine → IsGrantedAll (after old.machine steps)
 granted_event {D} (RevokeOf client number) (WasRevoked (Some replies)) old evidence steps ports a s may b g e h waits =
     let here = waited D client number ports old.machine s steps may b e h waits in
     let had = g e here waits in

@@ -17,9 +17,9 @@ use Rattle.block_machine.specs.Rules.{IsAllowedCount, frames_for}
 use Rattle.block_machine.specs.Refusals.{Situation}
 use Rattle.block_machine.specs.Due.{is_flush, is_writer}
 use Rattle.block_machine.specs.State.{Block, Memory, Accepted, Pending, Machine, block_of, is_reader, written_by}
-use Rattle.block_machine.specs.Steps.{Step, Accept, Issue, Touch, End, Answer, newly_accepted, newly_issued, touch, mark_ended, unanswered_of, IsNew}
+use Rattle.block_machine.specs.Steps.{Step, Accept, Issue, Touch, End, Answer, newly_accepted, newly_issued, touch, mark_ended, unanswered_of, MayAccept}
 use Rattle.block_machine.specs.Left.{after, HoldsLeft, IsLeft, HasTouched, Wrote}
-use Rattle.machine_runs.specs.Worked.{IsLoose, GoesWrong}
+use Rattle.machine_runs.specs.Worked.{AllMayWithoutKeptRule, GoesWrong}
 use Rattle.block_machine.proofs.Setting.{client, port, frame, row, two_rows, request, empty, its_row, is_trim, filled_starts, IsFit, acceptable}
 
 -- each frame is filled with its number
@@ -85,7 +85,7 @@ fit m n op same_rows own free none ids no_trim no_flush frames count allowed = r
     same f e = sym (get_or_from_slice_get (frame (100 + n) ∷ []) 0 f f e)
 
 -- such a request is new to a machine whose frames hold what they held
-new : (m : Machine) (n : ℕ) (op : Op) → IsFit 0 (meets m) (one_sector n op).asked → m.rows ≡ two_rows → n ≡ m.next → m.memory ≡ start.memory → IsNew m (one_sector n op)
+new : (m : Machine) (n : ℕ) (op : Op) → IsFit 0 (meets m) (one_sector n op).asked → m.rows ≡ two_rows → n ≡ m.next → m.memory ≡ start.memory → MayAccept m (one_sector n op)
 new m n op fits same_rows next memory = record {
   id = next;
   id_left = fits.ids;
@@ -142,7 +142,7 @@ here e = (0, omega arith, refl)
 one_touched : (i : ℕ) → i < 1 → ((i == 0) || false) ≡ true
 one_touched i lt = or_left _ _ (eq-eqb i 0 (omega arith))
 
-loose : IsLoose start history
+loose : AllMayWithoutKeptRule start history
 loose = ((((((((((((tt, new start 1 Write (write_fits start 1 refl refl refl refl (omega arith)) refl refl refl), (here (newly_accepted (one_sector 1 Write)), record { here = (0, omega arith, refl); clear = refl; slot = λ _. omega arith })), (here one, tt)), new (after start first_part) 2 Write (write_fits (after start first_part) 2 refl refl refl refl (omega arith)) refl refl refl), (here (newly_accepted (one_sector 2 Write)), record { here = (0, omega arith, refl); clear = refl; slot = λ _. omega arith })), (inl (here two, refl), omega arith, refl, omega arith, λ _ b lt. refl)), (inr (here one), omega arith, refl, omega arith, λ _ b lt. refl)), (inl (here (touch 0 two), refl), one_touched, refl)), (here (mark_ended (touch 0 two)), tt)), new (after start second_part) 3 Read (read_fits (after start second_part) 3 refl refl refl refl (omega arith)) refl refl refl), (here (newly_accepted (one_sector 3 Read)), record { here = (0, omega arith, refl); clear = refl; slot = λ _. omega arith })), (inl (here read, refl), omega arith, refl, omega arith, λ e. absurd (false≢true (sym (ap is_reader e)))))
 
 pub goes_wrong : GoesWrong

@@ -8,12 +8,12 @@ use Rattle.ata_types.specs.declared.PortState.TheVariants.{Ready}
 use Rattle.ata_types.specs.declared.request.RequestId.{RequestId}
 use Rattle.block_machine.specs.declared.due.QueueMode.{QueueMode}
 use Rattle.block_machine.specs.declared.due.Unanswered.{Unanswered}
-use Rattle.block_machine.specs.Due.{NoneDue, ahead, waits_for, is_clear, is_earlier_on_port, is_plain, issued_count}
+use Rattle.block_machine.specs.Due.{NoneDue, ahead, waits_for, is_unblocked, is_earlier_on_port, is_plain, issued_count}
 use Rattle.block_machine.specs.Ports.{Ports, Evidence, AreFit, SamePorts, IsStuck}
 use Rattle.block_machine.specs.State.{Pending, Machine, unanswered}
 use Rattle.block_machine.specs.Steps.{Step, Accept, Issue, Touch, End, Age, Again, Answer, Store, Load, after_step, at, touch, mark_ended}
 use Rattle.block_machine.specs.Left.{after}
-use Rattle.block_machine.specs.Events.{AbstractState, Ask, Submit, StoreAt, LoadAt, Service, Tick, Reset, RevokeOf, State, Device, CallResult, Submitted, Stored, Loaded, Served, WasReset, WasRevoked, Shown, Stepped, CallRecord, AllIssued, IsAnswered, IsByDevice, IsByServer, Belong, IsRun, abstract_after_all}
+use Rattle.block_machine.specs.Events.{AbstractState, Ask, Submit, StoreAt, LoadAt, Service, Tick, Reset, RevokeOf, State, Device, CallResult, Submitted, Stored, Loaded, Served, WasReset, WasRevoked, Shown, Stepped, CallRecord, AllIssued, IsAnswered, IsByDevice, IsByServer, AreStepsOfCall, IsRun, abstract_after_all}
 use Rattle.block_machine.proofs.Members.{contains_none, contains_here, contains_there, at_cases, map_in, into_map}
 use Rattle.machine_runs.proofs.RunLaws.{is_ready, run_fit}
 use Rattle.machine_runs.proofs.Issuing.{counted_more, one_of_run}
@@ -68,7 +68,7 @@ servers_idle (State p) ports _ t h = absurd h
 servers_idle (Device d) ports _ t h = absurd h
 servers_idle ask ports _ t h = absurd (false≢true t)
 
-idle_steps : {D : Type 0} (ask : Ask D) (ports : Ports) (m : Machine) (steps : List Step) → is_idle ask ≡ true → Belong ask ports steps → map unanswered (after m steps).book ≡ map unanswered m.book
+idle_steps : {D : Type 0} (ask : Ask D) (ports : Ports) (m : Machine) (steps : List Step) → is_idle ask ≡ true → AreStepsOfCall ask ports steps → map unanswered (after m steps).book ≡ map unanswered m.book
 idle_steps ask ports m [] t b = refl
 idle_steps ask ports m (step ∷ before) t b =
     idle_due (after m before) step (⊎_elim (devices_idle step) (servers_idle ask ports step t) b.1) ∙ idle_steps ask ports m before t b.0
@@ -91,7 +91,7 @@ abbrev left : AbstractState → List Step → Ports → AbstractState
 left old steps ports = record { machine = after old.machine steps; ports = ports }
 
 issued_event : {D : Type 0} (ask : Ask D) (said : CallResult) (old : AbstractState) (evidence : Evidence) (steps : List Step) (ports : Ports)
-    → IsAnswered ask said old evidence steps (left old steps ports) → Belong ask ports steps → AreFit ports → AllIssued old → AllIssued (left old steps ports)
+    → IsAnswered ask said old evidence steps (left old steps ports) → AreStepsOfCall ask ports steps → AreFit ports → AllIssued old → AllIssued (left old steps ports)
 issued_event (Submit r) (Submitted (Ok id)) old evidence steps ports a b fit all = a.3
 issued_event (Submit r) (Submitted (Err refusal)) old evidence steps ports a b fit all =
     issued_still old (left old steps ports) (ap (λ (xs : List Step). map unanswered (after old.machine xs).book) a.1) a.2 all
@@ -179,7 +179,7 @@ lone_is_issued first run e r h ready alone = true_from_ne_false e.issued due
     due waits =
         let alone_there = none_any (waits_for mode (unanswered e)) (map unanswered book)
         (none (waits_for mode (unanswered e)) (held_none (e.request.port.0 == e.request.port.0) (is_plain mode e.request.asked.op) e.issued (nat_lt e.request.id.0 e.request.id.0) _ waits later)) in
-        let first_there : ahead mode (map unanswered book) (unanswered e) ≡ 0 = none_counted (λ other. is_earlier_on_port other (unanswered e) && is_clear mode (map unanswered book) other) (map unanswered book)
+        let first_there : ahead mode (map unanswered book) (unanswered e) ≡ 0 = none_counted (λ other. is_earlier_on_port other (unanswered e) && is_unblocked mode (map unanswered book) other) (map unanswered book)
         (none _ (not_earlier (e.request.port.0 == e.request.port.0) (nat_lt e.request.id.0 e.request.id.0) _ later)) in
         let free_there : issued_count (map unanswered book) e.request.port ≡ 0 = none_counted (λ (other : Unanswered). other.port.0 == e.request.port.0 && other.issued) (map unanswered book)
         (none _ (not_issued (e.request.port.0 == e.request.port.0) e.issued waits)) in

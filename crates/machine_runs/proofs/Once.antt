@@ -12,7 +12,7 @@ use Rattle.block_machine.specs.State.{Accepted, Pending, Machine}
 use Rattle.block_machine.specs.Steps.{Step, Accept, Answer, May, after_step}
 use Rattle.block_machine.specs.Left.{after, IsLegal, IsInitial}
 use Rattle.block_machine.specs.Confined.{WasAccepted}
-use Rattle.block_machine.specs.Events.{AbstractState, Ask, Submit, Service, Tick, Reset, RevokeOf, CallResult, Submitted, Served, WasReset, WasRevoked, CallRecord, AllMay, Belong, Tells, IsAnswered, IsRun, accepts_it, answers_it, accepts_of, answers_of, reply_of, replies_of, all_replies, gives_id, WasGiven, abstract_after_all, steps_of}
+use Rattle.block_machine.specs.Events.{AbstractState, Ask, Submit, Service, Tick, Reset, RevokeOf, CallResult, Submitted, Served, WasReset, WasRevoked, CallRecord, AllMay, AreStepsOfCall, Tells, IsAnswered, IsRun, accepts_it, answers_it, accepts_of, answers_of, reply_of, replies_of, all_replies, gives_id, WasGiven, abstract_after_all, steps_of}
 use Rattle.block_machine.proofs.Members.{contains_none, contains_here, contains_there, contains_cases, map_in, without_in, append_in}
 use Rattle.block_machine.proofs.Sound.{Sound}
 use Rattle.block_machine.proofs.Runs.{traced, nobody}
@@ -184,7 +184,7 @@ law_given_once first run id r = let few = run_gives first run id r in let once =
 
 -- Each unanswered request is one that a submit asked for.
 
-accepts_asked : {D : Type 0} (r : Accepted) (ask : Ask D) (said : CallResult) (old : AbstractState) (evidence : Evidence) (steps : List Step) (ports : Ports) (new : AbstractState) → Belong ask ports steps
+accepts_asked : {D : Type 0} (r : Accepted) (ask : Ask D) (said : CallResult) (old : AbstractState) (evidence : Evidence) (steps : List Step) (ports : Ports) (new : AbstractState) → AreStepsOfCall ask ports steps
     → IsAnswered ask said old evidence steps new → Contains (accepts_of steps) r → (ask ≡ Submit r.asked) × (said ≡ Submitted (Ok r.id))
 accepts_asked {D} r (Submit q) (Submitted (Ok given)) old evidence steps ports new b a h =
     let same : r ≡ a.1.0 = ⊎_elim (λ e. e) (λ n. absurd (contains_none r n)) (contains_cases a.1.0 [] r (subst (λ (xs : List Accepted). Contains xs r) a.1.1 h)) in

@@ -15,9 +15,9 @@ use Rattle.block_machine.specs.Rules.{IsNamed}
 use Rattle.block_machine.specs.Refusals.{IsAcceptable}
 use Rattle.block_machine.specs.Ports.{Ports, Evidence, MayBecome, SamePorts, AreFit, IsServiced, IsStuck}
 use Rattle.block_machine.specs.State.{Accepted, Pending, Machine}
-use Rattle.block_machine.specs.Steps.{Step, Issue, Age, Touch, End, Again, Answer, Release, IsNew, touch, mark_ended}
+use Rattle.block_machine.specs.Steps.{Step, Issue, Age, Touch, End, Again, Answer, Release, MayAccept, touch, mark_ended}
 use Rattle.block_machine.specs.Left.{after}
-use Rattle.block_machine.specs.Events.{AbstractState, Ask, AllMay, Belong, IsEmptied, Submit, StoreAt, LoadAt, Service, Tick, Reset, State, Device, RevokeOf, CallResult, Submitted, Stored, Loaded, Served, WasReset, WasRevoked, Shown, Stepped, CallRecord, IsAnswered, Happens, AllLawful, AgesOnce, RestartsTimedOut, ReleasesOnce, IssuesLast, IsRun, IsStillStuck, StaysStuck, accepts_of, is_age, is_release, issues_it, handles, abstract_after_all, situation_of, abstract_after}
+use Rattle.block_machine.specs.Events.{AbstractState, Ask, AllMay, AreStepsOfCall, IsEmptied, Submit, StoreAt, LoadAt, Service, Tick, Reset, State, Device, RevokeOf, CallResult, Submitted, Stored, Loaded, Served, WasReset, WasRevoked, Shown, Stepped, CallRecord, IsAnswered, Happens, AllLawful, AgesOnce, RestartsTimedOut, ReleasesOnce, IssuesLast, IsRun, IsStillStuck, StaysStuck, accepts_of, is_age, is_release, issues_it, handles, abstract_after_all, situation_of, abstract_after}
 use Rattle.block_machine.proofs.Members.{contains_none, contains_cases, map_in}
 use Rattle.block_machine.proofs.Keeps.{at_keeps}
 use Rattle.block_machine.specs.Confined.{IsGranted}
@@ -104,7 +104,7 @@ record IsWelcome (old : AbstractState) (new : Ports) (r : Accepted) : Type 0 whe
   within : r.asked.op ≢ Flush → r.asked.first.0 + r.asked.count ≤ old.ports.sectors r.port
   same : SamePorts old.ports new
 
-welcome : (old : AbstractState) (new : Ports) (q : Request) (n : Machine) (r : Accepted) → ((row : GrantRow) → Contains n.rows row → Contains old.machine.rows row) → r.asked ≡ q → IsNew n r → IsAcceptable (situation_of old) q → SamePorts old.ports new
+welcome : (old : AbstractState) (new : Ports) (q : Request) (n : Machine) (r : Accepted) → ((row : GrantRow) → Contains n.rows row → Contains old.machine.rows row) → r.asked ≡ q → MayAccept n r → IsAcceptable (situation_of old) q → SamePorts old.ports new
     → IsWelcome old new r
 welcome old new q n r rows asked fresh ok same = record {
   ready = ⊎_elim (λ y. y) (λ ne. absurd (ok (refused.PortNotReady (old.ports.state r.port)) (ne, (g.row, named, ap old.ports.state (sym g.port))))) (ready_or (old.ports.state r.port));
@@ -129,7 +129,7 @@ welcome old new q n r rows asked fresh ok same = record {
     named = subst (λ (x : Request). IsNamed old.machine.rows x g.row) asked (rows g.row g.named.0, g.named.1)
 
 welcomed : {D : Type 0} (ask : Ask D) (said : CallResult) (old : AbstractState) (evidence : Evidence) (steps : List Step) (ports : Ports) (r : Accepted)
-    → IsAnswered ask said old evidence steps (record { machine = after old.machine steps; ports = ports }) → AllMay old.machine steps → Belong ask ports steps → Contains (accepts_of steps) r → IsWelcome old ports r
+    → IsAnswered ask said old evidence steps (record { machine = after old.machine steps; ports = ports }) → AllMay old.machine steps → AreStepsOfCall ask ports steps → Contains (accepts_of steps) r → IsWelcome old ports r
 welcomed {D} (Submit q) (Submitted (Ok id)) old evidence steps ports r a may b h =
     let x = accepted_new old.machine steps r may h in
     welcome old ports q x.0 r x.1 (accepted_asked D q ports steps r b h) x.2 a.0 a.2

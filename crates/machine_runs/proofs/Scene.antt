@@ -25,7 +25,7 @@ use Rattle.block_machine.specs.Rules.{IsAllowedCount, frames_for}
 use Rattle.block_machine.specs.Refusals.{IsOpen}
 use Rattle.block_machine.specs.Due.{NoneDue, is_flush}
 use Rattle.block_machine.specs.State.{Accepted, Pending, Machine, block_of, unanswered}
-use Rattle.block_machine.specs.Steps.{Step, Touch, End, Answer, newly_accepted, newly_issued, touch, mark_ended, IsNew}
+use Rattle.block_machine.specs.Steps.{Step, Touch, End, Answer, newly_accepted, newly_issued, touch, mark_ended, MayAccept}
 use Rattle.block_machine.specs.Ports.{Ports, Evidence, AreFit, SamePort, IsInterrupted, MayBecome, IsServiced}
 use Rattle.block_machine.specs.Events.{AbstractState, Ask, CallResult, CallRecord, ShowsDisk, HasTimedOut, AnswersEnded, UnplugsAll, FindsAnother, AnswersService, Tells, situation_of, answers_of, reply_of}
 use Rattle.block_machine.proofs.Members.{contains_none, contains_here, contains_cases, append_in, none_of}
@@ -154,7 +154,7 @@ fit_flush m q = record {
     nothing f e = let lt = slice_get_within [] 0 f e in omega (arith, lt)
 
 -- a fit request is new to the machine
-pub new : (p : ℕ) (m : AbstractState) (a : Accepted) → IsQuiet p m → IsFit p (situation_of m) a.asked → a.id.0 ≡ m.machine.next → a.port ≡ on p → a.held ≡ block_of m.machine.memory a.asked.frames.items → IsNew m.machine a
+pub new : (p : ℕ) (m : AbstractState) (a : Accepted) → IsQuiet p m → IsFit p (situation_of m) a.asked → a.id.0 ≡ m.machine.next → a.port ≡ on p → a.held ≡ block_of m.machine.memory a.asked.frames.items → MayAccept m.machine a
 new p m a q fit next here held = record {
   id = next;
   id_left = let few = q.few in omega (arith, few);

@@ -287,14 +287,15 @@ pub record DiesInAService : Type 0 where
   pub lent : (abstract_after_all first (service ∷ asked)).machine.lent frame ≡ Some two.request.id
 
 -- The machine without the rule that nothing is issued while a kept request is left on the port.
-abbrev pub LooseMay : Machine → Step → Type 0
-LooseMay m (Issue mode e) = Contains m.book e × IsDue mode (map unanswered m.book) (unanswered e)
-LooseMay m step = May m step
+abbrev pub MayWithoutKeptRule : Machine → Step → Type 0
+MayWithoutKeptRule m (Issue mode e) = Contains m.book e × IsDue mode (map unanswered m.book) (unanswered e)
+MayWithoutKeptRule m step = May m step
 
 -- each step of the history came when it might there
-abbrev pub IsLoose : Machine → List Step → Type 0
-IsLoose start [] = Unit {0}
-IsLoose start (step ∷ past) = IsLoose start past × LooseMay (after start past) step
+abbrev pub AllMayWithoutKeptRule : Machine → List Step → Type 0
+AllMayWithoutKeptRule start [] = Unit {0}
+AllMayWithoutKeptRule start (step ∷ past) = AllMayWithoutKeptRule start past
+    × MayWithoutKeptRule (after start past) step
 
 -- a read with all its sectors touched that doesn't have what was left, though it moved its disk's bytes
 pub record GoesWrong : Type 0 where
@@ -302,7 +303,7 @@ pub record GoesWrong : Type 0 where
   pub history : List Step
   pub read : Pending
   pub starts : IsInitial start
-  pub loose : IsLoose start history
+  pub loose : AllMayWithoutKeptRule start history
   pub told : AllTellSectors start history
   pub here : Contains (after start history).book read
   pub whole : AllTouched read

@@ -14,14 +14,14 @@ use Rattle.refinement.specs.Slots.{SlotStates}
 use Rattle.refinement.specs.Driven.{Grows}
 use Rattle.port_control.specs.Calls.{FindsDisk, FindsFault, StaysReceiving, Starts}
 use Rattle.port_control.specs.Engines.{StopsReceiving}
-use Rattle.port_control.specs.Ports.{WritesCommand, IsPlacing, IsResetting, ReceivesFises, BacksFault, WasReset, IsFound}
+use Rattle.port_control.specs.Ports.{IsCommandRegister, IsPlacingRegister, IsResetRegister, ReceivesFises, BacksFault, WasReset, IsFound}
 use Rattle.port_control.specs.declared.PortFault.{PortFault}
 use Rattle.port_control.specs.declared.PortFault.TheVariants.{NoDevice, Busy, EngineStuck, NotAta}
-use Rattle.port_boot.specs.States.{EndsAs, IsBooting, IsBootable, IsBroughtUp, EndsEarly, IsStateOfFault}
-use Rattle.port_boot.specs.Laws.Fitting.{AnyUses, PortUnused}
+use Rattle.port_boot.specs.States.{EndsAs, IsBootRegister, IsBootable, IsBroughtUp, EndsBeforeStart, IsStateOfFault}
+use Rattle.port_boot.specs.Laws.SlotCondition.{AnyUses, PortUnused}
 use Rattle.port_boot.specs.Laws.RegisterSet.{BootRegisters, Commanding, Placing, Resetting}
-use Rattle.port_boot.specs.Laws.Fragment.{Controlling}
-use Rattle.port_boot.specs.Laws.{Laws, Fitting, RegisterSet, registers_of, uses_of}
+use Rattle.port_boot.specs.Laws.AccessKind.{Controlling}
+use Rattle.port_boot.specs.Laws.{Laws, SlotCondition, RegisterSet, registers_of, uses_of}
 use Rattle.refinement.specs.Tape.{TapeTells}
 use Rattle.port_boot.proofs.Stretching.{driven_grows, stays_on, there_after, told_then, comes_in_parts, plugs_in_parts, same_over, told_wider}
 
@@ -42,19 +42,19 @@ fault_ends port new state fault told other receives shown wanted = by fault told
     by (NotAta signature) is not shown = subst (λ (s : PortState). EndsAs wanted s port new) (sym is) (receives.stopped, inr (inl (refl, (signature, shown))))
 
 -- placing, resetting and starting are of a boot
-pub placing : (r : PortReg) → IsPlacing r → IsBooting r
+pub placing : (r : PortReg) → IsPlacingRegister r → IsBootRegister r
 placing r is = inl is
 
-pub resetting : (r : PortReg) → IsResetting r → IsBooting r
+pub resetting : (r : PortReg) → IsResetRegister r → IsBootRegister r
 resetting r is = inr (inl is)
 
-pub starting : (r : PortReg) → WritesCommand r → IsBooting r
+pub starting : (r : PortReg) → IsCommandRegister r → IsBootRegister r
 starting r is = inl (inl is)
 
 module _ (laws : Laws) where
   -- ---- stretches of accesses
 
-  module _ (set : RegisterSet) (fitting : Fitting) (port : Port) (old new : Device) (f : IsSimulated (IsControl (registers_of set) port) (uses_of fitting port) old new) where
+  module _ (set : RegisterSet) (fitting : SlotCondition) (port : Port) (old new : Device) (f : IsSimulated (IsControl (registers_of set) port) (uses_of fitting port) old new) where
     pub later : length old.tape ≤ length new.tape
     later =
         let g = driven_grows laws (IsControl (registers_of set) port) old new f.driven in
@@ -72,33 +72,33 @@ module _ (laws : Laws) where
         }
 
   -- it is a part of the boot, and as much is told of it
-  pub told_boots : (TapeTells : List Access → Type 0) (set : RegisterSet) (fitting : Fitting) (port : Port) (old new : Device) → ((r : PortReg) → registers_of set r → IsBooting r) →
+  pub told_boots : (TapeTells : List Access → Type 0) (set : RegisterSet) (fitting : SlotCondition) (port : Port) (old new : Device) → ((r : PortReg) → registers_of set r → IsBootRegister r) →
       ((uses : SlotStates) → AllFree uses port.0 → uses_of fitting port uses) → IsSimulatedAlong TapeTells (IsControl (registers_of set) port) (uses_of fitting port) old new →
-      IsSimulatedAlong TapeTells (IsControl IsBooting port) (λ uses. AllFree uses port.0) old new
+      IsSimulatedAlong TapeTells (IsControl IsBootRegister port) (λ uses. AllFree uses port.0) old new
   told_boots TapeTells set fitting port old new wider fits f =
       told_wider laws TapeTells (Controlling set fitting port) (Controlling BootRegisters PortUnused port) (λ uses. uses) old new (laws.control_wider set BootRegisters port wider) fits f
 
-  pub boots : (set : RegisterSet) (fitting : Fitting) (port : Port) (old new : Device) → IsSimulated (IsControl (registers_of set) port) (uses_of fitting port) old new →
-      ((r : PortReg) → registers_of set r → IsBooting r) → ((uses : SlotStates) → AllFree uses port.0 → uses_of fitting port uses) → IsSimulated (IsControl IsBooting port) (λ uses. AllFree uses port.0) old new
+  pub boots : (set : RegisterSet) (fitting : SlotCondition) (port : Port) (old new : Device) → IsSimulated (IsControl (registers_of set) port) (uses_of fitting port) old new →
+      ((r : PortReg) → registers_of set r → IsBootRegister r) → ((uses : SlotStates) → AllFree uses port.0 → uses_of fitting port uses) → IsSimulated (IsControl IsBootRegister port) (λ uses. AllFree uses port.0) old new
   boots set fitting port old new f wider fits = (told_boots (λ made. Unit {0}) set fitting port old new wider fits (record { followed = f; tells = tt })).followed
 
-  pub placed_bootable : (port : Port) (old mid : Device) → IsBootable port old → IsSimulated (IsControl IsPlacing port) AnyUse old mid → IsBootable port mid
+  pub placed_bootable : (port : Port) (old mid : Device) → IsBootable port old → IsSimulated (IsControl IsPlacingRegister port) AnyUse old mid → IsBootable port mid
   placed_bootable port old mid b first = bootable_after Placing AnyUses port old mid first (λ uses free. tt) b
 
-  module _ (port : Port) (old mid reset : Device) (b : IsBootable port old) (first : IsSimulatedAlong (StopsReceiving port) (IsControl IsPlacing port) AnyUse old mid)
-      (second : IsSimulated (IsControl IsResetting port) AnyUse mid reset) where
+  module _ (port : Port) (old mid reset : Device) (b : IsBootable port old) (first : IsSimulatedAlong (StopsReceiving port) (IsControl IsPlacingRegister port) AnyUse old mid)
+      (second : IsSimulated (IsControl IsResetRegister port) AnyUse mid reset) where
     pub reset_bootable : IsBootable port reset
     reset_bootable = bootable_after Resetting AnyUses port mid reset second (λ uses free. tt) (placed_bootable port old mid b first.followed)
 
-    pub reset_boots : IsSimulatedAlong (StopsReceiving port) (IsControl IsBooting port) (λ uses. AllFree uses port.0) old reset
+    pub reset_boots : IsSimulatedAlong (StopsReceiving port) (IsControl IsBootRegister port) (λ uses. AllFree uses port.0) old reset
     reset_boots = told_then laws (StopsReceiving port) (Controlling BootRegisters PortUnused port) (λ early late. laws.falls_then early late 4 14 port) old mid reset
         (told_boots (StopsReceiving port) Placing AnyUses port old mid placing (λ uses free. tt) first) (boots Resetting AnyUses port mid reset second resetting (λ uses free. tt))
 
     early : Grows old mid
-    early = driven_grows laws (IsControl IsPlacing port) old mid first.followed.driven
+    early = driven_grows laws (IsControl IsPlacingRegister port) old mid first.followed.driven
 
     late : Grows mid reset
-    late = driven_grows laws (IsControl IsResetting port) mid reset second.driven
+    late = driven_grows laws (IsControl IsResetRegister port) mid reset second.driven
 
     pub reset_since : {Then : Device → Device → Type 0} → WasReset port Then mid reset → length old.tape ≤ (reset.port port.0).notes.sctl_written_at
     reset_since was = le_trans (later Placing AnyUses port old mid first.followed) was.since
@@ -116,7 +116,7 @@ module _ (laws : Laws) where
       quiet = found.quiet;
     }
 
-    pub ends_early : (state : PortState) (fault : PortFault) → IsStateOfFault state fault → StaysReceiving port mid reset → FindsFault port fault mid reset → EndsEarly port state old reset
+    pub ends_early : (state : PortState) (fault : PortFault) → IsStateOfFault state fault → StaysReceiving port mid reset → FindsFault port fault mid reset → EndsBeforeStart port state old reset
     ends_early state fault told r f = record {
       fault = fault;
       told = told;
@@ -127,13 +127,13 @@ module _ (laws : Laws) where
       found = λ other. found_before (f.found other);
     }
 
-    module _ (new : Device) (third : IsSimulated (IsControl WritesCommand port) (λ uses. AllFree uses port.0) reset new) where
-      pub up_boots : IsSimulatedAlong (StopsReceiving port) (IsControl IsBooting port) (λ uses. AllFree uses port.0) old new
+    module _ (new : Device) (third : IsSimulated (IsControl IsCommandRegister port) (λ uses. AllFree uses port.0) reset new) where
+      pub up_boots : IsSimulatedAlong (StopsReceiving port) (IsControl IsBootRegister port) (λ uses. AllFree uses port.0) old new
       up_boots = told_then laws (StopsReceiving port) (Controlling BootRegisters PortUnused port) (λ early late. laws.falls_then early late 4 14 port) old reset new reset_boots
           (boots Commanding PortUnused port reset new third starting (λ uses free. free))
 
       last : Grows reset new
-      last = driven_grows laws (IsControl WritesCommand port) reset new third.driven
+      last = driven_grows laws (IsControl IsCommandRegister port) reset new third.driven
 
       pub brought_up : FindsDisk port mid reset → Starts port reset new → IsBroughtUp port old new
       brought_up f s =

@@ -27,13 +27,13 @@ use Rattle.command_table.specs.Written.{IsUnused}
 use Rattle.disk_page.specs.Asking.{IsAsking, LeavesRunning, BringsLastPage, ReadsPage}
 use Rattle.identify.specs.declared.DiskInfo.{DiskInfo}
 use Rattle.port_control.specs.Engines.{FailsToStop, FailsToStopReceiving, Stops, StopsReceiving, Sticks}
-use Rattle.port_control.specs.Ports.{WritesCommand, IsPlacing, IsRunning, HasStopped, SawDevice}
-use Rattle.port_boot.specs.States.{HasPage, IsFit, Judges, EndsAs, IsReady, IsBooting, IsOfBoot, IsBoot, IsBootTo, IsBootable, IsBroughtUp, IsHaltedAs, IsLate, StopsOnWay, IsStateOfFault}
+use Rattle.port_control.specs.Ports.{IsCommandRegister, IsPlacingRegister, IsRunning, HasStopped, SawDevice}
+use Rattle.port_boot.specs.States.{HasPage, IsFit, IsStateByPage, EndsAs, IsReady, IsBootRegister, IsOfBoot, IsBoot, IsBootTo, IsBootable, IsBroughtUp, IsHaltedAs, IsAfterStart, StopsOnWay, IsStateOfFault}
 use Rattle.port_control.specs.declared.PortFault.{PortFault}
 use Rattle.port_control.specs.declared.PortFault.TheVariants.{NoDevice, Busy, EngineStuck, NotAta}
 use Rattle.port_boot.proofs.Bringing.{placing, starting, told_boots}
-use Rattle.port_boot.specs.Laws.Fitting.{AnyUses, HeadUnused, PortUnused}
-use Rattle.port_boot.specs.Laws.Fragment.{Asking, Booting, Controlling}
+use Rattle.port_boot.specs.Laws.SlotCondition.{AnyUses, HeadUnused, PortUnused}
+use Rattle.port_boot.specs.Laws.AccessKind.{Asking, Booting, Controlling}
 use Rattle.port_boot.specs.Laws.RegisterSet.{BootRegisters, Commanding, Placing, ButIssued}
 use Rattle.port_boot.specs.Laws.{Laws}
 use Rattle.refinement.specs.Tape.{TapeTells}
@@ -95,20 +95,20 @@ module _ (port : Port) (start old mid : Device) (up : IsBroughtUp port start old
         bytes = b.same;
       }
 
-command_quiet : WritesCommand Ci → ⊥
+command_quiet : IsCommandRegister Ci → ⊥
 command_quiet e = absurd (let k : Ci ≡ Cmd = e in cc)
 
 asking : (port : Port) (access : Access) → IsAsking port access → IsOfBoot port access
 asking port access is = inr is
 
-controlling : (port : Port) (access : Access) → IsControl IsBooting port access → IsOfBoot port access
+controlling : (port : Port) (access : Access) → IsControl IsBootRegister port access → IsOfBoot port access
 controlling port access is = inl is
 
 unused : (port : Port) (uses : SlotStates) → AllFree uses port.0 → IsUnused port.0 0 uses
 unused port uses free = free 0
 
 -- a port that was to stop was driven so, however it ended
-pub halt_driven : (port : Port) (wanted state : PortState) (old new : Device) → IsHaltedAs port wanted state old new → IsDrivenBy (IsControl WritesCommand port) old new
+pub halt_driven : (port : Port) (wanted state : PortState) (old new : Device) → IsHaltedAs port wanted state old new → IsDrivenBy (IsControl IsCommandRegister port) old new
 halt_driven port wanted state old new (inl x) = x.1.told.followed.driven
 halt_driven port wanted state old new (inr x) = x.2.told.followed.driven
 
@@ -132,7 +132,7 @@ module _ (laws : Laws) where
   enabling port v d b = laws.write_stays (Px port Ie) v d (λ p e. absurd cc) (b.on, b.there, tt)
 
   -- a stop is a part of the boot
-  stop_boots : (TapeTells : List Access → Type 0) (port : Port) (mid new : Device) → IsSimulatedAlong TapeTells (IsControl WritesCommand port) AnyUse mid new → IsSimulatedAlong TapeTells (IsOfBoot port) AnyUse mid new
+  stop_boots : (TapeTells : List Access → Type 0) (port : Port) (mid new : Device) → IsSimulatedAlong TapeTells (IsControl IsCommandRegister port) AnyUse mid new → IsSimulatedAlong TapeTells (IsOfBoot port) AnyUse mid new
   stop_boots TapeTells port mid new f = told_wider laws TapeTells (Controlling Commanding AnyUses port) (Booting AnyUses port) (λ uses. uses) mid new
       (λ access may. inl (laws.control_wider Commanding BootRegisters port starting access may)) (λ uses is. is) f
 
@@ -145,8 +145,8 @@ module _ (laws : Laws) where
       asked_room = let same = (asking_adapter port old mid driven).size in let room = up.bootable.room in omega (arith, same, room)
 
   -- where it didn't stop, its engine is stuck
-  halting_sticks : (port : Port) (old new : Device) → IsSimulatedAlong (FailsToStop port) (IsControl WritesCommand port) AnyUse old new → IsSimulatedAlong (Sticks port) (IsControl WritesCommand port) AnyUse old new
-  halting_sticks port old new f = told_more (FailsToStop port) (Sticks port) (IsControl WritesCommand port) AnyUse (λ uses. uses) old new (laws.failing_sticks port) f
+  halting_sticks : (port : Port) (old new : Device) → IsSimulatedAlong (FailsToStop port) (IsControl IsCommandRegister port) AnyUse old new → IsSimulatedAlong (Sticks port) (IsControl IsCommandRegister port) AnyUse old new
+  halting_sticks port old new f = told_more (FailsToStop port) (Sticks port) (IsControl IsCommandRegister port) AnyUse (λ uses. uses) old new (laws.failing_sticks port) f
 
   -- ---- no page came
 
@@ -160,7 +160,7 @@ module _ (laws : Laws) where
 
     module _ (new : Device) (has : HasStopped (mid.port port.0) (new.port port.0)) where
       -- asked, and then stopped, of which so much is told
-      module _ (TapeTells : List Access → Type 0) (since : (early late : List Access) → TapeTells late → TapeTells (early ++ late)) (stops : IsSimulatedAlong TapeTells (IsControl WritesCommand port) AnyUse mid new) where
+      module _ (TapeTells : List Access → Type 0) (since : (early late : List Access) → TapeTells late → TapeTells (early ++ late)) (stops : IsSimulatedAlong TapeTells (IsControl IsCommandRegister port) AnyUse mid new) where
         given : IsSimulatedAlongTo TapeTells (IsOfBoot port) (IsUnused port.0 0) (λ uses. used uses port.0 0 (Own Identify)) old new
         given = told_both laws (λ early. Unit {0}) TapeTells TapeTells (λ early late any is. since early late is) (Booting HeadUnused port) (Booting AnyUses port) (λ uses. used uses port.0 0 (Own Identify)) (λ uses. uses)
             (λ access may. may)
@@ -274,28 +274,28 @@ module _ (laws : Laws) where
           (laws.fragments.writes (Booting PortUnused port) (Px port Ie) v mid new (inl (refl, inr (inr refl))) (enabling port v mid identified.bootable) (λ uses free. tt) call).followed
 
     -- or the port is stopped, of which so much is told
-    halted_as : (TapeTells : List Access → Type 0) → ((early late : List Access) → TapeTells late → TapeTells (early ++ late)) → (new : Device) → IsSimulatedAlong TapeTells (IsControl WritesCommand port) AnyUse mid new → IsBoot TapeTells port old new
+    halted_as : (TapeTells : List Access → Type 0) → ((early late : List Access) → TapeTells late → TapeTells (early ++ late)) → (new : Device) → IsSimulatedAlong TapeTells (IsControl IsCommandRegister port) AnyUse mid new → IsBoot TapeTells port old new
     halted_as TapeTells since new stops = told_since laws TapeTells (Booting PortUnused port) since (λ uses. uses) old mid new asked_boots
         (told_wider laws TapeTells (Booting AnyUses port) (Booting PortUnused port) (λ uses. uses) mid new (λ access may. may) (λ uses free. tt) (stop_boots TapeTells port mid new stops))
 
-    pub halted_boots : (wanted : Option (List ℕ)) (state result : PortState) (new : Device) → Judges wanted state page → IsHaltedAs port state result mid new → IsBootTo (Stops port) port result old new
+    pub halted_boots : (wanted : Option (List ℕ)) (state result : PortState) (new : Device) → IsStateByPage wanted state page → IsHaltedAs port state result mid new → IsBootTo (Stops port) port result old new
     halted_boots wanted state result new judged (inl x) =
         let P : PortState → Type 0 = λ s. IsBootTo (Stops port) port s old new in
-        let alive : state ≢ Dead = λ (dead : state ≡ Dead). absurd (subst (λ (s : PortState). Judges wanted s page) dead judged) in
+        let alive : state ≢ Dead = λ (dead : state ≡ Dead). absurd (subst (λ (s : PortState). IsStateByPage wanted s page) dead judged) in
         subst P (sym x.0) (boots_to (Stops port) port old new state alive (halted_as (Stops port) (λ early late. laws.falls_since early late 0 15 port) new x.1.told))
     halted_boots wanted state result new judged (inr x) =
         let P : PortState → Type 0 = λ s. IsBootTo (Stops port) port s old new in
         subst P (sym x.0) (inl (halted_as (Sticks port) (λ early late. laws.sticks_since early late port) new (halting_sticks port mid new x.2.told)))
 
-    module _ (new : Device) (stops : IsDrivenBy (IsControl WritesCommand port) mid new) (has : HasStopped (mid.port port.0) (new.port port.0)) where
+    module _ (new : Device) (stops : IsDrivenBy (IsControl IsCommandRegister port) mid new) (has : HasStopped (mid.port port.0) (new.port port.0)) where
       halted_page : HasPage port.0 new page
       halted_page =
           let h = identified in
           let silent = laws.controls_unmoving port Identify mid new
-          (driven_as (IsControl WritesCommand port) (IsControl (λ r. r ≢ Ci) port) mid new (laws.control_wider Commanding ButIssued port (λ r is same. command_quiet (subst WritesCommand same is))) stops) (λ slot. record { issued = h.runs.ci slot; free = h.runs.taken slot }) in
+          (driven_as (IsControl IsCommandRegister port) (IsControl (λ r. r ≢ Ci) port) mid new (laws.control_wider Commanding ButIssued port (λ r is same. command_quiet (subst IsCommandRegister same is))) stops) (λ slot. record { issued = h.runs.ci slot; free = h.runs.taken slot }) in
           page_on port.0 mid new page silent.0 (ap (λ (n : Notes). n.sctl_written_at) has.notes) h.has
 
-      pub halted_ends : (wanted : Option (List ℕ)) (state result : PortState) → Judges wanted state page → IsHaltedAs port state result mid new → EndsAs wanted result port.0 new
+      pub halted_ends : (wanted : Option (List ℕ)) (state result : PortState) → IsStateByPage wanted state page → IsHaltedAs port state result mid new → EndsAs wanted result port.0 new
       halted_ends wanted (Unfit n) result judged (inl x) = let P : PortState → Type 0 = λ s. EndsAs wanted s port.0 new in subst P (sym x.0) (x.1.stopped, inr (inr (inr (page, halted_page, judged))))
       halted_ends wanted Foreign result judged (inl x) = let P : PortState → Type 0 = λ s. EndsAs wanted s port.0 new in subst P (sym x.0) (x.1.stopped, (page, halted_page, judged))
       halted_ends wanted Absent result judged (inl x) = absurd judged
@@ -305,20 +305,20 @@ module _ (laws : Laws) where
 
   -- ---- the whole boot
 
-  pub up_boots : (TapeTells : List Access → Type 0) (port : Port) (old mid : Device) → IsSimulatedAlong TapeTells (IsControl IsBooting port) (λ uses. AllFree uses port.0) old mid → IsBoot TapeTells port old mid
+  pub up_boots : (TapeTells : List Access → Type 0) (port : Port) (old mid : Device) → IsSimulatedAlong TapeTells (IsControl IsBootRegister port) (λ uses. AllFree uses port.0) old mid → IsBoot TapeTells port old mid
   up_boots TapeTells port old mid f = told_wider laws TapeTells (Controlling BootRegisters PortUnused port) (Booting PortUnused port) (λ uses. uses) old mid (controlling port) (λ uses free. free) f
 
   -- no part came after it, since FR didn't fall
-  pub stuck_boots : (port : Port) (old mid : Device) → IsSimulatedAlong (FailsToStopReceiving port) (IsControl IsPlacing port) AnyUse old mid → IsBoot (Sticks port) port old mid
+  pub stuck_boots : (port : Port) (old mid : Device) → IsSimulatedAlong (FailsToStopReceiving port) (IsControl IsPlacingRegister port) AnyUse old mid → IsBoot (Sticks port) port old mid
   stuck_boots port old mid f = told_more (FailsToStopReceiving port) (Sticks port) (IsOfBoot port) (λ uses. AllFree uses port.0) (λ uses. uses) old mid (laws.failing_receiving_sticks port)
       (up_boots (FailsToStopReceiving port) port old mid (told_boots laws (FailsToStopReceiving port) Placing AnyUses port old mid placing (λ uses free. tt) f))
 
   -- no part came after it, since there was a fault
   pub faulty_boots : (port : Port) (old mid : Device) (fault : PortFault) → fault ≢ EngineStuck → (state : PortState) → IsStateOfFault state fault →
-      IsSimulatedAlong (StopsReceiving port) (IsControl IsBooting port) (λ uses. AllFree uses port.0) old mid → IsBootTo (StopsOnWay port state) port state old mid
+      IsSimulatedAlong (StopsReceiving port) (IsControl IsBootRegister port) (λ uses. AllFree uses port.0) old mid → IsBootTo (StopsOnWay port state) port state old mid
   faulty_boots port old mid fault other state told first = by fault other told
     where
-      early : (s : PortState) → state ≡ s → s ≢ Dead → (IsLate s → ⊥) → IsBootTo (StopsOnWay port state) port state old mid
+      early : (s : PortState) → state ≡ s → s ≢ Dead → (IsAfterStart s → ⊥) → IsBootTo (StopsOnWay port state) port state old mid
       early s is alive late =
           let P : PortState → Type 0 = λ x. IsBootTo (StopsOnWay port x) port x old mid in
           subst P (sym is) (boots_to (StopsOnWay port s) port old mid s alive
@@ -331,7 +331,7 @@ module _ (laws : Laws) where
       by (NotAta signature) other told = early (Unfit 8) told (λ e. absurd cc) (λ late. absurd (late.1 refl))
 
   -- what was proved of one part is so of the whole
-  module _ (port : Port) (old mid new : Device) (first : IsSimulatedAlong (StopsReceiving port) (IsControl IsBooting port) (λ uses. AllFree uses port.0) old mid) where
+  module _ (port : Port) (old mid new : Device) (first : IsSimulatedAlong (StopsReceiving port) (IsControl IsBootRegister port) (λ uses. AllFree uses port.0) old mid) where
     pub whole_ready : (result : Result DiskInfo PortState) → OnOk result (IsSimulated (IsOfBoot port) (λ uses. AllFree uses port.0) mid new) → OnOk result (IsBoot (StopsReceiving port) port old new)
     whole_ready (Ok info) then = told_then laws (StopsReceiving port) (Booting PortUnused port) (λ early late. laws.falls_then early late 4 14 port) old mid new (up_boots (StopsReceiving port) port old mid first) then
     whole_ready (Err state) then = then

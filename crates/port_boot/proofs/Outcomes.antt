@@ -21,15 +21,15 @@ use Rattle.refinement.specs.Started.{IsStarted}
 use Rattle.refinement.specs.Driven.{Grows}
 use Rattle.disk_page.specs.Asking.{IsAsking, LeavesRunning}
 use Rattle.port_control.specs.Engines.{Stops}
-use Rattle.port_control.specs.Ports.{WritesCommand, HasClearErrors}
+use Rattle.port_control.specs.Ports.{IsCommandRegister, HasClearErrors}
 use Rattle.port_control.specs.declared.PortFault.{PortFault}
 use Rattle.port_control.specs.declared.PortFault.TheVariants.{NoDevice, Busy, EngineStuck, NotAta}
 use Rattle.identify.specs.Page.{unfit_number}
 use Rattle.identify.specs.declared.DiskInfo.{DiskInfo}
 use Rattle.identify.specs.declared.Unfit.{Unfit as Fault}
 use Rattle.identify.specs.declared.Unfit.TheVariants.{BadChecksum, Word83, No48Bit, SectorSize, NoFlush, NoSectors}
-use Rattle.port_boot.specs.Outcomes.{EndsReady, EndsUnready, FailsToIdentify, Identifies, Rises}
-use Rattle.port_boot.specs.States.{IsStateOfFault, Judges, IsBooting, IsEarly, IsHaltedAs, IsOfBoot, IsBroughtUp, GetsAsked, GetsReady, EndsEarly, EndsLate, IsLate, ShowsNews, HasCauses, RunsOn, StopsThen}
+use Rattle.port_boot.specs.Outcomes.{EndsReady, EndsUnready, FailsToIdentify, Identifies, BootBringsUp}
+use Rattle.port_boot.specs.States.{IsStateOfFault, IsStateByPage, IsBootRegister, IsBeforeStart, IsHaltedAs, IsOfBoot, IsBroughtUp, AsksDisk, BringsReady, EndsBeforeStart, EndsAfterStart, IsAfterStart, ShowsNews, HasCauses, RunsOn, StopsThen}
 use Rattle.port_boot.proofs.Identifying.{whole_ended, whole_ready}
 use Rattle.port_boot.proofs.Staying.{boot_driven}
 use Rattle.port_boot.proofs.Enduring.{Endures, Lasts, endures, lasts, lasts_access, lasts_more, goes_more}
@@ -44,39 +44,39 @@ asking_spares port spared other (Writing r v) is = λ e. other (sym is.0 ∙ e)
 asking_spares port spared other (Loading at bytes) is = tt
 asking_spares port spared other (Storing at bytes) is = tt
 
-no_control : WritesCommand Sctl → ⊥
+no_control : IsCommandRegister Sctl → ⊥
 no_control e = absurd (let k : Sctl ≡ Cmd = e in cc)
 
 -- a port that wasn't started isn't in a late state
-pub early_is_not_late : (port : Port) (state : PortState) (old new : Device) → (state ≡ Dead) ⊎ EndsEarly port state old new → IsLate state → EndsLate port old new
-early_is_not_late port state old new (inl dead) late = absurd (subst IsLate dead late)
+pub early_is_not_late : (port : Port) (state : PortState) (old new : Device) → (state ≡ Dead) ⊎ EndsBeforeStart port state old new → IsAfterStart state → EndsAfterStart port old new
+early_is_not_late port state old new (inl dead) late = absurd (subst IsAfterStart dead late)
 early_is_not_late port state old new (inr e) late = absurd (by e.fault e.told)
   where
     by : (fault : PortFault) → IsStateOfFault state fault → ⊥
-    by NoDevice told = subst IsLate told late
-    by Busy told = let l : IsLate (Unfit 7) = subst IsLate told late in l.0 refl
-    by EngineStuck told = subst IsLate told late
-    by (NotAta signature) told = let l : IsLate (Unfit 8) = subst IsLate told late in l.1 refl
+    by NoDevice told = subst IsAfterStart told late
+    by Busy told = let l : IsAfterStart (Unfit 7) = subst IsAfterStart told late in l.0 refl
+    by EngineStuck told = subst IsAfterStart told late
+    by (NotAta signature) told = let l : IsAfterStart (Unfit 8) = subst IsAfterStart told late in l.1 refl
 
 -- if it is in an early state, that is how it ended
-pub early_alone : (port : Port) (state : PortState) (old new : Device) → (state ≡ Dead) ⊎ EndsEarly port state old new → IsEarly state → EndsEarly port state old new
-early_alone port state old new (inl dead) early = absurd (subst IsEarly dead early)
+pub early_alone : (port : Port) (state : PortState) (old new : Device) → (state ≡ Dead) ⊎ EndsBeforeStart port state old new → IsBeforeStart state → EndsBeforeStart port state old new
+early_alone port state old new (inl dead) early = absurd (subst IsBeforeStart dead early)
 early_alone port state old new (inr e) early = e
 
 -- a port that was asked for its page doesn't end early, whatever is made of the page
-pub halted_late : (port : Port) (wanted state : PortState) (old new : Device) → (IsEarly wanted → ⊥) → IsHaltedAs port wanted state old new → IsEarly state → ⊥
-halted_late port wanted state old new late (inl x) early = late (subst IsEarly x.0 early)
-halted_late port wanted state old new late (inr x) early = subst IsEarly x.0 early
+pub halted_late : (port : Port) (wanted state : PortState) (old new : Device) → (IsBeforeStart wanted → ⊥) → IsHaltedAs port wanted state old new → IsBeforeStart state → ⊥
+halted_late port wanted state old new late (inl x) early = late (subst IsBeforeStart x.0 early)
+halted_late port wanted state old new late (inr x) early = subst IsBeforeStart x.0 early
 
-pub no_page_late : IsEarly (Unfit 9) → ⊥
+pub no_page_late : IsBeforeStart (Unfit 9) → ⊥
 no_page_late (inl e) = absurd (omega (arith, e))
 no_page_late (inr e) = absurd (omega (arith, e))
 
-no_fault : (n small : ℕ) → n ≡ small → small < 7 → IsEarly (Unfit n) → ⊥
+no_fault : (n small : ℕ) → n ≡ small → small < 7 → IsBeforeStart (Unfit n) → ⊥
 no_fault n small is low (inl e) = absurd (omega (arith, is, low, e))
 no_fault n small is low (inr e) = absurd (omega (arith, is, low, e))
 
-fault_late : (n : ℕ) (fault : Fault) → n ≡ unfit_number fault → IsEarly (Unfit n) → ⊥
+fault_late : (n : ℕ) (fault : Fault) → n ≡ unfit_number fault → IsBeforeStart (Unfit n) → ⊥
 fault_late n BadChecksum is early = no_fault n 1 is (omega arith) early
 fault_late n Word83 is early = no_fault n 2 is (omega arith) early
 fault_late n No48Bit is early = no_fault n 3 is (omega arith) early
@@ -84,7 +84,7 @@ fault_late n SectorSize is early = no_fault n 4 is (omega arith) early
 fault_late n NoFlush is early = no_fault n 5 is (omega arith) early
 fault_late n NoSectors is early = no_fault n 6 is (omega arith) early
 
-pub judged_late : (wanted : Option (List ℕ)) (state : PortState) (page : List ℕ) → Judges wanted state page → IsEarly state → ⊥
+pub judged_late : (wanted : Option (List ℕ)) (state : PortState) (page : List ℕ) → IsStateByPage wanted state page → IsBeforeStart state → ⊥
 judged_late wanted Absent page judged early = absurd judged
 judged_late wanted Ready page judged early = absurd judged
 judged_late wanted Dead page judged early = absurd judged
@@ -114,11 +114,11 @@ module _ (laws : Laws) where
         (λ (e : Px port Ie ≡ Px port Sctl). absurd (cc)) call (λ (e : Px port Ie ≡ Px port Cmd). absurd (cc)))).runs
 
     -- or the port is stopped
-    pub stops_then : (new : Device) → IsOn mid → LeavesRunning port.0 old mid → IsDrivenBy (IsControl WritesCommand port) mid new → StopsThen port old new
+    pub stops_then : (new : Device) → IsOn mid → LeavesRunning port.0 old mid → IsDrivenBy (IsControl IsCommandRegister port) mid new → StopsThen port old new
     stops_then new on l stop =
         let late : Endures port.0 mid new = endures laws port stop.accesses mid new on stop.all
-        (All-weaker (IsControl WritesCommand port) (SparesRegister Ghc) (λ access is. laws.of_spares_ghc port access (laws.control_of Commanding port access is)) stop.accesses stop.only)
-        (All-weaker (IsControl WritesCommand port) (SparesRegister (Px port Sctl)) (laws.control_spares Commanding port Sctl no_control) stop.accesses stop.only) in
+        (All-weaker (IsControl IsCommandRegister port) (SparesRegister Ghc) (λ access is. laws.of_spares_ghc port access (laws.control_of Commanding port access is)) stop.accesses stop.only)
+        (All-weaker (IsControl IsCommandRegister port) (SparesRegister (Px port Sctl)) (laws.control_spares Commanding port Sctl no_control) stop.accesses stop.only) in
         let det : (mid.port port.0).sctl_det ≡ 0 = l.controls.sctl_det ∙ up.det in
         record {
           way = record { asked = mid; asks = driven; stops = stop };
@@ -177,7 +177,7 @@ module _ (laws : Laws) where
       well = λ calm. let s = started_then calm in laws.well_of (new.port port.0) (runs.started s.0 s.1) (no_trouble runs.goes (laws.undisturbed_plugs port.0 start new calm) s.0);
     }
 
-    pub gets_ready : GetsAsked port old new → RunsOn port.0 old new → GetsReady port start new
+    pub gets_ready : AsksDisk port old new → RunsOn port.0 old new → BringsReady port start new
     gets_ready then runs = record {
       up = old;
       first = up.way;
@@ -187,7 +187,7 @@ module _ (laws : Laws) where
           laws.well_of (new.port port.0) (runs.started calm (up.well parts.0)) (no_trouble runs.goes plugs calm);
     }
 
-    pub ends_late : StopsThen port old new → EndsLate port start new
+    pub ends_late : StopsThen port old new → EndsAfterStart port start new
     ends_late stops = record {
       up = old;
       first = up.way;
@@ -199,10 +199,10 @@ module _ (laws : Laws) where
 
   -- ---- by what is answered
 
-  module _ (port : Port) (start old new : Device) (rises : Rises port start old) (wanted : Option (List ℕ))
+  module _ (port : Port) (start old new : Device) (rises : BootBringsUp port start old) (wanted : Option (List ℕ))
       (written : (new.port port.0).notes.sctl_written_at ≡ (old.port port.0).notes.sctl_written_at) where
     risen : Grows start old
-    risen = driven_grows laws (IsControl IsBooting port) start old rises.boots.followed.driven
+    risen = driven_grows laws (IsControl IsBootRegister port) start old rises.boots.followed.driven
 
     since : length start.tape ≤ (new.port port.0).notes.sctl_written_at
     since = let before = rises.up.since in omega (arith, before, written)

@@ -19,7 +19,7 @@ use Rattle.adapter.specs.Steps.DeviceTransition.{Fetch, FetchFault, Move, Clear,
 use Rattle.adapter.proofs.Changed.{changed_other, changed_same}
 use Rattle.refinement.specs.Driven.{IsDrivenBy}
 use Rattle.port_control.specs.Ports.{FindsSignature, ReadsUntil}
-use Rattle.port_boot.specs.States.{GetsReady, ShowsOwnDisk}
+use Rattle.port_boot.specs.States.{BringsReady, ShowsOwnDisk}
 
 not_three : ◌≡◌ {A = ℕ} 0 3 → ⊥
 not_three none = absurd cc
@@ -133,7 +133,7 @@ module _ (port : Port) where
       let linked = access_own port.0 (Writing (Px port Is) 0xffffffff) f.links.clears.between f.linked f.links.clears.causes between in
       access_own port.0 (Reading (Px port Sig) signature) f.idle new f.reads (until_own Tfd _ f.linked f.idle f.waits linked)
 
-  pub ready_own : (old new : Device) → GetsReady port old new → Own new
+  pub ready_own : (old new : Device) → BringsReady port old new → Own new
   ready_own old new way =
       let up = way.first in
       let resets = up.resets in

@@ -19,9 +19,9 @@ use Rattle.port_control.specs.Engines.{FailsToStop, FailsToStopReceiving, Falls,
 use Rattle.refinement.specs.Slots.{IsOver, SlotStates}
 use Rattle.hba_regs.specs.declared.reg.Reg.TheVariants.{Ghc, Px}
 use Rattle.disk_page.specs.Asking.{IsAsking, LeavesRunning}
-use Rattle.port_boot.specs.States.{IsBooting, IsOfBoot}
+use Rattle.port_boot.specs.States.{IsBootRegister, IsOfBoot}
 use Rattle.adapter.specs.Rules.{IsOn, MayWrite, IsStable}
-use Rattle.port_control.specs.Ports.{IsPlacing, IsResetting, WritesCommand}
+use Rattle.port_control.specs.Ports.{IsPlacingRegister, IsResetRegister, IsCommandRegister}
 use Rattle.refinement.specs.Facts.{IsRecorded, RunsWell, ShowsNoTrouble, Undisturbed}
 use Rattle.command_table.specs.Written.{IsUnused}
 use Rattle.adapter.specs.declared.command.Operation.{Operation}
@@ -43,35 +43,35 @@ pub data RegisterSet : Type 0 where
   ButIssued : RegisterSet
 
 abbrev pub registers_of : RegisterSet → PortReg → Type 0
-registers_of Commanding = WritesCommand
-registers_of Placing = IsPlacing
-registers_of Resetting = IsResetting
-registers_of BootRegisters = IsBooting
+registers_of Commanding = IsCommandRegister
+registers_of Placing = IsPlacingRegister
+registers_of Resetting = IsResetRegister
+registers_of BootRegisters = IsBootRegister
 registers_of ButIssued = λ r. r ≢ Ci
 
 -- the uses of slots that fit: any, with slot 0 of the port unused, or with none of its slots used
-pub data Fitting : Type 0 where
-  AnyUses : Fitting
-  HeadUnused : Fitting
-  PortUnused : Fitting
+pub data SlotCondition : Type 0 where
+  AnyUses : SlotCondition
+  HeadUnused : SlotCondition
+  PortUnused : SlotCondition
 
-abbrev pub uses_of : Fitting → Port → SlotStates → Type 0
+abbrev pub uses_of : SlotCondition → Port → SlotStates → Type 0
 uses_of AnyUses port = AnyUse
 uses_of HeadUnused port = IsUnused port.0 0
 uses_of PortUnused port = λ uses. AllFree uses port.0
 
 -- a port's registers are read, and those of a set written; a port is booted; or its disk is asked for its page
-pub data Fragment : Type 0 where
-  Controlling : RegisterSet → Fitting → Port → Fragment
-  Booting : Fitting → Port → Fragment
-  Asking : Port → Fragment
+pub data AccessKind : Type 0 where
+  Controlling : RegisterSet → SlotCondition → Port → AccessKind
+  Booting : SlotCondition → Port → AccessKind
+  Asking : Port → AccessKind
 
-abbrev pub may_of : Fragment → Access → Type 0
+abbrev pub may_of : AccessKind → Access → Type 0
 may_of (Controlling set fitting port) = IsControl (registers_of set) port
 may_of (Booting fitting port) = IsOfBoot port
 may_of (Asking port) = IsAsking port
 
-abbrev pub fits_of : Fragment → SlotStates → Type 0
+abbrev pub fits_of : AccessKind → SlotStates → Type 0
 fits_of (Controlling set fitting port) = uses_of fitting port
 fits_of (Booting fitting port) = uses_of fitting port
 fits_of (Asking port) = IsUnused port.0 0
@@ -142,4 +142,4 @@ pub record Laws : Type 0 where
   pub control_wider : (set more : RegisterSet) (port : Port)
       → ((r : PortReg) → registers_of set r → registers_of more r) → (access : Access)
       → IsControl (registers_of set) port access → IsControl (registers_of more) port access
-  pub fragments : FragmentLaws Fragment may_of fits_of
+  pub fragments : FragmentLaws AccessKind may_of fits_of

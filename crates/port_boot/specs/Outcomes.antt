@@ -10,7 +10,7 @@ use Rattle.refinement.specs.Driver.{AllFree}
 use Rattle.refinement.specs.Halting.{HaltsAsTaken}
 use Rattle.identify.specs.declared.DiskInfo.{DiskInfo}
 use Rattle.port_control.specs.Engines.{Stops, StopsReceiving}
-use Rattle.port_boot.specs.States.{EndsAs, EndsEarly, EndsLate, GetsAsked, GetsReady, IsBoot, IsBootTo, IsBooting, IsBroughtUp, IsEarly, IsLate, IsOfBoot, IsReady, RunsOn, ShowsNews, StopsOnWay, StopsThen}
+use Rattle.port_boot.specs.States.{EndsAs, EndsBeforeStart, EndsAfterStart, AsksDisk, BringsReady, IsBoot, IsBootTo, IsBootRegister, IsBroughtUp, IsBeforeStart, IsAfterStart, IsOfBoot, IsReady, RunsOn, ShowsNews, StopsOnWay, StopsThen}
 
 -- A boot that leaves the port ready: what stands behind that; PxSCTL was written in it; what it is to a machine that
 -- agrees; and its way, with what the port shows of trouble; and what halts it is of a command that is taken.
@@ -18,7 +18,7 @@ pub record EndsReady (wanted : Option (List ℕ)) (port : Port) (info : DiskInfo
   pub ready : IsReady wanted port.0 new info
   pub since : length old.tape ≤ (new.port port.0).notes.sctl_written_at
   pub boots : IsBoot (StopsReceiving port) port old new
-  pub way : GetsReady port old new
+  pub way : BringsReady port old new
   pub news : ShowsNews port.0 old new
   pub halts : HaltsAsTaken (new.port port.0)
 
@@ -27,22 +27,23 @@ pub record EndsUnready (wanted : Option (List ℕ)) (port : Port) (state : PortS
   pub ended : EndsAs wanted state port.0 new
   pub since : state ≢ Dead → length old.tape ≤ (new.port port.0).notes.sctl_written_at
   pub boots : IsBootTo (StopsOnWay port state) port state old new
-  pub early : IsEarly state → EndsEarly port state old new
-  pub late : IsLate state → EndsLate port old new
+  pub early : IsBeforeStart state → EndsBeforeStart port state old new
+  pub late : IsAfterStart state → EndsAfterStart port old new
 
 -- ---- the first part: FISes are received, COMRESET is sent, and the port is started
 
 -- It brought the port up.
-pub record Rises (port : Port) (old new : Device) : Type 0 where
-  pub boots : IsSimulatedAlong (StopsReceiving port) (IsControl IsBooting port) (λ uses. AllFree uses port.0) old new
+pub record BootBringsUp (port : Port) (old new : Device) : Type 0 where
+  pub boots : IsSimulatedAlong (StopsReceiving port) (IsControl IsBootRegister port) (λ uses. AllFree uses port.0) old
+      new
   pub up : IsBroughtUp port old new
 
 -- Or the port wasn't started, whatever disk is wanted.
-pub record FailsToRise (port : Port) (state : PortState) (old new : Device) : Type 0 where
+pub record BootFailsToBringUp (port : Port) (state : PortState) (old new : Device) : Type 0 where
   pub boots : IsBootTo (StopsOnWay port state) port state old new
   pub ended : (wanted : Option (List ℕ)) → EndsAs wanted state port.0 new
   pub since : state ≢ Dead → length old.tape ≤ (new.port port.0).notes.sctl_written_at
-  pub early : (state ≡ Dead) ⊎ EndsEarly port state old new
+  pub early : (state ≡ Dead) ⊎ EndsBeforeStart port state old new
 
 -- ---- the second: the disk is asked for its page
 
@@ -50,7 +51,7 @@ pub record FailsToRise (port : Port) (state : PortState) (old new : Device) : Ty
 pub record Identifies (wanted : Option (List ℕ)) (port : Port) (info : DiskInfo) (old new : Device) : Type 0 where
   pub ready : IsReady wanted port.0 new info
   pub boots : IsSimulated (IsOfBoot port) (λ uses. AllFree uses port.0) old new
-  pub asked : GetsAsked port old new
+  pub asked : AsksDisk port old new
   pub halts : HaltsAsTaken (new.port port.0)
   pub runs_on : RunsOn port.0 old new
 
@@ -60,4 +61,4 @@ pub record FailsToIdentify (wanted : Option (List ℕ)) (port : Port) (state : P
   pub ended : EndsAs wanted state port.0 new
   pub boots : IsBootTo (Stops port) port state old new
   pub stops : StopsThen port old new
-  pub late : IsEarly state → ⊥
+  pub late : IsBeforeStart state → ⊥

@@ -28,7 +28,7 @@ use Rattle.identify.specs.Page.{Describes, HasNoUnfit, IsFirstUnfit, IsSerial, u
 use Rattle.identify.specs.declared.DiskInfo.{DiskInfo}
 use Rattle.identify.specs.declared.Unfit.{Unfit as Fault}
 use Rattle.port_control.specs.Engines.{Stops, StopsReceiving, Sticks}
-use Rattle.port_control.specs.Ports.{FailsToStopPort, PortStops, WritesCommand, IsStopped, IsRunning, IsPlacing, IsResetting, SawDevice, BacksFault, FindsSignature, Looks, WasReset, HasClearErrors, IsFound}
+use Rattle.port_control.specs.Ports.{FailsToStopPort, PortStops, IsCommandRegister, IsStopped, IsRunning, IsPlacingRegister, IsResetRegister, SawDevice, BacksFault, FindsSignature, LooksAfterReset, WasReset, HasClearErrors, IsFound}
 use Rattle.port_control.specs.declared.PortFault.{PortFault}
 use Rattle.port_control.specs.declared.PortFault.TheVariants.{NoDevice, Busy, EngineStuck, NotAta}
 
@@ -68,10 +68,10 @@ abbrev pub HasUnfitNumber : ℕ → List ℕ → Type 0
 HasUnfitNumber n page = (fault : Fault) × IsFirstUnfit page fault × (n ≡ unfit_number fault)
 
 -- what a page makes of a port that isn't ready
-abbrev pub Judges : Option (List ℕ) → PortState → List ℕ → Type 0
-Judges wanted (Unfit n) page = HasUnfitNumber n page
-Judges wanted Foreign page = IsOther wanted page
-Judges wanted _ page = ⊥
+abbrev pub IsStateByPage : Option (List ℕ) → PortState → List ℕ → Type 0
+IsStateByPage wanted (Unfit n) page = HasUnfitNumber n page
+IsStateByPage wanted Foreign page = IsOther wanted page
+IsStateByPage wanted _ page = ⊥
 
 -- ---- the states
 
@@ -118,12 +118,12 @@ pub record IsReady (wanted : Option (List ℕ)) (port : ℕ) (d : Device) (info 
 -- ---- accesses
 
 -- the registers that are written before IDENTIFY DEVICE is asked for, and after it: all but PxCI and PxSACT
-abbrev pub IsBooting : PortReg → Type 0
-IsBooting r = IsPlacing r ⊎ (IsResetting r ⊎ (r ≡ Ie))
+abbrev pub IsBootRegister : PortReg → Type 0
+IsBootRegister r = IsPlacingRegister r ⊎ (IsResetRegister r ⊎ (r ≡ Ie))
 
 -- it is one of these writes, a reading of a register of the port, or one of asking for the page
 abbrev pub IsOfBoot : Port → Access → Type 0
-IsOfBoot port access = IsControl IsBooting port access ⊎ IsAsking port access
+IsOfBoot port access = IsControl IsBootRegister port access ⊎ IsAsking port access
 
 -- What a boot is to each machine that agrees with a driver that uses no slot of the port: steps of the device alone,
 -- after which none is used; and so much is told of its accesses.
@@ -143,55 +143,55 @@ IsBootTo Tells port _ old new = IsBoot Tells port old new
 
 -- The areas of a stopped port were put in their places. Then COMRESET was sent, and an ATA disk was found that was
 -- idle. Then ST was set, last of all (AHCI 1.3.1, 10.1.2).
-pub record GetsUp (port : Port) (old new : Device) : Type 0 where
+pub record BringsUpPort (port : Port) (old new : Device) : Type 0 where
   pub placed : Device
-  pub places : IsDrivenBy (IsControl IsPlacing port) old placed
+  pub places : IsDrivenBy (IsControl IsPlacingRegister port) old placed
   pub found : Device
   pub resets : WasReset port (FindsSignature port 0x101) placed found
-  pub starts : IsDrivenBy (IsControl WritesCommand port) found new
+  pub starts : IsDrivenBy (IsControl IsCommandRegister port) found new
   pub set : (new.port port.0).notes.st_set_at ≡ length new.tape
 
 -- The disk was asked for its page; and last of all the port was made to tell of the causes of interrupts.
-pub record GetsAsked (port : Port) (old new : Device) : Type 0 where
+pub record AsksDisk (port : Port) (old new : Device) : Type 0 where
   pub asked : Device
   pub asks : IsDrivenBy (IsAsking port) old asked
   pub tells : Writes (Px port Ie) named_causes asked new
 
 -- The whole way to a port that is ready. It runs well where no disk went or came on the way, and nothing went wrong
 -- since ST was set.
-pub record GetsReady (port : Port) (old new : Device) : Type 0 where
+pub record BringsReady (port : Port) (old new : Device) : Type 0 where
   pub up : Device
-  pub first : GetsUp port old up
-  pub then : GetsAsked port up new
+  pub first : BringsUpPort port old up
+  pub then : AsksDisk port up new
   pub well : PlugsNone port.0 old new → Undisturbed port.0 up new → RunsWell (new.port port.0)
 
 -- The port wasn't started: after COMRESET it was looked at, with this fault. Where no disk came, its link is up if
 -- PxSSTS shows one. But for a missing device, PxSERR and PxIS were cleared.
-pub record EndsEarly (port : Port) (state : PortState) (old new : Device) : Type 0 where
+pub record EndsBeforeStart (port : Port) (state : PortState) (old new : Device) : Type 0 where
   pub fault : PortFault
   pub told : IsStateOfFault state fault
   pub placed : Device
-  pub places : IsDrivenBy (IsControl IsPlacing port) old placed
-  pub resets : WasReset port (Looks port fault) placed new
+  pub places : IsDrivenBy (IsControl IsPlacingRegister port) old placed
+  pub resets : WasReset port (LooksAfterReset port fault) placed new
   pub coming : NoneComes port.0 old new → IsComingUp (new.port port.0)
   pub found : fault ≢ NoDevice → IsFound port.0 old new
 
 -- the states in which a port wasn't started
-abbrev pub IsEarly : PortState → Type 0
-IsEarly Absent = Unit {0}
-IsEarly (Unfit n) = (n ≡ 7) ⊎ (n ≡ 8)
-IsEarly _ = ⊥
+abbrev pub IsBeforeStart : PortState → Type 0
+IsBeforeStart Absent = Unit {0}
+IsBeforeStart (Unfit n) = (n ≡ 7) ⊎ (n ≡ 8)
+IsBeforeStart _ = ⊥
 
 -- those in which it was started, and stopped again
-abbrev pub IsLate : PortState → Type 0
-IsLate Foreign = Unit {0}
-IsLate (Unfit n) = (n ≢ 7) × (n ≢ 8)
-IsLate _ = ⊥
+abbrev pub IsAfterStart : PortState → Type 0
+IsAfterStart Foreign = Unit {0}
+IsAfterStart (Unfit n) = (n ≢ 7) × (n ≢ 8)
+IsAfterStart _ = ⊥
 
 -- What the accesses of a boot to a state that isn't Dead tell of the port's engines: the one that receives FISes fell;
 -- and where the port was started, so did the other.
 abbrev pub StopsOnWay : Port → PortState → List Access → Type 0
-StopsOnWay port state accesses = StopsReceiving port accesses × (IsLate state → Stops port accesses)
+StopsOnWay port state accesses = StopsReceiving port accesses × (IsAfterStart state → Stops port accesses)
 
 -- ---- what a port shows of trouble after a boot
 
@@ -206,17 +206,17 @@ pub record ShowsNews (port : ℕ) (old new : Device) : Type 0 where
   pub well : Undisturbed port old new → RunsWell (new.port port)
 
 -- The disk was asked for its page, and then the port was stopped: of registers PxCMD alone was written after it.
-pub record GetsHalted (port : Port) (old new : Device) : Type 0 where
+pub record AsksThenStops (port : Port) (old new : Device) : Type 0 where
   pub asked : Device
   pub asks : IsDrivenBy (IsAsking port) old asked
-  pub stops : IsDrivenBy (IsControl WritesCommand port) asked new
+  pub stops : IsDrivenBy (IsControl IsCommandRegister port) asked new
 
 -- A port that was started, asked, and stopped again: PxSERR tells no disk of before COMRESET; its link isn't due
 -- to come up any more; and where nothing went wrong, it is up.
-pub record EndsLate (port : Port) (old new : Device) : Type 0 where
+pub record EndsAfterStart (port : Port) (old new : Device) : Type 0 where
   pub up : Device
-  pub first : GetsUp port old up
-  pub then : GetsHalted port up new
+  pub first : BringsUpPort port old up
+  pub then : AsksThenStops port up new
   pub clear : HasClearErrors port.0 old new
   pub undue : (new.port port.0).link_due ≡ false
   pub linked : Undisturbed port.0 old new → IsUp (new.port port.0)
@@ -242,7 +242,7 @@ pub record IsBroughtUp (port : Port) (old new : Device) : Type 0 where
   pub known : (new.port port.0).notes.st_set_at ≤ length new.tape
   pub since : length old.tape ≤ (new.port port.0).notes.sctl_written_at
   pub marked : (new.port port.0).notes.sctl_written_at ≤ length new.tape
-  pub way : GetsUp port old new
+  pub way : BringsUpPort port old new
   pub calm : (place : ℕ) → place < 32 → (new.port port.0).is place ≡ false
   pub clear : HasClearErrors port.0 old new
   pub recorded : IsRecorded new.tape (new.port port.0) port.0
@@ -264,7 +264,7 @@ pub record RunsOn (port : ℕ) (old new : Device) : Type 0 where
 
 -- and where ST is cleared in the end, the link of a port that was started is up
 pub record StopsThen (port : Port) (old new : Device) : Type 0 where
-  pub way : GetsHalted port old new
+  pub way : AsksThenStops port old new
   pub goes : HasCauses port.0 old new
   pub up : Undisturbed port.0 old new → IsStarted (old.port port.0) → IsUp (new.port port.0)
 

@@ -16,9 +16,9 @@ ghost use Rattle.refinement.specs.Driven.{IsControl, IsDrivenBy, IsOf, LeavesPor
 ghost use Rattle.refinement.specs.Facts.{RunsWell, Undisturbed};
 ghost use Rattle.refinement.specs.Links.{SparesRegister};
 ghost use Rattle.identify.specs.declared.DiskInfo.{DiskInfo};
-ghost use Rattle.port_boot.specs.States.{EndsAs, GetsReady, HasFitDisk, HasPage, IsBootTo, IsOfBoot, IsReady, RunsOn, ShowsOwnDisk, StopsOnWay};
+ghost use Rattle.port_boot.specs.States.{EndsAs, BringsReady, HasFitDisk, HasPage, IsBootTo, IsOfBoot, IsReady, RunsOn, ShowsOwnDisk, StopsOnWay};
 ghost use Rattle.port_control.specs.Engines.{StopsBoth};
-ghost use Rattle.port_control.specs.Ports.{WritesCommand};
+ghost use Rattle.port_control.specs.Ports.{IsCommandRegister};
 
 use super::lawful::law_base;
 use adapter::laws::{law_an_enabled_cause_is_pending, law_what_the_tape_tells_is_pending};
@@ -80,7 +80,8 @@ pub fn law_boots_are_driven()
         → IsBootTo (StopsOnWay port state) port state old new → IsDrivenBy (IsOfBoot port) old new }
     ensures stops { (port : Port) (state : PortState) (old new : Device) → IsBootTo (StopsBoth port) port state old new
         → IsDrivenBy (IsOfBoot port) old new }
-    ensures commanding { (port : Port) (access : Access) → IsControl WritesCommand port access → IsOfBoot port access }
+    ensures commanding { (port : Port) (access : Access) → IsControl IsCommandRegister port access
+        → IsOfBoot port access }
 {
     law_base();
 }
@@ -109,5 +110,5 @@ pub fn law_a_disk_is_in_where_one_shows()
         → ShowsOwnDisk (old.port port) → ShowsOwnDisk (new.port port) }
     ensures accesses { (port : ℕ) (accesses : List Access) (old new : Device) → DoesAll accesses old new
         → ShowsOwnDisk (old.port port) → ShowsOwnDisk (new.port port) }
-    ensures begins { (port : Port) (old new : Device) → GetsReady port old new → ShowsOwnDisk (new.port port.0) }
+    ensures begins { (port : Port) (old new : Device) → BringsReady port old new → ShowsOwnDisk (new.port port.0) }
 {}

@@ -11,8 +11,8 @@ ghost use Rattle.adapter.specs.Device.{Device};
 ghost use Rattle.adapter.specs.Rules.{IsOn, HasPort};
 ghost use Rattle.refinement.specs.Driven.{RelatesWith, AnyUse};
 ghost use Rattle.port_control.specs.Ports.{IsStopped, HasStopped};
-ghost use Rattle.port_boot.specs.Outcomes.{EndsReady, EndsUnready, FailsToIdentify, FailsToRise, Identifies, Rises};
-ghost use Rattle.port_boot.specs.States.{IsStateOfFault, Fits, IsFit, Judges, IsBootable, IsBroughtUp, IsHaltedAs};
+ghost use Rattle.port_boot.specs.Outcomes.{EndsReady, EndsUnready, FailsToIdentify, BootFailsToBringUp, Identifies, BootBringsUp};
+ghost use Rattle.port_boot.specs.States.{IsStateOfFault, Fits, IsFit, IsStateByPage, IsBootable, IsBroughtUp, IsHaltedAs};
 ghost use Rattle.adapter.specs.Counted.{MakesAtMost};
 ghost use Rattle.port_control.specs.Costs.{STOP_ACCESSES};
 ghost use Rattle.port_boot.specs.Costs.{BOOT_ACCESSES, IDENTIFY_ACCESSES, RISE_ACCESSES};
@@ -62,7 +62,7 @@ fn fits(wanted: &Option<[u8; 20]>, serial: &[u8; 20]) -> bool
 /// What a page says of its disk; or what it makes of the port.
 fn judge(page: &[u8; 512], wanted: &Option<[u8; 20]>) -> Result<DiskInfo, PortState>
     ensures fit { IfOk result (IsFit wanted.now page.now) }
-    ensures judged { IfErr result (λ state. Judges wanted.now state page.now) }
+    ensures judged { IfErr result (λ state. IsStateByPage wanted.now state page.now) }
 {
     let info = match parse(page) {
         Ok(info) => info,
@@ -82,8 +82,8 @@ fn bring_up<A: Adapter>(adapter: &mut A, stopped: Stopped) -> Result<Running, Po
     requires stopped { IsStopped ((A.device adapter.old).port stopped.port.0) }
     ensures on { IsOn (A.device adapter.new) }
     ensures names { IfOk result (λ running. running.port ≡ stopped.port) }
-    ensures rises { OnOk result (Rises stopped.port (A.device adapter.old) (A.device adapter.new)) }
-    ensures fails { IfErr result (λ state. FailsToRise stopped.port state (A.device adapter.old)
+    ensures rises { OnOk result (BootBringsUp stopped.port (A.device adapter.old) (A.device adapter.new)) }
+    ensures fails { IfErr result (λ state. BootFailsToBringUp stopped.port state (A.device adapter.old)
         (A.device adapter.new)) }
     ensures cost { MakesAtMost RISE_ACCESSES (A.access_count adapter.old) (A.access_count adapter.new) }
 {

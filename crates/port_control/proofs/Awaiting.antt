@@ -9,7 +9,7 @@ use Rattle.hba_regs.specs.declared.reg.Reg.TheVariants.{Px}
 use Rattle.adapter.specs.Access.{Access}
 use Rattle.adapter.specs.Access.Access.{Reading, Writing, Loading, Storing}
 use Rattle.refinement.specs.Links.{SparesRegister}
-use Rattle.port_control.specs.Engines.{Awaits, Falls, Hangs, ReadsCommand}
+use Rattle.port_control.specs.Engines.{Awaits, Falls, ShowsStillRunning, ReadsCommand}
 
 -- a reading writes nothing
 reading_spares : (Shown : ℕ → Type 0) (port : Port) (access : Access) → ReadsCommand Shown port access → SparesRegister (Px port Cmd) access
@@ -28,7 +28,7 @@ module _ (start running : ℕ) (port : Port) where
     here = ap (λ (accesses : List Access). early ++ accesses) is;
     clears = zero;
     number = refl;
-    all = All-nil (ReadsCommand (Hangs start running) port);
+    all = All-nil (ReadsCommand (ShowsStillRunning start running) port);
   }
 
   -- PxCMD is read
@@ -39,7 +39,7 @@ module _ (start running : ℕ) (port : Port) where
         ∙ (append_assoc a.before (Writing (Px port Cmd) a.cleared ∷ a.stuck) late
         ∙ ap (λ (accesses : List Access). a.before ++ (Writing (Px port Cmd) a.cleared ∷ (a.stuck ++ accesses))) is)
 
-    pub awaits_more : Hangs start running v → Awaits start running port (n + 1) (early ++ late)
+    pub awaits_more : ShowsStillRunning start running v → Awaits start running port (n + 1) (early ++ late)
     awaits_more shows = record {
       before = a.before;
       cleared = a.cleared;
@@ -47,7 +47,7 @@ module _ (start running : ℕ) (port : Port) where
       here = then_reads;
       clears = a.clears;
       number = length-append a.stuck (Reading (Px port Cmd) v ∷ []) ∙ ap (λ (k : ℕ). k + 1) a.number;
-      all = All-push (ReadsCommand (Hangs start running) port) a.stuck (Reading (Px port Cmd) v) a.all (refl, shows);
+      all = All-push (ReadsCommand (ShowsStillRunning start running) port) a.stuck (Reading (Px port Cmd) v) a.all (refl, shows);
     }
 
     pub awaits_falls : bit v running ≡ false → Falls start running port (early ++ late)
@@ -59,6 +59,6 @@ module _ (start running : ℕ) (port : Port) where
       later = [];
       here = then_reads;
       clears = a.clears;
-      only = All-weaker (ReadsCommand (Hangs start running) port) (SparesRegister (Px port Cmd)) (reading_spares (Hangs start running) port) a.stuck a.all;
+      only = All-weaker (ReadsCommand (ShowsStillRunning start running) port) (SparesRegister (Px port Cmd)) (reading_spares (ShowsStillRunning start running) port) a.stuck a.all;
       shown = zero;
     }

@@ -15,12 +15,12 @@ use Rattle.refinement.specs.Driven.{AnyUse, IsControl, IsSimulated, IsSimulatedA
 use Rattle.refinement.specs.Driver.{LeavesUses}
 use Rattle.refinement.specs.Facts.{IsAfterReset}
 use Rattle.refinement.specs.Slots.{SlotStates}
-use Rattle.port_control.specs.Engines.{Awaits, Falls, Hangs}
-use Rattle.port_control.specs.Ports.{WritesCommand, IsUsable, IsStopped, ReceivesFises, SameBeside, HasStopped, programmed}
+use Rattle.port_control.specs.Engines.{Awaits, Falls, ShowsStillRunning}
+use Rattle.port_control.specs.Ports.{IsCommandRegister, IsUsable, IsStopped, ReceivesFises, SameBeside, HasStopped, programmed}
 use Rattle.port_control.proofs.Awaiting.{awaits_none, awaits_more, awaits_falls}
 use Rattle.port_control.proofs.Using.{usable_after, usable_read, beside_then, beside_read, beside_command, bases_command, stopped_on, stopped_read, stopped_write}
 use Rattle.port_control.specs.Laws.RegisterSet.{Commanding}
-use Rattle.port_control.specs.Laws.Fragment.{Controlling}
+use Rattle.port_control.specs.Laws.AccessKind.{Controlling}
 use Rattle.port_control.specs.Laws.{Laws}
 use Rattle.port_control.proofs.Stretching.{followed_read, followed_then, followed_write, told_both}
 
@@ -30,7 +30,7 @@ IsButAt at was v = (k : ℕ) → k < 32 → k ≢ at → bit v k ≡ bit was k
 
 -- ST was cleared, and so many readings found CR set
 pub record IsFalling (port : Port) (start : Device) (n : ℕ) (d : Device) : Type 0 where
-  pub told : IsSimulatedAlong (Awaits 0 15 port n) (IsControl WritesCommand port) AnyUse start d
+  pub told : IsSimulatedAlong (Awaits 0 15 port n) (IsControl IsCommandRegister port) AnyUse start d
   pub usable : IsUsable AnyUse port d
   pub has : HasStopped (start.port port.0) (d.port port.0)
   pub low : n ≤ (d.port port.0).notes.engine_count
@@ -46,7 +46,7 @@ pub record HasEmptied (port : Port) (start d : Device) : Type 0 where
 
 -- FRE was cleared, and so many readings found FR set
 pub record IsEmptying (port : Port) (start : Device) (n : ℕ) (d : Device) : Type 0 where
-  pub told : IsSimulatedAlong (Awaits 4 14 port n) (IsControl WritesCommand port) AnyUse start d
+  pub told : IsSimulatedAlong (Awaits 4 14 port n) (IsControl IsCommandRegister port) AnyUse start d
   pub has : HasEmptied port start d
   pub low : n ≤ (d.port port.0).notes.engine_count
   pub high : 0 < n → (d.port port.0).notes.engine_count ≤ MOST_READINGS
@@ -66,7 +66,7 @@ bit_zero : (was v : ℕ) → IsButAt 4 was v → bit v 0 ≡ bit was 0
 bit_zero was v others = others 0 (lit< tt) (λ e. absurd (omega (arith, e)))
 
 module _ (laws : Laws) where
-  pub reading : (port : Port) (v : ℕ) (old new : Device) → Reads (Px port Cmd) v old new → IsSimulated (IsControl WritesCommand port) AnyUse old new
+  pub reading : (port : Port) (v : ℕ) (old new : Device) → Reads (Px port Cmd) v old new → IsSimulated (IsControl IsCommandRegister port) AnyUse old new
   reading port v old new call = followed_read laws (Controlling Commanding port) (Px port Cmd) v old new refl call
 
   -- ---- what is told of the accesses
@@ -74,32 +74,32 @@ module _ (laws : Laws) where
   module _ (start running : ℕ) (port : Port) where
     -- PxCMD was read, and written with the bit of an engine 0
     pub told_clears : (was v : ℕ) (old mid new : Device) → bit v start ≡ false → Reads (Px port Cmd) was old mid → IsStable (MayWrite (Px port Cmd) v) mid →
-        ((uses : SlotStates) → AnyUse uses → LeavesUses uses (Px port Cmd) v mid) → Writes (Px port Cmd) v mid new → IsSimulatedAlong (Awaits start running port 0) (IsControl WritesCommand port) AnyUse old new
+        ((uses : SlotStates) → AnyUse uses → LeavesUses uses (Px port Cmd) v mid) → Writes (Px port Cmd) v mid new → IsSimulatedAlong (Awaits start running port 0) (IsControl IsCommandRegister port) AnyUse old new
     told_clears was v old mid new zero read may leaves write =
         told_both laws (λ accesses. accesses ≡ Reading (Px port Cmd) was ∷ []) (λ accesses. accesses ≡ Writing (Px port Cmd) v ∷ []) (Awaits start running port 0)
         (λ early late is then. awaits_none start running port v zero early late then) (Controlling Commanding port) old mid new
         (laws.fragments.reads (Controlling Commanding port) (Px port Cmd) was old mid refl read)
         (laws.fragments.writes (Controlling Commanding port) (Px port Cmd) v mid new (refl, refl) may leaves write)
 
-    module _ (n v : ℕ) (old mid new : Device) (a : IsSimulatedAlong (Awaits start running port n) (IsControl WritesCommand port) AnyUse old mid) (call : Reads (Px port Cmd) v mid new) where
+    module _ (n v : ℕ) (old mid new : Device) (a : IsSimulatedAlong (Awaits start running port n) (IsControl IsCommandRegister port) AnyUse old mid) (call : Reads (Px port Cmd) v mid new) where
       -- what is told of them, and of one more reading
       with_reading : (Tells : List Access → Type 0) → ((early late : List Access) → Awaits start running port n early → late ≡ Reading (Px port Cmd) v ∷ [] → Tells (early ++ late)) →
-          IsSimulatedAlong Tells (IsControl WritesCommand port) AnyUse old new
+          IsSimulatedAlong Tells (IsControl IsCommandRegister port) AnyUse old new
       with_reading Tells join =
           told_both laws (Awaits start running port n) (λ accesses. accesses ≡ Reading (Px port Cmd) v ∷ []) Tells join
           (Controlling Commanding port) old mid new a
           (laws.fragments.reads (Controlling Commanding port) (Px port Cmd) v mid new refl call)
 
-      pub told_stuck : Hangs start running v → IsSimulatedAlong (Awaits start running port (n + 1)) (IsControl WritesCommand port) AnyUse old new
+      pub told_stuck : ShowsStillRunning start running v → IsSimulatedAlong (Awaits start running port (n + 1)) (IsControl IsCommandRegister port) AnyUse old new
       told_stuck shows = with_reading (Awaits start running port (n + 1)) (λ early late a is. awaits_more start running port n v early late a is shows)
 
-      pub told_falls : bit v running ≡ false → IsSimulatedAlong (Falls start running port) (IsControl WritesCommand port) AnyUse old new
+      pub told_falls : bit v running ≡ false → IsSimulatedAlong (Falls start running port) (IsControl IsCommandRegister port) AnyUse old new
       told_falls zero = with_reading (Falls start running port) (λ early late a is. awaits_falls start running port n v early late a is zero)
 
     -- after all of them
-    pub told_awaits : (n : ℕ) → n ≡ MOST_READINGS → (old new : Device) → IsSimulatedAlong (Awaits start running port n) (IsControl WritesCommand port) AnyUse old new →
-        IsSimulatedAlong (Awaits start running port MOST_READINGS) (IsControl WritesCommand port) AnyUse old new
-    told_awaits n all old new a = subst (λ (k : ℕ). IsSimulatedAlong (Awaits start running port k) (IsControl WritesCommand port) AnyUse old new) all a
+    pub told_awaits : (n : ℕ) → n ≡ MOST_READINGS → (old new : Device) → IsSimulatedAlong (Awaits start running port n) (IsControl IsCommandRegister port) AnyUse old new →
+        IsSimulatedAlong (Awaits start running port MOST_READINGS) (IsControl IsCommandRegister port) AnyUse old new
+    told_awaits n all old new a = subst (λ (k : ℕ). IsSimulatedAlong (Awaits start running port k) (IsControl IsCommandRegister port) AnyUse old new) all a
 
   -- PxCMD is read, and written
   module _ (port : Port) (was v : ℕ) (old mid : Device) (u : IsUsable AnyUse port old) (read : Reads (Px port Cmd) was old mid) where
@@ -137,7 +137,7 @@ module _ (laws : Laws) where
       }
 
       module _ (new : Device) (write : Writes (Px port Cmd) v mid new) where
-        pub stop_told : IsSimulatedAlong (Awaits 0 15 port 0) (IsControl WritesCommand port) AnyUse old new
+        pub stop_told : IsSimulatedAlong (Awaits 0 15 port 0) (IsControl IsCommandRegister port) AnyUse old new
         stop_told = told_clears 0 15 port was v old mid new zero read stop_may stop_leaves write
 
         pub stop_has : HasStopped (old.port port.0) (new.port port.0)
@@ -173,7 +173,7 @@ module _ (laws : Laws) where
       empty_leaves uses is = record { start = λ on. absurd (true≢false (sym on ∙ st_zero)); receive = λ on. absurd (true≢false (sym on ∙ zero)) }
 
       module _ (new : Device) (write : Writes (Px port Cmd) v mid new) where
-        pub empty_begins : IsSimulatedAlong (Awaits 4 14 port 0) (IsControl WritesCommand port) AnyUse old new × IsStopped (new.port port.0) × ((new.port port.0).fre ≡ false)
+        pub empty_begins : IsSimulatedAlong (Awaits 4 14 port 0) (IsControl IsCommandRegister port) AnyUse old new × IsStopped (new.port port.0) × ((new.port port.0).fre ≡ false)
             × ((new.port port.0).bases ≡ (old.port port.0).bases) × SameBeside (old.port port.0) (new.port port.0)
         empty_begins = (
           told_clears 4 14 port was v old mid new zero read empty_may empty_leaves write,
@@ -204,7 +204,7 @@ module _ (laws : Laws) where
       receive_leaves uses is = record { start = λ on. absurd (true≢false (sym on ∙ (st_same ∙ stands.halted.st))); receive = λ on. (here.there.0, ap (λ (b : Bases). b.fb) in_place) }
 
       module _ (new : Device) (write : Writes (Px port Cmd) v mid new) where
-        pub receive_done : IsSimulated (IsControl WritesCommand port) AnyUse old new × ReceivesFises port.0 (new.port port.0) × SameBeside (old.port port.0) (new.port port.0)
+        pub receive_done : IsSimulated (IsControl IsCommandRegister port) AnyUse old new × ReceivesFises port.0 (new.port port.0) × SameBeside (old.port port.0) (new.port port.0)
         receive_done = (
           followed_then laws (Controlling Commanding port) old mid new (reading port was old mid read)
               (followed_write laws (Controlling Commanding port) (Px port Cmd) v mid new (refl, refl) receive_may receive_leaves write),
@@ -221,7 +221,7 @@ module _ (laws : Laws) where
     off : d.hr ≡ false
     off = w.usable.on.no_reset
 
-    pub falls : bit v 15 ≡ false → IsSimulatedAlong (Falls 0 15 port) (IsControl WritesCommand port) AnyUse start e
+    pub falls : bit v 15 ≡ false → IsSimulatedAlong (Falls 0 15 port) (IsControl IsCommandRegister port) AnyUse start e
     falls clear = told_falls 0 15 port n v start d e w.told call clear
 
     pub falling_on : IsUsable AnyUse port e
@@ -283,7 +283,7 @@ module _ (laws : Laws) where
     pub emptied : bit v 14 ≡ false → (e.port port.0).fr ≡ false
     emptied clear = sym (laws.shown_after port Cmd v d e quiet call).2 ∙ clear
 
-    pub empties_told : bit v 14 ≡ false → IsSimulatedAlong (Falls 4 14 port) (IsControl WritesCommand port) AnyUse start e
+    pub empties_told : bit v 14 ≡ false → IsSimulatedAlong (Falls 4 14 port) (IsControl IsCommandRegister port) AnyUse start e
     empties_told clear = told_falls 4 14 port n v start d e w.told call clear
 
     held : bit v 14 ≡ true → not (d.port port.0).st && bit v 15 || not (d.port port.0).fre && bit v 14 ≡ true

@@ -17,18 +17,18 @@ use Rattle.refinement.specs.Driven.{AnyUse, IsControl, IsSimulated}
 use Rattle.refinement.specs.Errors.{NoneComes}
 use Rattle.refinement.specs.Facts.{IsAwaited, IsQuiet, IsUnflagged}
 use Rattle.refinement.specs.Started.{IsUp, IsComingUp}
-use Rattle.port_control.specs.Ports.{IsClearing, IsUsable, HasLink, ShowsIdle, SawDevice, SawIdle, ReadsNot, ReadsWithout, ReadsUntil, ShowsSignature}
+use Rattle.port_control.specs.Ports.{IsErrorRegister, IsUsable, HasLink, ShowsIdle, SawDevice, SawIdle, ReadsNot, ReadsWithout, ReadsUntil, ShowsSignature}
 use Rattle.port_control.proofs.Using.{usable_read}
 use Rattle.port_control.proofs.Ceasing.{counted_again}
 use Rattle.port_control.proofs.Settling.{comes_in_parts, Settles, settles}
 use Rattle.port_control.specs.Laws.RegisterSet.{Clearing}
-use Rattle.port_control.specs.Laws.Fragment.{Controlling}
+use Rattle.port_control.specs.Laws.AccessKind.{Controlling}
 use Rattle.port_control.specs.Laws.{Laws}
 use Rattle.port_control.proofs.Stretching.{followed_read, followed_then}
 
 -- so many readings of PxSSTS showed no device with a link
 pub record IsMissing (port : Port) (start : Device) (n : ℕ) (d : Device) : Type 0 where
-  pub followed : IsSimulated (IsControl IsClearing port) AnyUse start d
+  pub followed : IsSimulated (IsControl IsErrorRegister port) AnyUse start d
   pub usable : IsUsable AnyUse port d
   pub on : IsUsable AnyUse port start
   pub det : (d.port port.0).sctl_det ≡ 0
@@ -43,7 +43,7 @@ Awaits p = IsAwaited p × IsUnflagged p
 
 -- so many readings of PxTFD showed BSY or DRQ
 pub record IsBusyStill (port : Port) (start : Device) (n : ℕ) (d : Device) : Type 0 where
-  pub followed : IsSimulated (IsControl IsClearing port) AnyUse start d
+  pub followed : IsSimulated (IsControl IsErrorRegister port) AnyUse start d
   pub usable : IsUsable AnyUse port d
   pub det : (d.port port.0).sctl_det ≡ 0
   pub saw : SawDevice (d.port port.0).notes
@@ -61,10 +61,10 @@ counted_far det n count far low small =
     ]
 
 module _ (laws : Laws) where
-  pub looks : (port : Port) (r : PortReg) (v : ℕ) (old new : Device) → Reads (Px port r) v old new → IsSimulated (IsControl IsClearing port) AnyUse old new
+  pub looks : (port : Port) (r : PortReg) (v : ℕ) (old new : Device) → Reads (Px port r) v old new → IsSimulated (IsControl IsErrorRegister port) AnyUse old new
   looks port r v old new call = followed_read laws (Controlling Clearing port) (Px port r) v old new refl call
 
-  looks_more : (port : Port) (r : PortReg) (v : ℕ) (start d e : Device) → IsSimulated (IsControl IsClearing port) AnyUse start d → Reads (Px port r) v d e → IsSimulated (IsControl IsClearing port) AnyUse start e
+  looks_more : (port : Port) (r : PortReg) (v : ℕ) (start d e : Device) → IsSimulated (IsControl IsErrorRegister port) AnyUse start d → Reads (Px port r) v d e → IsSimulated (IsControl IsErrorRegister port) AnyUse start e
   looks_more port r v start d e f call = followed_then laws (Controlling Clearing port) start d e f (looks port r v d e call)
 
   -- ---- readings until something shows
@@ -92,7 +92,7 @@ module _ (laws : Laws) where
     off : d.hr ≡ false
     off = w.usable.on.no_reset
 
-    pub missing_followed : IsSimulated (IsControl IsClearing port) AnyUse start e
+    pub missing_followed : IsSimulated (IsControl IsErrorRegister port) AnyUse start e
     missing_followed = looks_more port Ssts v start d e w.followed call
 
     missing_count : (e.port port.0).notes.link_count ≡ link_counted (v % 16) (d.port port.0).notes.link_count
@@ -135,7 +135,7 @@ module _ (laws : Laws) where
     quiet : d.hr ≡ false
     quiet = w.usable.on.no_reset
 
-    pub busy_followed : IsSimulated (IsControl IsClearing port) AnyUse start e
+    pub busy_followed : IsSimulated (IsControl IsErrorRegister port) AnyUse start e
     busy_followed = looks_more port Tfd v start d e w.followed call
 
     pub busy_saw : SawDevice (e.port port.0).notes

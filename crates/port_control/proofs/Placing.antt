@@ -14,16 +14,16 @@ use Rattle.refinement.specs.Driver.{LeavesUses}
 use Rattle.refinement.specs.Facts.{IsAfterReset}
 use Rattle.refinement.specs.Places.{list_of, received_of}
 use Rattle.refinement.specs.Slots.{SlotStates}
-use Rattle.port_control.specs.Ports.{IsPlacing, IsUsable, SameButCommand, SameBeside, programmed}
+use Rattle.port_control.specs.Ports.{IsPlacingRegister, IsUsable, SameButCommand, SameBeside, programmed}
 use Rattle.port_control.proofs.Using.{usable_after, beside_none, beside_then, same_adapter}
-use Rattle.port_control.specs.Laws.Fragment.{Controlling}
+use Rattle.port_control.specs.Laws.AccessKind.{Controlling}
 use Rattle.port_control.specs.Laws.{Laws}
 use Rattle.port_control.specs.Laws.RegisterSet.{Placing}
 use Rattle.port_control.proofs.Stretching.{followed_then, followed_write}
 
 -- some of the four were written, and the addresses are these
 pub record IsPlacedBy (port : Port) (start d : Device) (b : Bases) : Type 0 where
-  pub followed : IsSimulated (IsControl IsPlacing port) AnyUse start d
+  pub followed : IsSimulated (IsControl IsPlacingRegister port) AnyUse start d
   pub usable : IsUsable AnyUse port d
   pub quiet : IsAfterReset (d.port port.0)
   pub room : DRIVER_BYTES ≤ d.size
@@ -40,11 +40,11 @@ module _ (laws : Laws) where
 
   module _ (port : Port) (start d e : Device) (b : Bases) (w : IsPlacedBy port start d b) where
     -- one more
-    more : (r : PortReg) (v : ℕ) (change : Bases → Bases) → IsPlacing r → r ≢ Sctl → r ≢ Is → r ≢ Cmd → IsStable (MayWrite (Px port r) v) d →
+    more : (r : PortReg) (v : ℕ) (change : Bases → Bases) → IsPlacingRegister r → r ≢ Sctl → r ≢ Is → r ≢ Cmd → IsStable (MayWrite (Px port r) v) d →
         ((uses : SlotStates) → LeavesUses uses (Px port r) v d) → ((tape : ℕ) (p : DevicePort) → ((port_written r v tape p).bases ≡ change p.bases) × ((port_written r v tape p).sctl_det ≡ p.sctl_det)) →
         Writes (Px port r) v d e → IsPlacedBy port start e (change b)
     more r v change kind control causes command may leaves effect call =
-        let one : IsSimulated (IsControl IsPlacing port) AnyUse d e = followed_write laws (Controlling Placing port) (Px port r) v d e (refl, kind) may (λ uses is. leaves uses) call in
+        let one : IsSimulated (IsControl IsPlacingRegister port) AnyUse d e = followed_write laws (Controlling Placing port) (Px port r) v d e (refl, kind) may (λ uses is. leaves uses) call in
         let x : PutAt port.0 r v d e = laws.put port r v d e call w.usable.on.no_reset in
         let notes = laws.written_notes port r v d e control causes (λ is. absurd (command is)) call in
         record {

@@ -15,11 +15,11 @@ use Rattle.refinement.specs.Errors.{NoneComes}
 use Rattle.refinement.specs.Facts.{IsAwaited, IsQuiet, IsUnflagged}
 use Rattle.refinement.specs.Started.{IsUp, IsComingUp}
 use Rattle.refinement.specs.Driven.{Grows}
-use Rattle.port_control.specs.Ports.{IsClearing, IsResetting, IsUsable, ReceivesFises, HasLink, ShowsIdle, ReadsWithout, ReadsUntil, ClearsErrors, FindsLink, FindsSignature, FindsBusy, WasReset, HasClearErrors, FindsAwaited, IsFound}
+use Rattle.port_control.specs.Ports.{IsErrorRegister, IsResetRegister, IsUsable, ReceivesFises, HasLink, ShowsIdle, ReadsWithout, ReadsUntil, ClearsErrors, FindsLink, FindsSignature, FindsBusy, WasReset, HasClearErrors, FindsAwaited, IsFound}
 use Rattle.port_control.proofs.Using.{usable_after, receiving_write, stays_on, tape_gains}
 use Rattle.port_control.proofs.Settling.{comes_in_parts, plugs_in_parts, no_start, Settles, settles}
 use Rattle.port_control.specs.Laws.RegisterSet.{Clearing, Resetting}
-use Rattle.port_control.specs.Laws.Fragment.{Controlling}
+use Rattle.port_control.specs.Laws.AccessKind.{Controlling}
 use Rattle.port_control.specs.Laws.{Laws}
 use Rattle.port_control.proofs.Stretching.{followed_then, followed_wider, followed_write}
 
@@ -62,7 +62,7 @@ module _ (laws : Laws) where
   sctl_may port v d u r det = laws.write_stays (Px port Sctl) v d (λ p e. cc) (u.on, u.there, (r.stopped.halted.st, det))
 
   module _ (port : Port) (old sent : Device) (u : IsUsable AnyUse port old) (receives : ReceivesFises port.0 (old.port port.0)) (one : Writes (Px port Sctl) 1 old sent) where
-    first : IsSimulated (IsControl IsResetting port) AnyUse old sent
+    first : IsSimulated (IsControl IsResetRegister port) AnyUse old sent
     first = followed_write laws (Controlling Resetting port) (Px port Sctl) 1 old sent (refl, inl refl) (sctl_may port 1 old u receives (inr refl)) (λ uses is. tt) one
 
     sending : IsUsable AnyUse port sent
@@ -75,7 +75,7 @@ module _ (laws : Laws) where
     ending_may = sctl_may port 0 sent sending receives_still (inl refl)
 
     module _ (new : Device) (zero : Writes (Px port Sctl) 0 sent new) where
-      pub reset_followed : IsSimulated (IsControl IsResetting port) AnyUse old new
+      pub reset_followed : IsSimulated (IsControl IsResetRegister port) AnyUse old new
       reset_followed = followed_then laws (Controlling Resetting port) old sent new first
           (followed_write laws (Controlling Resetting port) (Px port Sctl) 0 sent new (refl, inl refl) ending_may (λ uses is. tt) zero)
 
@@ -130,14 +130,14 @@ module _ (laws : Laws) where
   }
 
   -- the two together
-  module _ (port : Port) (old mid new : Device) (u : IsUsable AnyUse port old) (sends : IsSimulated (IsControl IsResetting port) AnyUse old mid) (looks : IsSimulated (IsControl IsClearing port) AnyUse mid new) where
+  module _ (port : Port) (old mid new : Device) (u : IsUsable AnyUse port old) (sends : IsSimulated (IsControl IsResetRegister port) AnyUse old mid) (looks : IsSimulated (IsControl IsErrorRegister port) AnyUse mid new) where
     pub looking : IsUsable AnyUse port mid
     looking = usable_after laws Resetting port old mid u sends
 
     pub looked : Settles port mid new
     looked = settles laws port mid new looking.on looks.driven
 
-    pub both_followed : IsSimulated (IsControl IsResetting port) AnyUse old new
+    pub both_followed : IsSimulated (IsControl IsResetRegister port) AnyUse old new
     both_followed = followed_then laws (Controlling Resetting port) old mid new sends (followed_wider laws Clearing Resetting port mid new (λ r is. inr is) looks)
 
     pub both_on : IsOn new

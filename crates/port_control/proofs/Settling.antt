@@ -12,7 +12,7 @@ use Rattle.refinement.specs.Facts.{IsAwaited, IsQuiet}
 use Rattle.refinement.specs.Links.{SparesRegister, PlugsNone}
 use Rattle.refinement.specs.Started.{IsUp, IsComingUp, SetsNoStart}
 use Rattle.refinement.specs.Driven.{Grows}
-use Rattle.port_control.specs.Ports.{IsClearing, ReceivesFises}
+use Rattle.port_control.specs.Ports.{IsErrorRegister, ReceivesFises}
 use Rattle.port_control.proofs.Using.{receiving_read, receiving_write}
 use Rattle.std.specs.Prelude.{All, List}
 use Rattle.std.proofs.lemmas.List.Elements.{All-head, All-tail}
@@ -37,11 +37,11 @@ pub no_start : (port : Port) (access : Access) → SparesRegister (Px port Cmd) 
 no_start port access spares v is = absurd (subst (SparesRegister (Px port Cmd)) is spares refl)
 
 -- PxSCTL and PxCMD aren't written
-spares_control : IsClearing Sctl → ⊥
+spares_control : IsErrorRegister Sctl → ⊥
 spares_control (inl e) = absurd (let k : Sctl ≡ Serr = e in cc)
 spares_control (inr e) = absurd (let k : Sctl ≡ Is = e in cc)
 
-spares_command : IsClearing Cmd → ⊥
+spares_command : IsErrorRegister Cmd → ⊥
 spares_command (inl e) = absurd (let k : Cmd ≡ Serr = e in cc)
 spares_command (inr e) = absurd (let k : Cmd ≡ Is = e in cc)
 
@@ -85,7 +85,7 @@ module _ (laws : Laws) where
     change = λ h. laws.tape.change_more port.0 a b c x.grows y.grows (x.change h) (y.change (x.undue h));
   }
 
-  module _ (port : Port) (access : Access) (old new : Device) (on : IsOn old) (kind : IsControl IsClearing port access) (does : Does access old new) where
+  module _ (port : Port) (access : Access) (old new : Device) (on : IsOn old) (kind : IsControl IsErrorRegister port access) (does : Does access old new) where
     control : SparesRegister (Px port Sctl) access
     control = laws.control_spares Clearing port Sctl spares_control access kind
 
@@ -102,8 +102,8 @@ module _ (laws : Laws) where
     quiets q = elim (laws.control_either Clearing port access kind) [
       | inl (r, v, e) ↦ laws.reads_quiet port.0 (Px port r) v old new (subst (λ (a : Access). Does a old new) e does) q
       | inr (r, v, e, w) ↦ laws.writes_quiet port (Px port r) v old new
-          (λ (e : Px port r ≡ Px port Cmd). let same : r ≡ Cmd = cc in absurd (spares_command (subst IsClearing same w)))
-          (λ (e : Px port r ≡ Px port Sctl). let same : r ≡ Sctl = cc in absurd (spares_control (subst IsClearing same w))) (subst (λ (a : Access). Does a old new) e does) q
+          (λ (e : Px port r ≡ Px port Cmd). let same : r ≡ Cmd = cc in absurd (spares_command (subst IsErrorRegister same w)))
+          (λ (e : Px port r ≡ Px port Sctl). let same : r ≡ Sctl = cc in absurd (spares_control (subst IsErrorRegister same w))) (subst (λ (a : Access). Does a old new) e does) q
     ]
 
     access_settles : Settles port old new
@@ -126,13 +126,13 @@ module _ (laws : Laws) where
         }
 
   -- over a stretch
-  settles_over : (port : Port) (accesses : List Access) (old new : Device) → IsOn old → All (IsControl IsClearing port) accesses → DoesAll accesses old new → Settles port old new
+  settles_over : (port : Port) (accesses : List Access) (old new : Device) → IsOn old → All (IsControl IsErrorRegister port) accesses → DoesAll accesses old new → Settles port old new
   settles_over port [] old new on all is = subst (Settles port old) (sym is) (settles_none port old)
   settles_over port (access ∷ accesses) old new on all (mid, does, rest) =
-      let kind = All-head (IsControl IsClearing port) access accesses all in
+      let kind = All-head (IsControl IsErrorRegister port) access accesses all in
       let host = laws.of_spares_ghc port access (laws.control_of Clearing port access kind) in
       let later = laws.access_on access old mid on (λ v is. absurd (subst (SparesRegister Ghc) is host refl)) does in
-      settles_more port old mid new (access_settles port access old mid on kind does) (settles_over port accesses mid new later (All-tail (IsControl IsClearing port) access accesses all) rest)
+      settles_more port old mid new (access_settles port access old mid on kind does) (settles_over port accesses mid new later (All-tail (IsControl IsErrorRegister port) access accesses all) rest)
 
-  pub settles : (port : Port) (old new : Device) → IsOn old → IsDrivenBy (IsControl IsClearing port) old new → Settles port old new
+  pub settles : (port : Port) (old new : Device) → IsOn old → IsDrivenBy (IsControl IsErrorRegister port) old new → Settles port old new
   settles port old new on driven = settles_over port driven.accesses old new on driven.only driven.all

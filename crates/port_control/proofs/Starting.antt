@@ -19,14 +19,14 @@ use Rattle.refinement.specs.Recovering.{IsLinked, RunsLinked}
 use Rattle.refinement.specs.Slots.{SlotState, Free, SlotStates, IsOver, RelatesSlot, IsEmptySlot}
 use Rattle.refinement.specs.Started.{IsUp, IsStarted}
 use Rattle.refinement.specs.Driven.{Grows}
-use Rattle.port_control.specs.Ports.{WritesCommand, IsUsable, ReceivesFises, IsRunning, SawIdle, SameButStart}
+use Rattle.port_control.specs.Ports.{IsCommandRegister, IsUsable, ReceivesFises, IsRunning, SawIdle, SameButStart}
 use Rattle.port_control.proofs.Using.{usable_read, receiving_read, usable_by}
 use Rattle.port_control.proofs.Ceasing.{IsButAt, bit_four}
 use Rattle.port_control.proofs.Resetting.{grows_longer}
 use Rattle.port_control.proofs.Settling.{plugs_in_parts}
 use Rattle.port_control.specs.Laws.RegisterSet.{Commanding}
 use Rattle.port_control.specs.Laws.{Laws}
-use Rattle.port_control.specs.Laws.Fragment.{Starting}
+use Rattle.port_control.specs.Laws.AccessKind.{Starting}
 use Rattle.port_control.proofs.Stretching.{followed_read, followed_then, followed_write}
 
 -- a write of PxCMD leaves the addresses and PxSCTL.DET
@@ -91,7 +91,7 @@ module _ (laws : Laws) where
     start_leaves uses free = record { start = λ on. inr free; receive = λ on. (here.there.0, ap (λ (b : Bases). b.fb) still.bases) }
 
     module _ (new : Device) (write : Writes (Px port Cmd) v mid new) where
-      pub start_followed : IsSimulated (IsControl WritesCommand port) (NoneUsed port) old new
+      pub start_followed : IsSimulated (IsControl IsCommandRegister port) (NoneUsed port) old new
       start_followed = followed_then laws (Starting port) old mid new (followed_read laws (Starting port) (Px port Cmd) was old mid refl read)
           (followed_write laws (Starting port) (Px port Cmd) v mid new (refl, refl) start_may start_leaves write)
 

@@ -16,10 +16,10 @@ use Rattle.adapter.specs.Seen.{SeenAt, PutAt}
 use Rattle.refinement.specs.Driven.{AnyUse, IsRelated, IsControl, IsSimulated, AnyAccess, Grows, IsDrivenBy, IsOf}
 use Rattle.refinement.specs.Links.{SameAdapter}
 use Rattle.refinement.specs.Slots.{SlotStates}
-use Rattle.port_control.specs.Engines.{Awaits, FailsToStop, FailsToStopReceiving, Falls, Hangs, ReadsCommand, ShowsStuck, Sticks}
-use Rattle.port_control.specs.Ports.{IsResetting, IsUsable, IsStopped, ReceivesFises, SameButCommand, SameBeside}
+use Rattle.port_control.specs.Engines.{Awaits, FailsToStop, FailsToStopReceiving, Falls, ShowsStillRunning, ReadsCommand, ShowsStuck, Sticks}
+use Rattle.port_control.specs.Ports.{IsResetRegister, IsUsable, IsStopped, ReceivesFises, SameButCommand, SameBeside}
 use Rattle.port_control.specs.Laws.RegisterSet.{Commanding}
-use Rattle.port_control.specs.Laws.Fragment.{Controlling}
+use Rattle.port_control.specs.Laws.AccessKind.{Controlling}
 use Rattle.port_control.specs.Laws.{Laws, RegisterSet, registers_of}
 use Rattle.port_control.proofs.Stretching.{followed_read}
 
@@ -65,13 +65,13 @@ module _ (port : ℕ) (v tape : ℕ) (p : DevicePort) (h : ReceivesFises port p)
     bases = bases ∙ h.bases;
   }
 
-  written_receiving : (r : PortReg) → IsResetting r → ReceivesFises port (port_written r v tape p)
+  written_receiving : (r : PortReg) → IsResetRegister r → ReceivesFises port (port_written r v tape p)
   written_receiving r (inl e) = subst (λ (z : PortReg). ReceivesFises port (port_written z v tape p)) (sym e) (same_receiving _ refl refl refl refl refl refl refl)
   written_receiving r (inr (inl e)) = subst (λ (z : PortReg). ReceivesFises port (port_written z v tape p)) (sym e) (same_receiving _ refl refl refl refl refl refl refl)
   written_receiving r (inr (inr e)) = subst (λ (z : PortReg). ReceivesFises port (port_written z v tape p)) (sym e) (same_receiving _ refl refl refl refl refl refl refl)
 
 -- an engine that was awaited for 64 readings is stuck
-awaits_sticks : (start running : ℕ) → ((v : ℕ) → Hangs start running v → ShowsStuck v) → (port : Port) (accesses : List Access) → Awaits start running port MOST_READINGS accesses → Sticks port accesses
+awaits_sticks : (start running : ℕ) → ((v : ℕ) → ShowsStillRunning start running v → ShowsStuck v) → (port : Port) (accesses : List Access) → Awaits start running port MOST_READINGS accesses → Sticks port accesses
 awaits_sticks start running shows port accesses a = record {
   before = a.before ++ Writing (Px port Cmd) a.cleared ∷ [];
   stuck = a.stuck;
@@ -79,10 +79,10 @@ awaits_sticks start running shows port accesses a = record {
   here = a.here ∙ (sym (append_assoc a.before (Writing (Px port Cmd) a.cleared ∷ []) a.stuck)
       ∙ ap (λ (rest : List Access). (a.before ++ Writing (Px port Cmd) a.cleared ∷ []) ++ rest) (sym (append-nil a.stuck)));
   number = a.number;
-  all = All-weaker (ReadsCommand (Hangs start running) port) (ReadsCommand ShowsStuck port) reading a.stuck a.all;
+  all = All-weaker (ReadsCommand (ShowsStillRunning start running) port) (ReadsCommand ShowsStuck port) reading a.stuck a.all;
 }
   where
-    reading : (access : Access) → ReadsCommand (Hangs start running) port access → ReadsCommand ShowsStuck port access
+    reading : (access : Access) → ReadsCommand (ShowsStillRunning start running) port access → ReadsCommand ShowsStuck port access
     reading (Reading r v) is = (is.0, shows v is.1)
     reading (Writing r v) is = absurd is
     reading (Loading at bytes) is = absurd is
@@ -214,7 +214,7 @@ module _ (laws : Laws) where
     sact = λ slot. laws.writes_clear port slot (Px port r) v old new (λ (e : Px port r ≡ Px port Sact). absurd (other (let same : r ≡ Sact = cc in same))) call (h.sact slot);
   }
 
-  pub receiving_write : (port : Port) (r : PortReg) (v : ℕ) (old new : Device) → old.hr ≡ false → IsResetting r → Writes (Px port r) v old new → ReceivesFises port.0 (old.port port.0) → ReceivesFises port.0 (new.port port.0)
+  pub receiving_write : (port : Port) (r : PortReg) (v : ℕ) (old new : Device) → old.hr ≡ false → IsResetRegister r → Writes (Px port r) v old new → ReceivesFises port.0 (old.port port.0) → ReceivesFises port.0 (new.port port.0)
   receiving_write port r v old new off kind call h =
       let w : PutAt port.0 r v old new = laws.put port r v old new call off in
       subst (ReceivesFises port.0) (sym w.here) (written_receiving port.0 v _ (w.mid.port port.0) (receiving_on (w.keeps.port port.0) (w.keeps.on.controls port.0) h) r kind)

@@ -12,7 +12,7 @@ use Rattle.refinement.specs.Facts.{IsQuiet, IsRecorded}
 use Rattle.refinement.specs.Links.{PlugsNone}
 use Rattle.refinement.specs.Recovering.{IsLinked, RunsLinked}
 use Rattle.refinement.specs.Started.{IsUp, IsComingUp, IsStarted}
-use Rattle.port_control.specs.Ports.{FindsSignature, HasClearErrors, IsFound, IsRunning, IsStopped, Looks, ReceivesFises, SameBeside, SameButStart, SawDevice, SawIdle, BacksFault, ShowsSignature, WasReset}
+use Rattle.port_control.specs.Ports.{FindsSignature, HasClearErrors, IsFound, IsRunning, IsStopped, LooksAfterReset, ReceivesFises, SameBeside, SameButStart, SawDevice, SawIdle, BacksFault, ShowsSignature, WasReset}
 use Rattle.port_control.specs.declared.PortFault.{PortFault}
 use Rattle.port_control.specs.declared.PortFault.TheVariants.{NoDevice, EngineStuck, NotAta}
 
@@ -77,7 +77,7 @@ pub record FindsDisk (port : Port) (old new : Device) : Type 0 where
 
 -- COMRESET was sent, and the readings since showed this fault in place of such a disk.
 pub record FindsFault (port : Port) (told : PortFault) (old new : Device) : Type 0 where
-  pub reset : WasReset port (Looks port told) old new
+  pub reset : WasReset port (LooksAfterReset port told) old new
   pub fault : BacksFault told (new.port port.0).notes × (told ≢ EngineStuck)
   pub found : told ≢ NoDevice → IsFound port.0 old new
   pub signature : (signature : ℕ) → told ≡ NotAta signature → ShowsSignature (new.port port.0)

@@ -36,12 +36,12 @@ abbrev pub StopsBoth : Port → List Access → Type 0
 StopsBoth port accesses = Stops port accesses × StopsReceiving port accesses
 
 -- a value of PxCMD shows that an engine was cleared, and runs still
-abbrev pub Hangs : ℕ → ℕ → ℕ → Type 0
-Hangs start running v = (bit v start ≡ false) × (bit v running ≡ true)
+abbrev pub ShowsStillRunning : ℕ → ℕ → ℕ → Type 0
+ShowsStillRunning start running v = (bit v start ≡ false) × (bit v running ≡ true)
 
 -- either engine: CR is 1 while ST is 0, or FR while FRE is 0
 abbrev pub ShowsStuck : ℕ → Type 0
-ShowsStuck v = Hangs 0 15 v ⊎ Hangs 4 14 v
+ShowsStuck v = ShowsStillRunning 0 15 v ⊎ ShowsStillRunning 4 14 v
 
 -- it reads PxCMD, whose value shows this
 abbrev pub ReadsCommand : (ℕ → Type 0) → Port → Access → Type 0
@@ -57,7 +57,7 @@ pub record Awaits (start running : ℕ) (port : Port) (count : ℕ) (accesses : 
   pub here : accesses ≡ before ++ (Writing (Px port Cmd) cleared ∷ stuck)
   pub clears : bit cleared start ≡ false
   pub number : length stuck ≡ count
-  pub all : All (ReadsCommand (Hangs start running) port) stuck
+  pub all : All (ReadsCommand (ShowsStillRunning start running) port) stuck
 
 -- ST was cleared, and then 64 readings, the last of the accesses, showed CR still
 abbrev pub FailsToStop : Port → List Access → Type 0

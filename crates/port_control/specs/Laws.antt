@@ -14,7 +14,7 @@ use Rattle.refinement.specs.Slots.{Free, SlotStates}
 use Rattle.hba_regs.specs.declared.reg.Reg.TheVariants.{Ghc, Px}
 use Rattle.adapter.specs.Rules.{HasPort, IsOn, MaySetFre, MayStart, MayStopReceiving, MayWrite, IsStable}
 use Rattle.refinement.specs.Facts.{IsAfterReset, IsAwaited, IsHalted, IsQuiet, IsRecorded, IsUnflagged, KeepsRecord}
-use Rattle.port_control.specs.Ports.{IsClearing, IsPlacing, IsResetting, WritesCommand}
+use Rattle.port_control.specs.Ports.{IsErrorRegister, IsPlacingRegister, IsResetRegister, IsCommandRegister}
 use Rattle.refinement.specs.Recovering.{IsLinked, RunsLinked}
 use Rattle.refinement.specs.Started.{IsComingUp, IsStarted, IsUp, SetsNoStart}
 use Rattle.block_machine.specs.Histories.{IsReachable}
@@ -41,21 +41,21 @@ pub data RegisterSet : Type 0 where
   Resetting : RegisterSet
 
 abbrev pub registers_of : RegisterSet → PortReg → Type 0
-registers_of Commanding = WritesCommand
-registers_of Placing = IsPlacing
-registers_of Clearing = IsClearing
-registers_of Resetting = IsResetting
+registers_of Commanding = IsCommandRegister
+registers_of Placing = IsPlacingRegister
+registers_of Clearing = IsErrorRegister
+registers_of Resetting = IsResetRegister
 
 -- a port's registers are read, and those of a set written; or a port is started, none of whose slots is used
-pub data Fragment : Type 0 where
-  Controlling : RegisterSet → Port → Fragment
-  Starting : Port → Fragment
+pub data AccessKind : Type 0 where
+  Controlling : RegisterSet → Port → AccessKind
+  Starting : Port → AccessKind
 
-abbrev pub may_of : Fragment → Access → Type 0
+abbrev pub may_of : AccessKind → Access → Type 0
 may_of (Controlling set port) = IsControl (registers_of set) port
-may_of (Starting port) = IsControl WritesCommand port
+may_of (Starting port) = IsControl IsCommandRegister port
 
-abbrev pub fits_of : Fragment → SlotStates → Type 0
+abbrev pub fits_of : AccessKind → SlotStates → Type 0
 fits_of (Controlling set port) = AnyUse
 fits_of (Starting port) = λ uses. AllFree uses port.0
 
@@ -201,4 +201,4 @@ pub record Laws : Type 0 where
   pub control_wider : (set more : RegisterSet) (port : Port)
       → ((r : PortReg) → registers_of set r → registers_of more r) → (access : Access)
       → IsControl (registers_of set) port access → IsControl (registers_of more) port access
-  pub fragments : FragmentLaws Fragment may_of fits_of
+  pub fragments : FragmentLaws AccessKind may_of fits_of

@@ -26,15 +26,15 @@ use Rattle.port_control.specs.Looks.{IsLooking}
 use Rattle.port_control.specs.Services.{IsService, ShowsDisks, ShowsFatals}
 
 -- a look at a port, whatever the slots are used for; or ports are served, whose slots are used so
-pub data Fragment : Type 0 where
-  Looking : Port → Fragment
-  Serving : SlotStates → Fragment
+pub data AccessKind : Type 0 where
+  Looking : Port → AccessKind
+  Serving : SlotStates → AccessKind
 
-abbrev pub may_of : Fragment → Access → Type 0
+abbrev pub may_of : AccessKind → Access → Type 0
 may_of (Looking port) = IsLooking port
 may_of (Serving uses) = IsService
 
-abbrev pub fits_of : Fragment → SlotStates → Type 0
+abbrev pub fits_of : AccessKind → SlotStates → Type 0
 fits_of (Looking port) = AnyUse
 fits_of (Serving uses) = IsUse uses
 
@@ -139,4 +139,4 @@ pub record Laws : Type 0 where
   pub other_left : (port : Port) (q : ℕ) (old new : Device) → q ≢ port.0 → IsOn old → IsDrivenBy (IsOf port) old new
       → LeavesPort (old.port q) (new.port q)
   pub same_over : (old new : Device) → IsDrivenBy AnyAccess old new → SameAdapter old new
-  pub fragments : FragmentLaws Fragment may_of fits_of
+  pub fragments : FragmentLaws AccessKind may_of fits_of

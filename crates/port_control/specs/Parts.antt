@@ -8,7 +8,7 @@ use Rattle.adapter.specs.Device.{Device, DevicePort}
 use Rattle.refinement.specs.Errors.{NoneComes}
 use Rattle.refinement.specs.Facts.{IsAfterReset, IsAwaited, IsQuiet, IsUnflagged}
 use Rattle.refinement.specs.Started.{IsUp, IsComingUp}
-use Rattle.port_control.specs.Ports.{BacksFault, ClearsErrors, FindsAwaited, FindsSignature, HasClearErrors, HasLink, IsStopped, Looks, ReadsUntil, ReadsWithout, ReceivesFises, SameBeside, SawDevice, SawIdle, ShowsIdle, ShowsSignature, WasReset, programmed}
+use Rattle.port_control.specs.Ports.{BacksFault, ClearsErrors, FindsAwaited, FindsSignature, HasClearErrors, HasLink, IsStopped, LooksAfterReset, ReadsUntil, ReadsWithout, ReceivesFises, SameBeside, SawDevice, SawIdle, ShowsIdle, ShowsSignature, WasReset, programmed}
 use Rattle.port_control.specs.declared.PortFault.{PortFault}
 use Rattle.port_control.specs.declared.PortFault.TheVariants.{Busy, EngineStuck, NoDevice, NotAta}
 
@@ -36,7 +36,7 @@ pub record SendsComreset (port : Port) (old new : Device) : Type 0 where
   pub coming : NoneComes port.0 old new → IsComingUp (new.port port.0)
 
 -- A device with a link was awaited, and found.
-pub record FindsDevice (port : Port) (old new : Device) : Type 0 where
+pub record DeviceComes (port : Port) (old new : Device) : Type 0 where
   pub sees : ReadsUntil port Ssts HasLink old new
   pub saw : SawDevice (new.port port.0).notes
   pub up : NoneComes port.0 old new → IsComingUp (old.port port.0) → IsUp (new.port port.0)
@@ -72,7 +72,7 @@ pub record SeesDisk (port : Port) (old new : Device) : Type 0 where
 
 -- Or this fault was found in its place.
 pub record SeesFault (port : Port) (told : PortFault) (old new : Device) : Type 0 where
-  pub looks : Looks port told old new
+  pub looks : LooksAfterReset port told old new
   pub fault : BacksFault told (new.port port.0).notes × (told ≢ EngineStuck)
   pub found : told ≢ NoDevice → FindsAwaited port.0 old new
   pub signature : (signature : ℕ) → told ≡ NotAta signature → ShowsSignature (new.port port.0)

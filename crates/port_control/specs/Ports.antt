@@ -25,20 +25,20 @@ use Rattle.port_control.specs.declared.PortFault.TheVariants.{NoDevice, Busy, En
 -- ---- registers
 
 -- PxCMD alone
-abbrev pub WritesCommand : PortReg → Type 0
-WritesCommand r = r ≡ Cmd
+abbrev pub IsCommandRegister : PortReg → Type 0
+IsCommandRegister r = r ≡ Cmd
 
 -- PxCMD, and the addresses of the command list and of the received FIS area
-abbrev pub IsPlacing : PortReg → Type 0
-IsPlacing r = (r ≡ Cmd) ⊎ (r ≡ Clb) ⊎ (r ≡ Clbu) ⊎ (r ≡ Fb) ⊎ (r ≡ Fbu)
+abbrev pub IsPlacingRegister : PortReg → Type 0
+IsPlacingRegister r = (r ≡ Cmd) ⊎ (r ≡ Clb) ⊎ (r ≡ Clbu) ⊎ (r ≡ Fb) ⊎ (r ≡ Fbu)
 
 -- PxSERR and PxIS, whose bits are cleared by ones
-abbrev pub IsClearing : PortReg → Type 0
-IsClearing r = (r ≡ Serr) ⊎ (r ≡ Is)
+abbrev pub IsErrorRegister : PortReg → Type 0
+IsErrorRegister r = (r ≡ Serr) ⊎ (r ≡ Is)
 
 -- these and PxSCTL
-abbrev pub IsResetting : PortReg → Type 0
-IsResetting r = (r ≡ Sctl) ⊎ IsClearing r
+abbrev pub IsResetRegister : PortReg → Type 0
+IsResetRegister r = (r ≡ Sctl) ⊎ IsErrorRegister r
 
 -- ---- the states of a port
 
@@ -180,11 +180,11 @@ pub record FindsBusy (port : Port) (old new : Device) : Type 0 where
   pub waits : ReadsWithout port Tfd ShowsIdle MOST_READINGS linked new
 
 -- What was done after COMRESET, where a fault is told: without a device, 64 readings of PxSSTS never showed one.
-abbrev pub Looks : Port → PortFault → Device → Device → Type 0
-Looks port NoDevice old new = ReadsWithout port Ssts HasLink MOST_READINGS old new
-Looks port Busy old new = FindsBusy port old new
-Looks port (NotAta signature) old new = FindsSignature port signature old new
-Looks port EngineStuck old new = ⊥
+abbrev pub LooksAfterReset : Port → PortFault → Device → Device → Type 0
+LooksAfterReset port NoDevice old new = ReadsWithout port Ssts HasLink MOST_READINGS old new
+LooksAfterReset port Busy old new = FindsBusy port old new
+LooksAfterReset port (NotAta signature) old new = FindsSignature port signature old new
+LooksAfterReset port EngineStuck old new = ⊥
 
 -- COMRESET was sent first of all, and ended; then this was done. PxSCTL.DET is 0.
 pub record WasReset (port : Port) (Then : Device → Device → Type 0) (old new : Device) : Type 0 where
@@ -243,23 +243,23 @@ ShowsSignature p = p.notes.last_sig ≡ p.sig
 
 -- The port was stopped: CR fell, as was read after ST was cleared.
 pub record PortStops (port : Port) (old new : Device) : Type 0 where
-  pub told : IsSimulatedAlong (Stops port) (IsControl WritesCommand port) AnyUse old new
+  pub told : IsSimulatedAlong (Stops port) (IsControl IsCommandRegister port) AnyUse old new
   pub stopped : IsStopped (new.port port.0)
 
 -- The port was to stop, and CR didn't fall in 64 readings, the last of the accesses.
 pub record FailsToStopPort (port : Port) (old new : Device) : Type 0 where
-  pub told : IsSimulatedAlong (FailsToStop port) (IsControl WritesCommand port) AnyUse old new
+  pub told : IsSimulatedAlong (FailsToStop port) (IsControl IsCommandRegister port) AnyUse old new
   pub stuck : BacksFault EngineStuck (new.port port.0).notes
 
 -- A stopped port receives FISes, with its areas in their places: FR fell, as was read after FRE was cleared.
 pub record Receives (port : Port) (old new : Device) : Type 0 where
-  pub told : IsSimulatedAlong (StopsReceiving port) (IsControl IsPlacing port) AnyUse old new
+  pub told : IsSimulatedAlong (StopsReceiving port) (IsControl IsPlacingRegister port) AnyUse old new
   pub receives : ReceivesFises port.0 (new.port port.0)
 
 -- A stopped port was to receive FISes, and FR didn't fall in 64 readings, the last of the accesses. FRE is 0, and the
 -- addresses are as they were.
 pub record FailsToReceive (port : Port) (old new : Device) : Type 0 where
-  pub told : IsSimulatedAlong (FailsToStopReceiving port) (IsControl IsPlacing port) AnyUse old new
+  pub told : IsSimulatedAlong (FailsToStopReceiving port) (IsControl IsPlacingRegister port) AnyUse old new
   pub stuck : BacksFault EngineStuck (new.port port.0).notes
   pub fre : (new.port port.0).fre ≡ false
   pub bases : (new.port port.0).bases ≡ (old.port port.0).bases

@@ -7,7 +7,7 @@ ghost use Rattle.refinement.specs.Links.{SparesRegister};
 ghost use Rattle.hba_regs.specs.declared.reg.PortReg.TheVariants.{Sctl};
 ghost use Rattle.hba_regs.specs.declared.reg.Reg.TheVariants.{Px};
 ghost use Rattle.port_control.specs.Engines.{FailsToStop, FailsToStopReceiving, Falls, Sticks};
-ghost use Rattle.port_control.specs.Ports.{IsPlacing, IsResetting, WritesCommand};
+ghost use Rattle.port_control.specs.Ports.{IsPlacingRegister, IsResetRegister, IsCommandRegister};
 
 use super::lawful::law_base;
 
@@ -28,11 +28,11 @@ pub fn law_what_is_told_of_engines_stays()
 /// No call touches a register of another port, nor another port's bit of IS: so what is said of such accesses (`IsOf`)
 /// is so of each. Those that stop and start, and those that receive FISes, don't write PxSCTL.
 pub fn law_calls_are_of_one_port()
-    ensures commanding { (port : Port) (access : Access) → IsControl WritesCommand port access
+    ensures commanding { (port : Port) (access : Access) → IsControl IsCommandRegister port access
         → IsOf port access × SparesRegister (Px port Sctl) access }
-    ensures placing { (port : Port) (access : Access) → IsControl IsPlacing port access
+    ensures placing { (port : Port) (access : Access) → IsControl IsPlacingRegister port access
         → IsOf port access × SparesRegister (Px port Sctl) access }
-    ensures resetting { (port : Port) (access : Access) → IsControl IsResetting port access → IsOf port access }
+    ensures resetting { (port : Port) (access : Access) → IsControl IsResetRegister port access → IsOf port access }
 {
     law_base();
 }

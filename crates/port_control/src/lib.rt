@@ -15,8 +15,8 @@ ghost use Rattle.refinement.specs.Driver.{AllFree};
 ghost use Rattle.refinement.specs.Facts.{IsAfterReset};
 ghost use Rattle.port_control.specs.Calls.{AsksForDevice, FindsDisk, FindsFault, MayBeginReceiving, MayBeStarted, MayForget, MayResetLink, StaysReceiving, Starts, StaysStopped};
 ghost use Rattle.port_control.specs.Engines.{FailsToStopReceiving, StopsReceiving};
-ghost use Rattle.port_control.specs.Parts.{AwaitsIdle, ClearsFre, FindsDevice, LeavesNoError, MissesDevice, PlacesAreas, SeesDisk, SeesFault, SendsComreset};
-ghost use Rattle.port_control.specs.Ports.{FailsToStopPort, FailsToReceive, PortStops, Receives, WritesCommand, IsPlacing, IsClearing, IsResetting, IsUsable, IsStopped, ReceivesFises, SawDevice, BacksFault, SameBeside, HasStopped, Forgets, programmed};
+ghost use Rattle.port_control.specs.Parts.{AwaitsIdle, ClearsFre, DeviceComes, LeavesNoError, MissesDevice, PlacesAreas, SeesDisk, SeesFault, SendsComreset};
+ghost use Rattle.port_control.specs.Ports.{FailsToStopPort, FailsToReceive, PortStops, Receives, IsCommandRegister, IsPlacingRegister, IsErrorRegister, IsResetRegister, IsUsable, IsStopped, ReceivesFises, SawDevice, BacksFault, SameBeside, HasStopped, Forgets, programmed};
 ghost use Rattle.adapter.specs.Counted.{MakesAtMost};
 ghost use Rattle.port_control.specs.Costs.{AWAIT_DEVICE_ACCESSES, CLEAR_ACCESSES, COMRESET_ACCESSES, FORGET_ACCESSES, RECEIVE_ACCESSES, SHOW_ACCESSES, START_ACCESSES, STOP_ACCESSES};
 
@@ -128,10 +128,11 @@ fn stop_receiving<A: Adapter>(adapter: &mut A, port: Port) -> bool
     requires usable { IsUsable AnyUse port (A.device adapter.old) }
     requires stopped { IsStopped ((A.device adapter.old).port port.0) }
     ensures clears { ClearsFre ((A.device adapter.old).port port.0) ((A.device adapter.new).port port.0) }
-    ensures stops { result ≡ true → IsSimulatedAlong (StopsReceiving port) (IsControl WritesCommand port) AnyUse
+    ensures stops { result ≡ true → IsSimulatedAlong (StopsReceiving port) (IsControl IsCommandRegister port) AnyUse
         (A.device adapter.old) (A.device adapter.new) }
     ensures fallen { result ≡ true → ((A.device adapter.new).port port.0).fr ≡ false }
-    ensures sticks { result ≡ false → IsSimulatedAlong (FailsToStopReceiving port) (IsControl WritesCommand port) AnyUse
+    ensures sticks { result ≡ false
+        → IsSimulatedAlong (FailsToStopReceiving port) (IsControl IsCommandRegister port) AnyUse
         (A.device adapter.old) (A.device adapter.new)
         × BacksFault PortFault.EngineStuck ((A.device adapter.new).port port.0).notes }
     ensures cost { MakesAtMost STOP_ACCESSES (A.access_count adapter.old) (A.access_count adapter.new) }
@@ -153,7 +154,8 @@ fn place<A: Adapter>(adapter: &mut A, port: Port)
     requires usable { IsUsable AnyUse port (A.device adapter.old) }
     requires quiet { IsAfterReset ((A.device adapter.old).port port.0) }
     requires room { DRIVER_BYTES ≤ (A.device adapter.old).size }
-    ensures followed { IsSimulated (IsControl IsPlacing port) AnyUse (A.device adapter.old) (A.device adapter.new) }
+    ensures followed { IsSimulated (IsControl IsPlacingRegister port) AnyUse (A.device adapter.old)
+        (A.device adapter.new) }
     ensures places { PlacesAreas port.0 ((A.device adapter.old).port port.0) ((A.device adapter.new).port port.0) }
     ensures cost { MakesAtMost 4 (A.access_count adapter.old) (A.access_count adapter.new) }
 {
@@ -170,7 +172,8 @@ fn start_receiving<A: Adapter>(adapter: &mut A, port: Port)
     requires usable { IsUsable AnyUse port (A.device adapter.old) }
     requires quiet { IsAfterReset ((A.device adapter.old).port port.0) }
     requires bases { ((A.device adapter.old).port port.0).bases ≡ programmed port.0 }
-    ensures followed { IsSimulated (IsControl WritesCommand port) AnyUse (A.device adapter.old) (A.device adapter.new) }
+    ensures followed { IsSimulated (IsControl IsCommandRegister port) AnyUse (A.device adapter.old)
+        (A.device adapter.new) }
     ensures receives { ReceivesFises port.0 ((A.device adapter.new).port port.0) }
     ensures same { SameBeside ((A.device adapter.old).port port.0) ((A.device adapter.new).port port.0) }
     ensures cost { MakesAtMost START_ACCESSES (A.access_count adapter.old) (A.access_count adapter.new) }
@@ -212,7 +215,8 @@ pub fn receive<A: Adapter>(
 fn send_comreset<A: Adapter>(adapter: &mut A, port: Port)
     requires usable { IsUsable AnyUse port (A.device adapter.old) }
     requires receives { ReceivesFises port.0 ((A.device adapter.old).port port.0) }
-    ensures followed { IsSimulated (IsControl IsResetting port) AnyUse (A.device adapter.old) (A.device adapter.new) }
+    ensures followed { IsSimulated (IsControl IsResetRegister port) AnyUse (A.device adapter.old)
+        (A.device adapter.new) }
     ensures sends { SendsComreset port (A.device adapter.old) (A.device adapter.new) }
     ensures cost { MakesAtMost 2 (A.access_count adapter.old) (A.access_count adapter.new) }
 {
@@ -225,8 +229,9 @@ fn send_comreset<A: Adapter>(adapter: &mut A, port: Port)
 fn wait_for_device<A: Adapter>(adapter: &mut A, port: Port) -> bool
     requires usable { IsUsable AnyUse port (A.device adapter.old) }
     requires det { ((A.device adapter.old).port port.0).sctl_det ≡ 0 }
-    ensures followed { IsSimulated (IsControl IsClearing port) AnyUse (A.device adapter.old) (A.device adapter.new) }
-    ensures finds { result ≡ true → FindsDevice port (A.device adapter.old) (A.device adapter.new) }
+    ensures followed { IsSimulated (IsControl IsErrorRegister port) AnyUse (A.device adapter.old)
+        (A.device adapter.new) }
+    ensures finds { result ≡ true → DeviceComes port (A.device adapter.old) (A.device adapter.new) }
     ensures misses { result ≡ false → MissesDevice port (A.device adapter.old) (A.device adapter.new) }
     ensures cost { MakesAtMost MOST_READINGS (A.access_count adapter.old) (A.access_count adapter.new) }
 {
@@ -244,7 +249,8 @@ fn wait_for_device<A: Adapter>(adapter: &mut A, port: Port) -> bool
 fn clear_errors<A: Adapter>(adapter: &mut A, port: Port)
     requires usable { IsUsable AnyUse port (A.device adapter.old) }
     requires receives { ReceivesFises port.0 ((A.device adapter.old).port port.0) }
-    ensures followed { IsSimulated (IsControl IsClearing port) AnyUse (A.device adapter.old) (A.device adapter.new) }
+    ensures followed { IsSimulated (IsControl IsErrorRegister port) AnyUse (A.device adapter.old)
+        (A.device adapter.new) }
     ensures saw { SawDevice ((A.device adapter.old).port port.0).notes → SawDevice
         ((A.device adapter.new).port port.0).notes }
     ensures clears { LeavesNoError port (A.device adapter.old) (A.device adapter.new) }
@@ -260,7 +266,8 @@ fn clear_errors<A: Adapter>(adapter: &mut A, port: Port)
 /// due.
 pub fn clear_error_state<A: Adapter>(adapter: &mut A, port: Port) -> TaskFile
     requires may { MayForget port (A.device adapter.old) }
-    ensures followed { IsSimulated (IsControl IsClearing port) AnyUse (A.device adapter.old) (A.device adapter.new) }
+    ensures followed { IsSimulated (IsControl IsErrorRegister port) AnyUse (A.device adapter.old)
+        (A.device adapter.new) }
     ensures on { IsOn (A.device adapter.new) }
     ensures forgets { Forgets port result.0 (A.device adapter.old) (A.device adapter.new) }
     ensures cost { MakesAtMost FORGET_ACCESSES (A.access_count adapter.old) (A.access_count adapter.new) }
@@ -275,7 +282,8 @@ pub fn clear_error_state<A: Adapter>(adapter: &mut A, port: Port) -> TaskFile
 pub fn shows_device<A: Adapter>(adapter: &mut A, port: Port) -> bool
     requires usable { IsUsable AnyUse port (A.device adapter.old) }
     ensures on { IsOn (A.device adapter.new) }
-    ensures followed { IsSimulated (IsControl IsClearing port) AnyUse (A.device adapter.old) (A.device adapter.new) }
+    ensures followed { IsSimulated (IsControl IsErrorRegister port) AnyUse (A.device adapter.old)
+        (A.device adapter.new) }
     ensures asks { AsksForDevice port result (A.device adapter.old) (A.device adapter.new) }
     ensures cost { MakesAtMost SHOW_ACCESSES (A.access_count adapter.old) (A.access_count adapter.new) }
 {
@@ -290,7 +298,8 @@ fn wait_until_idle<A: Adapter>(adapter: &mut A, port: Port) -> bool
     requires usable { IsUsable AnyUse port (A.device adapter.old) }
     requires det { ((A.device adapter.old).port port.0).sctl_det ≡ 0 }
     requires saw { SawDevice ((A.device adapter.old).port port.0).notes }
-    ensures followed { IsSimulated (IsControl IsClearing port) AnyUse (A.device adapter.old) (A.device adapter.new) }
+    ensures followed { IsSimulated (IsControl IsErrorRegister port) AnyUse (A.device adapter.old)
+        (A.device adapter.new) }
     ensures awaits { AwaitsIdle port result (A.device adapter.old) (A.device adapter.new) }
     ensures cost { MakesAtMost MOST_READINGS (A.access_count adapter.old) (A.access_count adapter.new) }
 {
@@ -309,7 +318,8 @@ fn look<A: Adapter>(adapter: &mut A, port: Port) -> Result<(), PortFault>
     requires usable { IsUsable AnyUse port (A.device adapter.old) }
     requires receives { ReceivesFises port.0 ((A.device adapter.old).port port.0) }
     requires det { ((A.device adapter.old).port port.0).sctl_det ≡ 0 }
-    ensures followed { IsSimulated (IsControl IsClearing port) AnyUse (A.device adapter.old) (A.device adapter.new) }
+    ensures followed { IsSimulated (IsControl IsErrorRegister port) AnyUse (A.device adapter.old)
+        (A.device adapter.new) }
     ensures sees { OnOk result (SeesDisk port (A.device adapter.old) (A.device adapter.new)) }
     ensures fault { IfErr result (λ fault. SeesFault port fault (A.device adapter.old) (A.device adapter.new)) }
     ensures cost { MakesAtMost AWAIT_DEVICE_ACCESSES (A.access_count adapter.old) (A.access_count adapter.new) }
@@ -350,7 +360,7 @@ pub fn comreset<A: Adapter>(
     receiving: Receiving,
 ) -> Result<Receiving, (PortFault, Receiving)>
     requires may { MayResetLink receiving.port (A.device adapter.old) }
-    ensures followed { IsSimulated (IsControl IsResetting receiving.port) AnyUse (A.device adapter.old)
+    ensures followed { IsSimulated (IsControl IsResetRegister receiving.port) AnyUse (A.device adapter.old)
         (A.device adapter.new) }
     ensures on { IsOn (A.device adapter.new) }
     ensures resets { StaysReceiving receiving.port (A.device adapter.old) (A.device adapter.new) }
@@ -377,7 +387,7 @@ pub fn comreset<A: Adapter>(
 /// set ST again after an error needs no COMRESET.
 pub fn start<A: Adapter>(adapter: &mut A, receiving: Receiving) -> Running
     requires may { MayBeStarted receiving.port (A.device adapter.old) }
-    ensures followed { IsSimulated (IsControl WritesCommand receiving.port) (λ uses. AllFree uses receiving.port.0)
+    ensures followed { IsSimulated (IsControl IsCommandRegister receiving.port) (λ uses. AllFree uses receiving.port.0)
         (A.device adapter.old) (A.device adapter.new) }
     ensures on { IsOn (A.device adapter.new) }
     ensures names { result.port ≡ receiving.port }

@@ -21,7 +21,7 @@ use Rattle.port_control.specs.Looks.{IsLooking, LooksAt}
 use Rattle.port_control.specs.declared.events.PortEvent.TheVariants.{TaskFileError}
 use Rattle.request_queue.specs.Entries.{Held}
 use Rattle.request_queue.specs.declared.disposition.FailedRequest.{FailedRequest}
-use Rattle.server_history.specs.ErrorHandling.{AreQueued, IsFailed, IsFoundOut, TellsErrorHandling}
+use Rattle.server_history.specs.ErrorHandling.{AreQueued, IsFailed, ErrorIsFound, TellsErrorHandling}
 use Rattle.server_history.specs.Served.{IsMaskOf, is_used}
 use Rattle.server_history.specs.Server.{ServerState, InCallInvariant, slots_at, state_of, used_for}
 use Rattle.port_control.specs.declared.events.PortError.{PortError}
@@ -124,7 +124,7 @@ module _ (x : Troubled) where
     }
 
     pub may : x.port_error ≡ TaskFileError → MayRecover x.port.0 f.found
-    may fails = x.laws.may x.s x.device f.found x.port f.mask f.done x.lends.sees.kept x.lends.sees.ready (subst (λ (its : PortError). IsFoundOut x.port its x.s.device x.device) fails x.lends.sees.finds) x.lends.sees.followed f.reads
+    may fails = x.laws.may x.s x.device f.found x.port f.mask f.done x.lends.sees.kept x.lends.sees.ready (subst (λ (its : PortError). ErrorIsFound x.port its x.s.device x.device) fails x.lends.sees.finds) x.lends.sees.followed f.reads
 
     module _ (a : Answered x f) where
       pub mid_kept : InCallInvariant (mid x f a)

@@ -11,7 +11,7 @@ use Rattle.identify.specs.declared.wanted.Wanted.{Wanted}
 use Rattle.identify.specs.declared.wanted.Wanted.TheVariants.{Nothing}
 use Rattle.server_history.specs.Server.{ServerState, no_slots, plain_mode}
 use Rattle.slots.specs.Uses.{PortSlots}
-use Rattle.port_driver.specs.Parts.{HasServedPort, with_parts}
+use Rattle.port_driver.specs.Parts.{HasPortAt, with_parts}
 use Rattle.port_driver.specs.declared.served_port.ServedPort.{ServedPort}
 use Rattle.port_driver.specs.declared.served_port.Shared.{Shared}
 
@@ -21,7 +21,7 @@ put_back xs place default x is = ap (set xs place) (sym is) ∙ set-get_or xs pl
 
 -- ---- one port of a server
 
-module _ (s : ServerState) (port : Port) (p : ServedPort) (has : HasServedPort s port.0 p) where
+module _ (s : ServerState) (port : Port) (p : ServedPort) (has : HasPortAt s port.0 p) where
   same_wanted : set s.wanted port.0 p.wanted ≡ s.wanted
   same_wanted = put_back s.wanted port.0 Nothing p.wanted has.wanted_is
 
@@ -87,7 +87,7 @@ module _ (s : ServerState) (port : Port) (p : ServedPort) (has : HasServedPort s
     with_other q is = ap (λ (list : List Wanted). record (with_parts s device shared port q) { wanted = list }) (ap (set s.wanted port.0) is ∙ same_wanted)
 
 -- it has the port on another device
-pub on_device : (s : ServerState) (device : Device) (number : ℕ) (p : ServedPort) → HasServedPort s number p → HasServedPort (record s { device = device }) number p
+pub on_device : (s : ServerState) (device : Device) (number : ℕ) (p : ServedPort) → HasPortAt s number p → HasPortAt (record s { device = device }) number p
 on_device s device number p has = record {
   wanted_is = has.wanted_is;
   found_is = has.found_is;

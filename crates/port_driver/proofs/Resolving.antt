@@ -16,12 +16,12 @@ use Rattle.server_history.specs.ErrorHandling.{requests_of}
 use Rattle.server_history.specs.Resets.{IsResetRevalidation, SettlesPort}
 use Rattle.server_history.specs.Server.{ServerState, kept_at}
 use Rattle.port_driver.specs.Dispositions.{holding}
-use Rattle.port_driver.specs.Parts.{HasParts}
+use Rattle.port_driver.specs.Parts.{HasPortAndShared}
 use Rattle.port_driver.specs.declared.served_port.ServedPort.{ServedPort}
 use Rattle.port_driver.specs.declared.served_port.Shared.{Shared}
 
 -- The port's requests were resolved.
-pub settles_port : (s : ServerState) (shared : Shared) (port : Port) (p : ServedPort) → HasParts s s.device shared port p → (table : Table) (book : List Held) (kept : List Lending)
+pub settles_port : (s : ServerState) (shared : Shared) (port : Port) (p : ServedPort) → HasPortAndShared s s.device shared port p → (table : Table) (book : List Held) (kept : List Lending)
     → (revalidation : Revalidation) → IsResetRevalidation p.last_disk p.found revalidation → (its : List Reply)
     → AreResolved (disposition_of None revalidation) (requests_of port shared.book) its (holding shared.book shared.table.value p.kept) (holding book table kept)
     → SettlesPort port its s (record s { table = table; kept = set s.kept port.0 kept; book = book })

@@ -15,12 +15,12 @@ use Rattle.refinement.specs.Driven.{AnyUse, IsSimulated}
 use Rattle.block_machine.specs.declared.due.QueueMode.{QueueMode}
 use Rattle.dma_frames.specs.Loan.{Lending}
 use Rattle.dma_frames.specs.Table.{Table}
-use Rattle.error_recovery.specs.Recovery.{EndsIn}
+use Rattle.error_recovery.specs.Recovery.{EndsAsNext}
 use Rattle.error_recovery.specs.declared.Next.{Next}
 use Rattle.error_recovery.specs.declared.Next.TheVariants.{Restart}
 use Rattle.host_boot.specs.Taken.{probe_result_of, wanted_of}
 use Rattle.host_boot.specs.declared.ProbeResult.{ProbeResult}
-use Rattle.host_boot.specs.Again.{BootsAgain}
+use Rattle.host_boot.specs.Again.{RebootsPort}
 use Rattle.host_boot.specs.declared.Booted.{Booted}
 use Rattle.host_boot.specs.declared.ProbeResult.TheVariants.{Ready, Unready, Unserved}
 use Rattle.identify.specs.declared.DiskInfo.{DiskInfo}
@@ -36,7 +36,7 @@ use Rattle.request_queue.specs.declared.disposition.Revalidation.{Revalidation}
 use Rattle.server_history.specs.ErrorHandling.{BootsAfter, IsFailed, IsRevalidated, IsRevalidation, IsErrorHandled, HasResolved, HandlesPortError, requests_of}
 use Rattle.server_history.specs.Served.{IssuesAll, done_reply}
 use Rattle.server_history.specs.Server.{ServerState, InCallInvariant, SettledInvariant, kept_at, mode_at, mode_found, mode_in, no_slots, plain_mode, slots_at, state_of}
-use Rattle.server_history.specs.Turns.{HasPart, InRestart, ServesPort}
+use Rattle.server_history.specs.Turns.{IsPortTurn, InRestart, ServesPort}
 use Rattle.port_control.specs.declared.events.PortError.{PortError}
 use Rattle.port_control.specs.declared.events.PortError.TheVariants.{FatalError, TaskFileError, TimedOut, LinkChanged}
 use Rattle.slots.specs.Uses.{PortSlots, use_at}
@@ -58,17 +58,17 @@ pub record RestoringLaws : Type 0 where
   pub error_handled : (s new : ServerState) (port : Port) (replies : List Reply) → SettledInvariant s → state_of (probe_result_of s.ports port.0) ≡ ReadyState → (r : HandlesPortError port replies s new)
       → r.settled.error_handled.port_error ≢ TimedOut → IsSimulated (IsLooking port) AnyUse s.device r.settled.error_handled.seen → ServesPort port replies s new × SettledInvariant new
   pub restarted : (s new : ServerState) (port : Port) (replies : List Reply) → SettledInvariant s → state_of (probe_result_of s.ports port.0) ≡ ReadyState → (r : HandlesPortError port replies s new)
-      → r.settled.error_handled.port_error ≡ TimedOut → HasPart InRestart port replies s new × SettledInvariant new
+      → r.settled.error_handled.port_error ≡ TimedOut → IsPortTurn InRestart port replies s new × SettledInvariant new
 
 -- a port whose disk wasn't lost is booted anew, whatever shows
-pub boots_other : (port_error : PortError) (wanted : Wanted) (port : Port) (booted : Booted) (old new : Device) → port_error ≢ LinkChanged → BootsAgain wanted port booted old new → BootsAfter port_error wanted port booted old new
+pub boots_other : (port_error : PortError) (wanted : Wanted) (port : Port) (booted : Booted) (old new : Device) → port_error ≢ LinkChanged → RebootsPort wanted port booted old new → BootsAfter port_error wanted port booted old new
 boots_other LinkChanged wanted port booted old new other boots = absurd (other refl)
 boots_other FatalError wanted port booted old new other boots = boots
 boots_other TaskFileError wanted port booted old new other boots = boots
 boots_other TimedOut wanted port booted old new other boots = boots
 
 -- it is booted, or absent
-pub boots_or_absent : (port_error : PortError) (wanted : Wanted) (port : Port) (booted : Booted) (old new : Device) → BootsAfter port_error wanted port booted old new → BootsAgain wanted port booted old new ⊎ (booted.found ≡ Unready Absent)
+pub boots_or_absent : (port_error : PortError) (wanted : Wanted) (port : Port) (booted : Booted) (old new : Device) → BootsAfter port_error wanted port booted old new → RebootsPort wanted port booted old new ⊎ (booted.found ≡ Unready Absent)
 boots_or_absent LinkChanged wanted port booted old new b = ⊎_elim (λ boots. inl boots.0) (λ absent. inr absent.0) b
 boots_or_absent FatalError wanted port booted old new b = inl b
 boots_or_absent TaskFileError wanted port booted old new b = inl b
@@ -155,7 +155,7 @@ module _ (x : Recovery) where
 
   -- the token is of the port
   pub token_of : (stopped : Stopped) → x.next ≡ Restart stopped → stopped.port ≡ x.port
-  token_of stopped is = (subst (λ (way : Next). EndsIn x.rest.error_handled.queued x.port way x.rest.mid.device x.one) (x.rest.next_is ∙ is) x.rest.error_handled.handling.leaves.ends).0
+  token_of stopped is = (subst (λ (way : Next). EndsAsNext x.rest.error_handled.queued x.port way x.rest.mid.device x.one) (x.rest.next_is ∙ is) x.rest.error_handled.handling.leaves.ends).0
 
   pub bootable : (stopped : Stopped) → x.next ≡ Restart stopped → IsBootable stopped.port x.one × IsStopped (x.one.port stopped.port.0) × ((x.one.port stopped.port.0).notes.link_count ≡ MOST_READINGS)
   bootable stopped is =

@@ -1,8 +1,8 @@
 -- A due request of a port is issued: what is asked of the calls, and what the server then is.
 use Rattle.std.proofs.Common.{ℕ, ◌≡◌, ◌≢◌, ◌+◌, ◌/◌, ◌%◌, ◌^◌, ◌<◌, ◌≤◌, Bool, not, true, inl, inr, List, [], ◌∷◌, drop, length, map, get_or, set, Some, refl, sym, ◌∙◌, ap, subst, arith}
 use Rattle.std.specs.List.{Contains}
-use Rattle.std.proofs.lemmas.List.{drop_more, get_or_default, get_or-set_same, set-get_or, set-set}
-use Rattle.std.proofs.lemmas.List.Elements.{All-contains}
+use Rattle.std.proofs.lemmas.List.{drop_more, get_or-map, get_or_default, get_or-set_same, length-map, set-get_or, set-set}
+use Rattle.std.proofs.lemmas.List.Elements.{All-contains, Contains-get_or}
 use Rattle.ata_types.specs.declared.Port.{Port}
 use Rattle.ata_types.specs.declared.PortState.TheVariants.{Absent, Ready}
 use Rattle.ata_types.specs.declared.request.Frame.{Frame}
@@ -12,7 +12,6 @@ use Rattle.ata_types.specs.declared.request.RequestId.{RequestId}
 use Rattle.adapter.specs.Device.{Device}
 use Rattle.refinement.specs.Readying.{IsStored}
 use Rattle.block_machine.specs.Due.{AreAllDueInOrder, IsDue, is_plain}
-use Rattle.block_machine.proofs.Members.{map_in}
 use Rattle.block_machine.specs.Rules.{IsAllowedCount, frames_for}
 use Rattle.block_machine.specs.declared.due.QueueMode.{QueueMode}
 use Rattle.block_machine.specs.declared.due.Unanswered.{Unanswered}
@@ -26,6 +25,7 @@ use Rattle.host_boot.specs.declared.ProbeResult.{ProbeResult}
 use Rattle.host_boot.specs.declared.ProbeResult.TheVariants.{Unserved, Ready as FoundReady, Unready}
 use Rattle.identify.specs.declared.DiskInfo.{DiskInfo}
 use Rattle.request_queue.specs.Entries.{Held, IsAccepted, BookIsInOrder, asks, asks_of, at_entry, due_ids, issue}
+use Rattle.request_queue.specs.Store.{blank_entry}
 use Rattle.request_queue.specs.declared.PendingRequest.{PendingRequest}
 use Rattle.server_history.specs.Served.{IssuesAll, IssuesEach, IssuesOne, task_of, use_for}
 use Rattle.server_history.specs.Server.{ServerState, InCallInvariant, is_served, mode_in, no_slots, slots_at, state_of, with_slot}
@@ -201,6 +201,15 @@ module _ (s : ServerState) (device : Device) (book : List Held) (slots : PortSlo
 
 -- ---- one after another
 
+-- what is asked is asked of a request of the book
+asked_of : (book : List Held) (u : Unanswered) → Contains (asks_of book) u → (e : Held) × Contains book e × (u ≡ asks e.entry)
+asked_of book u there =
+    let blank : Held = record { entry = blank_entry; frames = [] } in
+    let long = length-map book (λ (e : Held). asks e.entry) in
+    let low = there.1 in
+    let lt : there.0 < length book = omega (arith, low, long) in
+    (get_or book there.0 blank, Contains-get_or book there.0 blank lt, sym there.2 ∙ get_or-map (λ (e : Held). asks e.entry) book there.0 blank u lt)
+
 -- at a place, one is next
 pub next_there : (ids : List RequestId) (place : ℕ) (d : RequestId) → place < length ids → drop place ids ≡ get_or ids place d ∷ drop (place + 1) ids
 next_there ids place d low = drop_more ids place d low
@@ -210,7 +219,7 @@ pub next_due : (book : List Held) (port : Port) (mode : QueueMode) (ids : List R
 next_due book port mode ids place d low turns =
     let t : AreAllDueInOrder mode port (get_or ids place d ∷ drop (place + 1) ids) (asks_of book) = subst (λ (xs : List RequestId). AreAllDueInOrder mode port xs (asks_of book)) (next_there ids place d low) turns in
     let r = t.0 in
-    let x = map_in (λ (e : Held). asks e.entry) book r.0 r.3.here in
+    let x = asked_of book r.0 r.3.here in
     (x.0, x.1, ap (λ (u : Unanswered). u.id) (sym x.2) ∙ r.1, ap (λ (u : Unanswered). u.port) (sym x.2) ∙ r.2, subst (IsDue mode (asks_of book)) x.2 r.3)
 
 -- ---- a port that was found so

@@ -14,7 +14,7 @@ use Rattle.host_boot.specs.Taken.{probe_result_of}
 use Rattle.port_control.specs.Looks.{LooksAt}
 use Rattle.port_control.specs.declared.events.PortEvent.{PortEvent}
 use Rattle.port_control.specs.declared.events.PortEvent.TheVariants as look
-use Rattle.server_history.specs.ErrorHandling.{IsFoundOut}
+use Rattle.server_history.specs.ErrorHandling.{ErrorIsFound}
 use Rattle.server_history.specs.Served.{HasNone, IsMaskOf, is_used}
 use Rattle.server_history.specs.Server.{ServerState, InCallInvariant, state_of}
 use Rattle.port_control.specs.declared.events.PortError.{PortError}
@@ -29,13 +29,13 @@ ready_there s port k ready = k.there port.0 (served_ready (probe_result_of s.por
 
 -- what a look tells is found out by it, and isn't that a request is hung
 pub found_out : (told : PortEvent) (port_error : PortError) (port : Port) (old seen : Device) → error_of told ≡ Some port_error → LooksAt port told old seen
-    → IsFoundOut port port_error old seen × (port_error ≢ TimedOut)
+    → ErrorIsFound port port_error old seen × (port_error ≢ TimedOut)
 found_out look.TaskFileError port_error port old seen is looks =
-    subst (λ (its : PortError). IsFoundOut port its old seen × (its ≢ TimedOut)) (same_Some TaskFileError port_error is) (looks, λ hung. let z : TaskFileError ≡ TimedOut = hung in cc)
+    subst (λ (its : PortError). ErrorIsFound port its old seen × (its ≢ TimedOut)) (same_Some TaskFileError port_error is) (looks, λ hung. let z : TaskFileError ≡ TimedOut = hung in cc)
 found_out look.FatalError port_error port old seen is looks =
-    subst (λ (its : PortError). IsFoundOut port its old seen × (its ≢ TimedOut)) (same_Some FatalError port_error is) (looks, λ hung. let z : FatalError ≡ TimedOut = hung in cc)
+    subst (λ (its : PortError). ErrorIsFound port its old seen × (its ≢ TimedOut)) (same_Some FatalError port_error is) (looks, λ hung. let z : FatalError ≡ TimedOut = hung in cc)
 found_out look.LinkChanged port_error port old seen is looks =
-    subst (λ (its : PortError). IsFoundOut port its old seen × (its ≢ TimedOut)) (same_Some LinkChanged port_error is) (looks, λ hung. let z : LinkChanged ≡ TimedOut = hung in cc)
+    subst (λ (its : PortError). ErrorIsFound port its old seen × (its ≢ TimedOut)) (same_Some LinkChanged port_error is) (looks, λ hung. let z : LinkChanged ≡ TimedOut = hung in cc)
 found_out look.NoEvent port_error port old seen is looks = let z : None ≡ Some port_error = is in absurd cc
 
 -- a look that tells no trouble tells that there is none

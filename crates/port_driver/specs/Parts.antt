@@ -16,7 +16,7 @@ use Rattle.port_driver.specs.declared.served_port.ServedPort.{ServedPort}
 use Rattle.port_driver.specs.declared.served_port.Shared.{Shared}
 
 -- the server's port of this number is this one
-pub record HasServedPort (s : ServerState) (number : ℕ) (p : ServedPort) : Type 0 where
+pub record HasPortAt (s : ServerState) (number : ℕ) (p : ServedPort) : Type 0 where
   pub wanted_is : wanted_of s.wanted number ≡ p.wanted
   pub found_is : probe_result_of s.ports number ≡ p.found
   pub last_disk_is : remembered_at s.remembered number ≡ p.last_disk
@@ -25,11 +25,12 @@ pub record HasServedPort (s : ServerState) (number : ℕ) (p : ServedPort) : Typ
   pub kept_is : kept_at s.kept number ≡ p.kept
 
 -- the server has this device, and these loans and requests; and its port is this one
-pub record HasParts (s : ServerState) (device : Device) (shared : Shared) (port : Port) (p : ServedPort) : Type 0 where
+pub record HasPortAndShared (s : ServerState) (device : Device) (shared : Shared) (port : Port) (p : ServedPort) : Type
+    0 where
   pub device_is : s.device ≡ device
   pub table_is : s.table ≡ shared.table.value
   pub book_is : s.book ≡ shared.book
-  pub port_is : HasServedPort s port.0 p
+  pub port_is : HasPortAt s port.0 p
 
 -- the server, with these in their place
 abbrev pub with_parts : ServerState → Device → Shared → Port → ServedPort → ServerState
@@ -49,7 +50,7 @@ with_parts s device shared port p = record s {
 pub record IsSettledWith (s : ServerState) (device : Device) (shared : Shared) (port : Port)
     (p : ServedPort) : Type 0 where
   pub settled : SettledInvariant s
-  pub parts : HasParts s device shared port p
+  pub parts : HasPortAndShared s device shared port p
 
 -- A port had such a turn, with replies that come after others; and the server is settled then.
 pub record TakesTurn (Such : List Reply → ServerState → ServerState → Type 0) (before after : List Reply)
@@ -91,7 +92,7 @@ no_port = record {
 }
 
 -- the port was found to be this: the disk that it was last ready with is remembered, and no slot of it is used
-pub record IsFoundAnew (found : ProbeResult) (mode : QueueMode) (old new : ServedPort) : Type 0 where
+pub record BeginsAnew (found : ProbeResult) (mode : QueueMode) (old new : ServedPort) : Type 0 where
   pub unused : AreUnused mode new.slots
   pub fields : new ≡ record old {
     found = found;

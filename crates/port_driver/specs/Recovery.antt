@@ -13,13 +13,13 @@ use Rattle.port_control.specs.declared.events.PortEvent.{PortEvent}
 use Rattle.port_control.specs.declared.events.PortEvent.TheVariants as look
 use Rattle.request_queue.specs.Entries.{Held}
 use Rattle.request_queue.specs.declared.disposition.FailedRequest.{FailedRequest}
-use Rattle.server_history.specs.ErrorHandling.{IsFailed, IsFoundOut, IsErrorHandled, HandlesPortError}
+use Rattle.server_history.specs.ErrorHandling.{IsFailed, ErrorIsFound, IsErrorHandled, HandlesPortError}
 use Rattle.server_history.specs.Served.{done_reply}
 use Rattle.server_history.specs.Server.{ServerState, InCallInvariant, SettledInvariant, slots_at, state_of}
 use Rattle.port_control.specs.declared.events.PortError.{PortError}
 use Rattle.port_control.specs.declared.events.PortError.TheVariants.{FatalError, TaskFileError, LinkChanged}
 use Rattle.slots.specs.Uses.{PortSlots}
-use Rattle.port_driver.specs.Parts.{HasServedPort}
+use Rattle.port_driver.specs.Parts.{HasPortAt}
 use Rattle.port_driver.specs.Ports.{with_answers}
 use Rattle.port_driver.specs.declared.served_port.ServedPort.{ServedPort}
 use Rattle.port_driver.specs.declared.served_port.Shared.{Shared}
@@ -36,7 +36,7 @@ error_of look.NoEvent = None
 pub record SeesPortError (s : ServerState) (port : Port) (port_error : PortError) (device : Device) : Type 0 where
   pub kept : InCallInvariant s
   pub ready : state_of (probe_result_of s.ports port.0) ≡ Ready
-  pub finds : IsFoundOut port port_error s.device device
+  pub finds : ErrorIsFound port port_error s.device device
   pub followed : IsSimulated (IsLooking port) AnyUse s.device device
 
 -- so it was, and it has these loans, this book, and these slots of the port
@@ -55,7 +55,7 @@ pub record IsInError (s : ServerState) (device : Device) (shared : Shared) (port
   pub sees : SeesPortError s port port_error device
   pub table_is : s.table ≡ shared.table.value
   pub book_is : s.book ≡ shared.book
-  pub port_is : HasServedPort s port.0 p
+  pub port_is : HasPortAt s port.0 p
 
 -- What was done was answered by replies that came after others, and the port's error was handled; the server keeps what
 -- it keeps until then. So it came to these loans, this book and these slots, and to this device; to the request whose

@@ -1,7 +1,7 @@
 // What becomes of a port's requests where its adapter is reset.
 ghost use Rattle.std.specs.Prelude.{◌≡◌, ◌≤◌, ◌+◌, ◌++◌, List, length};
 ghost use Rattle.ata_types.specs.declared.request.Reply.{Reply};
-ghost use Rattle.port_driver.specs.Parts.{HasParts, with_parts};
+ghost use Rattle.port_driver.specs.Parts.{HasPortAndShared, with_parts};
 ghost use Rattle.server_history.specs.Resets.{IsResetRevalidation, MaySettle, SettlesPort};
 ghost use Rattle.server_history.specs.Server.{ServerState};
 
@@ -29,9 +29,9 @@ fn reset_revalidation(was: &Option<DiskInfo>, found: &ProbeResult) -> Revalidati
 impl ServedPort {
     /// Resolves the unanswered requests of the port after a reset, in order of acceptance.
     pub fn resolve_after_reset(&mut self, shared: &mut Shared, port: Port, replies: &mut Replies)
-        requires settle { (s : ServerState) × MaySettle s × HasParts s s.device shared.old port self.old }
+        requires settle { (s : ServerState) × MaySettle s × HasPortAndShared s s.device shared.old port self.old }
         requires room { length replies.old.items + length shared.old.book ≤ MOST_UNANSWERED }
-        ensures settles { (s : ServerState) → MaySettle s → HasParts s s.device shared.old port self.old
+        ensures settles { (s : ServerState) → MaySettle s → HasPortAndShared s s.device shared.old port self.old
             → (its : List Reply) × (replies.new.items ≡ replies.old.items ++ its)
             × SettlesPort port its s (with_parts s s.device shared.new port self.new) }
         ensures rest { self.new ≡ record self.old { kept = self.new.kept } }

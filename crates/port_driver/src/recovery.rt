@@ -182,7 +182,7 @@ fn boot_after<A: Adapter>(
 
 /// What a port is once its error was handled, and how it takes commands then: it runs on with its disk, or it is booted
 /// anew, or it is dead. One whose disk was lost is booted only where a device shows.
-pub(crate) fn revalidate_port<A: Adapter>(
+pub(crate) fn resume_or_reboot<A: Adapter>(
     adapter: &mut A,
     port_error: PortError,
     next: Next,

@@ -1,6 +1,6 @@
 // A port that a server drives, and what all its ports share.
 ghost use Rattle.std.specs.Prelude.{◌≡◌, ◌≤◌};
-ghost use Rattle.port_driver.specs.Parts.{IsFoundAnew, no_port};
+ghost use Rattle.port_driver.specs.Parts.{BeginsAnew, no_port};
 ghost use Rattle.server_history.specs.ErrorHandling.{AreUnused};
 ghost use Rattle.server_history.specs.Server.{last_disk_of, plain_mode};
 ghost use Rattle.server_history.specs.Stalled.{stuck_found};
@@ -81,7 +81,7 @@ impl ServedPort {
     /// that it was last ready with is remembered, and no slot of it is used.
     pub fn begin_anew(&mut self, found: ProbeResult, mode: QueueMode)
         requires { mode.usable ≤ 32 }
-        ensures { IsFoundAnew found mode self.old self.new }
+        ensures { BeginsAnew found mode self.old self.new }
     {
         self.last_disk = self.disk();
         self.found = found;
@@ -92,7 +92,7 @@ impl ServedPort {
     /// Notes that a reset of its adapter got stuck: it is dead, if it is served, its disk is remembered, it takes
     /// plain commands, and no slot of it is used.
     pub fn get_stuck(&mut self)
-        ensures { IsFoundAnew (stuck_found self.old.found) plain_mode self.old self.new }
+        ensures { BeginsAnew (stuck_found self.old.found) plain_mode self.old self.new }
     {
         let found = match self.found {
             ProbeResult::Unserved => ProbeResult::Unserved,

@@ -14,7 +14,7 @@ ghost use Rattle.server_history.specs.Turns.{ProbesUnready, ServesPort};
 
 use crate::answering::answer_done;
 use crate::probing::{needs_probe, probe_anew};
-use crate::recovery::{error_of, order_from, revalidate_port, revalidation_of};
+use crate::recovery::{error_of, order_from, resume_or_reboot, revalidation_of};
 use crate::served_port::{ServedPort, Shared};
 use adapter::Adapter;
 use ata_types::{MOST_UNANSWERED, Port, PortState, Replies};
@@ -91,7 +91,7 @@ impl ServedPort {
         };
         let first = replies.len();
         let (failed, next) = self.complete_and_recover(adapter, shared, port, port_error, replies);
-        let (found, mode) = revalidate_port(
+        let (found, mode) = resume_or_reboot(
             adapter,
             port_error,
             next,

@@ -8,7 +8,7 @@ use Rattle.block_machine.specs.Histories.{IsReachable}
 use Rattle.block_machine.specs.Left.{after}
 use Rattle.block_machine.specs.State.{Machine}
 use Rattle.block_machine.specs.Steps.{Step}
-use Rattle.refinement.specs.Driver.{DriverState, DriverRelation, Goes}
+use Rattle.refinement.specs.Driver.{DriverState, DriverRelation, DriverAdvances}
 use Rattle.refinement.specs.Slots.{SlotStates}
 
 -- ---- acts
@@ -33,15 +33,15 @@ IsOneAct (Some access) steps = AllDevices steps ⊎ ((step : Step) × (before : 
 
 -- The act is done, from a machine that agrees with what the driver knew: its steps lead to one that agrees with what it
 -- knows then.
-pub record IsDone (k : DriverState) (m : Machine) (act : Act) : Type 0 where
+pub record IsActDone (k : DriverState) (m : Machine) (act : Act) : Type 0 where
   pub leads : AccessLeads act.access k.device act.later.device
   pub one : IsOneAct act.access act.steps
-  pub goes : Goes k m act.steps act.later
+  pub goes : DriverAdvances k m act.steps act.later
 
 -- one act after another, from the one machine to the next
-abbrev pub AreDone : List Act → DriverState → Machine → DriverState → Type 0
-AreDone [] k m later = later ≡ k
-AreDone (act ∷ acts) k m later = IsDone k m act × AreDone acts act.later (after m act.steps) later
+abbrev pub AreActsDone : List Act → DriverState → Machine → DriverState → Type 0
+AreActsDone [] k m later = later ≡ k
+AreActsDone (act ∷ acts) k m later = IsActDone k m act × AreActsDone acts act.later (after m act.steps) later
 
 -- the accesses that were made, in their order
 abbrev pub with_access : Option Access → List Access → List Access
@@ -70,26 +70,26 @@ abbrev pub at_slots : InSlots → Device → DriverState
 at_slots s d = record { uses = s.uses; parked = s.parked; device = d }
 
 -- From this machine, acts with these accesses lead to what the driver knows then; and this is told of them.
-pub record Comes (accesses : List Access) (k : DriverState) (m : Machine) (later : DriverState) (Tells : List Act
+pub record ActsReach (accesses : List Access) (k : DriverState) (m : Machine) (later : DriverState) (Tells : List Act
     → Type 0) : Type 0 where
   pub acts : List Act
-  pub done : AreDone acts k m later
+  pub done : AreActsDone acts k m later
   pub accesses_are : accesses_of acts ≡ accesses
   pub tells : Tells acts
 
 -- So it is whatever is in the slots, from each machine that is reached and agrees with that, where the two fit; and the
 -- acts lead to what is in the slots next.
-abbrev pub ComesWith : List Access → (InSlots → Machine → Type 0) → (InSlots → InSlots)
+abbrev pub ActsReachWith : List Access → (InSlots → Machine → Type 0) → (InSlots → InSlots)
     → (InSlots → Machine → List Act → Type 0) → Device → Device → Type 0
-ComesWith accesses Fits next Tells old new = (s : InSlots) (m : Machine) → IsReachable m
+ActsReachWith accesses Fits next Tells old new = (s : InSlots) (m : Machine) → IsReachable m
     → DriverRelation m (at_slots s old) → Fits s m
-    → Comes accesses (at_slots s old) m (at_slots (next s) new) (Tells s m)
+    → ActsReach accesses (at_slots s old) m (at_slots (next s) new) (Tells s m)
 
 -- a part of a call, which made these accesses, from the old device to the new
 pub record Performs (accesses : List Access) (Fits : InSlots → Machine → Type 0) (next : InSlots → InSlots)
     (Tells : InSlots → Machine → List Act → Type 0) (old new : Device) : Type 0 where
   pub does : DoesAll accesses old new
-  pub comes : ComesWith accesses Fits next Tells old new
+  pub comes : ActsReachWith accesses Fits next Tells old new
 
 -- whatever is in the slots
 abbrev pub AnySlots : InSlots → Machine → Type 0

@@ -6,12 +6,12 @@ use Rattle.adapter.specs.declared.tape.Entry.{Entry}
 use Rattle.refinement.specs.Slots.{Own, SlotStates, IsMove}
 
 -- slot 0 has a command issued, which has moved nothing if it is taken
-pub record IsUnbrought (p : DevicePort) : Type 0 where
+pub record HasMovedNothing (p : DevicePort) : Type 0 where
   pub issued : p.ci 0 ≡ true
   pub unmoved : (t : FetchedCommand) → p.taken 0 ≡ Some t → t.moved ≡ 0
 
 -- a page of the port's command of this operation has come, when the tape was at least so long
-pub record HasCome (tape : List Entry) (port : ℕ) (o : Operation) (since : ℕ) : Type 0 where
+pub record PageHasCome (tape : List Entry) (port : ℕ) (o : Operation) (since : ℕ) : Type 0 where
   pub before : List Entry
   pub move : Entry
   pub later : List Entry
@@ -26,4 +26,4 @@ pub record AwaitsPage (uses : SlotStates) (port : ℕ) (o : Operation) (since : 
   pub st : (d.port port).st ≡ true
   pub own : uses port 0 ≡ Own o
   pub known : since ≤ length d.tape
-  pub page : IsUnbrought (d.port port) ⊎ HasCome d.tape port o since
+  pub page : HasMovedNothing (d.port port) ⊎ PageHasCome d.tape port o since

@@ -16,7 +16,7 @@ use Rattle.adapter.specs.declared.tape.Entry.{Entry}
 use Rattle.block_machine.specs.Events.{AllDevices}
 use Rattle.block_machine.specs.Histories.{IsReachable}
 use Rattle.block_machine.specs.State.{Machine}
-use Rattle.refinement.specs.Acts.{Act, ComesWith, act_steps}
+use Rattle.refinement.specs.Acts.{Act, ActsReachWith, act_steps}
 use Rattle.refinement.specs.Driver.{DriverState, DriverRelation}
 use Rattle.refinement.specs.Links.{SparesRegister}
 use Rattle.refinement.specs.Slots.{SlotStates, IsMove, IsOver}
@@ -97,7 +97,7 @@ pub record AreDevices (May : Access → Type 0) (uses : SlotStates) (acts : List
 pub record IsSimulatedTo (May : Access → Type 0) (Fits : SlotStates → Type 0) (next : SlotStates → SlotStates)
     (old new : Device) : Type 0 where
   pub driven : IsDrivenBy May old new
-  pub comes : ComesWith driven.accesses (λ s m. Fits s.uses) (λ s. record s { uses = next s.uses })
+  pub comes : ActsReachWith driven.accesses (λ s m. Fits s.uses) (λ s. record s { uses = next s.uses })
       (λ s m. AreDevices May s.uses) old new
 
 -- the same, where each slot goes on as it is used

@@ -106,7 +106,7 @@ pub record ByDevice (old new : Device) (m : Machine) (steps : List Step) : Type 
 
 -- The driver goes from what it knew to what it knows then: from this machine each of these steps may come, the device
 -- backs them, and the machine after them agrees with what the driver knows then.
-pub record Goes (k : DriverState) (m : Machine) (steps : List Step) (later : DriverState) : Type 0 where
+pub record DriverAdvances (k : DriverState) (m : Machine) (steps : List Step) (later : DriverState) : Type 0 where
   pub may : AllMay m steps
   pub backed : IsBacked k.device later.device m steps
   pub knows : DriverRelation (after m steps) later

@@ -52,7 +52,7 @@ pub record EndedIn (m : Machine) (port : Port) (id : RequestId) : Type 0 where
   pub booked : NoneKept m port → Contains m.book pending
 
 -- the slot's command is over, and its bit of SACT is clear
-pub record IsClear (p : DevicePort) (slot : ℕ) : Type 0 where
+pub record IsSlotClear (p : DevicePort) (slot : ℕ) : Type 0 where
   pub over : IsOver p slot
   pub sact : p.sact slot ≡ false
 
@@ -60,15 +60,15 @@ pub record IsClear (p : DevicePort) (slot : ℕ) : Type 0 where
 -- since ST was set.
 pub record FindsOwnPage (uses : SlotStates) (m : Machine) (port : ℕ) (o : Operation) (old new : Device) : Type 0 where
   pub follows : SimulatesSteps uses m old new
-  pub clear : IsClear (new.port port) 0
+  pub clear : IsSlotClear (new.port port) 0
   pub brought : Brought new.memory new.tape port o (new.port port).notes.st_set_at
 
 -- ---- frames that the device leaves alone
 
 -- The device uses no byte of the frame: none is of a header, a table or a place of a command that is issued or taken,
 -- or of a received FIS area that is in use.
-abbrev pub IsStill : Frame → Device → Type 0
-IsStill frame d = (port slot at : ℕ) → FRAME_BYTES * frame.0 ≤ at → at < FRAME_BYTES * frame.0 + FRAME_BYTES
+abbrev pub DeviceSparesFrame : Frame → Device → Type 0
+DeviceSparesFrame frame d = (port slot at : ℕ) → FRAME_BYTES * frame.0 ≤ at → at < FRAME_BYTES * frame.0 + FRAME_BYTES
     → rules.DeviceOwns d (d.port port) slot at → ⊥
 
 -- the commands of the request of this id are over, in each slot

@@ -23,8 +23,8 @@ served_ids uses port zero = []
 served_ids uses port (suc n) = with_served (uses port n) (served_ids uses port n)
 
 -- Each slot of the port is over, and none is armed while ST is one.
-abbrev pub AreOver : SlotStates → DevicePort → ℕ → Type 0
-AreOver uses p port = (slot : ℕ) → IsOver p slot × (uses port slot ≡ Armed → p.st ≡ false)
+abbrev pub IsPortOver : SlotStates → DevicePort → ℕ → Type 0
+IsPortOver uses p port = (slot : ℕ) → IsOver p slot × (uses port slot ≡ Armed → p.st ≡ false)
 
 -- every slot of the port was given up, and the requests that they served aren't decided yet
 abbrev pub parking_all : DriverState → ℕ → DriverState

@@ -93,8 +93,8 @@ pub record IsPlaced (p : DevicePort) (port slot : ℕ) : Type 0 where
 -- ---- how far a request's command is
 
 -- the first n sectors were touched, and no others
-abbrev pub UpTo : (ℕ → Bool) → ℕ → Type 0
-UpTo touched n = (i : ℕ) → touched i ≡ nat_lt i n
+abbrev pub TouchedUpTo : (ℕ → Bool) → ℕ → Type 0
+TouchedUpTo touched n = (i : ℕ) → touched i ≡ nat_lt i n
 
 -- the block of a trim names the request's sectors
 abbrev pub MeansRange : List ℕ → Accepted → Type 0
@@ -112,15 +112,15 @@ pub record Waits (memory : ℕ → ℕ) (p : DevicePort) (port slot : ℕ) (e : 
   pub free : p.taken slot ≡ None
   pub sact : p.sact slot ≡ is_queued c.operation
   pub block : HasTrimBlock e.request.asked.op memory port e.request
-  pub untouched : UpTo e.touched 0
+  pub untouched : TouchedUpTo e.touched 0
   pub unended : e.ended ≡ false
 
 -- what a taken command has moved, or cleared, was touched
 abbrev pub Progress : Op → (ℕ → ℕ) → ℕ → Pending → FetchedCommand → Type 0
-Progress Read memory port e t = UpTo e.touched t.moved
-Progress Write memory port e t = UpTo e.touched t.moved
+Progress Read memory port e t = TouchedUpTo e.touched t.moved
+Progress Write memory port e t = TouchedUpTo e.touched t.moved
 Progress Trim memory port e t =
-    UpTo e.touched t.cleared
+    TouchedUpTo e.touched t.cleared
     × (((t.moved ≡ 0) × (t.cleared ≡ 0) × MeansRange (bytes_at memory (scratch_of port) 512) e.request)
     ⊎ ((t.moved ≡ 1) × MeansRange t.block e.request))
 Progress Flush memory port e t = Unit {0}

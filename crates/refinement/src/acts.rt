@@ -10,9 +10,9 @@ ghost use Rattle.block_machine.specs.Histories.{IsReachable, IsSimulatedBySteps}
 ghost use Rattle.block_machine.specs.Left.{after};
 ghost use Rattle.block_machine.specs.State.{Machine};
 ghost use Rattle.block_machine.specs.Steps.{Step, May, after_step};
-ghost use Rattle.refinement.specs.Acts.{Act, IsDone, AreDone, accesses_of, act_steps};
+ghost use Rattle.refinement.specs.Acts.{Act, IsActDone, AreActsDone, accesses_of, act_steps};
 ghost use Rattle.refinement.specs.Driven.{SendsNone};
-ghost use Rattle.refinement.specs.Driver.{DriverState, DriverRelation, ByDevice, Goes, EndsWith};
+ghost use Rattle.refinement.specs.Driver.{DriverState, DriverRelation, ByDevice, DriverAdvances, EndsWith};
 ghost use Rattle.refinement.specs.Links.{SparesRegister};
 ghost use Rattle.refinement.specs.Recovering.{WorksPlainly};
 ghost use Rattle.refinement.specs.Slots.{Own, op_of};
@@ -26,22 +26,22 @@ pub fn law_acts_are_done()
         → IsSimulatedBySteps DriverRelation k later (ByDevice k.device later.device) → IsReachable m
         → DriverRelation m k
         → Does access k.device later.device → (steps : List Step) × AllDevices steps
-        × IsDone k m (record { access = Some access; steps = steps; later = later }) }
+        × IsActDone k m (record { access = Some access; steps = steps; later = later }) }
     ensures ends { (k later : DriverState) (m : Machine) (access : Access) (step : Step) → (e : EndsWith k m step later)
         → Does access k.device later.device
-        → IsDone k m (record { access = Some access; steps = step ∷ e.steps; later = later }) }
+        → IsActDone k m (record { access = Some access; steps = step ∷ e.steps; later = later }) }
     ensures own { (k later : DriverState) (m : Machine) (step : Step) → (IsByDevice step → ⊥) → May m step
         → later.device ≡ k.device → DriverRelation (after_step m step) later
-        → IsDone k m (record { access = None; steps = step ∷ []; later = later }) }
+        → IsActDone k m (record { access = None; steps = step ∷ []; later = later }) }
     ensures still { (k later : DriverState) (m : Machine) → later.device ≡ k.device → DriverRelation m later
-        → IsDone k m (record { access = None; steps = []; later = later }) }
+        → IsActDone k m (record { access = None; steps = []; later = later }) }
 {}
 
 /// Parts of a call compose: no act is one, and so is one after another, with the accesses and the steps of both.
 pub fn law_acts_compose()
-    ensures none { (k : DriverState) (m : Machine) → AreDone [] k m k }
-    ensures more { (early late : List Act) (a b c : DriverState) (m : Machine) → AreDone early a m b
-        → AreDone late b (after m (act_steps early)) c → AreDone (early ++ late) a m c }
+    ensures none { (k : DriverState) (m : Machine) → AreActsDone [] k m k }
+    ensures more { (early late : List Act) (a b c : DriverState) (m : Machine) → AreActsDone early a m b
+        → AreActsDone late b (after m (act_steps early)) c → AreActsDone (early ++ late) a m c }
     ensures accesses { (early late : List Act) → accesses_of (early ++ late) ≡ accesses_of early ++ accesses_of late }
     ensures steps { (early late : List Act) → act_steps (early ++ late) ≡ act_steps late ++ act_steps early }
 {}
@@ -50,17 +50,18 @@ pub fn law_acts_compose()
 /// command of an operation, before any of them, is sent no page by it; and where none of them writes its PxSACT, one
 /// that works on plain commands alone goes on so.
 pub fn law_acts_give()
-    ensures goes { (acts : List Act) (k later : DriverState) (m : Machine) → DriverRelation m k → AreDone acts k m later
-        → Goes k m (act_steps acts) later }
-    ensures does { (acts : List Act) (k later : DriverState) (m : Machine) → AreDone acts k m later
+    ensures goes { (acts : List Act) (k later : DriverState) (m : Machine) → DriverRelation m k
+        → AreActsDone acts k m later
+        → DriverAdvances k m (act_steps acts) later }
+    ensures does { (acts : List Act) (k later : DriverState) (m : Machine) → AreActsDone acts k m later
         → DoesAll (accesses_of acts) k.device later.device }
     ensures silent { (acts : List Act) (k later : DriverState) (m : Machine) (port : ℕ) (o : Operation) → op_of o ≡ None
         → IsReachable m → DriverRelation m k → (k.uses port 0 ≡ Own o → ⊥)
         → All (λ act. act.later.uses port 0 ≡ Own o → ⊥) acts
-        → AreDone acts k m later → SendsNone port o k.device later.device }
+        → AreActsDone acts k m later → SendsNone port o k.device later.device }
     ensures plain { (acts : List Act) (k later : DriverState) (m : Machine) (port : Port) → IsReachable m
         → DriverRelation m k
-        → All (SparesRegister (Px port Sact)) (accesses_of acts) → AreDone acts k m later
+        → All (SparesRegister (Px port Sact)) (accesses_of acts) → AreActsDone acts k m later
         → WorksPlainly (k.device.port port.0) → WorksPlainly (later.device.port port.0) }
 {
     law_below();

@@ -31,7 +31,7 @@ ghost use Rattle.refinement.specs.Booted.{BootIsFound};
 ghost use Rattle.refinement.specs.Driven.{Grows};
 ghost use Rattle.refinement.specs.Driver.{DriverState, DriverRelation, IsOwnPrepared};
 ghost use Rattle.refinement.specs.Errors.{KeepsErrors, NoneComes, ChangesByDisks, StaysClear, NoneFatal, NoneFails, ChangesByErrors, IsLeftByReset, IsCleared, IsOfEachPart, IsWork};
-ghost use Rattle.refinement.specs.Facts.{IsHalted, IsAfterReset, FindsOwnPage, IsStill, AreOver, RunsWell, Undisturbed, ShowsNoTrouble, TellsNoTrouble, ClearsNoTrouble, IsFaulted, ShowsFault, HasFaults, IsRecorded, IsAwaited, IsUnflagged, IsQuiet, KeepsRecord, EndedIn, IsClear};
+ghost use Rattle.refinement.specs.Facts.{IsHalted, IsAfterReset, FindsOwnPage, DeviceSparesFrame, AreOver, RunsWell, Undisturbed, ShowsNoTrouble, TellsNoTrouble, ClearsNoTrouble, IsFaulted, ShowsFault, HasFaults, IsRecorded, IsAwaited, IsUnflagged, IsQuiet, KeepsRecord, EndedIn, IsSlotClear};
 ghost use Rattle.refinement.specs.Links.{SparesRegister, SameAdapter, LeavesControls, PlugsNone, LeavesDisk, LeavesLink, HasDeviceOrNone};
 ghost use Rattle.refinement.specs.Noted.{LeavesNotes, NotesLast};
 ghost use Rattle.refinement.specs.Places.{scratch_of};
@@ -103,11 +103,11 @@ pub fn law_ended_is_clear()
     ensures clears { (uses : SlotStates) (m : Machine) (d : Device) (port : Port) (slot : ℕ) (e : Pending)
         → IsReachable m
         → StateRelation uses m d → MayStillMove m e → e.ended ≡ true → uses port.0 slot ≡ Serves e.request.id
-        → IsClear (d.port port.0) slot × EndedIn m port e.request.id }
+        → IsSlotClear (d.port port.0) slot × EndedIn m port e.request.id }
     ensures ends { (uses : SlotStates) (m : Machine) (d : Device) (port : Port) (slot : ℕ) (id : RequestId)
         → StateRelation uses m d
         → uses port.0 slot ≡ Serves id → (d.port port.0).st ≡ true → (d.port port.0).ci slot ≡ false
-        → (d.port port.0).sact slot ≡ false → IsClear (d.port port.0) slot × EndedIn m port id }
+        → (d.port port.0).sact slot ≡ false → IsSlotClear (d.port port.0) slot × EndedIn m port id }
 {}
 
 /// A slot's command that is over stays so, and so do its clear bits, whatever the device does, and over each access
@@ -120,12 +120,12 @@ pub fn law_over_stays()
     ensures over_access { (port : Port) (slot : ℕ) (access : Access) (old new : Device)
         → ((v : ℕ) → access ≡ Writing (Px port Ci) v → bit v slot ≡ false) → Does access old new
         → IsOver (old.port port.0) slot → IsOver (new.port port.0) slot }
-    ensures clear { (port slot : ℕ) (old new : Device) → Steps old new → IsClear (old.port port) slot
-        → IsClear (new.port port) slot }
+    ensures clear { (port slot : ℕ) (old new : Device) → Steps old new → IsSlotClear (old.port port) slot
+        → IsSlotClear (new.port port) slot }
     ensures clear_access { (port : Port) (slot : ℕ) (access : Access) (old new : Device)
         → ((v : ℕ) → access ≡ Writing (Px port Ci) v → bit v slot ≡ false)
         → ((v : ℕ) → access ≡ Writing (Px port Sact) v → bit v slot ≡ false) → Does access old new
-        → IsClear (old.port port.0) slot → IsClear (new.port port.0) slot }
+        → IsSlotClear (old.port port.0) slot → IsSlotClear (new.port port.0) slot }
     ensures ended { (m : Machine) (steps : List Step) (port : Port) (id : RequestId) → AllDevices steps
         → EndedIn m port id → EndedIn (after m steps) port id }
     ensures ended_beside { (m : Machine) (step : Step) (port : Port) (id : RequestId) → IsOfAnother id step
@@ -170,15 +170,15 @@ pub fn law_page_is_awaited()
 /// lent to nobody, nor any frame where it is idle. The bytes of such a frame may be loaded and stored.
 pub fn law_frames_are_still()
     ensures lent { (uses : SlotStates) (m : Machine) (d : Device) (frame : Frame) (id : RequestId) → IsReachable m
-        → StateRelation uses m d → m.lent frame ≡ Some id → AreOver uses d id → IsStable (IsStill frame) d }
+        → StateRelation uses m d → m.lent frame ≡ Some id → AreOver uses d id → IsStable (DeviceSparesFrame frame) d }
     ensures unlent { (uses : SlotStates) (m : Machine) (d : Device) (frame : Frame) → IsReachable m
         → StateRelation uses m d
-        → m.lent frame ≡ None → DRIVER_FRAMES ≤ frame.0 → IsStable (IsStill frame) d }
+        → m.lent frame ≡ None → DRIVER_FRAMES ≤ frame.0 → IsStable (DeviceSparesFrame frame) d }
     ensures over { (uses : SlotStates) (m : Machine) (d : Device) (port slot : ℕ) (id : RequestId)
         → StateRelation uses m d
         → uses port slot ≡ Serves id → IsOver (d.port port) slot → AreOver uses d id }
-    ensures idle { (d : Device) (frame : Frame) → IsIdle d → IsStable (IsStill frame) d }
-    ensures free { (d : Device) (frame : Frame) (offset n : ℕ) → IsStable (IsStill frame) d
+    ensures idle { (d : Device) (frame : Frame) → IsIdle d → IsStable (DeviceSparesFrame frame) d }
+    ensures free { (d : Device) (frame : Frame) (offset n : ℕ) → IsStable (DeviceSparesFrame frame) d
         → FRAME_BYTES * frame.0 + FRAME_BYTES ≤ d.size → offset + n ≤ FRAME_BYTES
         → IsStable (IsUnowned (FRAME_BYTES * frame.0 + offset) n) d }
 {}

@@ -32,7 +32,7 @@ ghost use Rattle.block_machine.specs.Steps.{Step, Accept, Issue, Age, Again, Ans
 ghost use Rattle.block_machine.specs.declared.due.QueueMode.{QueueMode};
 ghost use Rattle.refinement.specs.Relation.{StateRelation, IsDiskOf, SameMemory, SameSectors, HaveSlots, ServeApart, port_at};
 ghost use Rattle.refinement.specs.Returning.{may_return};
-ghost use Rattle.refinement.specs.Driver.{MayStore, LeavesUses, LeavesFree, DriverState, DriverRelation, IsBacked, ByDevice, Goes, IsPrepared, IsOwnPrepared, EndsWith, HasNoSlot, ForgetsRequest, ForgetsKept, serving, parking, freeing, idle, IsWrittenBack, MissesTable, MissesScratch};
+ghost use Rattle.refinement.specs.Driver.{MayStore, LeavesUses, LeavesFree, DriverState, DriverRelation, IsBacked, ByDevice, DriverAdvances, IsPrepared, IsOwnPrepared, EndsWith, HasNoSlot, ForgetsRequest, ForgetsKept, serving, parking, freeing, idle, IsWrittenBack, MissesTable, MissesScratch};
 ghost use Rattle.refinement.specs.Follows.{SimulatesSteps};
 ghost use Rattle.refinement.specs.Links.{IsPlugging};
 ghost use Rattle.refinement.specs.Places.{list_of, scratch_of, received_of};
@@ -132,30 +132,32 @@ pub fn law_backing_composes()
 /// own; and by what any access or part of a call adds. And what goes so from each machine that agrees is a part of a
 /// call. The machine that is gone to is reached.
 pub fn law_going_composes()
-    ensures none { (k : DriverState) (m : Machine) → DriverRelation m k → Goes k m [] k }
-    ensures more { (a b c : DriverState) (m : Machine) (early late : List Step) → Goes a m early b
-        → Goes b (after m early) late c → Goes a m (late ++ early) c }
+    ensures none { (k : DriverState) (m : Machine) → DriverRelation m k → DriverAdvances k m [] k }
+    ensures more { (a b c : DriverState) (m : Machine) (early late : List Step) → DriverAdvances a m early b
+        → DriverAdvances b (after m early) late c → DriverAdvances a m (late ++ early) c }
     ensures still { (k later : DriverState) (m : Machine) → later.device ≡ k.device → DriverRelation m later
-        → Goes k m [] later }
+        → DriverAdvances k m [] later }
     ensures own { (k later : DriverState) (m : Machine) (step : Step) → (IsByDevice step → ⊥) → May m step
-        → later.device ≡ k.device → DriverRelation (after_step m step) later → Goes k m (step ∷ []) later }
+        → later.device ≡ k.device → DriverRelation (after_step m step) later → DriverAdvances k m (step ∷ []) later }
     ensures device { (k later : DriverState) (m : Machine) (steps : List Step) → AllMay m steps
-        → ByDevice k.device later.device m steps → DriverRelation (after m steps) later → Goes k m steps later }
+        → ByDevice k.device later.device m steps → DriverRelation (after m steps) later
+        → DriverAdvances k m steps later }
     ensures follows { (k : DriverState) (m : Machine) (new : Device) → DriverRelation m k
         → (f : SimulatesSteps k.uses m k.device new)
-        → Goes k m f.steps (record k { device = new }) }
+        → DriverAdvances k m f.steps (record k { device = new }) }
     ensures ends { (k later : DriverState) (m : Machine) (step : Step) → (e : EndsWith k m step later)
-        → Goes k m (step ∷ e.steps) later }
+        → DriverAdvances k m (step ∷ e.steps) later }
     ensures access { (k later : DriverState) (m : Machine)
         → IsSimulatedBySteps DriverRelation k later (ByDevice k.device later.device)
-        → IsReachable m → DriverRelation m k → (steps : List Step) × AllDevices steps × Goes k m steps later }
+        → IsReachable m → DriverRelation m k → (steps : List Step) × AllDevices steps × DriverAdvances k m steps later }
     ensures part { (k later : DriverState) (m : Machine)
         → IsSimulatedBySteps DriverRelation k later (IsBacked k.device later.device)
-        → IsReachable m → DriverRelation m k → (steps : List Step) × Goes k m steps later }
+        → IsReachable m → DriverRelation m k → (steps : List Step) × DriverAdvances k m steps later }
     ensures adds { (k later : DriverState) → ((m : Machine) → IsReachable m → DriverRelation m k → (steps : List Step)
-        × Goes k m steps later)
+        × DriverAdvances k m steps later)
         → IsSimulatedBySteps DriverRelation k later (IsBacked k.device later.device) }
-    ensures reached { (k later : DriverState) (m : Machine) (steps : List Step) → IsReachable m → Goes k m steps later
+    ensures reached { (k later : DriverState) (m : Machine) (steps : List Step) → IsReachable m
+        → DriverAdvances k m steps later
         → IsReachable (after m steps) }
 {}
 

@@ -15,7 +15,7 @@ ghost use Rattle.block_machine.specs.Histories.{IsReachable};
 ghost use Rattle.block_machine.specs.State.{Pending, Machine};
 ghost use Rattle.block_machine.specs.Steps.{Issue, May};
 ghost use Rattle.block_machine.specs.declared.due.QueueMode.{QueueMode};
-ghost use Rattle.refinement.specs.Acts.{Act, AreDone, accesses_of};
+ghost use Rattle.refinement.specs.Acts.{Act, AreActsDone, accesses_of};
 ghost use Rattle.refinement.specs.Relation.{StateRelation};
 ghost use Rattle.refinement.specs.Driver.{IsPrepared, DriverState, DriverRelation, MissesTable, LeavesUses};
 ghost use Rattle.refinement.specs.Links.{SparesRegister};
@@ -79,7 +79,8 @@ pub fn law_readied_is_issued()
 pub fn law_stored_stays_over_acts()
     ensures { (port : Port) (slot : ℕ) (c : Meaning) (places : List ℕ) (acts : List Act) (k later : DriverState)
         (m : Machine)
-        → IsReachable m → DriverRelation m k → AreDone acts k m later → All (LeavesStored port slot) (accesses_of acts)
+        → IsReachable m → DriverRelation m k → AreActsDone acts k m later
+        → All (LeavesStored port slot) (accesses_of acts)
         → IsOn k.device → IsStored k.device port.0 slot c places → IsStored later.device port.0 slot c places }
 {
     law_below();

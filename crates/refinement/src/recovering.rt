@@ -13,7 +13,7 @@ ghost use Rattle.adapter.specs.declared.command.Operation.{Operation};
 ghost use Rattle.block_machine.specs.Histories.{IsReachable};
 ghost use Rattle.block_machine.specs.State.{Machine};
 ghost use Rattle.refinement.specs.Relation.{StateRelation};
-ghost use Rattle.refinement.specs.Acts.{Act, AreDone, accesses_of};
+ghost use Rattle.refinement.specs.Acts.{Act, AreActsDone, accesses_of};
 ghost use Rattle.refinement.specs.Driver.{IsOwnPrepared, DriverState, DriverRelation};
 ghost use Rattle.refinement.specs.Errors.{NoneFatal};
 ghost use Rattle.refinement.specs.Facts.{RunsWell, TellsNoTrouble, IsQuiet};
@@ -77,7 +77,7 @@ pub fn law_halts_are_of_taken_commands()
         → IsHaltedAsTaken (old.port port.0) → IsHaltedAsTaken (new.port port.0) }
     ensures acts { (port : Port) (acts : List Act) (k later : DriverState) (m : Machine) → IsReachable m
         → DriverRelation m k
-        → AreDone acts k m later → All (SparesRegister (Px port Cmd)) (accesses_of acts)
+        → AreActsDone acts k m later → All (SparesRegister (Px port Cmd)) (accesses_of acts)
         → IsHaltedAsTaken (k.device.port port.0) → IsHaltedAsTaken (later.device.port port.0) }
     ensures calm { (p : DevicePort) → p.halt ≡ NotHalted → HaltsAsTaken p }
     ensures plain { (p : DevicePort) → WorksPlainly p → HaltsAsTaken p }

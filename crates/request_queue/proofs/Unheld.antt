@@ -9,7 +9,7 @@ use Rattle.ata_types.specs.declared.request.Op.{Op}
 use Rattle.ata_types.specs.declared.request.Op.TheVariants.{Read, Write, Trim, Flush}
 use Rattle.block_machine.specs.declared.due.QueueMode.{QueueMode}
 use Rattle.block_machine.specs.declared.due.Unanswered.{Unanswered}
-use Rattle.block_machine.specs.Due.{ahead, must_keep_order, due_of, free_slots, waits_for, is_clear, is_due, is_earlier_on_port, is_flush, is_plain, issued_count}
+use Rattle.block_machine.specs.Due.{ahead, must_keep_order, due_of, free_slots, waits_for, is_unblocked, is_due, is_earlier_on_port, is_flush, is_plain, issued_count}
 use Rattle.request_queue.specs.Holders.{has_holder, is_read_or_write, may_have_holder, may_hold, unheld}
 use Rattle.request_queue.proofs.Members.{count_cons, contains_none, contains_here, contains_there, contains_cases}
 
@@ -121,7 +121,7 @@ module _ (mode : QueueMode) (port : Port) (book : List Unanswered) where
       (any.0, any.1, early.0, ltb-true any.0.id.0 r.id.0 early.1, parts.1)
 
   -- one with a holder isn't clear
-  held_back : (r : Unanswered) → has_holder book r ≡ true → is_clear mode book r ≡ false
+  held_back : (r : Unanswered) → has_holder book r ≡ true → is_unblocked mode book r ≡ false
   held_back r held = false_from_ne_true _ (λ clear.
       let o = its_holder r held in
       both_ways _ (not-true _ (and_parts (not r.issued) _ clear).1) (found (waits_for mode r) book o.0 o.1 (by o.0 o.2 (lt-ltb o.0.id.0 r.id.0 o.3) o.4 (is_plain mode r.op) refl)))
@@ -213,34 +213,34 @@ module _ (mode : QueueMode) (port : Port) (book : List Unanswered) where
       go false out = out_of (held_of out) (is_plain mode x.op) refl
 
   -- so it is clear among them where it is clear
-  same_clear : (x : Unanswered) → p x ≡ true → is_clear mode (unheld port book) x ≡ is_clear mode book x
+  same_clear : (x : Unanswered) → p x ≡ true → is_unblocked mode (unheld port book) x ≡ is_unblocked mode book x
   same_clear x passes = go x.issued refl
     where
       fewer : list_any (waits_for mode x) (unheld port book) ≡ true → list_any (waits_for mode x) book ≡ true
       fewer is = let any = one_found (waits_for mode x) (unheld port book) is in found (waits_for mode x) book any.0 (of_filter p book any.0 any.1).0 any.2
 
-      go : (b : Bool) → x.issued ≡ b → is_clear mode (unheld port book) x ≡ is_clear mode book x
+      go : (b : Bool) → x.issued ≡ b → is_unblocked mode (unheld port book) x ≡ is_unblocked mode book x
       go true issued = ap (λ (b : Bool). not b && not (list_any (waits_for mode x) (unheld port book))) issued
           ∙ sym (ap (λ (b : Bool). not b && not (list_any (waits_for mode x) book)) issued)
       go false free = ap (λ (b : Bool). not x.issued && not b) (same_bool (list_any (waits_for mode x) (unheld port book)) (list_any (waits_for mode x) book) fewer (still_back x passes free))
 
-  out_of_way : (x : Unanswered) → p x ≡ false → (x.port.0 == port.0) ≡ true → is_clear mode book x ≡ false
+  out_of_way : (x : Unanswered) → p x ≡ false → (x.port.0 == port.0) ≡ true → is_unblocked mode book x ≡ false
   out_of_way x out own = by (has_holder book x) refl
     where
-      by : (b : Bool) → has_holder book x ≡ b → is_clear mode book x ≡ false
+      by : (b : Bool) → has_holder book x ≡ b → is_unblocked mode book x ≡ false
       by true held = held_back x held
       by false free = absurd (both_ways _ out (and_from _ _ own (ap not free)))
 
   same_ahead : (r : Unanswered) → (r.port.0 == port.0) ≡ true → ahead mode (unheld port book) r ≡ ahead mode book r
-  same_ahead r own = sym (counted_within p (λ (o : Unanswered). is_earlier_on_port o r && is_clear mode (unheld port book) o) (λ (o : Unanswered). is_earlier_on_port o r && is_clear mode book o) book (λ o there. go o (p o) refl))
+  same_ahead r own = sym (counted_within p (λ (o : Unanswered). is_earlier_on_port o r && is_unblocked mode (unheld port book) o) (λ (o : Unanswered). is_earlier_on_port o r && is_unblocked mode book o) book (λ o there. go o (p o) refl))
     where
-      go : (o : Unanswered) (b : Bool) → p o ≡ b → (is_earlier_on_port o r && is_clear mode book o) ≡ (p o && (is_earlier_on_port o r && is_clear mode (unheld port book) o))
-      go o true passes = ap (λ (c : Bool). is_earlier_on_port o r && c) (sym (same_clear o passes)) ∙ sym (ap (λ (c : Bool). c && (is_earlier_on_port o r && is_clear mode (unheld port book) o)) passes)
+      go : (o : Unanswered) (b : Bool) → p o ≡ b → (is_earlier_on_port o r && is_unblocked mode book o) ≡ (p o && (is_earlier_on_port o r && is_unblocked mode (unheld port book) o))
+      go o true passes = ap (λ (c : Bool). is_earlier_on_port o r && c) (sym (same_clear o passes)) ∙ sym (ap (λ (c : Bool). c && (is_earlier_on_port o r && is_unblocked mode (unheld port book) o)) passes)
       go o false out = false_from_ne_true _ (λ both.
           let two = and_parts (is_earlier_on_port o r) _ both in
           let same = (and_parts (o.port.0 == r.port.0) _ two.0).0 in
           both_ways _ (out_of_way o out (ap (λ (n : ℕ). o.port.0 == n) (sym (eqb-true r.port.0 port.0 own)) ∙ same)) two.1)
-          ∙ sym (ap (λ (c : Bool). c && (is_earlier_on_port o r && is_clear mode (unheld port book) o)) out)
+          ∙ sym (ap (λ (c : Bool). c && (is_earlier_on_port o r && is_unblocked mode (unheld port book) o)) out)
 
   same_issued : issued_count (unheld port book) port ≡ issued_count book port
   same_issued = sym (counted_within p (λ (o : Unanswered). o.port.0 == port.0 && o.issued) (λ (o : Unanswered). o.port.0 == port.0 && o.issued) book (λ o there. go o (p o) refl))
@@ -263,8 +263,8 @@ module _ (mode : QueueMode) (port : Port) (book : List Unanswered) where
       let slots : free_slots mode (unheld port book) r.port ≡ free_slots mode book r.port =
       subst (λ (x : Port). free_slots mode (unheld port book) x ≡ free_slots mode book x) (sym its) (ap (λ (n : ℕ). mode.usable - n) same_issued) in
       ap (λ (b : Bool). b && (is_plain mode r.op || nat_lt (ahead mode (unheld port book) r) (free_slots mode (unheld port book) r.port))) (same_clear r passes)
-      ∙ (ap (λ (n : ℕ). is_clear mode book r && (is_plain mode r.op || nat_lt n (free_slots mode (unheld port book) r.port))) (same_ahead r own)
-      ∙ ap (λ (n : ℕ). is_clear mode book r && (is_plain mode r.op || nat_lt (ahead mode book r) n)) slots)
+      ∙ (ap (λ (n : ℕ). is_unblocked mode book r && (is_plain mode r.op || nat_lt n (free_slots mode (unheld port book) r.port))) (same_ahead r own)
+      ∙ ap (λ (n : ℕ). is_unblocked mode book r && (is_plain mode r.op || nat_lt (ahead mode book r) n)) slots)
 
   pub due_without : due_of mode port (unheld port book) ≡ due_of mode port book
   due_without = sym (filtered_twice p (λ (r : Unanswered). r.port.0 == port.0 && is_due mode (unheld port book) r) (λ (r : Unanswered). r.port.0 == port.0 && is_due mode book r) book (λ r there. go r (p r) refl))
@@ -273,5 +273,5 @@ module _ (mode : QueueMode) (port : Port) (book : List Unanswered) where
       go r true passes = ap (λ (c : Bool). r.port.0 == port.0 && c) (sym (same_due r passes)) ∙ sym (ap (λ (c : Bool). c && (r.port.0 == port.0 && is_due mode (unheld port book) r)) passes)
       go r false out = false_from_ne_true _ (λ both.
           let two = and_parts (r.port.0 == port.0) _ both in
-          both_ways _ (out_of_way r out two.0) (and_parts (is_clear mode book r) _ two.1).0)
+          both_ways _ (out_of_way r out two.0) (and_parts (is_unblocked mode book r) _ two.1).0)
           ∙ sym (ap (λ (c : Bool). c && (r.port.0 == port.0 && is_due mode (unheld port book) r)) out)

@@ -8,13 +8,13 @@ use Rattle.request_queue.specs.Holders.{has_holder}
 use Rattle.request_queue.specs.declared.due.Issued.{Issued}
 
 -- the request is issued, and goes alone
-abbrev pub is_issued_alone : QueueMode → Unanswered → Bool
-is_issued_alone mode r = is_plain mode r.op && r.issued
+abbrev pub is_issued_plain : QueueMode → Unanswered → Bool
+is_issued_plain mode r = is_plain mode r.op && r.issued
 
 -- this is issued of the requests: so many, and whether one of them was issued alone
-abbrev pub IsIssuedOf : QueueMode → List Unanswered → Issued → Type 0
-IsIssuedOf mode requests issued = (issued.count ≡ count_by (λ r. r.issued) requests)
-    × (issued.alone ≡ list_any (is_issued_alone mode) requests)
+abbrev pub TalliesIssued : QueueMode → List Unanswered → Issued → Type 0
+TalliesIssued mode requests issued = (issued.count ≡ count_by (λ r. r.issued) requests)
+    × (issued.alone ≡ list_any (is_issued_plain mode) requests)
 
 -- The request has this number among those of its port without a holder, in order of acceptance. All before it are
 -- queued, since the walk ends at a plain one.

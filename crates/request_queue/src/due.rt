@@ -4,7 +4,7 @@ ghost use Rattle.block_machine.specs.Due as machine;
 ghost use Rattle.block_machine.specs.declared.due.Unanswered.{Unanswered};
 ghost use Rattle.request_queue.specs.Entries.{asks_of, due_ids};
 ghost use Rattle.request_queue.specs.Holders.{AreHolders, unheld};
-ghost use Rattle.request_queue.specs.Walk.{IsIssuedOf, IsReachedInWalk, is_issued_alone};
+ghost use Rattle.request_queue.specs.Walk.{TalliesIssued, IsReachedInWalk, is_issued_plain};
 ghost use Rattle.request_queue.specs.Store.{asks_at};
 
 use crate::store::RequestSlab;
@@ -50,7 +50,7 @@ pub fn list_due(
     let free = free_slots(mode, issued.count);
     for number in 0..places.len() {
         let asks = nth(store, &places, number);
-        let clear = is_clear(mode, &asks, number, issued);
+        let clear = is_unblocked(mode, &asks, number, issued);
         if goes(mode, &asks, clear, due.len(), free) {
             due.push(asks.id);
         }
@@ -73,7 +73,7 @@ fn find_unheld(
     requires empty { places.old.items ≡ [] }
     ensures unheld { asks_at store.now places.new.items ≡ unheld port (asks_of store.now) }
     ensures within { All (λ place. place < length store.now) places.new.items }
-    ensures issued { IsIssuedOf mode (asks_at store.now places.new.items) result }
+    ensures issued { TalliesIssued mode (asks_at store.now places.new.items) result }
 {
     let mut count = 0usize;
     let mut alone = false;
@@ -84,7 +84,7 @@ fn find_unheld(
                 places.push(place as u8);
                 let slots = slots_of(&asks);
                 count += slots;
-                let issued_alone = is_issued_alone(mode, &asks);
+                let issued_alone = is_issued_plain(mode, &asks);
                 alone |= issued_alone;
             }
         }
@@ -123,8 +123,8 @@ fn ends(mode: QueueMode, asks: &Unanswered, given: usize, free: usize) -> bool
 }
 
 /// Whether the request is issued, and goes alone.
-fn is_issued_alone(mode: QueueMode, asks: &Unanswered) -> bool
-    ensures { result ≡ is_issued_alone mode asks.now }
+fn is_issued_plain(mode: QueueMode, asks: &Unanswered) -> bool
+    ensures { result ≡ is_issued_plain mode asks.now }
 {
     is_plain(mode, asks.op) && asks.issued
 }
@@ -139,9 +139,9 @@ fn free_slots(mode: QueueMode, issued: usize) -> usize
 /// Whether the request waits, and nothing stands in its way. It has this number among those of its port without a
 /// holder, all before it are queued, and this is issued of them. A plain one waits for all that are issued and all
 /// before it, a queued one for what is issued alone.
-fn is_clear(mode: QueueMode, asks: &Unanswered, number: usize, issued: Issued) -> bool
+fn is_unblocked(mode: QueueMode, asks: &Unanswered, number: usize, issued: Issued) -> bool
     ensures { (requests : List Unanswered) → IsReachedInWalk mode requests number asks.now
-        → IsIssuedOf mode requests issued → result ≡ machine.is_clear mode requests asks.now }
+        → TalliesIssued mode requests issued → result ≡ machine.is_unblocked mode requests asks.now }
 {
     if asks.issued {
         false

@@ -11,6 +11,6 @@ mod place;
 mod script;
 
 pub use answer::Answer;
-pub use line::read_line;
+pub use line::parse_line;
 pub use place::CallPlace;
 pub use script::{BadLine, Misspelled, check_script, first_line, read_asked};

@@ -547,7 +547,7 @@ pub fn read_line_into(text: &[u8], call: &mut CallPlace) -> Option<()>
 }
 
 /// Reads the call that a line asks for, without its line feed. `None` says that no line is spelled so.
-pub fn read_line(text: &[u8]) -> Option<Call<DeviceStep>>
+pub fn parse_line(text: &[u8]) -> Option<Call<DeviceStep>>
     ensures found { IfSome result (λ call. IsLine call × (line_text call ≡ text.now)) }
     ensures only { (c : Call DeviceStep) → IsLine c → line_text c ≡ text.now → result ≡ Some c }
 {

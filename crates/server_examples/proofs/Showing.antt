@@ -32,7 +32,7 @@ use Rattle.block_machine.specs.Left.{after}
 use Rattle.block_machine.specs.State.{Accepted, Pending, Machine}
 use Rattle.block_machine.specs.Steps.{Step, Touch, End, Unplug, Replace, Answer, Release}
 use Rattle.driver_history.specs.Evidence.{ShowsFailure}
-use Rattle.driver_history.specs.Histories.{CameBy, IsDriverHistory}
+use Rattle.driver_history.specs.Histories.{ExplainsAccesses, IsDriverHistory}
 use Rattle.identify.specs.declared.wanted.Wanted.{Wanted}
 use Rattle.machine_runs.specs.Told.{AsksFor, CameFrom, WasAsked, waits_again}
 use Rattle.server_history.specs.Histories.{HasBegun, LeadsToServer}
@@ -45,7 +45,7 @@ use Rattle.arrayvec.specs.ArrayVec.{ArrayVec}
 use Rattle.ata_types.specs.declared.call.Call.{Call}
 use Rattle.ata_types.specs.declared.call.CallResult.{CallResult}
 use Rattle.ata_types.specs.declared.call.CallResult.TheVariants as said
-use Rattle.server_examples.specs.Shown.{HasRun, ReleasesFrame, RunLaws, ServesRead, ServesReadAnew}
+use Rattle.server_examples.specs.Shown.{HasRun, ReleasesFrame, ShownRunLaws, ServesRead, ServesReadAnew}
 
 pub has_run : {A : Type 0} (device : A → Device) (old new : ServerView A) (events : List (Call DeviceStep)) (before after : List (CallResult (ArrayVec Reply))) → RunsAsPromised device old new events before after → before ≡ []
     → HasBegun (server_of device old) → (device old.adapter).telling ≡ true → HasRun device old new events after
@@ -125,7 +125,7 @@ submit_asks r event asked is asks = let e : ◌≡◌ {A = Ask DeviceStep} (AskS
 told_alone : (items : List Reply) (reply : Reply) → items ≡ reply ∷ [] → Contains items reply
 told_alone items reply only = subst (λ (xs : List Reply). Contains xs reply) (sym only) (in_middle [] reply [])
 
-served_last : (laws : RunLaws) (old new : ServerState) (asked : Request) (first : JointState Device) → LeadsToServer first [] old → (past : List (Happening Device DeviceStep)) (last : Happening Device DeviceStep)
+served_last : (laws : ShownRunLaws) (old new : ServerState) (asked : Request) (first : JointState Device) → LeadsToServer first [] old → (past : List (Happening Device DeviceStep)) (last : Happening Device DeviceStep)
     → LeadsToServer first (last ∷ past) new → IsRun first.abstract (events_of (last ∷ past)) → EveryReadHolds first.abstract (events_of (last ∷ past)) → (items : List Reply) (reply : Reply)
     → last.event.said ≡ Served items → items ≡ reply ∷ [] → reply.outcome ≡ outcome.Ok → asked.op ≡ Read → ((r : Accepted) → WasAsked r (events_of past) → r.asked ≡ asked) → ServesRead old new asked
 served_last laws old new asked first begun past last leads run holds items reply says only ok reads asks =
@@ -145,7 +145,7 @@ served_last laws old new asked first begun past last leads run holds items reply
       told = laws.served first.abstract (events_of past) last.event told.0 run holds answered;
     }
 
-pub shows_a_read : {A : Type 0} (device : A → Device) (old new : ServerView A) (read : Request) (step : DeviceStep) (id : RequestId) (did : Bool) (replies : List Reply) (reply : Reply) → RunLaws
+pub shows_a_read : {A : Type 0} (device : A → Device) (old new : ServerView A) (read : Request) (step : DeviceStep) (id : RequestId) (did : Bool) (replies : List Reply) (reply : Reply) → ShownRunLaws
     → HasRun device old new (Submit read ∷ Tell step ∷ Service ∷ []) (said.Submitted (Ok id) ∷ said.Stepped did ∷ said.Served (record { items = replies }) ∷ [])
     → replies ≡ reply ∷ [] → reply.outcome ≡ outcome.Ok → read.op ≡ Read → ServesRead (server_of device old) (server_of device new) read
 shows_a_read device old new read step id did replies reply laws r only ok reads =
@@ -234,7 +234,7 @@ record Was (m : Machine) (e : Pending) : Type 0 where
   same : before.request ≡ e.request
   issued : e.issued ≡ true → before.issued ≡ true
 
-was_then : (laws : RunLaws) (first : AbstractState) (past : List (CallRecord DeviceStep)) (event : CallRecord DeviceStep) (e : Pending) → IsRun first (event ∷ past) → LetsBe (abstract_after_all first past) event
+was_then : (laws : ShownRunLaws) (first : AbstractState) (past : List (CallRecord DeviceStep)) (event : CallRecord DeviceStep) (e : Pending) → IsRun first (event ∷ past) → LetsBe (abstract_after_all first past) event
     → Contains (abstract_after_all first (event ∷ past)).machine.book e → Was (abstract_after_all first past).machine e
 was_then laws first past event e r lets h = ⊎_elim
     (λ (c : CameFrom (abstract_after_all first past).machine event.steps e). record {
@@ -274,11 +274,11 @@ record Restarted (wanted : List Wanted) (first : JointState Device) (asked : Req
 
 -- after the fatal error the port shows it
 shows_failure : (past : AbstractState) (event : CallRecord DeviceStep) (old new : Device) (accesses : List Access) → event.ask ≡ AskDevice (Fatal port_0 Interface) → event.said ≡ Stepped true
-    → CameBy past event.ask event.said accesses old new → ShowsFailure (new.port 0)
+    → ExplainsAccesses past event.ask event.said accesses old new → ShowsFailure (new.port 0)
 unfolding changed
 shows_failure past event old new accesses is says came =
-    let said_so = subst (λ (s : machine.CallResult). CameBy past event.ask s accesses old new) says came in
-    let done = subst (λ (q : Ask DeviceStep). CameBy past q (Stepped true) accesses old new) is said_so in
+    let said_so = subst (λ (s : machine.CallResult). ExplainsAccesses past event.ask s accesses old new) says came in
+    let done = subst (λ (q : Ask DeviceStep). ExplainsAccesses past q (Stepped true) accesses old new) is said_so in
     ⊎_elim
     (λ fatal. inl (record { place = 27; from = omega arith; to = omega arith; set = ap (λ (d : Device). (d.port 0).is 27) fatal.effect }))
     (λ no. absurd no)
@@ -292,7 +292,7 @@ record Lone (first : JointState Device) (submit one two three fatal : Happening 
   at_port_0 : e.request.port.0 ≡ 0
   ready : (abstract_after_all first.abstract (events_of (fatal ∷ three ∷ two ∷ one ∷ submit ∷ []))).ports.state e.request.port ≡ Ready
 
-lone_of : (laws : RunLaws) (wanted : List Wanted) (first : JointState Device) (asked : Request) (id : RequestId) (submit one two three fatal service finish : Happening Device DeviceStep)
+lone_of : (laws : ShownRunLaws) (wanted : List Wanted) (first : JointState Device) (asked : Request) (id : RequestId) (submit one two three fatal service finish : Happening Device DeviceStep)
     → Restarted wanted first asked id submit one two three fatal service finish → (e : Pending)
     → Contains (abstract_after_all first.abstract (events_of (fatal ∷ three ∷ two ∷ one ∷ submit ∷ []))).machine.book e → Lone first submit one two three fatal e
 lone_of laws wanted first asked id submit one two three fatal service finish c e here =
@@ -331,7 +331,7 @@ lone_of laws wanted first asked id submit one two three fatal service finish c e
     absent_ready is = cc
 
 -- it was issued by the submit
-issued_first : (laws : RunLaws) (first : JointState Device) (asked : Request) (id : RequestId) (submit : Happening Device DeviceStep) (e : Pending) → IsRun first.abstract (events_of (submit ∷ []))
+issued_first : (laws : ShownRunLaws) (first : JointState Device) (asked : Request) (id : RequestId) (submit : Happening Device DeviceStep) (e : Pending) → IsRun first.abstract (events_of (submit ∷ []))
     → submit.event.ask ≡ AskSubmit asked → submit.event.said ≡ Submitted (Ok id) → Contains (abstract_after_all first.abstract (events_of (submit ∷ []))).machine.book e
     → 1 ≤ count_by (issues_it e.request.id) (steps_of (events_of (submit ∷ [])))
 issued_first laws first asked id submit e r is says here =
@@ -352,7 +352,7 @@ issued_first laws first asked id submit e r is says here =
     nothing x h = search rules
 
 -- So what is answered Ok after these was issued twice, and made to wait again.
-went_again : (laws : RunLaws) (wanted : List Wanted) (first : JointState Device) (asked : Request) (id : RequestId) (submit one two three fatal service finish : Happening Device DeviceStep)
+went_again : (laws : ShownRunLaws) (wanted : List Wanted) (first : JointState Device) (asked : Request) (id : RequestId) (submit one two three fatal service finish : Happening Device DeviceStep)
     → Restarted wanted first asked id submit one two three fatal service finish → (e : Pending)
     → Contains (abstract_after_all first.abstract (events_of (finish ∷ service ∷ fatal ∷ three ∷ two ∷ one ∷ submit ∷ []))).machine.book e → e.issued ≡ true
     → (2 ≤ count_by (issues_it e.request.id) (steps_of (events_of (finish ∷ service ∷ fatal ∷ three ∷ two ∷ one ∷ submit ∷ []))))
@@ -394,7 +394,7 @@ went_again laws wanted first asked id submit one two three fatal service finish 
     let is_one : ◌≡◌ {A = ℕ} (cond e.issued 1 0) 1 = ap (λ (b : Bool). cond {A = ℕ} b 1 0) issued in
     (twice, omega (arith, twice, counted, is_one))
 
-pub shows_a_read_anew : {A : Type 0} (device : A → Device) (old new : ServerView A) (read : Request) (step : DeviceStep) (id : RequestId) (before replies : List Reply) (reply : Reply) → RunLaws
+pub shows_a_read_anew : {A : Type 0} (device : A → Device) (old new : ServerView A) (read : Request) (step : DeviceStep) (id : RequestId) (before replies : List Reply) (reply : Reply) → ShownRunLaws
     → HasRun device old new
     (Submit read ∷ State (record { 0 = 1 }) ∷ State (record { 0 = 2 }) ∷ State (record { 0 = 3 }) ∷ Tell (Fatal port_0 Interface) ∷ Service ∷ Tell step ∷ Service ∷ [])
     (said.Submitted (Ok id) ∷ said.State Absent ∷ said.State Absent ∷ said.State Absent ∷ said.Stepped true ∷ said.Served (record { items = before }) ∷ said.Stepped true
@@ -487,7 +487,7 @@ reset_releases old event is says answered =
     )
 
 pub shows_a_release : {A : Type 0} (device : A → Device) (old new : ServerView A) (request : Request) (client : ClientId) (frame : Frame) (bytes last_bytes : List ℕ) (id : RequestId) (replies : List Reply) (reply : Reply)
-    (others : List Reply) → RunLaws
+    (others : List Reply) → ShownRunLaws
     → HasRun device old new
     (Tell (Hold port_0) ∷ Tell (Fatal port_0 HostBus) ∷ Submit request ∷ Service ∷ ClientStore client frame 0 (record { items = bytes }) ∷ Reset ∷ ClientStore client frame 0 (record { items = last_bytes }) ∷ [])
     (said.Stepped true ∷ said.Stepped true ∷ said.Submitted (Ok id) ∷ said.Served (record { items = replies }) ∷ said.Stored (Err FrameLent) ∷ said.WasReset (Ok (record { items = others }))

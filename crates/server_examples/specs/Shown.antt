@@ -18,7 +18,7 @@ use Rattle.block_machine.specs.Histories.{Happening, JointState, events_of, now}
 use Rattle.block_machine.specs.Left.{IsLegal, IsInitial, after}
 use Rattle.block_machine.specs.State.{Accepted, Machine, Pending}
 use Rattle.block_machine.specs.Steps.{Step, Answer, Release}
-use Rattle.driver_history.specs.Claims.{HeedsFailure}
+use Rattle.driver_history.specs.Claims.{HandlesShownFailure}
 use Rattle.driver_history.specs.Evidence.{ShowsFailure}
 use Rattle.driver_history.specs.Histories.{IsDriverHistory}
 use Rattle.identify.specs.declared.wanted.Wanted.{Wanted}
@@ -109,7 +109,7 @@ IsReleased said = (id : RequestId) × (reply : Reply) × (reply.outcome ≡ Port
 
 -- What laws of `block_machine` and `machine_runs` say of runs, and one of `driver_history` of histories: what is shown
 -- rests on them.
-pub record RunLaws : Type 0 where
+pub record ShownRunLaws : Type 0 where
   pub legal : (first : AbstractState) (run : List (CallRecord DeviceStep)) → IsRun first run
       → IsInitial first.machine × IsLegal first.machine (steps_of run)
       × ((abstract_after_all first run).machine ≡ after first.machine (steps_of run))
@@ -152,4 +152,4 @@ pub record RunLaws : Type 0 where
       (h : Happening Device DeviceStep) (port : Port)
       → IsDriverHistory wanted first (h ∷ past) → h.event.ask ≡ Service
       → (now first past).abstract.ports.state port ≡ Ready
-      → ShowsFailure ((now first past).device.port port.0) → HeedsFailure port (now first past) h
+      → ShowsFailure ((now first past).device.port port.0) → HandlesShownFailure port (now first past) h

@@ -4,7 +4,7 @@
 ghost use Rattle.std.specs.Prelude.{◌≡◌, IfSome, IsTrue, List, [], ◌∷◌, Ok, Err, true};
 ghost use Rattle.ata_types.specs.declared.request.Reply.{Reply};
 ghost use Rattle.server_examples.specs.Shown.{HasRun, IsReleased, IsServedAnew, IsServedAtOnce};
-ghost use Rattle.server_examples.specs.Shown.{ReleasesFrame, RunLaws, ServesRead, ServesReadAnew};
+ghost use Rattle.server_examples.specs.Shown.{ReleasesFrame, ShownRunLaws, ServesRead, ServesReadAnew};
 ghost use Rattle.server_history.specs.Histories.{HasBegun};
 ghost use Rattle.block_server.specs.View.{server_of};
 
@@ -26,7 +26,7 @@ use std::alloc::Global;
 
 /// What laws say of runs.
 fn law_laws_of_runs()
-    ensures { RunLaws }
+    ensures { ShownRunLaws }
 {
     law_runs_are_legal::<DeviceStep>();
     law_lent_was_accepted();

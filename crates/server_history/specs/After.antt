@@ -12,10 +12,10 @@ use Rattle.adapter.specs.Device.{DevicePort}
 use Rattle.adapter.specs.Device.Halt.{NotHalted}
 use Rattle.adapter.specs.Rules.{IsOn}
 use Rattle.adapter.specs.declared.command.Operation.TheVariants.{Identify}
-use Rattle.refinement.specs.Acts.{Act, AreDone, accesses_of}
+use Rattle.refinement.specs.Acts.{Act, AreActsDone, accesses_of}
 use Rattle.refinement.specs.Relation.{StateRelation, HaveSlots}
 use Rattle.refinement.specs.Driven.{IsDrivenBy, IsOf, SendsNone}
-use Rattle.refinement.specs.Driver.{Goes, DriverState, DriverRelation}
+use Rattle.refinement.specs.Driver.{DriverAdvances, DriverState, DriverRelation}
 use Rattle.refinement.specs.Errors.{NoneFatal}
 use Rattle.refinement.specs.Facts.{IsRecorded, Undisturbed}
 use Rattle.refinement.specs.Halting.{HaltsAsTaken, IsHaltedAsTaken}
@@ -27,7 +27,7 @@ use Rattle.block_machine.specs.Histories.{IsReachable}
 use Rattle.block_machine.specs.Left.{after}
 use Rattle.block_machine.specs.State.{Machine, unanswered}
 use Rattle.block_machine.specs.Steps.{NoneKept, Step}
-use Rattle.host_boot.specs.Again.{BootsAgain, BootsIfThere, IsOfStart}
+use Rattle.host_boot.specs.Again.{RebootsPort, RebootsIfPresent, IsSurveyOrBoot}
 use Rattle.host_boot.specs.Taken.{FoundBadDisk, IsServed, LeavesFound, StandsBehind, StillStandsBehind}
 use Rattle.host_boot.specs.declared.Booted.{Booted}
 use Rattle.host_boot.specs.declared.ProbeResult.{ProbeResult}
@@ -42,7 +42,8 @@ pub record RecoveryLaws : Type 0 where
       → ((slot : ℕ) (id : RequestId) → uses port.0 slot ≡ Serves id → slot < n)
       → serving_count uses port.0 n ≡ issued_count (map unanswered m.book) port
   -- acts lead to a machine that is reached
-  pub gone_reached : (k later : DriverState) (m : Machine) (steps : List Step) → IsReachable m → Goes k m steps later
+  pub gone_reached : (k later : DriverState) (m : Machine) (steps : List Step) → IsReachable m
+      → DriverAdvances k m steps later
       → IsReachable (after m steps)
   pub put_other : (uses : SlotStates) (port slot : ℕ) (u : SlotState) (other_port other_slot : ℕ)
       → (other_port ≡ port → other_slot ≡ slot → ⊥) → put uses port slot u other_port other_slot ≡ uses other_port
@@ -56,11 +57,12 @@ pub record RecoveryLaws : Type 0 where
       → HasDeviceOrNone (old.port port.0) → HasDeviceOrNone (new.port port.0)
   -- a port that was booted again
   pub again_driven : (wanted : Wanted) (port : Port) (booted : Booted) (old new : Device)
-      → BootsAgain wanted port booted old new → IsDrivenBy (IsOf port) old new
+      → RebootsPort wanted port booted old new → IsDrivenBy (IsOf port) old new
   pub again_stands : (wanted : Wanted) (port : Port) (booted : Booted) (old new : Device)
-      → BootsAgain wanted port booted old new → IsServed wanted port.0 old → StandsBehind wanted booted.found port.0 new
+      → RebootsPort wanted port booted old new → IsServed wanted port.0 old
+      → StandsBehind wanted booted.found port.0 new
   pub again_shown : (wanted : Wanted) (port : Port) (booted : Booted) (state : PortState) (old new : Device) → IsOn old
-      → BootsAgain wanted port booted old new → FoundBadDisk state → booted.found ≡ Unready state
+      → RebootsPort wanted port booted old new → FoundBadDisk state → booted.found ≡ Unready state
       → HasDeviceOrNone (new.port port.0)
   -- what stands behind a port still does
   pub stands_begin : (wanted : Wanted) (found : ProbeResult) (port : ℕ) (d : Device) → StandsBehind wanted found port d
@@ -69,14 +71,14 @@ pub record RecoveryLaws : Type 0 where
       → LeavesFound found (old.port port) (new.port port) → (found ≢ Unready Dead → SendsNone port Identify old new)
       → StillStandsBehind wanted found port old → StillStandsBehind wanted found port new
   -- and one that was booted where a device showed
-  pub start_of : (port : Port) (access : Access) → IsOfStart port access → IsOf port access
+  pub start_of : (port : Port) (access : Access) → IsSurveyOrBoot port access → IsOf port access
   pub there_driven : (wanted : Wanted) (port : Port) (booted : Booted) (old new : Device)
-      → BootsIfThere wanted port booted old new → IsDrivenBy (IsOf port) old new
+      → RebootsIfPresent wanted port booted old new → IsDrivenBy (IsOf port) old new
   pub there_stands : (wanted : Wanted) (port : Port) (booted : Booted) (old new : Device)
-      → BootsIfThere wanted port booted old new → IsServed wanted port.0 old
+      → RebootsIfPresent wanted port booted old new → IsServed wanted port.0 old
       → StandsBehind wanted booted.found port.0 new
   pub there_shown : (wanted : Wanted) (port : Port) (booted : Booted) (state : PortState) (old new : Device) → IsOn old
-      → BootsIfThere wanted port booted old new → FoundBadDisk state → booted.found ≡ Unready state
+      → RebootsIfPresent wanted port booted old new → FoundBadDisk state → booted.found ≡ Unready state
       → HasDeviceOrNone (new.port port.0)
 
 -- What of a port's trouble is shown.
@@ -98,7 +100,7 @@ pub record PortErrorLaws : Type 0 where
   -- and a queued command that has halted it is taken still
   pub halts_acts : (port : Port) (acts : List Act) (k later : DriverState) (m : Machine) → IsReachable m
       → DriverRelation m k
-      → AreDone acts k m later → All (SparesRegister (Px port Cmd)) (accesses_of acts)
+      → AreActsDone acts k m later → All (SparesRegister (Px port Cmd)) (accesses_of acts)
       → IsHaltedAsTaken (k.device.port port.0) → IsHaltedAsTaken (later.device.port port.0)
   pub halts_access : (uses : SlotStates) (m : Machine) (port : Port) (access : Access) (old new : Device)
       → IsReachable m

@@ -15,14 +15,14 @@ use Rattle.adapter.specs.Commands.{Meaning}
 use Rattle.adapter.specs.Rules.{IsOn}
 use Rattle.adapter.specs.Kept.{Keeps}
 use Rattle.adapter.specs.Steps.{Steps}
-use Rattle.refinement.specs.Acts.{Act, AreDone, accesses_of, act_steps}
+use Rattle.refinement.specs.Acts.{Act, AreActsDone, accesses_of, act_steps}
 use Rattle.refinement.specs.Relation.{StateRelation, ServeApart}
 use Rattle.refinement.specs.Readying.{IsStored, LeavesStored}
 use Rattle.adapter.specs.Access.{Access, Does, DoesAll}
 use Rattle.adapter.specs.Access.Access.{Storing, Writing}
 use Rattle.adapter.specs.Decoding.{DecodesTo}
 use Rattle.refinement.specs.Driven.{SendsNone}
-use Rattle.refinement.specs.Driver.{AllFree, ByDevice, MissesTable, ForgetsRequest, Goes, HasNoSlot, DriverState, DriverRelation, parking}
+use Rattle.refinement.specs.Driver.{AllFree, ByDevice, MissesTable, ForgetsRequest, DriverAdvances, HasNoSlot, DriverState, DriverRelation, parking}
 use Rattle.refinement.specs.Links.{SparesRegister}
 use Rattle.refinement.specs.Started.{ClearsNoStart}
 use Rattle.hba_regs.specs.Bits.{bit}
@@ -34,9 +34,9 @@ use Rattle.block_machine.specs.Due.{is_plain}
 use Rattle.block_machine.specs.Ports.{AreFit, Ports}
 use Rattle.block_machine.specs.Rules.{Names}
 use Rattle.block_machine.specs.State.{Accepted, Machine, Pending}
-use Rattle.block_machine.specs.Steps.{Step, Accept, Age, Again, Issue, Answer, IsLiving, IsNew, May, MayStillMove, after_step, stays, Revoke}
+use Rattle.block_machine.specs.Steps.{Step, Accept, Age, Again, Issue, Answer, IsLiving, MayAccept, May, MayStillMove, after_step, stays, Revoke}
 use Rattle.block_machine.specs.declared.due.QueueMode.{QueueMode}
-use Rattle.refinement.specs.Facts.{EndedIn, IsClear, ShowsFault}
+use Rattle.refinement.specs.Facts.{EndedIn, IsSlotClear, ShowsFault}
 use Rattle.dma_frames.specs.Table.{Table}
 use Rattle.request_queue.specs.Entries.{Held, IsAccepted, BookIsInOrder, aged, asks_of}
 use Rattle.request_queue.specs.Machine.{IsBook}
@@ -97,7 +97,7 @@ pub record SlotLaws : Type 0 where
   pub ended_clear : (uses : SlotStates) (m : Machine) (d : Device) (port : Port) (slot : ℕ) (e : Pending)
       → IsReachable m
       → StateRelation uses m d → MayStillMove m e → e.ended ≡ true → uses port.0 slot ≡ Serves e.request.id
-      → IsClear (d.port port.0) slot × EndedIn m port e.request.id
+      → IsSlotClear (d.port port.0) slot × EndedIn m port e.request.id
   -- what becomes of requests that no slot serves
   pub answered_agrees : (k : DriverState) (m : Machine) (e : Pending) (outcome : Outcome) (later : ℕ → List RequestId)
       → IsReachable m → DriverRelation m k → Contains m.book e → stays e outcome ≡ false → HasNoSlot k.uses e.request.id
@@ -112,12 +112,13 @@ pub record SlotLaws : Type 0 where
       → DriverRelation m k
       → Contains m.book e → stays e outcome ≡ true → DriverRelation (after_step m (Answer e outcome)) k
   -- what acts give
-  pub acts_go : (acts : List Act) (k later : DriverState) (m : Machine) → DriverRelation m k → AreDone acts k m later
-      → Goes k m (act_steps acts) later
+  pub acts_go : (acts : List Act) (k later : DriverState) (m : Machine) → DriverRelation m k
+      → AreActsDone acts k m later
+      → DriverAdvances k m (act_steps acts) later
   pub acts_silent : (acts : List Act) (k later : DriverState) (m : Machine) (port : ℕ) (o : Operation) → op_of o ≡ None
       → IsReachable m → DriverRelation m k → (k.uses port 0 ≡ Own o → ⊥)
       → All (λ act. act.later.uses port 0 ≡ Own o → ⊥) acts
-      → AreDone acts k m later → SendsNone port o k.device later.device
+      → AreActsDone acts k m later → SendsNone port o k.device later.device
   -- no page comes for a command of the driver's own that slot 0 hasn't
   pub page_asked : (uses : SlotStates) (m : Machine) (access : Access) (old new : Device) (port : ℕ) (o : Operation)
       (gained : List TapeEntry) → IsReachable m → StateRelation uses m old → Does access old new
@@ -160,7 +161,7 @@ pub record SlotLaws : Type 0 where
       → DecodesTo memory list slot n ys → (m ≡ n) × (xs ≡ ys)
   -- what is stored for a slot stays so over acts that leave it
   pub stored : (port : Port) (slot : ℕ) (c : Meaning) (places : List ℕ) (acts : List Act) (k later : DriverState)
-      (m : Machine) → IsReachable m → DriverRelation m k → AreDone acts k m later
+      (m : Machine) → IsReachable m → DriverRelation m k → AreActsDone acts k m later
       → All (LeavesStored port slot) (accesses_of acts) → IsOn k.device → IsStored k.device port.0 slot c places
       → IsStored later.device port.0 slot c places
   -- and over an access that leaves it
@@ -192,7 +193,7 @@ pub record LivingLaws : Type 0 where
       → WithinLimits (after start history)
   pub lived : (start : Machine) (history : List Step) (e : Pending) → IsInitial start → IsLegal start history
       → IsLiving (after start history) e → WasAccepted start history e.request
-  pub granted : (m : Machine) (r : Accepted) → IsNew m r → IsGranted m.rows r
+  pub granted : (m : Machine) (r : Accepted) → MayAccept m r → IsGranted m.rows r
   pub shrunk : (start : Machine) (history : List Step)
       → ((row : GrantRow) → Contains (after start history).rows row → Contains start.rows row)
       × ((frame : Frame) → (after start history).owner frame ≡ start.owner frame)

@@ -32,7 +32,7 @@ use Rattle.port_control.specs.Looks.{LooksAt, look_of, IsLooking}
 use Rattle.port_control.specs.Services.{HasLoss, IsOrdinary, IsService, ShowsDisks, ShowsFatals, ShowsFaults}
 use Rattle.port_control.specs.declared.events.PortEvent.{PortEvent}
 use Rattle.port_control.specs.declared.events.PortEvent.TheVariants.{FatalError, TaskFileError, LinkChanged, NoEvent}
-use Rattle.server_history.specs.Laws.{Fragment, fits_of, may_of}
+use Rattle.server_history.specs.Laws.{AccessKind, fits_of, may_of}
 
 pub record LookLaws : Type 0 where
   -- a reading of a port's register
@@ -86,7 +86,7 @@ pub record LookLaws : Type 0 where
   pub looks_loss : (port : Port) (old new : Device) → IsOn old → LooksAt port LinkChanged old new
       → (old.port port.0).link_due ≡ false → HasLoss port.0 old new
   -- accesses that serve ports
-  pub fragments : FragmentLaws Fragment may_of fits_of
+  pub fragments : FragmentLaws AccessKind may_of fits_of
   pub looking_service : (port : Port) (access : Access) → IsLooking port access → IsService access
   pub looking_of : (port : Port) (access : Access) → IsLooking port access → IsOf port access
   pub looks_driven : (port : Port) (result : PortEvent) (old new : Device) → LooksAt port result old new

@@ -29,9 +29,9 @@ DecidesOn port (Answer e outcome) = e.request.port ≡ port
 DecidesOn port step = ⊥
 
 -- it ends with its frames lent still
-abbrev pub keeps_fate : Disposition → PendingRequest → Bool
-keeps_fate (Complete outcome) e = keeps_loan outcome e
-keeps_fate _ e = false
+abbrev pub keeps_frames_lent : Disposition → PendingRequest → Bool
+keeps_frames_lent (Complete outcome) e = keeps_loan outcome e
+keeps_frames_lent _ e = false
 
 -- the loan of a request that the machine keeps
 abbrev pub loan_of : Pending → Lending
@@ -44,7 +44,8 @@ loans_of (e ∷ rest) = loans_of rest ++ loan_of e ∷ []
 
 -- The machine has the book and the loans. These are requests of the port in the book, each with a mark that tells
 -- whether the machine has its grant; and no slot serves one of them whose loan isn't kept.
-pub record MayMeet (port : Port) (disposition : PendingRequest → Disposition) (requests : List Held) (now : Holdings)
+pub record AreResolvable (port : Port) (disposition : PendingRequest
+    → Disposition) (requests : List Held) (now : Holdings)
     (k : DriverState)
     (m : Machine) : Type 0 where
   pub reached : IsReachable m
@@ -56,17 +57,17 @@ pub record MayMeet (port : Port) (disposition : PendingRequest → Disposition) 
   pub here : (e : Held) → Contains requests e → Contains now.book e × (e.entry.port ≡ port)
   pub marked : (e : Held) → Contains requests e → TellsGrant m.rows e.entry
   pub earlier : AllPairs IsEarlier requests
-  pub unserved : (e : Held) → Contains requests e → keeps_fate (disposition e.entry) e.entry ≡ false
+  pub unserved : (e : Held) → Contains requests e → keeps_frames_lent (disposition e.entry) e.entry ≡ false
       → HasNoSlot k.uses e.entry.id
 
 -- the request is decided on, and its loan isn't kept
 abbrev pub IsLetGo : (PendingRequest → Disposition) → Held → Type 0
-IsLetGo disposition e = (disposition e.entry ≢ Wait) × (keeps_fate (disposition e.entry) e.entry ≡ false)
+IsLetGo disposition e = (disposition e.entry ≢ Wait) × (keeps_frames_lent (disposition e.entry) e.entry ≡ false)
 
 -- They are resolved by steps that decide on requests of the port, after which the machine has the book and the
 -- loans that are left. Those whose loans are kept are kept in the machine beside those that were, and each has one more
 -- loan. What is parked of the port was before, and is none of those that were let go.
-pub record MeetsInMachine (port : Port) (disposition : PendingRequest → Disposition) (requests : List Held)
+pub record AreResolvedInMachine (port : Port) (disposition : PendingRequest → Disposition) (requests : List Held)
     (replies : List Reply)
     (old new : Holdings) (k : DriverState) (m : Machine) : Type 0 where
   pub steps : List Step
@@ -85,7 +86,7 @@ pub record MeetsInMachine (port : Port) (disposition : PendingRequest → Dispos
   pub loans : new.kept ≡ old.kept ++ loans_of held
   pub two : AllPairs AreOfTwo (loans_of held)
   pub whose : (e : Pending) → Contains held e → (request : Held) × Contains requests request × IsEntry request e
-      × (keeps_fate (disposition request.entry) request.entry ≡ true)
+      × (keeps_frames_lent (disposition request.entry) request.entry ≡ true)
   pub answered : (e : Pending) (outcome : Outcome) → Contains steps (Answer e outcome) → (request : Held)
       × Contains requests request × IsEntry request e × (disposition request.entry ≡ Complete outcome)
   pub again : (e : Pending) → Contains steps (Again e) → (request : Held) × Contains requests request

@@ -13,7 +13,7 @@ use Rattle.error_recovery.specs.Recovery.{RecoversOrStops, TellsRecovery}
 use Rattle.error_recovery.specs.declared.Next.{Next}
 use Rattle.error_recovery.specs.declared.Next.TheVariants as next
 use Rattle.error_recovery.specs.declared.Recovered.{Recovered}
-use Rattle.host_boot.specs.Again.{BootsAgain, BootsIfThere}
+use Rattle.host_boot.specs.Again.{RebootsPort, RebootsIfPresent}
 use Rattle.host_boot.specs.Taken.{probe_result_of, wanted_of}
 use Rattle.host_boot.specs.declared.Booted.{Booted}
 use Rattle.host_boot.specs.declared.ProbeResult.{ProbeResult}
@@ -40,11 +40,11 @@ use Rattle.server_history.specs.Server.{ServerState, kept_at, mode_found, slots_
 
 -- How the trouble is found out: a look at the port tells that a command had failed, or the link or the host's bus, or
 -- that the disk was lost. That a request is hung its age tells, and the port isn't looked at.
-abbrev pub IsFoundOut : Port → PortError → Device → Device → Type 0
-IsFoundOut port TaskFileError old seen = LooksAt port look.TaskFileError old seen
-IsFoundOut port FatalError old seen = LooksAt port look.FatalError old seen
-IsFoundOut port LinkChanged old seen = LooksAt port look.LinkChanged old seen
-IsFoundOut port TimedOut old seen = seen ≡ old
+abbrev pub ErrorIsFound : Port → PortError → Device → Device → Type 0
+ErrorIsFound port TaskFileError old seen = LooksAt port look.TaskFileError old seen
+ErrorIsFound port FatalError old seen = LooksAt port look.FatalError old seen
+ErrorIsFound port LinkChanged old seen = LooksAt port look.LinkChanged old seen
+ErrorIsFound port TimedOut old seen = seen ≡ old
 
 -- nobody is named, and the port doesn't run
 abbrev pub EndsStopped : Recovered → Type 0
@@ -68,7 +68,7 @@ AreQueued queued slots = (slot : ℕ) (used : SlotUse) → use_at slots slot ≡
 pub record IsErrorHandled (port : Port) (old mid : ServerState) (new : Device) : Type 0 where
   pub port_error : PortError
   pub seen : Device
-  pub finds : IsFoundOut port port_error old.device seen
+  pub finds : ErrorIsFound port port_error old.device seen
   pub mask : ℕ
   pub its : IsMaskOf (slots_at old.slots port.0) mask
   pub done : ℕ
@@ -90,8 +90,8 @@ pub record IsErrorHandled (port : Port) (old mid : ServerState) (new : Device) :
 
 -- It is booted; one whose disk was lost only if a device shows.
 abbrev pub BootsAfter : PortError → Wanted → Port → Booted → Device → Device → Type 0
-BootsAfter LinkChanged wanted port booted old new = BootsIfThere wanted port booted old new
-BootsAfter port_error wanted port booted old new = BootsAgain wanted port booted old new
+BootsAfter LinkChanged wanted port booted old new = RebootsIfPresent wanted port booted old new
+BootsAfter port_error wanted port booted old new = RebootsPort wanted port booted old new
 
 -- It is found to be this: what it was, where it runs; what its boot has found, where it has to be booted; or dead.
 abbrev pub IsRevalidated : Wanted → Port → PortError → DiskInfo → Next → Device → Device → ProbeResult → Type 0

@@ -8,15 +8,15 @@ use Rattle.refinement.specs.Driven.{AnyUse}
 use Rattle.refinement.specs.Slots.{SlotStates}
 
 -- a port is looked at, or what it has issued is looked for; or ports are served by both
-pub data Fragment : Type 0 where
-  Looking : Port → Fragment
-  Finding : Port → Fragment
-  Serving : Fragment
+pub data AccessKind : Type 0 where
+  Looking : Port → AccessKind
+  Finding : Port → AccessKind
+  Serving : AccessKind
 
-abbrev pub may_of : Fragment → Access → Type 0
+abbrev pub may_of : AccessKind → Access → Type 0
 may_of (Looking port) = IsLooking port
 may_of (Finding port) = IsFinding port
 may_of Serving = IsService
 
-abbrev pub fits_of : Fragment → SlotStates → Type 0
+abbrev pub fits_of : AccessKind → SlotStates → Type 0
 fits_of kind = AnyUse

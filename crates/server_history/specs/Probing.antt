@@ -10,7 +10,7 @@ use Rattle.error_recovery.specs.Recovery.{StopsForReset}
 use Rattle.error_recovery.specs.declared.Next.{Next}
 use Rattle.error_recovery.specs.declared.Next.TheVariants as next
 use Rattle.error_recovery.specs.declared.Recovered.{Recovered}
-use Rattle.host_boot.specs.Again.{BootsAgain}
+use Rattle.host_boot.specs.Again.{RebootsPort}
 use Rattle.host_boot.specs.Taken.{probe_result_of, wanted_of}
 use Rattle.host_boot.specs.declared.Booted.{Booted}
 use Rattle.host_boot.specs.declared.ProbeResult.{ProbeResult}
@@ -33,7 +33,7 @@ IsLookedAt state port result old new = (result ≡ false) × (new ≡ old)
 abbrev pub IsProbedAnew : Wanted → Port → Next → Device → Device → ProbeResult → Type 0
 IsProbedAnew wanted port (next.Running token) old new found = ⊥
 IsProbedAnew wanted port (next.Restart token) old new found = (booted : Booted) × (booted.found ≡ found)
-    × BootsAgain wanted port booted old new
+    × RebootsPort wanted port booted old new
 IsProbedAnew wanted port next.Dead old new found = (found ≡ Unready Dead) × (new ≡ old)
 
 -- The port was stopped, with no command outstanding, and booted. It is found to be this then, and takes commands so.

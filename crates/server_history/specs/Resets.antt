@@ -25,7 +25,7 @@ use Rattle.server_history.specs.Server.{ServerState, disk_in, kept_at, mode_at, 
 -- The adapter was reset, the frames of the kept loans were given back, and the idle adapter was taken over: ports are
 -- what they were found to be, with no slot used; and the disk that each was last ready with is remembered. No request
 -- is answered, nor issued.
-pub record IsTakenAgain (old taken : ServerState) : Type 0 where
+pub record IsReinitialized (old taken : ServerState) : Type 0 where
   pub idle : Device
   pub resets : Resets old.device idle
   pub back : TakesBack old.table taken.table (IsKeptIn old.kept)
@@ -108,7 +108,7 @@ IssuePorts port (found ∷ rest) old new = IssuePorts (port + 1) rest old new
 -- due was issued.
 pub record ResetsServer (replies : List Reply) (old new : ServerState) : Type 0 where
   pub taken : ServerState
-  pub takes : IsTakenAgain old taken
+  pub takes : IsReinitialized old taken
   pub settled : ServerState
   pub settles : SettlePorts 0 taken.ports replies taken settled
   pub issues : IssuePorts 0 taken.ports settled new

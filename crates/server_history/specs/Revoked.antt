@@ -10,8 +10,8 @@ use Rattle.server_history.specs.ErrorHandling.{holdings_of}
 use Rattle.server_history.specs.Server.{ServerState}
 
 -- the server without the client's grant of this number, and with each request marked that was accepted under it
-abbrev pub without_grant : ClientId → ℕ → ServerState → ServerState
-without_grant client number s = record s {
+abbrev pub with_grant_revoked : ClientId → ℕ → ServerState → ServerState
+with_grant_revoked client number s = record s {
   grants = without_row client number s.grants;
   book = all_marked_under client number s.book;
 }
@@ -21,5 +21,5 @@ without_grant client number s = record s {
 pub record RevokesGrant (client : ClientId) (number : ℕ) (replies : List Reply) (old new : ServerState) : Type 0 where
   pub has : HasRow client number old.grants
   pub answers : AnswersAlike (waits_under client number) Revoked replies
-      (holdings_of has.0.port (without_grant client number old)) (holdings_of has.0.port new)
-  pub server : new ≡ record (without_grant client number old) { table = new.table; book = new.book }
+      (holdings_of has.0.port (with_grant_revoked client number old)) (holdings_of has.0.port new)
+  pub server : new ≡ record (with_grant_revoked client number old) { table = new.table; book = new.book }

@@ -75,12 +75,13 @@ pub record ChecksUsed (port : Port) (slots : PortSlots) (replies : List Reply) (
 
 -- A port's turn in a service, in which no trouble was told of: the port was looked at, and the slots that it uses were
 -- checked.
-pub record HasTurn (port : Port) (slots : PortSlots) (replies : List Reply) (old new : Device) : Type 0 where
-  pub look : PortEvent
-  pub seen : Device
-  pub looks : LooksAt port look old seen
-  pub quiet : look ≡ NoEvent
-  pub calm : look ≡ NoEvent → ChecksUsed port slots replies seen new
+pub record HasTurnWithoutError (port : Port) (slots : PortSlots) (replies : List Reply) (old new : Device) : Type 0
+  where
+    pub look : PortEvent
+    pub seen : Device
+    pub looks : LooksAt port look old seen
+    pub quiet : look ≡ NoEvent
+    pub calm : look ≡ NoEvent → ChecksUsed port slots replies seen new
 
 -- ---- requests are issued
 
@@ -205,7 +206,7 @@ pub record AnswersDone (port : Port) (done : ℕ) (replies : List Reply) (old ne
 -- Nobody was answered in the turn, and nothing but the device changed; or what was found done in it was, from the
 -- moment on when the masks had been read.
 abbrev pub AnswersTurn : (port : Port) (replies : List Reply) (old new : ServerState)
-    → HasTurn port (slots_at old.slots port.0) replies old.device new.device → Type 0
+    → HasTurnWithoutError port (slots_at old.slots port.0) replies old.device new.device → Type 0
 AnswersTurn port replies old new turn =
     ((replies ≡ []) × (new ≡ record old { device = new.device }))
     ⊎ ((calm : turn.look ≡ NoEvent) × (some : HasNone (turn.calm calm).mask → ⊥)

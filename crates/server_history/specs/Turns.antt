@@ -12,14 +12,14 @@ use Rattle.adapter.specs.declared.tape.Fault as tape_fault
 use Rattle.refinement.specs.Relation.{port_at}
 use Rattle.refinement.specs.Driven.{IsOf, SendsNone}
 use Rattle.refinement.specs.Driver.{IsBacked}
-use Rattle.block_machine.specs.Events.{Ask, AllLawful, AllMay, AnswersEnded, Belong, FindsAnother, HadDisk, IsByDevice, IssuesLast, AbstractState, NoneKeepsIssue, Served, Service, Tells, Tick, UnplugsAll}
+use Rattle.block_machine.specs.Events.{Ask, AllLawful, AllMay, AnswersEnded, AreStepsOfCall, FindsAnother, HadDisk, IsByDevice, IssuesLast, AbstractState, NoneKeepsIssue, Served, Service, Tells, Tick, UnplugsAll}
 use Rattle.block_machine.specs.Due.{of_port}
 use Rattle.block_machine.specs.Histories.{Happening, JointState, IsReachable}
 use Rattle.block_machine.specs.Left.{after}
 use Rattle.block_machine.specs.Ports.{Evidence, RequestFault, IsInterrupted, IsServiced, Ports, SameDisk, SamePort}
 use Rattle.block_machine.specs.State.{Machine, Pending}
 use Rattle.block_machine.specs.Steps.{Step, Again, Answer, Issue}
-use Rattle.driver_history.specs.Heeding.{AllGrounded}
+use Rattle.driver_history.specs.Heeding.{OnlyFailedPortsRequeue}
 use Rattle.driver_history.specs.Evidence.{IsEvidencedOf}
 use Rattle.error_recovery.specs.Evidence.{BringsLog, HasFailed}
 use Rattle.identify.specs.Log.{TellsError}
@@ -34,7 +34,7 @@ use Rattle.request_queue.specs.Entries.{Held, IsOverdue, aged, asks_of}
 use Rattle.port_control.specs.declared.events.PortError.TheVariants.{TimedOut}
 use Rattle.server_history.specs.ErrorHandling.{HandlesPortError}
 use Rattle.server_history.specs.Probing.{ProbesPort}
-use Rattle.server_history.specs.Served.{AnswersTurn, HasTurn}
+use Rattle.server_history.specs.Served.{AnswersTurn, HasTurnWithoutError}
 use Rattle.server_history.specs.Server.{ServerState, IsMachineOf, SettledInvariant, mode_at, mode_in, ports_of, remembered_at, slots_at, state_of, used_for}
 use Rattle.slots.specs.declared.SlotUse.{SlotUse}
 
@@ -116,7 +116,7 @@ happening_of_turn turn replies new evidence steps = record {
 }
 
 -- What a call does of a port's trouble: none is lost unless the port was stopped, and then it runs well anew.
-pub record HeedsPortErrors (port : Port) (accesses : List Access) (old : JointState Device) (evidence : Evidence)
+pub record HandlesShownErrors (port : Port) (accesses : List Access) (old : JointState Device) (evidence : Evidence)
     (ports : Ports) (new : Device) : Type 0 where
   pub port_error : LosesNoPortError evidence old ports new port
   pub well : RunsWellAnew evidence accesses old ports new port
@@ -128,7 +128,7 @@ abbrev pub TurnCorresponds : Turn → Port → List Reply → List Access → Se
 TurnCorresponds InService port replies accesses old new m evidence steps =
     PortCorresponds (joint_state_of old m) (happening_of_turn InService replies new evidence steps) accesses port
 TurnCorresponds InRestart port replies accesses old new m evidence steps =
-    HeedsPortErrors port accesses (joint_state_of old m) evidence (ports_of new) new.device
+    HandlesShownErrors port accesses (joint_state_of old m) evidence (ports_of new) new.device
 TurnCorresponds InProbe port replies accesses old new m evidence steps =
     PortCorresponds (joint_state_of old m) (happening_of_turn InProbe replies new evidence steps) accesses port
     × EndsLinked port (joint_state_of old m) (ports_of new) new.device
@@ -161,8 +161,8 @@ pub record RestartsPort (port : Port) (accesses : List Access) (old new : Server
 -- failed; of a port that isn't ready no fault is told, and no loss. A restart owes what it does, and tells no fault.
 -- Where a port rests nothing is done.
 abbrev pub OwesTurn : Turn → Port → List Access → ServerState → ServerState → Machine → Evidence → List Step → Type 0
-OwesTurn InService port accesses old new m evidence steps = AllGrounded evidence steps
-OwesTurn InProbe port accesses old new m evidence steps = AllGrounded evidence steps × (evidence.faults ≡ [])
+OwesTurn InService port accesses old new m evidence steps = OnlyFailedPortsRequeue evidence steps
+OwesTurn InProbe port accesses old new m evidence steps = OnlyFailedPortsRequeue evidence steps × (evidence.faults ≡ [])
     × (evidence.lost ≡ [])
 OwesTurn InRestart port accesses old new m evidence steps = RestartsPort port accesses old new m evidence steps
     × (evidence.faults ≡ [])
@@ -181,7 +181,7 @@ pub record MakesTurn (turn : Turn) (port : Port) (replies : List Reply) (accesse
   pub stands : IsMachineOf new (after m steps)
   pub backed : IsBacked old.device new.device m steps
   pub own : All (IsOfTurn port) steps
-  pub belong : Belong (ask_of_turn turn) (ports_of new) steps
+  pub belong : AreStepsOfCall (ask_of_turn turn) (ports_of new) steps
   pub last : IssuesLast steps
   pub names : NamesOnly port evidence
   pub lawful : AllLawful (abstract_state_of old m) evidence (ports_of new) steps
@@ -216,7 +216,7 @@ pub record LeavesOthers (port : Port) (old new : ServerState) : Type 0 where
 -- A port's turn, in which these replies were given: its accesses are of the port, and those of memory in the driver's
 -- frames; it leaves the other ports, of which each that isn't dead is sent no page of the log; and from each machine
 -- that stands for the old server it makes one that stands for the new.
-pub record HasPart (turn : Turn) (port : Port) (replies : List Reply) (old new : ServerState) : Type 0 where
+pub record IsPortTurn (turn : Turn) (port : Port) (replies : List Reply) (old new : ServerState) : Type 0 where
   pub accesses : List Access
   pub does : DoesAll accesses old.device new.device
   pub of : All (IsOf port) accesses
@@ -230,38 +230,40 @@ pub record HasPart (turn : Turn) (port : Port) (replies : List Reply) (old new :
 -- done.
 abbrev pub DoesTurn : Port → List Reply → ServerState → ServerState → Type 0
 DoesTurn port replies old new =
-    ((turn : HasTurn port (slots_at old.slots port.0) replies old.device new.device)
+    ((turn : HasTurnWithoutError port (slots_at old.slots port.0) replies old.device new.device)
     × AnswersTurn port replies old new turn)
     ⊎ ((handling : HandlesPortError port replies old new) × (handling.settled.error_handled.port_error ≢ TimedOut))
 
 -- What serving a port does: the port has its turn, which is a part of a service.
 pub record ServesPort (port : Port) (replies : List Reply) (old new : ServerState) : Type 0 where
   pub does : DoesTurn port replies old new
-  pub part : HasPart InService port replies old new
+  pub part : IsPortTurn InService port replies old new
 
 -- What serving a port that isn't ready does: it is looked at, and probed where it may have a disk, which is a part of a
 -- service.
 pub record ProbesUnready (port : Port) (old new : ServerState) : Type 0 where
   pub does : ProbesPort port old new
-  pub part : HasPart InProbe port [] old new
+  pub part : IsPortTurn InProbe port [] old new
 
 -- Ports that were found ready have such turns, and other ones that are served have theirs, one after another; the first
 -- of these ports has this number.
-abbrev pub TakeTurns : (Port → List Reply → ServerState → ServerState → Type 0)
+abbrev pub EachPortTakesTurn : (Port → List Reply → ServerState → ServerState → Type 0)
     → (Port → ServerState → ServerState → Type 0) → ℕ
     → List ProbeResult → List Reply → ServerState → ServerState → Type 0
-TakeTurns Such Other port [] replies old new = (replies ≡ []) × (new ≡ old)
-TakeTurns Such Other port (Ready info ∷ rest) replies old new =
+EachPortTakesTurn Such Other port [] replies old new = (replies ≡ []) × (new ≡ old)
+EachPortTakesTurn Such Other port (Ready info ∷ rest) replies old new =
     (mid : ServerState) × (its later : List Reply) × (replies ≡ its ++ later)
-    × SettledInvariant mid × Such (port_at port) its old mid × TakeTurns Such Other (port + 1) rest later mid new
-TakeTurns Such Other port (Unready state ∷ rest) replies old new =
+    × SettledInvariant mid × Such (port_at port) its old mid
+    × EachPortTakesTurn Such Other (port + 1) rest later mid new
+EachPortTakesTurn Such Other port (Unready state ∷ rest) replies old new =
     (mid : ServerState) × SettledInvariant mid × Other (port_at port) old mid
-    × TakeTurns Such Other (port + 1) rest replies mid new
-TakeTurns Such Other port (Unserved ∷ rest) replies old new = TakeTurns Such Other (port + 1) rest replies old new
+    × EachPortTakesTurn Such Other (port + 1) rest replies mid new
+EachPortTakesTurn Such Other port (Unserved ∷ rest) replies old new =
+    EachPortTakesTurn Such Other (port + 1) rest replies old new
 
 -- so they are served
 abbrev pub ServePorts : ℕ → List ProbeResult → List Reply → ServerState → ServerState → Type 0
-ServePorts port found replies old new = TakeTurns ServesPort ProbesUnready port found replies old new
+ServePorts port found replies old new = EachPortTakesTurn ServesPort ProbesUnready port found replies old new
 
 -- ---- a tick
 
@@ -280,11 +282,11 @@ abbrev pub TicksPort : List Held → Port → List Reply → ServerState → Ser
 TicksPort book port replies old new =
     (IsOverdue port book × (handling : HandlesPortError port replies old new)
     × (handling.settled.error_handled.port_error ≡ TimedOut)
-    × HasPart InRestart port replies old new)
+    × IsPortTurn InRestart port replies old new)
     ⊎ ((IsOverdue port book → ⊥) × (replies ≡ []) × (new ≡ old))
 
 -- What a tick does: requests get older, and then each ready port has its turn, in rising number; nothing is done of
 -- another one.
 abbrev pub Ticks : List Reply → ServerState → ServerState → Type 0
-Ticks replies old new = TakeTurns (TicksPort (a_tick_older old).book) (λ port one other. other ≡ one) 0 old.ports
-    replies (a_tick_older old) new
+Ticks replies old new = EachPortTakesTurn (TicksPort (a_tick_older old).book) (λ port one other. other ≡ one) 0
+    old.ports replies (a_tick_older old) new

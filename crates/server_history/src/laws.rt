@@ -39,7 +39,7 @@ ghost use Rattle.server_history.specs.Revoked.{RevokesGrant};
 ghost use Rattle.server_history.specs.Served.{Accepts, AnswersDone, AnswersOne, HasNone, IsMaskOf, IssuesOne, accepting, IssuesAll};
 ghost use Rattle.server_history.specs.Stalled.{BookInvariant};
 ghost use Rattle.server_history.specs.Probing.{ProbesPort};
-ghost use Rattle.server_history.specs.Turns.{HasPart, InRestart, ServePorts, ServesPort, Ticks, ProbesUnready, a_tick_older};
+ghost use Rattle.server_history.specs.Turns.{IsPortTurn, InRestart, ServePorts, ServesPort, Ticks, ProbesUnready, a_tick_older};
 ghost use Rattle.port_control.specs.declared.events.PortError.TheVariants.{TimedOut};
 ghost use Rattle.server_history.specs.Server.{ServerState, mode_found, InCallInvariant, IsNewServer, SettledInvariant, kept_at, mode_in, ports_of, server_situation, slots_at, state_of, used_for};
 ghost use Rattle.slots.specs.Uses.{IsLowestFree, IsTaken};
@@ -249,7 +249,7 @@ pub fn law_a_timed_out_port_is_restarted()
         → state_of (probe_result_of s.ports port.0)
         ≡ ReadyState
         → (r : HandlesPortError port replies s new) → r.settled.error_handled.port_error ≡ TimedOut
-        → HasPart InRestart port replies s new
+        → IsPortTurn InRestart port replies s new
         × SettledInvariant new }
 {
     law_below();

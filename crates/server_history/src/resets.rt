@@ -4,7 +4,7 @@ ghost use Rattle.ata_types.specs.declared.request.Reply.{Reply};
 ghost use Rattle.block_machine.specs.Events.{Reset, WasReset};
 ghost use Rattle.server_history.specs.Ended.{ResetLaws};
 ghost use Rattle.server_history.specs.Histories.{ExtendsSettled};
-ghost use Rattle.server_history.specs.Resets.{IsTakenAgain, IssuePorts, MaySettle, ResetsServer, SettlePorts};
+ghost use Rattle.server_history.specs.Resets.{IsReinitialized, IssuePorts, MaySettle, ResetsServer, SettlePorts};
 ghost use Rattle.server_history.specs.Server.{InCallInvariant, SettledInvariant, ServerState};
 ghost use Rattle.server_history.specs.Stalled.{BookInvariant};
 
@@ -26,11 +26,11 @@ fn law_resets()
 /// A server goes on once its adapter was taken over again and its requests were resolved; and once what is due was
 /// issued, nothing is due.
 pub fn law_a_reset_server_goes_on()
-    ensures settle { (s taken : ServerState) → BookInvariant s → IsTakenAgain s taken → MaySettle taken }
-    ensures kept { (s taken settled : ServerState) (replies : List Reply) → BookInvariant s → IsTakenAgain s taken
+    ensures settle { (s taken : ServerState) → BookInvariant s → IsReinitialized s taken → MaySettle taken }
+    ensures kept { (s taken settled : ServerState) (replies : List Reply) → BookInvariant s → IsReinitialized s taken
         → SettlePorts 0 taken.ports replies taken settled → InCallInvariant settled }
     ensures settled { (s taken settled new : ServerState) (replies : List Reply) → BookInvariant s
-        → IsTakenAgain s taken
+        → IsReinitialized s taken
         → SettlePorts 0 taken.ports replies taken settled → IssuePorts 0 taken.ports settled new
         → SettledInvariant new }
 {

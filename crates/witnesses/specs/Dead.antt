@@ -25,7 +25,7 @@ reset_accesses = Writing Ghc 0x80000001 ∷ Reading Ghc 0x80000001 ∷ []
 -- A request is accepted; then a reset doesn't end, which leaves both ports dead and answers nobody; and a service that
 -- makes no access answers the request PortDead: its frames are kept. Each port's part in the reset and in the service
 -- is done.
-pub record DeathIsAHistory : Type 0 where
+pub record StuckResetIsAHistory : Type 0 where
   pub first : JointState Device
   pub submit : Happening Device DeviceStep
   pub asked : Request

@@ -43,7 +43,7 @@ tells_done id asked = Served (record { id = id; client = asked.client; outcome =
 -- is issued still, with its bit of PxSACT set. Then the device ends the first, and another service answers that. The
 -- services' accesses keep to the adapter's rules; nothing goes wrong on the port in them, and it runs well in the end.
 -- Each port's part in the four calls is done, whether it stays healthy or not.
-pub record OrderIsFree : Type 0 where
+pub record ReadsEndInAnyOrder : Type 0 where
   pub first : JointState Device
   pub queues : first.abstract.ports.mode (port_at 0) ≡ queued
   pub submit_first : Happening Device DeviceStep

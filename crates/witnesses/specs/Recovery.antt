@@ -49,7 +49,7 @@ fault_evidence = record {
 -- A read of port 0 is accepted and issued. The device fails it before the service looks at the port; the service
 -- answers it with that fault, and leaves the port ready: it runs well. The service's accesses keep to the adapter's
 -- rules. Each port's part in both calls is done, whether it stays healthy or not.
-pub record RecoveryTies : Type 0 where
+pub record RecoveryIsAHistory : Type 0 where
   pub first : JointState Device
   pub submit : Happening Device DeviceStep
   pub asked : Request

@@ -1,11 +1,11 @@
 // Laws of the definitions: the clause is the theorem. These functions do nothing.
 ghost use Rattle.witnesses.specs.CommandToFinish.{ReadyPortHasBegun};
-ghost use Rattle.witnesses.specs.Dead.{DeathIsAHistory};
+ghost use Rattle.witnesses.specs.Dead.{StuckResetIsAHistory};
 ghost use Rattle.witnesses.specs.Fatal.{FatalErrorIsAHistory};
 ghost use Rattle.witnesses.specs.Hung.{HungPortIsAHistory};
 ghost use Rattle.witnesses.specs.Loss.{LossIsAHistory};
-ghost use Rattle.witnesses.specs.Queued.{OrderIsFree};
-ghost use Rattle.witnesses.specs.Recovery.{RecoveryTies};
+ghost use Rattle.witnesses.specs.Queued.{ReadsEndInAnyOrder};
+ghost use Rattle.witnesses.specs.Recovery.{RecoveryIsAHistory};
 ghost use Rattle.witnesses.specs.Revocation.{RevocationIsAHistory};
 ghost use Rattle.witnesses.specs.Reset.{ResetIsAHistory};
 ghost use Rattle.witnesses.specs.Missing.{MissingDiskIsAHistory};
@@ -18,7 +18,7 @@ pub fn law_a_ready_port_has_begun()
 /// There is a history with a service that answers a plain read with its fault, and leaves the port running well: all
 /// that is asked of its calls is met.
 pub fn law_a_recovery_ties()
-    ensures { RecoveryTies }
+    ensures { RecoveryIsAHistory }
 {}
 
 /// There is a history with a service that finds a read done on one port, and loses the disk of another: all that is
@@ -30,13 +30,13 @@ pub fn law_a_loss_is_a_history()
 /// There is a history with a reset that doesn't end, and a service that tells its ports dead: all that is asked of its
 /// calls is met.
 pub fn law_a_death_is_a_history()
-    ensures { DeathIsAHistory }
+    ensures { StuckResetIsAHistory }
 {}
 
 /// There is a history with two queued reads of one port, of which the second ends first, and is answered first: all
 /// that is asked of its calls is met.
 pub fn law_queued_requests_end_in_any_order()
-    ensures { OrderIsFree }
+    ensures { ReadsEndInAnyOrder }
 {}
 
 /// There is a history with a service that finds a fatal error on a port, gives the port up, and boots it anew: all that

@@ -3,12 +3,12 @@
 use adapter::{Clear, DeviceStep, Direction, DiskNumber, DiskPage, FatalError, Move, Operation};
 use arrayvec::ArrayVec;
 use ata_types::{Call, ClientId, Outcome, Port, PortState, Refusal, Reply, RequestId, Slot};
-use script::{Answer, BadLine, Misspelled, read_line};
+use script::{Answer, BadLine, Misspelled, parse_line};
 use std::alloc::AllocError;
 use std::snapshot::Snapshot;
 
 fn step_of(text: &[u8]) -> Option<DeviceStep> {
-    match read_line(text) {
+    match parse_line(text) {
         Some(Call::Device(step)) => Some(step),
         _ => None,
     }

@@ -3,7 +3,7 @@ use Rattle.ata_types.specs.declared.Port.{Port}
 use Rattle.ata_types.specs.declared.limits.TheConstants.{MOST_READINGS}
 use Rattle.adapter.specs.Device.{Notes}
 use Rattle.refinement.specs.Driven.{AnyUse, IsControl, IsSimulated}
-use Rattle.port_control.specs.Ports.{IsClearing, IsStopped, IsUsable, BacksFault}
+use Rattle.port_control.specs.Ports.{IsErrorRegister, IsStopped, IsUsable, BacksFault}
 use Rattle.port_control.specs.declared.PortFault.TheVariants.{NoDevice}
 use Rattle.host_boot.specs.Again.{BootsStopped}
 use Rattle.host_boot.specs.declared.ProbeResult.{ProbeResult}
@@ -22,7 +22,7 @@ pub boot_stopped-found-requires-clause-bootable : goal.boot_stopped-found-requir
 boot_stopped-found-requires-clause-bootable g c =
     let laws = c.law_base.ensures in
     let asked = asked_bootable laws _ _ _ c.read.ensures.does c.args.stopped.port c.requires.bootable in
-    let looks = subst (λ (p : Port). IsSimulated (IsControl IsClearing p) AnyUse (g.A.Adapter.device c.read.new.self) (g.A.Adapter.device c.shows_device.new.adapter)) c.port.ensures c.shows_device.ensures.followed in
+    let looks = subst (λ (p : Port). IsSimulated (IsControl IsErrorRegister p) AnyUse (g.A.Adapter.device c.read.new.self) (g.A.Adapter.device c.shows_device.new.adapter)) c.port.ensures c.shows_device.ensures.followed in
     seen_bootable laws _ _ _ c.read.ensures.does c.args.stopped.port _ looks c.shows_device.ensures.on asked
 
 pub boot_stopped-found-requires-clause-stopped : goal.boot_stopped-found-requires-clause-stopped
@@ -42,7 +42,7 @@ returns-clause-boots g c =
     let device = g.A.Adapter.device in
     let asked = device c.read.new.self in
     let seen = device c.shows_device.new.adapter in
-    let looks = subst (λ (p : Port). IsSimulated (IsControl IsClearing p) AnyUse asked seen) c.port.ensures c.shows_device.ensures.followed in
+    let looks = subst (λ (p : Port). IsSimulated (IsControl IsErrorRegister p) AnyUse asked seen) c.port.ensures c.shows_device.ensures.followed in
     elim c.if-shows_device.branch [
       | then-shows_device w ↦
           let there = subst (λ (p : Port). (seen.port p.0).ssts_det ≡ 3) c.port.ensures (c.shows_device.ensures.asks.there w.if-shows_device.true) in

@@ -14,7 +14,7 @@ use Rattle.adapter.specs.Rules.{IsOn, HasPort, MayWrite, IsStable}
 use Rattle.refinement.specs.Driven.{AnyUse, IsBitOf, IsSimulated}
 use Rattle.refinement.specs.Links.{SameAdapter}
 use Rattle.port_control.specs.LookLaws.{Laws}
-use Rattle.port_control.specs.LookLaws.Fragment.{Looking}
+use Rattle.port_control.specs.LookLaws.AccessKind.{Looking}
 use Rattle.port_control.specs.Looks.{look_of, IsLooking, LooksAt}
 use Rattle.port_control.specs.declared.events.PortEvent.{PortEvent}
 use Rattle.port_control.proofs.looks.Stretching.{spared_on}

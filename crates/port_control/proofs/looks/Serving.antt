@@ -17,7 +17,7 @@ use Rattle.refinement.specs.Facts.{RunsWell, Undisturbed}
 use Rattle.refinement.specs.Links.{SparesRegister, SameAdapter, LeavesControls}
 use Rattle.refinement.specs.Slots.{SlotStates}
 use Rattle.port_control.specs.LookLaws.{Laws}
-use Rattle.port_control.specs.LookLaws.Fragment.{Serving}
+use Rattle.port_control.specs.LookLaws.AccessKind.{Serving}
 use Rattle.port_control.specs.Looks.{IsLooking}
 use Rattle.port_control.specs.Services.{IsService, IsOrdinary}
 use Rattle.port_control.proofs.looks.Stretching.{driven_as, kept, kept_on}

@@ -5,7 +5,7 @@ use Rattle.port_control.proofs.Looking.{missing_followed, device_seen, device_up
 use Rattle.port_control.specs.Ports.{HasLink, ReadsWithout}
 use Rattle.port_control.proofs.wait_for_device.Goals as goal
 use Rattle.port_control.specs.Laws.RegisterSet.{Clearing}
-use Rattle.port_control.specs.Laws.Fragment.{Controlling}
+use Rattle.port_control.specs.Laws.AccessKind.{Controlling}
 
 pub loop-reading-init : goal.loop-reading-init
 loop-reading-init g c = record {

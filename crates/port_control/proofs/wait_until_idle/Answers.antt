@@ -5,7 +5,7 @@ use Rattle.port_control.proofs.Looking.{busy_followed, busy_saw, busy_waits, bus
 use Rattle.port_control.specs.Ports.{ShowsIdle, ReadsWithout}
 use Rattle.port_control.proofs.wait_until_idle.Goals as goal
 use Rattle.port_control.specs.Laws.RegisterSet.{Clearing}
-use Rattle.port_control.specs.Laws.Fragment.{Controlling}
+use Rattle.port_control.specs.Laws.AccessKind.{Controlling}
 
 pub loop-reading-init : goal.loop-reading-init
 loop-reading-init g c = record {

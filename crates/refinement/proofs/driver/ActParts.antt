@@ -14,9 +14,9 @@ use Rattle.block_machine.specs.State.{Machine}
 use Rattle.block_machine.specs.Steps.{Step}
 use Rattle.block_machine.proofs.EventLemmas.{after-append}
 use Rattle.refinement.specs.Below.{StepLaws}
-use Rattle.refinement.specs.Acts.{Act, AccessLeads, IsDone, AreDone, with_access, accesses_of, act_steps}
+use Rattle.refinement.specs.Acts.{Act, AccessLeads, IsActDone, AreActsDone, with_access, accesses_of, act_steps}
 use Rattle.refinement.specs.Driven.{SendsNone}
-use Rattle.refinement.specs.Driver.{DriverState, DriverRelation, Goes}
+use Rattle.refinement.specs.Driver.{DriverState, DriverRelation, DriverAdvances}
 use Rattle.refinement.specs.Links.{SparesRegister}
 use Rattle.refinement.specs.Recovering.{WorksPlainly}
 use Rattle.refinement.specs.Slots.{SlotState, Own, IsMove, op_of}
@@ -39,17 +39,17 @@ pub steps_append : (early late : List Act) → act_steps (early ++ late) ≡ act
 steps_append [] late = sym (append-nil (act_steps late))
 steps_append (act ∷ early) late = ap (λ (steps : List Step). steps ++ act.steps) (steps_append early late) ∙ append_assoc (act_steps late) (act_steps early) act.steps
 
-pub done_more : (early late : List Act) (a b c : DriverState) (m : Machine) → AreDone early a m b → AreDone late b (left.after m (act_steps early)) c → AreDone (early ++ late) a m c
-done_more [] late a b c m x y = subst (λ (k : DriverState). AreDone late k m c) x y
+pub done_more : (early late : List Act) (a b c : DriverState) (m : Machine) → AreActsDone early a m b → AreActsDone late b (left.after m (act_steps early)) c → AreActsDone (early ++ late) a m c
+done_more [] late a b c m x y = subst (λ (k : DriverState). AreActsDone late k m c) x y
 done_more (act ∷ early) late a b c m x y = (
   x.0,
-  done_more early late act.later b c (left.after m act.steps) x.1 (subst (λ (n : Machine). AreDone late b n c) (after-append m (act_steps early) act.steps) y),
+  done_more early late act.later b c (left.after m act.steps) x.1 (subst (λ (n : Machine). AreActsDone late b n c) (after-append m (act_steps early) act.steps) y),
 )
 
 -- ---- what they give
 
-pub done_goes : (acts : List Act) (k later : DriverState) (m : Machine) → DriverRelation m k → AreDone acts k m later → Goes k m (act_steps acts) later
-done_goes [] k later m x done = subst (λ (end : DriverState). Goes k m [] end) (sym done) (goes_none k m x)
+pub done_goes : (acts : List Act) (k later : DriverState) (m : Machine) → DriverRelation m k → AreActsDone acts k m later → DriverAdvances k m (act_steps acts) later
+done_goes [] k later m x done = subst (λ (end : DriverState). DriverAdvances k m [] end) (sym done) (goes_none k m x)
 done_goes (act ∷ acts) k later m x done =
     goes_more k act.later later m act.steps (act_steps acts) done.0.goes (done_goes acts act.later later (left.after m act.steps) done.0.goes.knows done.1)
 
@@ -58,14 +58,14 @@ leads_then : (access : Option Access) (rest : List Access) (old mid new : Device
 leads_then None rest old mid new same all = subst (λ (d : Device). DoesAll rest d new) same all
 leads_then (Some access) rest old mid new does all = (mid, does, all)
 
-pub done_does : (acts : List Act) (k later : DriverState) (m : Machine) → AreDone acts k m later → DoesAll (accesses_of acts) k.device later.device
+pub done_does : (acts : List Act) (k later : DriverState) (m : Machine) → AreActsDone acts k m later → DoesAll (accesses_of acts) k.device later.device
 done_does [] k later m done = ap (λ (x : DriverState). x.device) done
 done_does (act ∷ acts) k later m done =
     leads_then act.access (accesses_of acts) k.device act.later.device later.device done.0.leads (done_does acts act.later later (left.after m act.steps) done.1)
 
 -- What each act keeps, with a machine that agrees before it, all of them keep.
-pub done_keeps : (P : DriverState → Type 0) (Q : Act → Type 0) → ((k : DriverState) (m : Machine) (act : Act) → IsReachable m → DriverRelation m k → IsDone k m act → Q act → P k → P act.later) →
-    (acts : List Act) (k later : DriverState) (m : Machine) → IsReachable m → DriverRelation m k → All Q acts → AreDone acts k m later → P k → P later
+pub done_keeps : (P : DriverState → Type 0) (Q : Act → Type 0) → ((k : DriverState) (m : Machine) (act : Act) → IsReachable m → DriverRelation m k → IsActDone k m act → Q act → P k → P act.later) →
+    (acts : List Act) (k later : DriverState) (m : Machine) → IsReachable m → DriverRelation m k → All Q acts → AreActsDone acts k m later → P k → P later
 done_keeps P Q each [] k later m reached x all done here = subst P (sym done) here
 done_keeps P Q each (act ∷ acts) k later m reached x all done here =
     done_keeps P Q each acts act.later later (left.after m act.steps) (going_reaches k act.later m act.steps reached done.0.goes) done.0.goes.knows
@@ -76,7 +76,7 @@ pub all_acts : (P Q : Act → Type 0) (acts : List Act) → ((act : Act) → P a
 all_acts P Q acts each all k d small = each (get_or acts k d) (all k d small)
 
 -- uses of a port's slots that stay after each act
-pub done_uses : (port : ℕ) (uses : ℕ → SlotState) (acts : List Act) (k later : DriverState) (m : Machine) → k.uses port ≡ uses → All (λ act. act.later.uses port ≡ uses) acts → AreDone acts k m later → later.uses port ≡ uses
+pub done_uses : (port : ℕ) (uses : ℕ → SlotState) (acts : List Act) (k later : DriverState) (m : Machine) → k.uses port ≡ uses → All (λ act. act.later.uses port ≡ uses) acts → AreActsDone acts k m later → later.uses port ≡ uses
 done_uses port uses [] k later m here all done = ap (λ (x : DriverState). x.uses port) done ∙ here
 done_uses port uses (act ∷ acts) k later m here all done =
     let Q = λ (a : Act). a.later.uses port ≡ uses in
@@ -97,7 +97,7 @@ acts_of_kind May (act ∷ acts) all = let x = apart act.access (accesses_of acts
 
 -- A port for whose disk slot 0 has no command of this operation, before any of the acts, is sent no page by it.
 module _ (laws : StepLaws) (port : ℕ) (o : Operation) (own : op_of o ≡ None) where
-  act_silent : (k : DriverState) (m : Machine) (act : Act) → IsReachable m → DriverRelation m k → IsDone k m act → (k.uses port 0 ≡ Own o → ⊥) → SendsNone port o k.device act.later.device
+  act_silent : (k : DriverState) (m : Machine) (act : Act) → IsReachable m → DriverRelation m k → IsActDone k m act → (k.uses port 0 ≡ Own o → ⊥) → SendsNone port o k.device act.later.device
   act_silent k m act reached x done none = over act.access done.leads
     where
       over : (access : Option Access) → AccessLeads access k.device act.later.device → SendsNone port o k.device act.later.device
@@ -105,7 +105,7 @@ module _ (laws : StepLaws) (port : ℕ) (o : Operation) (own : op_of o ≡ None)
       over (Some access) does = access_sends_none laws k.uses m access k.device act.later.device port o reached x.agrees does own none
 
   pub done_silent : (acts : List Act) (k later : DriverState) (m : Machine) → IsReachable m → DriverRelation m k → (k.uses port 0 ≡ Own o → ⊥) →
-      All (λ act. act.later.uses port 0 ≡ Own o → ⊥) acts → AreDone acts k m later → SendsNone port o k.device later.device
+      All (λ act. act.later.uses port 0 ≡ Own o → ⊥) acts → AreActsDone acts k m later → SendsNone port o k.device later.device
   done_silent [] k later m reached x none all done = subst (λ (end : DriverState). SendsNone port o k.device end.device) (sym done) (gains_nothing (IsMove port o) k.device)
   done_silent (act ∷ acts) k later m reached x none all done =
       let Q = λ (act : Act). act.later.uses port 0 ≡ Own o → ⊥ in
@@ -114,7 +114,7 @@ module _ (laws : StepLaws) (port : ℕ) (o : Operation) (own : op_of o ≡ None)
       (All-head Q act acts all) (All-tail Q act acts all) done.1)
 
 -- a port that works on plain commands alone goes on so, where none of the accesses writes its PxSACT
-pub done_plain : StepLaws → (acts : List Act) (k later : DriverState) (m : Machine) (port : Port) → IsReachable m → DriverRelation m k → All (SparesRegister (Px port Sact)) (accesses_of acts) → AreDone acts k m later →
+pub done_plain : StepLaws → (acts : List Act) (k later : DriverState) (m : Machine) (port : Port) → IsReachable m → DriverRelation m k → All (SparesRegister (Px port Sact)) (accesses_of acts) → AreActsDone acts k m later →
     WorksPlainly (k.device.port port.0) → WorksPlainly (later.device.port port.0)
 done_plain laws acts k later m port reached x all done = done_keeps (λ (z : DriverState). WorksPlainly (z.device.port port.0)) (λ act. IsOfKind (SparesRegister (Px port Sact)) act.access)
     (λ z n act r knows is spares. over z n act r knows act.access is.leads spares) acts k later m reached x (acts_of_kind (SparesRegister (Px port Sact)) acts all) done

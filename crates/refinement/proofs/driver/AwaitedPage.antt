@@ -29,7 +29,7 @@ use Rattle.block_machine.specs.Left as left
 use Rattle.block_machine.specs.State.{Machine}
 use Rattle.refinement.specs.Below.{StepLaws}
 use Rattle.refinement.specs.Relation.{StateRelation}
-use Rattle.refinement.specs.Awaits.{IsUnbrought, HasCome, AwaitsPage}
+use Rattle.refinement.specs.Awaits.{HasMovedNothing, PageHasCome, AwaitsPage}
 use Rattle.refinement.specs.Driver.{IsOwnPrepared}
 use Rattle.refinement.specs.Facts.{FindsOwnPage}
 use Rattle.refinement.specs.Follows.{SimulatesSteps}
@@ -47,7 +47,7 @@ use Rattle.refinement.proofs.steps.TakenCommand.{own_plain}
 
 -- ---- a page that has come
 
-come_more : (tape gained : List Entry) (port : ℕ) (o : Operation) (since : ℕ) → HasCome tape port o since → HasCome (tape ++ gained) port o since
+come_more : (tape gained : List Entry) (port : ℕ) (o : Operation) (since : ℕ) → PageHasCome tape port o since → PageHasCome (tape ++ gained) port o since
 come_more tape gained port o since h = record {
   before = h.before;
   move = h.move;
@@ -57,7 +57,7 @@ come_more tape gained port o since h = record {
   is_move = h.is_move;
 }
 
-come_since : (tape : List Entry) (port : ℕ) (o : Operation) (since n : ℕ) → since ≤ n → HasCome tape port o n → HasCome tape port o since
+come_since : (tape : List Entry) (port : ℕ) (o : Operation) (since n : ℕ) → since ≤ n → PageHasCome tape port o n → PageHasCome tape port o since
 come_since tape port o since n le h = record {
   before = h.before;
   move = h.move;
@@ -86,7 +86,7 @@ not_later IsKind (y ∷ before) last later (x ∷ early) e late same none is =
     omega (arith, less)
 
 -- so the page that stands in the scratch frame came since then
-brought_since : (memory : ℕ → ℕ) (tape : List Entry) (port : ℕ) (o : Operation) (since n : ℕ) → HasCome tape port o since → (b : Brought memory tape port o n) → (c : Brought memory tape port o since) × (c.move ≡ b.move)
+brought_since : (memory : ℕ → ℕ) (tape : List Entry) (port : ℕ) (o : Operation) (since n : ℕ) → PageHasCome tape port o since → (b : Brought memory tape port o n) → (c : Brought memory tape port o since) × (c.move ≡ b.move)
 brought_since memory tape port o since n h b = (
   record {
     before = b.before;
@@ -163,7 +163,7 @@ module _ (uses : SlotStates) (m : Machine) (d : Device) (a : StateRelation uses 
   taken_beside p slot x ne e = changed_other (d.port p).taken slot x 0 (λ z. ne e (sym z))
 
   abbrev Out : Device → Type 0
-  Out new = Un (new.port port) ⊎ HasCome new.tape port o (length d.tape)
+  Out new = Un (new.port port) ⊎ PageHasCome new.tape port o (length d.tape)
 
   step_awaits : (step : DeviceTransition) → Can step d → Out (device_after step d)
   step_awaits (Fetch p slot c places) can = ⊎_elim
@@ -224,11 +224,11 @@ step_waits laws uses m port o since step d a can w =
       own = w.own;
       known = longer d.tape k.gained (device_after step d).tape since k.tape w.known;
       page = ⊎_elim
-          (λ (x : IsUnbrought (d.port port)). ⊎_elim
+          (λ (x : HasMovedNothing (d.port port)). ⊎_elim
           (λ (y : Un ((device_after step d).port port)). inl (record { issued = y.0; unmoved = y.1 }))
-          (λ (y : HasCome (device_after step d).tape port o (length d.tape)). inr (come_since (device_after step d).tape port o since (length d.tape) w.known y))
+          (λ (y : PageHasCome (device_after step d).tape port o (length d.tape)). inr (come_since (device_after step d).tape port o since (length d.tape) w.known y))
           (step_awaits uses m d a port o w.own w.off w.st (x.issued, x.unmoved) step can))
-          (λ (x : HasCome d.tape port o since). inr (subst (λ (t : List Entry). HasCome t port o since) (sym k.tape) (come_more d.tape k.gained port o since x)))
+          (λ (x : PageHasCome d.tape port o since). inr (subst (λ (t : List Entry). PageHasCome t port o since) (sym k.tape) (come_more d.tape k.gained port o since x)))
           w.page;
     }
 
@@ -278,11 +278,11 @@ access_waits laws uses m port o since access old new r a keeps off x w =
       own = w.own;
       known = subst (λ (t : List Entry). since ≤ length t) (sym s.2) y.known;
       page = ⊎_elim
-          (λ (z : IsUnbrought (s.0.port port.0)).
+          (λ (z : HasMovedNothing (s.0.port port.0)).
           let n : Un (new.port port.0) = effect_keeps Un port (λ p q v h. h) (λ p h. h) access old new x
           (λ q v mid is steps h. written_un q v (length mid.tape) (mid.port port.0) (λ e. keeps v (is ∙ ap (λ (z : PortReg). Writing (Px port z) v) e)) h) (z.issued, z.unmoved) in
           inl (record { issued = n.0; unmoved = n.1 }))
-          (λ (z : HasCome s.0.tape port.0 o since). inr (subst (λ (t : List Entry). HasCome t port.0 o since) (sym s.2) z))
+          (λ (z : PageHasCome s.0.tape port.0 o since). inr (subst (λ (t : List Entry). PageHasCome t port.0 o since) (sym s.2) z))
           y.page;
     }
 
@@ -307,16 +307,16 @@ page_is_issued laws uses m port o v old new r a off x call =
     }
 
 -- the command isn't issued any more
-come_of : (uses : SlotStates) (port : ℕ) (o : Operation) (since : ℕ) (d : Device) → AwaitsPage uses port o since d → (d.port port).ci 0 ≡ false → HasCome d.tape port o since
-come_of uses port o since d w clear = ⊎_elim (λ (x : IsUnbrought (d.port port)). absurd (both_ways _ clear x.issued)) (λ (x : HasCome d.tape port o since). x) w.page
+come_of : (uses : SlotStates) (port : ℕ) (o : Operation) (since : ℕ) (d : Device) → AwaitsPage uses port o since d → (d.port port).ci 0 ≡ false → PageHasCome d.tape port o since
+come_of uses port o since d w clear = ⊎_elim (λ (x : HasMovedNothing (d.port port)). absurd (both_ways _ clear x.issued)) (λ (x : PageHasCome d.tape port o since). x) w.page
 
 pub law_page_is_awaited : StepLaws → (uses : SlotStates) (m : Machine) (port : Port) (o : Operation) (since v : ℕ) (old new : Device) → IsReachable m → StateRelation uses m old → AwaitsPage uses port.0 o since old → Reads (Px port Ci) v old new → bit v 0 ≡ false →
     FindsOwnPage uses m port.0 o old new × Brought new.memory new.tape port.0 o since
 law_page_is_awaited laws uses m port o since v old new r a w call clear =
     let page : FindsOwnPage uses m port.0 o old new = page_is_read laws uses m port o v old new r a w.off w.st w.own call clear in
     let y : AwaitsPage uses port.0 o since call.mid = steps_wait laws uses m port.0 o since old call.mid r a call.steps w in
-    let come : HasCome call.mid.tape port.0 o since = come_of uses port.0 o since call.mid y (sym (call.shows 0 (omega arith)) ∙ clear) in
-    let there : HasCome new.tape port.0 o since = subst (λ (t : List Entry). HasCome t port.0 o since) (sym (ap (λ (d : Device). d.tape) call.effect)) come in
+    let come : PageHasCome call.mid.tape port.0 o since = come_of uses port.0 o since call.mid y (sym (call.shows 0 (omega arith)) ∙ clear) in
+    let there : PageHasCome new.tape port.0 o since = subst (λ (t : List Entry). PageHasCome t port.0 o since) (sym (ap (λ (d : Device). d.tape) call.effect)) come in
     (page, (brought_since new.memory new.tape port.0 o since (new.port port.0).notes.st_set_at there page.brought).0)
 
 pub awaited_is_loaded : StepLaws → (uses : SlotStates) (m : Machine) (port : ℕ) (o : Operation) (since : ℕ) (bytes : List ℕ) (old new : Device) → IsReachable m → StateRelation uses m old → AwaitsPage uses port o since old → IsOver (old.port port) 0 →
@@ -324,6 +324,6 @@ pub awaited_is_loaded : StepLaws → (uses : SlotStates) (m : Machine) (port : �
 awaited_is_loaded laws uses m port o since bytes old new r a w over call size =
     let page = page_is_loaded laws uses m port o bytes old new r a w.off w.st w.own over call size in
     let y : AwaitsPage uses port o since new = steps_wait laws uses m port o since old new r a call.steps w in
-    let come : HasCome new.tape port o since = come_of uses port o since new y (((laws.keeps _ _ call.steps).port port).ci 0 over.issued) in
+    let come : PageHasCome new.tape port o since = come_of uses port o since new y (((laws.keeps _ _ call.steps).port port).ci 0 over.issued) in
     let b = brought_since new.memory new.tape port o since (new.port port).notes.st_set_at come page.0.brought in
     (b.0, page.1 ∙ ap (λ (x : tape_move.Move). x.bytes.value) (sym b.1))

@@ -22,7 +22,7 @@ use Rattle.block_machine.proofs.Standing.{standing}
 use Rattle.block_machine.proofs.Trace.{living_one, runs_lives}
 use Rattle.refinement.specs.Below.{StepLaws}
 use Rattle.refinement.specs.Relation.{StateRelation, port_at}
-use Rattle.refinement.specs.Facts.{EndedIn, IsClear, FindsOwnPage}
+use Rattle.refinement.specs.Facts.{EndedIn, IsSlotClear, FindsOwnPage}
 use Rattle.refinement.specs.Follows.{SimulatesSteps}
 use Rattle.refinement.specs.Places.{scratch_of}
 use Rattle.refinement.specs.Slots.{SlotState, Own, Serves, SlotStates, IsEnded, Stage, ServesRequest, Brought, OwnWaits, OwnTaken, OwnOver, ServesOwn, IsOver, RelatesSlot}
@@ -34,7 +34,7 @@ both_clear false a b e f = absurd (both_ways _ e a)
 
 -- a slot whose command has ended is clear, and its request has ended
 is_ended : (m : Machine) (d : Device) (port : Port) (slot : ℕ) (id : RequestId) (h : ServesRequest m d.memory (d.port port.0) port.0 slot id) → IsEnded (d.port port.0) slot h.pending →
-    IsClear (d.port port.0) slot × EndedIn m port id
+    IsSlotClear (d.port port.0) slot × EndedIn m port id
 is_ended m d port slot id h x = (
   record { over = record { issued = x.issued; free = x.free }; sact = x.sact },
   record {
@@ -53,16 +53,16 @@ is_ended m d port slot id h x = (
 
 -- so it is where the request has ended
 pub law_ended_is_clear : (uses : SlotStates) (m : Machine) (d : Device) (port : Port) (slot : ℕ) (e : Pending) → IsReachable m → StateRelation uses m d → MayStillMove m e → e.ended ≡ true → uses port.0 slot ≡ Serves e.request.id →
-    IsClear (d.port port.0) slot × EndedIn m port e.request.id
+    IsSlotClear (d.port port.0) slot × EndedIn m port e.request.id
 law_ended_is_clear uses m d port slot e reached a moves ended u = by (subst (λ (v : SlotState). RelatesSlot m d.memory d.tape (d.port port.0) port.0 slot v) u (a.slot port.0 slot))
   where
-    by : ServesRequest m d.memory (d.port port.0) port.0 slot e.request.id → IsClear (d.port port.0) slot × EndedIn m port e.request.id
+    by : ServesRequest m d.memory (d.port port.0) port.0 slot e.request.id → IsSlotClear (d.port port.0) slot × EndedIn m port e.request.id
     by h = of h.stage
       where
         its : h.pending.ended ≡ true
         its = ap (λ (y : Pending). y.ended) (living_one m (standing m reached).sound h.pending e (runs_lives m h.pending h.moves) (runs_lives m e moves) (ap (λ (i : RequestId). i.0) h.id_is)) ∙ ended
 
-        of : Stage d.memory (d.port port.0) port.0 slot h.pending h.command h.places → IsClear (d.port port.0) slot × EndedIn m port e.request.id
+        of : Stage d.memory (d.port port.0) port.0 slot h.pending h.command h.places → IsSlotClear (d.port port.0) slot × EndedIn m port e.request.id
         of (inl w) = absurd (both_ways _ w.unended its)
         of (inr (inl t)) = absurd (both_ways _ t.unended its)
         of (inr (inr (inl x))) = is_ended m d port slot e.request.id h x
@@ -70,13 +70,13 @@ law_ended_is_clear uses m d port slot e reached a moves ended u = by (subst (λ 
 
 -- on a running port a slot whose two bits are clear has ended its request
 pub clear_is_ended : (uses : SlotStates) (m : Machine) (d : Device) (port : Port) (slot : ℕ) (id : RequestId) → StateRelation uses m d → uses port.0 slot ≡ Serves id → (d.port port.0).st ≡ true →
-    (d.port port.0).ci slot ≡ false → (d.port port.0).sact slot ≡ false → IsClear (d.port port.0) slot × EndedIn m port id
+    (d.port port.0).ci slot ≡ false → (d.port port.0).sact slot ≡ false → IsSlotClear (d.port port.0) slot × EndedIn m port id
 clear_is_ended uses m d port slot id a u st issued sact = by (subst (λ (v : SlotState). RelatesSlot m d.memory d.tape (d.port port.0) port.0 slot v) u (a.slot port.0 slot))
   where
-    by : ServesRequest m d.memory (d.port port.0) port.0 slot id → IsClear (d.port port.0) slot × EndedIn m port id
+    by : ServesRequest m d.memory (d.port port.0) port.0 slot id → IsSlotClear (d.port port.0) slot × EndedIn m port id
     by h = of h.stage
       where
-        of : Stage d.memory (d.port port.0) port.0 slot h.pending h.command h.places → IsClear (d.port port.0) slot × EndedIn m port id
+        of : Stage d.memory (d.port port.0) port.0 slot h.pending h.command h.places → IsSlotClear (d.port port.0) slot × EndedIn m port id
         of (inl w) = absurd (both_ways _ issued w.issued)
         of (inr (inl t)) = both_clear (is_queued h.command.operation)
             (t.issued ∙ ap (λ (b : Bool). b && not (is_queued h.command.operation)) st)
@@ -104,7 +104,7 @@ module _ (uses : SlotStates) (m : Machine) (d : Device) (port : ℕ) (o : Operat
       (λ (b : Brought d.memory d.tape port own.command.operation (d.port port).notes.st_set_at). subst (λ (x : Operation). Brought d.memory d.tape port x (d.port port).notes.st_set_at) own.operation_is b)
       own_over.brought
 
-  own_clear : IsClear (d.port port) 0
+  own_clear : IsSlotClear (d.port port) 0
   own_clear = record { over = own_over.over; sact = own.unqueued }
 
 pub page_is_read : StepLaws → (uses : SlotStates) (m : Machine) (port : Port) (o : Operation) (v : ℕ) (old new : Device) → IsReachable m → StateRelation uses m old → old.hr ≡ false → (old.port port.0).st ≡ true →

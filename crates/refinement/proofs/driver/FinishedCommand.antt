@@ -18,7 +18,7 @@ use Rattle.block_machine.specs.Left.{after}
 use Rattle.block_machine.specs.State.{Accepted, Pending, Machine}
 use Rattle.block_machine.specs.Steps.{Step, MayStillMove, NoneKept}
 use Rattle.refinement.specs.Below.{StepLaws}
-use Rattle.refinement.specs.Facts.{EndedIn, IsClear}
+use Rattle.refinement.specs.Facts.{EndedIn, IsSlotClear}
 use Rattle.refinement.specs.Slots.{IsOver}
 use Rattle.refinement.specs.Spares.{IsFurther, SparesBook}
 use Rattle.refinement.proofs.device.FactsOverAccesses.{access_steps, effect_keeps}
@@ -33,7 +33,7 @@ steps_over laws port slot old new s h =
     let k : KeepsPort (old.port port) (new.port port) = (laws.keeps _ _ s).port port in
     record { issued = k.ci slot h.issued; free = k.free slot h.issued h.free }
 
-pub steps_clear : StepLaws → (port slot : ℕ) (old new : Device) → Steps old new → IsClear (old.port port) slot → IsClear (new.port port) slot
+pub steps_clear : StepLaws → (port slot : ℕ) (old new : Device) → Steps old new → IsSlotClear (old.port port) slot → IsSlotClear (new.port port) slot
 steps_clear laws port slot old new s h = record { over = steps_over laws port slot old new s h.over; sact = ((laws.keeps _ _ s).port port).sact slot h.sact }
 
 -- the slot's bits are clear
@@ -85,10 +85,10 @@ access_over laws port slot access old new ci x h =
     record { issued = e.0; free = e.1 }
 
 pub access_clear : StepLaws → (port : Port) (slot : ℕ) (access : Access) (old new : Device) → ((v : ℕ) → access ≡ Writing (Px port Ci) v → bit v slot ≡ false) → ((v : ℕ) → access ≡ Writing (Px port Sact) v → bit v slot ≡ false) →
-    Does access old new → IsClear (old.port port.0) slot → IsClear (new.port port.0) slot
+    Does access old new → IsSlotClear (old.port port.0) slot → IsSlotClear (new.port port.0) slot
 access_clear laws port slot access old new ci sact x h =
     let s = access_steps access old new x in
-    let mid : IsClear (s.0.port port.0) slot = steps_clear laws port.0 slot old s.0 s.1 h in
+    let mid : IsSlotClear (s.0.port port.0) slot = steps_clear laws port.0 slot old s.0 s.1 h in
     let e = effect_unset true port slot access old new x ci (λ a. sact) (mid.over.issued, mid.over.free, λ a. mid.sact) in
     record { over = record { issued = e.0; free = e.1 }; sact = e.2 refl }
 

@@ -15,7 +15,7 @@ use Rattle.refinement.specs.Slots.{SlotState, Free, Armed, Own, Serves, SlotStat
 use Rattle.refinement.proofs.relation.OneSlot.{changed_at}
 use Rattle.refinement.proofs.driver.PutSlot.{serves_not_free, serves_same}
 use Rattle.refinement.proofs.device.ClearSactBits.{over_unarmed}
-use Rattle.refinement.specs.GivingUp.{AreOver, with_served, served_ids, parking_all}
+use Rattle.refinement.specs.GivingUp.{IsPortOver, with_served, served_ids, parking_all}
 
 -- ---- the requests that are served
 
@@ -100,7 +100,7 @@ module _ (k : DriverState) (port : ℕ) where
   pub parking_leaves_all : (id : RequestId) → HasNoSlot k.uses id → HasNoSlot (parking_all k port).uses id
   parking_leaves_all id none q s v = none q s (still q s id v).1
 
-  module _ (m : Machine) (over : AreOver k.uses (k.device.port port) port) where
+  module _ (m : Machine) (over : IsPortOver k.uses (k.device.port port) port) where
     is_free : StateRelation k.uses m k.device → (slot : ℕ) → IsEmptySlot (k.device.port port) slot
     is_free a slot = record { issued = (over slot).0.issued; free = (over slot).0.free; unarmed = by (k.uses port slot) refl (a.slot port slot) }
       where
@@ -140,7 +140,7 @@ module _ (k : DriverState) (port : ℕ) where
             (λ (ne : q ≡ port → ⊥). inr (slot, ap (λ (f : ℕ → SlotState). f slot) (changed_other k.uses port (λ s. Free) q ne) ∙ u))
             (cases_eq q port)
 
-pub given_up_over : (k : DriverState) (m : Machine) (port : ℕ) → DriverRelation m k → AreOver k.uses (k.device.port port) port → DriverRelation m (parking_all k port)
+pub given_up_over : (k : DriverState) (m : Machine) (port : ℕ) → DriverRelation m k → IsPortOver k.uses (k.device.port port) port → DriverRelation m (parking_all k port)
 given_up_over k m port x over = all_given_up k port m over x
 
 pub given_up_halted : (k : DriverState) (m : Machine) (port : ℕ) → DriverRelation m k → IsHalted (k.device.port port) → DriverRelation m (parking_all k port)

@@ -18,7 +18,7 @@ use Rattle.block_machine.specs.Histories.{IsReachable}
 use Rattle.block_machine.specs.Left as left
 use Rattle.block_machine.specs.State.{Machine}
 use Rattle.refinement.specs.Below.{StepLaws}
-use Rattle.refinement.specs.Acts.{Act, AreDone, accesses_of}
+use Rattle.refinement.specs.Acts.{Act, AreActsDone, accesses_of}
 use Rattle.refinement.specs.Acts.{AccessLeads}
 use Rattle.refinement.specs.Relation.{StateRelation}
 use Rattle.refinement.specs.Driver.{DriverState, DriverRelation}
@@ -149,7 +149,7 @@ module _ (laws : StepLaws) (port : Port) where
   abbrev Holds : DriverState → Type 0
   Holds z = IsHaltedAsTaken (z.device.port port.0)
 
-  pub acts_halts : (acts : List Act) (k later : DriverState) (m : Machine) → IsReachable m → DriverRelation m k → AreDone acts k m later → All (SparesRegister (Px port Cmd)) (accesses_of acts) → IsHaltedAsTaken (k.device.port port.0)
+  pub acts_halts : (acts : List Act) (k later : DriverState) (m : Machine) → IsReachable m → DriverRelation m k → AreActsDone acts k m later → All (SparesRegister (Px port Cmd)) (accesses_of acts) → IsHaltedAsTaken (k.device.port port.0)
       → IsHaltedAsTaken (later.device.port port.0)
   acts_halts acts k later m reached x done all h = done_keeps Holds (λ act. IsOfKind (SparesRegister (Px port Cmd)) act.access)
       (λ z n act r knows is spares. over z n act r knows act.access is.leads spares) acts k later m reached x (acts_of_kind (SparesRegister (Px port Cmd)) acts all) done h

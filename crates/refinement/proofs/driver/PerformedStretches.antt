@@ -4,7 +4,7 @@ use Rattle.adapter.specs.Access.{Access, DoesAll}
 use Rattle.adapter.specs.Device.{Device}
 use Rattle.block_machine.specs.Events.{AllDevices}
 use Rattle.block_machine.specs.Left.{after}
-use Rattle.refinement.specs.Acts.{Act, ByDeviceAlone, InSlots, IsDone, Performs, accesses_of, at_slots, act_steps}
+use Rattle.refinement.specs.Acts.{Act, ByDeviceAlone, InSlots, IsActDone, Performs, accesses_of, at_slots, act_steps}
 use Rattle.refinement.specs.Driven.{IsSimulated, IsSimulatedTo}
 use Rattle.refinement.specs.Driver.{AllFree}
 use Rattle.refinement.specs.Facts.{IsHalted}
@@ -38,7 +38,7 @@ performs_giving_up append May Then Fits Less next port old mid new a halted less
       let parked = at_slots (given_up port s) mid in
       let there = given_up_halted (at_slots s mid) (after m (act_steps c.acts)) port g.knows halted in
       let park : Act = record { access = None; steps = []; later = parked } in
-      let gives : IsDone (at_slots s mid) (after m (act_steps c.acts)) park =
+      let gives : IsActDone (at_slots s mid) (after m (act_steps c.acts)) park =
       record { leads = refl; one = inl refl; goes = goes_still (at_slots s mid) parked (after m (act_steps c.acts)) refl there } in
       let e = b.comes (given_up port s) (after m (act_steps c.acts)) (going_reaches (at_slots s old) (at_slots s mid) m (act_steps c.acts) reached g) there
       (less (given_up port s).uses (all_free (at_slots s mid) port)) in

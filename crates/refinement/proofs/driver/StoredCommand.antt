@@ -10,7 +10,7 @@ use Rattle.adapter.specs.Rules.{IsOn}
 use Rattle.block_machine.specs.Histories.{IsReachable}
 use Rattle.block_machine.specs.State.{Machine}
 use Rattle.refinement.specs.Below.{StepLaws}
-use Rattle.refinement.specs.Acts.{Act, AccessLeads, AreDone, accesses_of}
+use Rattle.refinement.specs.Acts.{Act, AccessLeads, AreActsDone, accesses_of}
 use Rattle.refinement.specs.Driver.{DriverState, DriverRelation}
 use Rattle.refinement.specs.Links.{SparesRegister}
 use Rattle.refinement.specs.Readying.{IsStored, LeavesStored}
@@ -23,7 +23,7 @@ module _ (laws : StepLaws) (port : Port) (slot : ℕ) (c : Meaning) (places : Li
   abbrev Holds : Device → Type 0
   Holds d = IsOn d × IsStored d port.0 slot c places
 
-  pub done_stored : (acts : List Act) (k later : DriverState) (m : Machine) → IsReachable m → DriverRelation m k → AreDone acts k m later → All (LeavesStored port slot) (accesses_of acts) → IsOn k.device
+  pub done_stored : (acts : List Act) (k later : DriverState) (m : Machine) → IsReachable m → DriverRelation m k → AreActsDone acts k m later → All (LeavesStored port slot) (accesses_of acts) → IsOn k.device
       → IsStored k.device port.0 slot c places → IsStored later.device port.0 slot c places
   done_stored acts k later m reached x done all on stored = (done_keeps (λ (z : DriverState). Holds z.device) (λ act. IsOfKind (LeavesStored port slot) act.access)
       (λ z n act r knows is leaves. over z n act r knows act.access is.leads leaves) acts k later m reached x (acts_of_kind (LeavesStored port slot) acts all) done (on, stored)).1

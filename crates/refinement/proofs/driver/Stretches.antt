@@ -20,7 +20,7 @@ use Rattle.block_machine.specs.Histories.{IsReachable, IsSimulatedBySteps}
 use Rattle.block_machine.specs.Left.{after}
 use Rattle.block_machine.specs.State.{Machine}
 use Rattle.refinement.specs.Below.{StepLaws}
-use Rattle.refinement.specs.Acts.{Act, InSlots, IsDone, at_slots, accesses_of, act_steps}
+use Rattle.refinement.specs.Acts.{Act, InSlots, IsActDone, at_slots, accesses_of, act_steps}
 use Rattle.refinement.specs.Driver.{DriverRelation, ByDevice, LeavesUses, MayStore, IsOwnPrepared}
 use Rattle.refinement.specs.Driven.{known, AnyUse, IsDrivenBy, IsSimulated, IsSimulatedTo, IsSimulatedAlong, IsSimulatedAlongTo, NoneWrites, SendsNone}
 use Rattle.refinement.specs.Links.{SparesRegister}
@@ -196,7 +196,7 @@ module _ (May : Access → Type 0) (Fits : SlotStates → Type 0) (next later : 
         let goes = done_goes c.acts (at_slots s old) (at_slots (then next s) new) m x c.done in
         let is : DriverRelation mid (at_slots (then later s) new) = knows s.uses s.parked mid fits goes.knows in
         let act : Act = record { access = None; steps = []; later = at_slots (then later s) new } in
-        let last : IsDone (at_slots (then next s) new) mid act = record { leads = refl; one = inl refl; goes = goes_still (at_slots (then next s) new) (at_slots (then later s) new) mid refl is } in
+        let last : IsActDone (at_slots (then next s) new) mid act = record { leads = refl; one = inl refl; goes = goes_still (at_slots (then next s) new) (at_slots (then later s) new) mid refl is } in
         record {
           acts = c.acts ++ act ∷ [];
           done = done_more c.acts (act ∷ []) (at_slots s old) (at_slots (then next s) new) (at_slots (then later s) new) m c.done (last, refl);

@@ -22,7 +22,7 @@ use Rattle.block_machine.specs.Left as left
 use Rattle.block_machine.specs.Left.{AllTellSectors}
 use Rattle.block_machine.specs.Events.{AllMay}
 use Rattle.refinement.specs.Places.{scratch_of}
-use Rattle.refinement.specs.Slots.{SlotState, Free, Own, Serves, SlotStates, Means, MeansRange, ArePlaces, UpTo, Progress, ServesRequest, OwnWaits, OwnTaken, OwnOver, RelatesSlot, op_of, Armed}
+use Rattle.refinement.specs.Slots.{SlotState, Free, Own, Serves, SlotStates, Means, MeansRange, ArePlaces, TouchedUpTo, Progress, ServesRequest, OwnWaits, OwnTaken, OwnOver, RelatesSlot, op_of, Armed}
 use Rattle.refinement.specs.Relation.{StateRelation, port_at, SameSectors}
 use Rattle.refinement.specs.Tape.{PutsInDisks, touched_by, touch_steps}
 use Rattle.refinement.specs.Follows.{SimulatesSteps}
@@ -95,10 +95,10 @@ touched_ended : (e : Pending) (from n : ℕ) → (touched_by e from n).ended ≡
 touched_ended e from zero = refl
 touched_ended e from (suc n) = touched_ended e from n
 
-touched_upto : (e : Pending) (from n : ℕ) → UpTo e.touched from → UpTo (touched_by e from n).touched (from + n)
-touched_upto e from zero h = subst (λ (k : ℕ). UpTo e.touched k) (let q : from ≡ from + 0 = omega arith in q) h
+touched_upto : (e : Pending) (from n : ℕ) → TouchedUpTo e.touched from → TouchedUpTo (touched_by e from n).touched (from + n)
+touched_upto e from zero h = subst (λ (k : ℕ). TouchedUpTo e.touched k) (let q : from ≡ from + 0 = omega arith in q) h
 touched_upto e from (suc n) h =
-    subst (λ (k : ℕ). UpTo (touched_by e from (suc n)).touched k) (let q : from + n + 1 ≡ from + suc n = omega arith in q)
+    subst (λ (k : ℕ). TouchedUpTo (touched_by e from (suc n)).touched k) (let q : from + n + 1 ≡ from + suc n = omega arith in q)
     (upto_more (touched_by e from n).touched (from + n) (touched_upto e from n h))
 
 -- touches put no disk in

@@ -18,7 +18,7 @@ use Rattle.block_machine.specs.Steps as machine
 use Rattle.block_machine.specs.Steps.{AllTouched, after_step, mark_ended}
 use Rattle.block_machine.proofs.Standing.{standing}
 use Rattle.refinement.specs.Places.{scratch_of}
-use Rattle.refinement.specs.Slots.{SlotState, Free, Own, Serves, SlotStates, Means, MeansRange, ArePlaces, UpTo, Progress, ServesRequest, Brought, OwnWaits, OwnTaken, OwnOver, ServesOwn, RelatesSlot, op_of, Armed}
+use Rattle.refinement.specs.Slots.{SlotState, Free, Own, Serves, SlotStates, Means, MeansRange, ArePlaces, TouchedUpTo, Progress, ServesRequest, Brought, OwnWaits, OwnTaken, OwnOver, ServesOwn, RelatesSlot, op_of, Armed}
 use Rattle.refinement.specs.Relation.{StateRelation, port_at}
 use Rattle.refinement.specs.Tape.{TellsDone}
 use Rattle.refinement.specs.Follows.{SimulatesSteps}
@@ -69,7 +69,7 @@ is_trim operation.Flush e = absurd cc
 is_trim operation.Identify e = absurd cc
 is_trim operation.ReadLog e = absurd cc
 
-upto_all : (f : ℕ → Bool) (n count : ℕ) → UpTo f n → n ≡ count → (i : ℕ) → i < count → f i ≡ true
+upto_all : (f : ℕ → Bool) (n count : ℕ) → TouchedUpTo f n → n ≡ count → (i : ℕ) → i < count → f i ≡ true
 upto_all f n count h e i lt = h i ∙ lt-ltb i n (omega (arith, e, lt))
 
 -- all sectors of a finished command were touched

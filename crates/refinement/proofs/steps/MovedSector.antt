@@ -25,7 +25,7 @@ use Rattle.block_machine.specs.Steps as machine
 use Rattle.block_machine.specs.Steps.{Touch, after_step, touch, put_sector, put_bytes}
 use Rattle.block_machine.proofs.Standing.{Standing, standing}
 use Rattle.refinement.specs.Places.{scratch_of, place_in}
-use Rattle.refinement.specs.Slots.{SlotState, Free, Own, Serves, SlotStates, Means, MeansRange, ArePlaces, UpTo, Progress, Stage, ServesRequest, IsMove, ServesOwn, RelatesSlot, op_of}
+use Rattle.refinement.specs.Slots.{SlotState, Free, Own, Serves, SlotStates, Means, MeansRange, ArePlaces, TouchedUpTo, Progress, Stage, ServesRequest, IsMove, ServesOwn, RelatesSlot, op_of}
 use Rattle.refinement.specs.Relation.{StateRelation, port_at, SameSectors}
 use Rattle.refinement.specs.Tape.{TellsMove, MovesSector}
 use Rattle.refinement.specs.Follows.{SimulatesSteps}
@@ -69,7 +69,7 @@ means_taken port slot r c d places others e f means =
     subst (λ (x : Meaning). Means port slot r x others) (sym e) (subst (λ (l : List ℕ). Means port slot r c l) (sym f) means)
 
 -- one more sector is touched
-pub upto_more : (f : ℕ → Bool) (n : ℕ) → UpTo f n → UpTo (λ k. k == n || f k) (n + 1)
+pub upto_more : (f : ℕ → Bool) (n : ℕ) → TouchedUpTo f n → TouchedUpTo (λ k. k == n || f k) (n + 1)
 upto_more f n h k = ⊎_elim
     (λ (e : k ≡ n). or_left _ _ (eq-eqb k n e) ∙ sym (lt-ltb k (n + 1) (omega (arith, e))))
     (λ (ne : k ≡ n → ⊥). ap (λ (b : Bool). b || f k) (ne_eqb k n ne) ∙ h k ∙ same ne)

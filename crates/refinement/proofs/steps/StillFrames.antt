@@ -22,7 +22,7 @@ use Rattle.block_machine.specs.State.{Machine, frame_at}
 use Rattle.block_machine.proofs.HistoryLemmas.{reached_more}
 use Rattle.block_machine.proofs.Standing.{Standing, standing}
 use Rattle.refinement.specs.Relation.{StateRelation}
-use Rattle.refinement.specs.Facts.{IsStill, AreOver}
+use Rattle.refinement.specs.Facts.{DeviceSparesFrame, AreOver}
 use Rattle.refinement.specs.Follows.{SimulatesSteps}
 use Rattle.refinement.specs.Places.{scratch_of, place_in}
 use Rattle.refinement.specs.Slots.{SlotState, Free, Own, Serves, SlotStates, SlotDecodesTo, IsPlaced, ArePlaces, ServesRequest, OwnWaits, OwnTaken, OwnOver, IsOver, RelatesSlot, Armed}
@@ -123,10 +123,10 @@ module _ (uses : SlotStates) (m : Machine) (d : Device) (a : StateRelation uses 
         y)
         x
 
-  still_now : IsStill frame d
+  still_now : DeviceSparesFrame frame d
   still_now port slot at from to x = unused port slot at from to x
 
-still_stays : (uses : SlotStates) (m : Machine) (d : Device) (frame : Frame) → IsReachable m → StateRelation uses m d → DRIVER_FRAMES ≤ frame.0 → ((id : RequestId) → m.lent frame ≡ Some id → AreOver uses d id) → IsStable (IsStill frame) d
+still_stays : (uses : SlotStates) (m : Machine) (d : Device) (frame : Frame) → IsReachable m → StateRelation uses m d → DRIVER_FRAMES ≤ frame.0 → ((id : RequestId) → m.lent frame ≡ Some id → AreOver uses d id) → IsStable (DeviceSparesFrame frame) d
 still_stays uses m d frame reached a high over mid s =
     let f : SimulatesSteps uses m d mid = steps_follow uses m d mid reached a s in
     let spares : SparesBook m (left.after m f.steps) = follows_spare uses m d mid f in
@@ -135,17 +135,17 @@ still_stays uses m d frame reached a high over mid s =
     let o : IsOver (d.port port) slot = over id (ap (λ (lent : Frame → Option RequestId). lent frame) (sym spares.lent) ∙ lent) port slot u in
     record { issued = k.ci slot o.issued; free = k.free slot o.issued o.free })
 
-pub lent_is_still : (uses : SlotStates) (m : Machine) (d : Device) (frame : Frame) (id : RequestId) → IsReachable m → StateRelation uses m d → m.lent frame ≡ Some id → AreOver uses d id → IsStable (IsStill frame) d
+pub lent_is_still : (uses : SlotStates) (m : Machine) (d : Device) (frame : Frame) (id : RequestId) → IsReachable m → StateRelation uses m d → m.lent frame ≡ Some id → AreOver uses d id → IsStable (DeviceSparesFrame frame) d
 lent_is_still uses m d frame id reached a lent over = still_stays uses m d frame reached a (lent_clients m frame id reached lent) (λ other is. subst (AreOver uses d) (same_id (sym lent ∙ is)) over)
   where
     same_id : {x y : RequestId} → Some x ≡ Some y → x ≡ y
     same_id e = cc
 
-pub unlent_is_still : (uses : SlotStates) (m : Machine) (d : Device) (frame : Frame) → IsReachable m → StateRelation uses m d → m.lent frame ≡ None → DRIVER_FRAMES ≤ frame.0 → IsStable (IsStill frame) d
+pub unlent_is_still : (uses : SlotStates) (m : Machine) (d : Device) (frame : Frame) → IsReachable m → StateRelation uses m d → m.lent frame ≡ None → DRIVER_FRAMES ≤ frame.0 → IsStable (DeviceSparesFrame frame) d
 unlent_is_still uses m d frame reached a none high = still_stays uses m d frame reached a high (λ id is. absurd (none-some _ (sym none ∙ is)))
 
 -- an idle device, which has nothing in use whatever it does, uses no byte
-pub idle_is_still : (d : Device) (frame : Frame) → IsIdle d → IsStable (IsStill frame) d
+pub idle_is_still : (d : Device) (frame : Frame) → IsIdle d → IsStable (DeviceSparesFrame frame) d
 idle_is_still d frame idle mid s port slot at from to x =
     let k : KeepsPort (d.port port) (mid.port port) = (law_steps_keep s).port port in
     let i : IsIdlePort (d.port port) = idle.port port in
@@ -159,7 +159,7 @@ idle_is_still d frame idle mid s port slot at from to x =
     x
 
 -- the bytes of a still frame are free
-pub still_is_free : (d : Device) (frame : Frame) (offset n : ℕ) → IsStable (IsStill frame) d → 4096 * frame.0 + 4096 ≤ d.size → offset + n ≤ 4096 → IsStable (IsUnowned (4096 * frame.0 + offset) n) d
+pub still_is_free : (d : Device) (frame : Frame) (offset n : ℕ) → IsStable (DeviceSparesFrame frame) d → 4096 * frame.0 + 4096 ≤ d.size → offset + n ≤ 4096 → IsStable (IsUnowned (4096 * frame.0 + offset) n) d
 still_is_free d frame offset n still inside within mid s = record {
   inside = let same : mid.size ≡ d.size = (law_steps_keep s).size in omega (arith, same, inside, within);
   unused = λ port slot byte from to u. still mid s port slot byte (omega (arith, from)) (omega (arith, to, within)) u;

@@ -14,7 +14,7 @@ use Rattle.adapter.proofs.Changed.{changed_same, changed_other}
 use Rattle.adapter.proofs.SaysLemmas.{says_meaning, says_places}
 use Rattle.block_machine.specs.State.{Pending, Machine}
 use Rattle.refinement.specs.Places.{scratch_of}
-use Rattle.refinement.specs.Slots.{SlotState, Free, Own, Serves, SlotStates, Progress, HasTrimBlock, UpTo, Stage, OwnWaits, OwnTaken, OwnOver, RelatesSlot, op_of, Armed}
+use Rattle.refinement.specs.Slots.{SlotState, Free, Own, Serves, SlotStates, Progress, HasTrimBlock, TouchedUpTo, Stage, OwnWaits, OwnTaken, OwnOver, RelatesSlot, op_of, Armed}
 use Rattle.refinement.specs.Relation.{StateRelation}
 use Rattle.refinement.specs.Follows.{SimulatesSteps}
 use Rattle.refinement.proofs.relation.SlotRelation.{SameFixed-refl, NoPort, placed_on}
@@ -46,7 +46,7 @@ other_if true f slot k ne = changed_other f slot false k ne
 other_if false f slot k ne = refl
 
 -- nothing moved yet
-started : (op : Op) (memory : ℕ → ℕ) (port : ℕ) (e : Pending) (c : Meaning) (places : List ℕ) → HasTrimBlock op memory port e.request → UpTo e.touched 0 →
+started : (op : Op) (memory : ℕ → ℕ) (port : ℕ) (e : Pending) (c : Meaning) (places : List ℕ) → HasTrimBlock op memory port e.request → TouchedUpTo e.touched 0 →
     Progress op memory port e (begun c places)
 started Read memory port e c places block none = none
 started Write memory port e c places block none = none

@@ -17,7 +17,7 @@ use Rattle.block_machine.specs.Steps.{NoneKept}
 use Rattle.refinement.specs.Below.{StepLaws}
 use Rattle.refinement.specs.Relation.{port_at}
 use Rattle.refinement.specs.Driver.{DriverState, DriverRelation}
-use Rattle.refinement.specs.Facts.{IsClear, EndedIn}
+use Rattle.refinement.specs.Facts.{IsSlotClear, EndedIn}
 use Rattle.refinement.specs.Follows.{SimulatesSteps}
 use Rattle.refinement.specs.Slots.{Free, Serves}
 use Rattle.refinement.specs.Witness.{first_id, first_known, DoneIsKnown, EndedIsKnown}
@@ -38,7 +38,7 @@ module _ (laws : StepLaws) (k : DriverState) (m : Machine) (reached : IsReachabl
 
   pub done_is_known : k.device.hr ≡ false → (k.device.port 0).st ≡ true → (new.port 0).ci 0 ≡ false → (new.port 0).sact 0 ≡ false → DoneIsKnown k id
   done_is_known off st issued sact =
-      let found : IsClear (new.port 0) 0 × EndedIn (after m follows.steps) (port_at 0) id = clear_is_ended k.uses (after m follows.steps) new (port_at 0) 0 id follows.agrees u
+      let found : IsSlotClear (new.port 0) 0 × EndedIn (after m follows.steps) (port_at 0) id = clear_is_ended k.uses (after m follows.steps) new (port_at 0) 0 id follows.agrees u
       ((((laws.keeps _ _ s).on off).controls 0).st ∙ st) issued sact in
       record {
         device = new;

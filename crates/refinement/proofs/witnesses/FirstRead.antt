@@ -25,7 +25,7 @@ use Rattle.block_machine.specs.declared.due.QueueMode.{QueueMode}
 use Rattle.block_machine.specs.Histories.{IsReachable}
 use Rattle.block_machine.specs.Left.{IsInitial}
 use Rattle.block_machine.specs.State.{Accepted, Pending, Machine}
-use Rattle.block_machine.specs.Steps.{Accept, Issue, May, IsNew, MayStillMove, HasHeld, after_step, newly_accepted, newly_issued}
+use Rattle.block_machine.specs.Steps.{Accept, Issue, May, MayAccept, MayStillMove, HasHeld, after_step, newly_accepted, newly_issued}
 use Rattle.block_machine.proofs.Setting.{empty, filled_starts}
 use Rattle.refinement.specs.Below.{StepLaws}
 use Rattle.refinement.specs.Slots.{Free, Serves, SlotDecodesTo, IsEmptySlot}
@@ -62,7 +62,7 @@ start = start_with first_memory
 abbrev accepted : Accepted
 accepted = accepted_of start (read_into 100 100)
 
-is_new : IsNew start accepted
+is_new : MayAccept start accepted
 is_new = read_is_new start 100 100 refl refl refl (omega arith) (omega arith) (omega arith) (omega arith)
 
 abbrev pub plain : QueueMode

@@ -31,7 +31,7 @@ use Rattle.port_control.specs.Services.{IsOrdinary}
 use Rattle.port_control.specs.declared.events.PortEvent.TheVariants.{NoEvent}
 use Rattle.slots.specs.Uses.{PortSlots}
 use Rattle.server_history.specs.Below.{LawsBelow}
-use Rattle.server_history.specs.Served.{ChecksUsed, HasNone, HasTurn, IssuesIn}
+use Rattle.server_history.specs.Served.{ChecksUsed, HasNone, HasTurnWithoutError, IssuesIn}
 use Rattle.server_history.proofs.state.TurnAccesses.{none_or_some}
 use Rattle.server_history.proofs.state.TransferAccesses.{issues_serve}
 use Rattle.server_history.proofs.any_turn.ShownTrouble.{fatal_unless, set_unless}
@@ -75,7 +75,7 @@ issuing_ordinary : (port : Port) (access : Access) → IssuesIn port access → 
 issuing_ordinary port access here = (issues_serve port access here, issuing_spares port here.0 access here.2)
 
 module _ (laws : LawsBelow) where
-  module _ (port : Port) (slots : PortSlots) (replies : List Reply) (old : JointState Device) (new : Device) (turn : HasTurn port slots replies old.device new) (on : IsOn old.device) where
+  module _ (port : Port) (slots : PortSlots) (replies : List Reply) (old : JointState Device) (new : Device) (turn : HasTurnWithoutError port slots replies old.device new) (on : IsOn old.device) where
     -- what comes after a look that told nothing
     pub later_driven : turn.look ≡ NoEvent → IsDrivenBy (IsOrdinary port) turn.seen new
     later_driven calm = ⊎_elim

@@ -9,13 +9,13 @@ use Rattle.ata_types.specs.declared.request.Outcome.TheVariants.{Ok, DeviceError
 use Rattle.ata_types.specs.declared.request.RequestId.{RequestId}
 use Rattle.adapter.specs.declared.access.DeviceStep.{DeviceStep}
 use Rattle.refinement.specs.Relation.{port_at}
-use Rattle.block_machine.specs.Events.{Ask, AbstractState, AllLawful, AllMay, Belong, IsIssuedIn, IsLawful, IssuesLast, UnplugsAll, changes_disk}
+use Rattle.block_machine.specs.Events.{Ask, AbstractState, AllLawful, AllMay, AreStepsOfCall, IsIssuedIn, IsLawful, IssuesLast, UnplugsAll, changes_disk}
 use Rattle.block_machine.specs.Histories.{IsReachable}
 use Rattle.block_machine.specs.Left.{after}
 use Rattle.block_machine.specs.Ports.{Evidence, Ports}
 use Rattle.block_machine.specs.State.{Machine, Pending}
 use Rattle.block_machine.specs.Steps.{Step, Again, Answer, Issue, Replace, Unplug}
-use Rattle.driver_history.specs.Heeding.{AllGrounded}
+use Rattle.driver_history.specs.Heeding.{OnlyFailedPortsRequeue}
 use Rattle.server_history.specs.Turns.{IsOfTurn, IsStepOf}
 use Rattle.server_history.proofs.any_turn.TurnSteps.{IsSame, StandsIn, handled_own, issued_before, others_left, others_were, same_as, same_more, stood}
 use Rattle.server_history.proofs.plain_calls.IssueRounds.{issued_parts}
@@ -41,7 +41,7 @@ answered_of Such steps all e o here = All-contains (IsStepOf Such) steps (Answer
 pub again_of : (Such : Port → Type 0) (steps : List Step) → All (IsStepOf Such) steps → (e : Pending) → Contains steps (Again e) → Such e.request.port
 again_of Such steps all e here = All-contains (IsStepOf Such) steps (Again e) all here
 
-pub belong_join : (ask : Ask DeviceStep) (ports : Ports) (late early : List Step) → Belong ask ports late → Belong ask ports early → Belong ask ports (late ++ early)
+pub belong_join : (ask : Ask DeviceStep) (ports : Ports) (late early : List Step) → AreStepsOfCall ask ports late → AreStepsOfCall ask ports early → AreStepsOfCall ask ports (late ++ early)
 belong_join ask ports [] early a b = b
 belong_join ask ports (step ∷ late) early a b = (belong_join ask ports late early a.0 b, a.1)
 
@@ -68,7 +68,7 @@ lawful_on old new evidence other ports later (Again e ∷ steps) each again a = 
 lawful_on old new evidence other ports later (step ∷ steps) each again a =
     lawful_on old new evidence other ports later steps (λ x y h. each x y (Contains-append_right (step ∷ []) steps (Answer x y) h)) (λ x h. again x (Contains-append_right (step ∷ []) steps (Again x) h)) a
 
-pub grounded_join : (evidence : Evidence) (late early : List Step) → AllGrounded evidence late → AllGrounded evidence early → AllGrounded evidence (late ++ early)
+pub grounded_join : (evidence : Evidence) (late early : List Step) → OnlyFailedPortsRequeue evidence late → OnlyFailedPortsRequeue evidence early → OnlyFailedPortsRequeue evidence (late ++ early)
 grounded_join evidence [] early a b = b
 grounded_join evidence (Again e ∷ late) early a b = (grounded_join evidence late early a.0 b, a.1)
 grounded_join evidence (Answer e Aborted ∷ late) early a b = (grounded_join evidence late early a.0 b, a.1)
@@ -79,7 +79,7 @@ grounded_join evidence (Answer e Unplugged ∷ late) early a b = grounded_join e
 grounded_join evidence (Answer e PortDead ∷ late) early a b = grounded_join evidence late early a b
 grounded_join evidence (step ∷ late) early a b = grounded_join evidence late early a b
 
-pub grounded_on : (evidence other : Evidence) → ((q : Port) → Contains evidence.failed q → Contains other.failed q) → (steps : List Step) → AllGrounded evidence steps → AllGrounded other steps
+pub grounded_on : (evidence other : Evidence) → ((q : Port) → Contains evidence.failed q → Contains other.failed q) → (steps : List Step) → OnlyFailedPortsRequeue evidence steps → OnlyFailedPortsRequeue other steps
 grounded_on evidence other more [] a = tt
 grounded_on evidence other more (Again e ∷ steps) a = (grounded_on evidence other more steps a.0, more e.request.port a.1)
 grounded_on evidence other more (Answer e Aborted ∷ steps) a = (grounded_on evidence other more steps a.0, more e.request.port a.1)

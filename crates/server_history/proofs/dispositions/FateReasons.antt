@@ -10,12 +10,12 @@ use Rattle.ata_types.specs.declared.request.Outcome.TheVariants as outcome
 use Rattle.ata_types.specs.declared.request.Reply.{Reply}
 use Rattle.ata_types.specs.declared.request.RequestId.{RequestId}
 use Rattle.adapter.specs.declared.access.DeviceStep.{DeviceStep}
-use Rattle.block_machine.specs.Events.{AllLawful, Belong, EndsUndone, IsByDevice, IsIssuedIn, IsLawful, IsByServer, AbstractState, Service, Tick, issues_it}
+use Rattle.block_machine.specs.Events.{AllLawful, AreStepsOfCall, EndsUndone, IsByDevice, IsIssuedIn, IsLawful, IsByServer, AbstractState, Service, Tick, issues_it}
 use Rattle.block_machine.specs.Ports.{Evidence, Ports}
 use Rattle.block_machine.specs.State.{Pending}
 use Rattle.block_machine.specs.Steps.{Step, Again, Answer, Issue}
 use Rattle.block_machine.specs.declared.due.QueueMode.{QueueMode}
-use Rattle.driver_history.specs.Heeding.{AllGrounded}
+use Rattle.driver_history.specs.Heeding.{OnlyFailedPortsRequeue}
 use Rattle.server_history.proofs.state.ListMembers.{contains_cases, contains_there}
 use Rattle.request_queue.specs.Entries.{Held}
 use Rattle.request_queue.specs.Dispositions.{Holdings, AreResolved, IsResolved, disposition_of, disposition_on}
@@ -143,7 +143,7 @@ module _ (port : Port) where
       own (Answer e o) is = is
       own step is = absurd is
 
-  pub deciding_belong : (ports : Ports) (steps : List Step) → All (DecidesOn port) steps → ((e : Pending) → Contains steps (Again e) → ports.state e.request.port ≡ ReadyState) → Belong {D = DeviceStep} Service ports steps
+  pub deciding_belong : (ports : Ports) (steps : List Step) → All (DecidesOn port) steps → ((e : Pending) → Contains steps (Again e) → ports.state e.request.port ≡ ReadyState) → AreStepsOfCall {D = DeviceStep} Service ports steps
   deciding_belong ports [] all again = tt
   deciding_belong ports (Again e ∷ steps) all again = (
     deciding_belong ports steps (All-tail (DecidesOn port) (Again e) steps all) (λ x there. again x (contains_there (Again e) steps (Again x) there)),
@@ -168,7 +168,7 @@ module _ (port : Port) where
 
   -- a request that goes again, or is aborted, told Revoked or told a fault in its place, is of a port that failed
   pub deciding_grounded : (evidence : Evidence) (steps : List Step) → All (DecidesOn port) steps → ((e : Pending) → Contains steps (Again e) → Contains evidence.failed port)
-      → ((e : Pending) (o : Outcome) → Contains steps (Answer e o) → RestsOnFailure o → Contains evidence.failed port) → AllGrounded evidence steps
+      → ((e : Pending) (o : Outcome) → Contains steps (Answer e o) → RestsOnFailure o → Contains evidence.failed port) → OnlyFailedPortsRequeue evidence steps
   deciding_grounded evidence [] all again answer = tt
   deciding_grounded evidence (Again e ∷ steps) all again answer = (
     deciding_grounded evidence steps (All-tail (DecidesOn port) (Again e) steps all) (λ x there. again x (contains_there (Again e) steps (Again x) there)) (λ x o there. answer x o (contains_there (Again e) steps (Answer x o) there)),
@@ -202,7 +202,7 @@ module _ (port : Port) where
 
   -- steps that issue belong to a service after which the port is ready, and takes commands so, if they issue anything
   pub issuing_belong : (mode : QueueMode) (ports : Ports) → ports.mode port ≡ mode → (steps : List Step) → IssuesOnly mode port steps → ((id : RequestId) → IsIssuedIn id steps → ports.state port ≡ ReadyState)
-      → Belong {D = DeviceStep} Service ports steps
+      → AreStepsOfCall {D = DeviceStep} Service ports steps
   issuing_belong mode ports its [] only ready = tt
   issuing_belong mode ports its (Issue m e ∷ steps) only ready = (
     issuing_belong mode ports its steps only.2 (λ id there. ready id (or_right (e.request.id.0 == id.0) (list_any (issues_it id) steps) there)),
@@ -217,7 +217,7 @@ module _ (port : Port) where
 
 -- steps that belong to a service belong to a tick, where no fault is told
 pub belong_tick : (ports : Ports) (steps : List Step) → ((e : Pending) (o : Outcome) → Contains steps (Answer e o) → EndsUndone o ⊎ (o ≡ outcome.Ok))
-    → Belong {D = DeviceStep} Service ports steps → Belong {D = DeviceStep} Tick ports steps
+    → AreStepsOfCall {D = DeviceStep} Service ports steps → AreStepsOfCall {D = DeviceStep} Tick ports steps
 belong_tick ports [] gives b = tt
 belong_tick ports (step ∷ steps) gives b = (
   belong_tick ports steps (λ e o there. gives e o (contains_there step steps (Answer e o) there)) b.0,

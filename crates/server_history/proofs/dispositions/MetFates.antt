@@ -27,7 +27,7 @@ use Rattle.request_queue.specs.declared.PendingRequest.{PendingRequest}
 use Rattle.request_queue.specs.declared.disposition.Disposition.{Disposition}
 use Rattle.request_queue.specs.declared.disposition.Disposition.TheVariants.{Complete, Requeue, Wait}
 use Rattle.server_history.specs.Below.{LawsBelow}
-use Rattle.server_history.specs.Dispositions.{DecidesOn, IsLetGo, MayMeet, MeetsInMachine, keeps_fate, loan_of, loans_of}
+use Rattle.server_history.specs.Dispositions.{DecidesOn, IsLetGo, AreResolvable, AreResolvedInMachine, keeps_frames_lent, loan_of, loans_of}
 use Rattle.server_history.specs.Server.{AreOfTwo, TellsGrant}
 use Rattle.server_history.proofs.dispositions.FittingFates.{AllFit, FitsEntry}
 use Rattle.server_history.proofs.healthy_turn.OneAnswer.{given_back}
@@ -121,7 +121,7 @@ forgets_it parked port id =
 -- ---- one request
 
 module _ (laws : LawsBelow) (port : Port) (disposition : PendingRequest → Disposition) where
-  module _ (request : Held) (rest : List Held) (now mid : Holdings) (k : DriverState) (m : Machine) (may : MayMeet port disposition (request ∷ rest) now k m) where
+  module _ (request : Held) (rest : List Held) (now mid : Holdings) (k : DriverState) (m : Machine) (may : AreResolvable port disposition (request ∷ rest) now k m) where
     pub here : Contains now.book request
     here = (may.here request (Contains-get_or (request ∷ rest) 0 request (omega arith))).0
 
@@ -152,7 +152,7 @@ module _ (laws : LawsBelow) (port : Port) (disposition : PendingRequest → Disp
     its_mark : TellsGrant m.rows request.entry
     its_mark = may.marked request (Contains-get_or (request ∷ rest) 0 request (omega arith))
 
-    unserved : keeps_fate (disposition request.entry) request.entry ≡ false → HasNoSlot k.uses p.request.id
+    unserved : keeps_frames_lent (disposition request.entry) request.entry ≡ false → HasNoSlot k.uses p.request.id
     unserved never = subst (HasNoSlot k.uses) (sym id_is) (may.unserved request (Contains-get_or (request ∷ rest) 0 request (omega arith)) never)
 
     abbrev pub left_known : DriverState
@@ -174,10 +174,10 @@ module _ (laws : LawsBelow) (port : Port) (disposition : PendingRequest → Disp
         (parked : ℕ → List RequestId) (elsewhere : (q : ℕ) → q ≢ port.0 → parked q ≡ k.parked q)
         (its_still : (id : RequestId) → Contains (parked port.0) id → Contains (k.parked port.0) id × (IsLetGo disposition request → request.entry.id ≢ id))
         (gone : List Pending) (keeps : (after_step m step).kept ≡ gone ++ m.kept) (lends : mid.kept ≡ now.kept ++ loans_of gone) (alone : AllPairs AreOfTwo (loans_of gone))
-        (its_own : (e : Pending) → Contains gone e → IsEntry request e × (keeps_fate (disposition request.entry) request.entry ≡ true))
+        (its_own : (e : Pending) → Contains gone e → IsEntry request e × (keeps_frames_lent (disposition request.entry) request.entry ≡ true))
         (told : (e : Pending) (o : Outcome) → Answer e o ≡ step → IsEntry request e × (disposition request.entry ≡ Complete o))
         (waits : (e : Pending) → Again e ≡ step → IsEntry request e × (disposition request.entry ≡ Requeue))
-        (r : MeetsInMachine port disposition rest later mid new (record k { parked = parked }) (after_step m step)) where
+        (r : AreResolvedInMachine port disposition rest later mid new (record k { parked = parked }) (after_step m step)) where
       whole_is : after m (r.steps ++ step ∷ []) ≡ after (after_step m step) r.steps
       whole_is = laws.basic.joined m r.steps (step ∷ [])
 
@@ -199,7 +199,7 @@ module _ (laws : LawsBelow) (port : Port) (disposition : PendingRequest → Disp
           (first_or_later step [] (Again e) last))
           (Contains-append_cases r.steps (step ∷ []) (Again e) there)
 
-      kept_by : (e : Pending) → Contains (r.held ++ gone) e → (y : Held) × Contains (request ∷ rest) y × IsEntry y e × (keeps_fate (disposition y.entry) y.entry ≡ true)
+      kept_by : (e : Pending) → Contains (r.held ++ gone) e → (y : Held) × Contains (request ∷ rest) y × IsEntry y e × (keeps_frames_lent (disposition y.entry) y.entry ≡ true)
       kept_by e there = ⊎_elim
           (λ late. let w = r.whose e late in (w.0, in_rest w.0 w.1, w.2, w.3))
           (λ first. let w = its_own e first in (request, Contains-get_or (request ∷ rest) 0 request (omega arith), w.0, w.1))
@@ -223,7 +223,7 @@ module _ (laws : LawsBelow) (port : Port) (disposition : PendingRequest → Disp
                 (first_or_later request rest e here),
           )
 
-      pub decides : Tells (r.steps ++ step ∷ []) replies → MeetsInMachine port disposition (request ∷ rest) replies now new k m
+      pub decides : Tells (r.steps ++ step ∷ []) replies → AreResolvedInMachine port disposition (request ∷ rest) replies now new k m
       decides tells = record {
         steps = r.steps ++ step ∷ [];
         parked = r.parked;
@@ -247,8 +247,8 @@ module _ (laws : LawsBelow) (port : Port) (disposition : PendingRequest → Disp
 
   -- ---- one that ends
 
-  module _ (request : Held) (rest : List Held) (now mid new : Holdings) (its later replies : List Reply) (k : DriverState) (m : Machine) (may : MayMeet port disposition (request ∷ rest) now k m) (split : replies ≡ its ++ later)
-      (more : (k : DriverState) (m : Machine) → MayMeet port disposition rest mid k m → MeetsInMachine port disposition rest later mid new k m) (fit : FitsEntry (disposition request.entry) request.entry) (o : Outcome) (is : disposition request.entry ≡ Complete o) (meets : IsResolved request (Complete o) its now mid) where
+  module _ (request : Held) (rest : List Held) (now mid new : Holdings) (its later replies : List Reply) (k : DriverState) (m : Machine) (may : AreResolvable port disposition (request ∷ rest) now k m) (split : replies ≡ its ++ later)
+      (more : (k : DriverState) (m : Machine) → AreResolvable port disposition rest mid k m → AreResolvedInMachine port disposition rest later mid new k m) (fit : FitsEntry (disposition request.entry) request.entry) (o : Outcome) (is : disposition request.entry ≡ Complete o) (meets : IsResolved request (Complete o) its now mid) where
     abbrev x : Pending
     x = p request rest now mid k m may
 
@@ -264,8 +264,8 @@ module _ (laws : LawsBelow) (port : Port) (disposition : PendingRequest → Disp
     of_port : x.request.port ≡ port
     of_port = its_entry.port ∙ its_port request rest now mid k m may
 
-    fate_is : keeps_fate (disposition request.entry) request.entry ≡ keeps_loan o request.entry
-    fate_is = ap (λ (f : Disposition). keeps_fate f request.entry) is
+    fate_is : keeps_frames_lent (disposition request.entry) request.entry ≡ keeps_loan o request.entry
+    fate_is = ap (λ (f : Disposition). keeps_frames_lent f request.entry) is
 
     stay : stays x o ≡ keeps_loan o request.entry
     stay = stays_is o request.entry x its_entry.issued
@@ -291,9 +291,9 @@ module _ (laws : LawsBelow) (port : Port) (disposition : PendingRequest → Disp
     -- what comes of it, once the rest met their fates
     module _ (parked : ℕ → List RequestId) (elsewhere : (q : ℕ) → q ≢ port.0 → parked q ≡ k.parked q)
         (its_still : (id : RequestId) → Contains (parked port.0) id → Contains (k.parked port.0) id × (IsLetGo disposition request → request.entry.id ≢ id)) (gone : List Pending) (keeps : (after_step m (Answer x o)).kept ≡ gone ++ m.kept)
-        (lends : mid.kept ≡ now.kept ++ loans_of gone) (alone : AllPairs AreOfTwo (loans_of gone)) (its_own : (e : Pending) → Contains gone e → IsEntry request e × (keeps_fate (disposition request.entry) request.entry ≡ true))
-        (goes : MayMeet port disposition rest mid (record k { parked = parked }) (after_step m (Answer x o))) where
-      r : MeetsInMachine port disposition rest later mid new (record k { parked = parked }) (after_step m (Answer x o))
+        (lends : mid.kept ≡ now.kept ++ loans_of gone) (alone : AllPairs AreOfTwo (loans_of gone)) (its_own : (e : Pending) → Contains gone e → IsEntry request e × (keeps_frames_lent (disposition request.entry) request.entry ≡ true))
+        (goes : AreResolvable port disposition rest mid (record k { parked = parked }) (after_step m (Answer x o))) where
+      r : AreResolvedInMachine port disposition rest later mid new (record k { parked = parked }) (after_step m (Answer x o))
       r = more (record k { parked = parked }) (after_step m (Answer x o)) goes
 
       -- it is told first
@@ -305,7 +305,7 @@ module _ (laws : LawsBelow) (port : Port) (disposition : PendingRequest → Disp
           let other = ap (λ (i : RequestId). i.0) w.2.id in
           inr (of_port ∙ sym (w.2.port ∙ (may.here w.0 (in_rest request rest now mid k m may w.0 w.1)).1), omega (arith, lt, mine, other))) r.tells.answers (All-contains_itself r.tells.answers)
 
-      answers : MeetsInMachine port disposition (request ∷ rest) replies now new k m
+      answers : AreResolvedInMachine port disposition (request ∷ rest) replies now new k m
       answers =
           decides request rest now mid k m may (Answer x o) its later replies new split comes of_port (λ none. none) parked elsewhere its_still gone keeps lends alone its_own
           (λ e other same.
@@ -322,7 +322,7 @@ module _ (laws : LawsBelow) (port : Port) (disposition : PendingRequest → Disp
             told = split ∙ ap (λ (y : List Reply). y ++ later) meets.0 ∙ (λ i. reply_is i ∷ r.tells.told i);
           })
 
-    by : (b : Bool) → keeps_loan o request.entry ≡ b → MeetsInMachine port disposition (request ∷ rest) replies now new k m
+    by : (b : Bool) → keeps_loan o request.entry ≡ b → AreResolvedInMachine port disposition (request ∷ rest) replies now new k m
     by false never =
         answers (decided k.parked port.0 request.entry.id) (λ q ne. changed_other k.parked port.0 (but request.entry.id (k.parked port.0)) q ne)
         (λ id there. let w = left_parked request rest now mid k m may id there in (w.0, λ goes. w.1)) []
@@ -368,14 +368,14 @@ module _ (laws : LawsBelow) (port : Port) (disposition : PendingRequest → Disp
         loan_is : record { frames = request.frames; request = request.entry.id } ≡ loan_of x
         loan_is = λ i. record { frames = sym its_entry.frames i; request = sym its_entry.id i }
 
-    pub meet_end : MeetsInMachine port disposition (request ∷ rest) replies now new k m
+    pub meet_end : AreResolvedInMachine port disposition (request ∷ rest) replies now new k m
     meet_end = by (keeps_loan o request.entry) refl
 
   -- ---- each fate
 
-  meet_one : (request : Held) (rest : List Held) (now mid new : Holdings) (its later replies : List Reply) (k : DriverState) (m : Machine) → MayMeet port disposition (request ∷ rest) now k m → replies ≡ its ++ later
-      → ((k : DriverState) (m : Machine) → MayMeet port disposition rest mid k m → MeetsInMachine port disposition rest later mid new k m) → FitsEntry (disposition request.entry) request.entry → (f : Disposition) → disposition request.entry ≡ f → IsResolved request f its now mid
-      → MeetsInMachine port disposition (request ∷ rest) replies now new k m
+  meet_one : (request : Held) (rest : List Held) (now mid new : Holdings) (its later replies : List Reply) (k : DriverState) (m : Machine) → AreResolvable port disposition (request ∷ rest) now k m → replies ≡ its ++ later
+      → ((k : DriverState) (m : Machine) → AreResolvable port disposition rest mid k m → AreResolvedInMachine port disposition rest later mid new k m) → FitsEntry (disposition request.entry) request.entry → (f : Disposition) → disposition request.entry ≡ f → IsResolved request f its now mid
+      → AreResolvedInMachine port disposition (request ∷ rest) replies now new k m
   meet_one request rest now mid new its later replies k m may split more fit Wait is meets = record {
     steps = r.steps;
     parked = r.parked;
@@ -403,7 +403,7 @@ module _ (laws : LawsBelow) (port : Port) (disposition : PendingRequest → Disp
     tells = subst (Tells r.steps) (sym (split ∙ ap (λ (x : List Reply). x ++ later) meets.0)) r.tells;
   }
     where
-      goes : MayMeet port disposition rest now k m
+      goes : AreResolvable port disposition rest now k m
       goes = record {
         reached = may.reached;
         knows = may.knows;
@@ -417,8 +417,8 @@ module _ (laws : LawsBelow) (port : Port) (disposition : PendingRequest → Disp
         unserved = λ e there never. may.unserved e (in_rest request rest now mid k m may e there) never;
       }
 
-      r : MeetsInMachine port disposition rest later mid new k m
-      r = more k m (subst (λ (h : Holdings). MayMeet port disposition rest h k m) (sym meets.1) goes)
+      r : AreResolvedInMachine port disposition rest later mid new k m
+      r = more k m (subst (λ (h : Holdings). AreResolvable port disposition rest h k m) (sym meets.1) goes)
   meet_one request rest now mid new its later replies k m may split more fit Requeue is meets =
       decides request rest now mid k m may (Again x) its later replies new split comes of_port (λ none. none) (decided k.parked port.0 request.entry.id)
       (λ q ne. changed_other k.parked port.0 (but request.entry.id (k.parked port.0)) q ne)
@@ -453,10 +453,10 @@ module _ (laws : LawsBelow) (port : Port) (disposition : PendingRequest → Disp
       of_port : x.request.port ≡ port
       of_port = (entry request rest now mid k m may).2.port ∙ its_port request rest now mid k m may
 
-      goes : MayMeet port disposition rest (record now { book = map (at_entry request.entry.id requeued_entry) now.book }) (left_known request rest now mid k m may) (after_step m (Again x))
+      goes : AreResolvable port disposition rest (record now { book = map (at_entry request.entry.id requeued_entry) now.book }) (left_known request rest now mid k m may) (after_step m (Again x))
       goes = record {
         reached = laws.basic.reached m (Again x ∷ []) may.reached (tt, comes);
-        knows = laws.slots.again_agrees k m x (decided k.parked port.0 request.entry.id) may.reached may.knows comes.0 (unserved request rest now mid k m may (ap (λ (f : Disposition). keeps_fate f request.entry) is)) (forgets request rest now mid k m may);
+        knows = laws.slots.again_agrees k m x (decided k.parked port.0 request.entry.id) may.reached may.knows comes.0 (unserved request rest now mid k m may (ap (λ (f : Disposition). keeps_frames_lent f request.entry) is)) (forgets request rest now mid k m may);
         book = subst (λ (id : RequestId). IsBook (map (at_entry id requeued_entry) now.book) (after_step m (Again x)).book) (id_is request rest now mid k m may) (laws.again now.book m x may.book);
         lent = may.lent;
         ordered = laws.requeued now.book request.entry.id may.ordered (request, here request rest now mid k m may, refl, its_issue.0, few);
@@ -469,12 +469,12 @@ module _ (laws : LawsBelow) (port : Port) (disposition : PendingRequest → Disp
         unserved = λ e there never. may.unserved e (in_rest request rest now mid k m may e there) never;
       }
 
-      r : MeetsInMachine port disposition rest later mid new (left_known request rest now mid k m may) (after_step m (Again x))
-      r = more (left_known request rest now mid k m may) (after_step m (Again x)) (subst (λ (h : Holdings). MayMeet port disposition rest h (left_known request rest now mid k m may) (after_step m (Again x))) (sym meets.1) goes)
+      r : AreResolvedInMachine port disposition rest later mid new (left_known request rest now mid k m may) (after_step m (Again x))
+      r = more (left_known request rest now mid k m may) (after_step m (Again x)) (subst (λ (h : Holdings). AreResolvable port disposition rest h (left_known request rest now mid k m may) (after_step m (Again x))) (sym meets.1) goes)
   meet_one request rest now mid new its later replies k m may split more fit (Complete o) is meets = meet_end request rest now mid new its later replies k m may split more fit o is meets
 
 pub meet : LawsBelow → (port : Port) (disposition : PendingRequest → Disposition) (requests : List Held) → AllFit disposition requests → (replies : List Reply) (old new : Holdings) (k : DriverState) (m : Machine)
-    → MayMeet port disposition requests old k m → AreResolved disposition requests replies old new → MeetsInMachine port disposition requests replies old new k m
+    → AreResolvable port disposition requests old k m → AreResolved disposition requests replies old new → AreResolvedInMachine port disposition requests replies old new k m
 meet laws port disposition [] fit replies old new k m may (none, is) = record {
   steps = [];
   parked = k.parked;
@@ -502,7 +502,7 @@ meet laws port disposition (request ∷ rest) fit replies old new k m may (mid, 
 
 -- Where no loan is kept, and who was parked of the port are issued ones among these, none of the port is.
 pub none_parked : (port : Port) (disposition : PendingRequest → Disposition) (requests : List Held) → AllFit disposition requests → (replies : List Reply) (old new : Holdings) (k : DriverState) (m : Machine)
-    (r : MeetsInMachine port disposition requests replies old new k m) → ((e : PendingRequest) → keeps_fate (disposition e) e ≡ false)
+    (r : AreResolvedInMachine port disposition requests replies old new k m) → ((e : PendingRequest) → keeps_frames_lent (disposition e) e ≡ false)
     → ((id : RequestId) → Contains (k.parked port.0) id → (e : Held) × Contains requests e × (e.entry.id ≡ id) × (e.entry.issued ≡ true)) → r.parked port.0 ≡ []
 none_parked port disposition requests fit replies old new k m r quiet its = nobody (r.parked port.0) (λ id here.
     let s = r.still id here in

@@ -22,7 +22,7 @@ use Rattle.block_machine.specs.Histories.{JointState, IsReachable}
 use Rattle.block_machine.specs.Left.{IsRow}
 use Rattle.block_machine.specs.Ports.{AreFit, Evidence, Ports}
 use Rattle.block_machine.specs.State.{Machine}
-use Rattle.driver_history.specs.Histories.{LosesNoPortError, TendsPort}
+use Rattle.driver_history.specs.Histories.{LosesNoPortError, IsPortAlive}
 use Rattle.refinement.specs.Acts.{InSlots}
 use Rattle.driver_history.specs.Holds.{HoldsOf, HoldsWith, NoneWaits}
 use Rattle.dma_frames.specs.Loan.{Lending}
@@ -58,7 +58,7 @@ module _ (s : ServerState) (dead : AreDead s.ports) where
       (λ is. let z : Dead ≡ ReadyState = sym (ap state_of is) ∙ ready in cc)
       (either port)
 
-  never_tended : (port : Port) → TendsPort (ports_of s) port → ⊥
+  never_tended : (port : Port) → IsPortAlive (ports_of s) port → ⊥
   never_tended port tends = tends.1 (ap state_of (dead port.0 tends.0))
 
   -- so no trouble of it can be lost
@@ -66,7 +66,7 @@ module _ (s : ServerState) (dead : AreDead s.ports) where
       → LosesNoPortError evidence old ports new port
   never_troubled evidence old ports new port were now = record {
     errors = λ ready. absurd (never_ready port.0 (ap (λ (p : Ports). p.state port) (sym were) ∙ ready));
-    changes = λ tends. absurd (never_tended port (subst (λ (p : Ports). TendsPort p port) were tends));
+    changes = λ tends. absurd (never_tended port (subst (λ (p : Ports). IsPortAlive p port) were tends));
     fault = λ ready. absurd (now ready);
     fatal = λ ready. absurd (now ready);
     disk = λ ready. absurd (now ready);

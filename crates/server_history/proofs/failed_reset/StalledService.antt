@@ -35,7 +35,7 @@ use Rattle.request_queue.specs.declared.disposition.Revalidation.{Revalidation}
 use Rattle.request_queue.specs.declared.disposition.Revalidation.TheVariants.{SameDisk, DiskLost, Dead as NoEnd}
 use Rattle.server_history.specs.Histories.{ExtendsStuck, LeadsToServer}
 use Rattle.block_machine.specs.Ports.{IsServiced, Ports, SamePort}
-use Rattle.driver_history.specs.Histories.{IsUnfitOrForeign, TendsPort, ProbesDisk}
+use Rattle.driver_history.specs.Histories.{IsUnfitOrForeign, IsPortAlive, ProbesDisk}
 use Rattle.driver_history.specs.Trace.{IsServing, LeavesEngine}
 use Rattle.server_history.proofs.state.HistorySteps.{lead_by, ports_same}
 use Rattle.server_history.proofs.healthy_turn.CallPart.{none_last}
@@ -45,7 +45,7 @@ use Rattle.adapter.specs.Device.{Device}
 use Rattle.std.proofs.lemmas.List.{set_past}
 use Rattle.server_history.proofs.recovery_turn.ReplacedPort.{is_listed}
 use Rattle.server_history.specs.Below.{LawsBelow}
-use Rattle.server_history.specs.Dispositions.{DecidesOn, MayMeet, MeetsInMachine, keeps_fate, loans_of}
+use Rattle.server_history.specs.Dispositions.{DecidesOn, AreResolvable, AreResolvedInMachine, keeps_frames_lent, loans_of}
 use Rattle.server_history.specs.ErrorHandling.{holdings_of, requests_of}
 use Rattle.server_history.specs.Resets.{IsResetRevalidation, MaySettle, SettlePorts, SettlesPort, with_holdings}
 use Rattle.server_history.specs.Server.{AreKept, ServerState, IsMachineOf, is_served, kept_at, ports_of, state_of, HasTrueMark}
@@ -152,17 +152,17 @@ module _ (laws : LawsBelow) (s : ServerState) (t : StuckInvariant s) where
     ends_dead : probe_result_of s.ports n ≡ Unready Dead → (e : PendingRequest) → disposition e ≡ Complete outcome.PortDead
     ends_dead dead e = ap (λ (x : Revalidation). disposition_on x e) (dead_prospect _ (probe_result_of s.ports n) one.revalidation one.expects dead)
 
-    keeps_issued : probe_result_of s.ports n ≡ Unready Dead → (e : PendingRequest) → keeps_fate (disposition e) e ≡ e.issued
-    keeps_issued dead e = ap (λ (f : Disposition). keeps_fate f e) (ends_dead dead e)
+    keeps_issued : probe_result_of s.ports n ≡ Unready Dead → (e : PendingRequest) → keeps_frames_lent (disposition e) e ≡ e.issued
+    keeps_issued dead e = ap (λ (f : Disposition). keeps_frames_lent f e) (ends_dead dead e)
 
     -- on a port that isn't served no loan is kept
-    quiet : probe_result_of s.ports n ≢ Unready Dead → (e : PendingRequest) → keeps_fate (disposition e) e ≡ false
+    quiet : probe_result_of s.ports n ≢ Unready Dead → (e : PendingRequest) → keeps_frames_lent (disposition e) e ≡ false
     quiet alive e = kept_dead_alone None one.revalidation e (other_prospect _ (probe_result_of s.ports n) one.revalidation one.expects alive)
 
     not_dead : probe_result_of s.ports n ≡ Unserved → probe_result_of s.ports n ≢ Unready Dead
     not_dead unserved dead = let z : Unserved ≡ Unready Dead = sym unserved ∙ dead in cc
 
-    unserved : (e : Held) → Contains requests e → keeps_fate (disposition e.entry) e.entry ≡ false → HasNoSlot p.stands.uses e.entry.id
+    unserved : (e : Held) → Contains requests e → keeps_frames_lent (disposition e.entry) e.entry ≡ false → HasNoSlot p.stands.uses e.entry.id
     unserved e here never = ⊎_elim
         (λ none. absurd (none_unserved none e (of_its e here).0 (ap (λ (q : Port). q.0) (of_its e here).1)))
         (λ dead.
@@ -171,7 +171,7 @@ module _ (laws : LawsBelow) (s : ServerState) (t : StuckInvariant s) where
         subst (HasNoSlot p.stands.uses) x.2.id (laws.slots.waiting p.stands.uses w s.device w_reached p.stands.knows.agrees x.0 x.1 waits))
         (either s t.dead n)
 
-    may_meet : MayMeet (port_at n) disposition requests (holdings_of (port_at n) c) k w
+    may_meet : AreResolvable (port_at n) disposition requests (holdings_of (port_at n) c) k w
     may_meet = record {
       reached = w_reached;
       knows = p.stands.knows;
@@ -185,7 +185,7 @@ module _ (laws : LawsBelow) (s : ServerState) (t : StuckInvariant s) where
       unserved = unserved;
     }
 
-    met : MeetsInMachine (port_at n) disposition requests its (holdings_of (port_at n) c) one.now k w
+    met : AreResolvedInMachine (port_at n) disposition requests its (holdings_of (port_at n) c) one.now k w
     met = meet laws (port_at n) disposition requests (fits_each None one.revalidation requests) its (holdings_of (port_at n) c) one.now k w may_meet one.meets
 
     abbrev z : Machine
@@ -489,7 +489,7 @@ module _ (laws : LawsBelow) (s : ServerState) (t : StuckInvariant s) where
           answers
           (deaths_grounded (ports_of s) (told_by s.device old.ports) x.steps x.deaths)
           []
-          (refl, All-nil (IsServing (TendsPort old.ports)))
+          (refl, All-nil (IsServing (IsPortAlive old.ports)))
           (λ port. All-nil (LeavesEngine port))
           (λ port ready. absurd (never_ready s t.dead port.0 ready))
           (λ port. record {

@@ -20,7 +20,7 @@ use Rattle.host_boot.specs.Taken.{probe_result_of}
 use Rattle.host_boot.specs.declared.ProbeResult.{ProbeResult}
 use Rattle.request_queue.specs.Entries.{Held, BookIsInOrder, asks, asks_of, due_ids}
 use Rattle.server_history.specs.Below.{LawsBelow}
-use Rattle.server_history.specs.Served.{AnswersDone, AnswersEach, AnswersOne, AnswersTurn, HasEnded, HasTurn, SameSettings, answers_in}
+use Rattle.server_history.specs.Served.{AnswersDone, AnswersEach, AnswersOne, AnswersTurn, HasEnded, HasTurnWithoutError, SameSettings, answers_in}
 use Rattle.server_history.specs.Server.{ServerState, InCallInvariant, IsMachineOf, SettledInvariant, mode_in, no_slots, slots_at, state_of}
 use Rattle.server_history.proofs.healthy_turn.OneAnswer.{IsAnswer, answer_kept, answer_one}
 use Rattle.server_history.proofs.plain_calls.IssueRounds.{each_apart, each_settings, each_slots, settled}
@@ -114,7 +114,7 @@ module _ (laws : LawsBelow) (port : Port) (done : ℕ) where
 -- ---- a port's turn
 
 -- what a turn leaves of the server
-pub turn_settings : LawsBelow → (port : Port) (replies : List Reply) (old new : ServerState) (turn : HasTurn port (slots_at old.slots port.0) replies old.device new.device) → AnswersTurn port replies old new turn
+pub turn_settings : LawsBelow → (port : Port) (replies : List Reply) (old new : ServerState) (turn : HasTurnWithoutError port (slots_at old.slots port.0) replies old.device new.device) → AnswersTurn port replies old new turn
     → SameSettings old new
 turn_settings laws port replies old new turn (inl (none, is)) = is ∙ ap (λ (n : ServerState). record old { device = n.device; table = n.table; slots = n.slots; book = n.book }) (sym is)
 turn_settings laws port replies old new turn (inr (calm, some, a)) =
@@ -127,7 +127,7 @@ turn_settings laws port replies old new turn (inr (calm, some, a)) =
     table_is = ap (λ (n : ServerState). n.table) (each_settings laws port (due_ids (mode_in a.mid port) port (asks_of a.mid.book)) a.mid new a.issued)
 
 -- and of the requests of another port
-pub turn_apart : LawsBelow → (port : Port) (replies : List Reply) (old new : ServerState) (turn : HasTurn port (slots_at old.slots port.0) replies old.device new.device) → BookIsInOrder old.book
+pub turn_apart : LawsBelow → (port : Port) (replies : List Reply) (old new : ServerState) (turn : HasTurnWithoutError port (slots_at old.slots port.0) replies old.device new.device) → BookIsInOrder old.book
     → AnswersTurn port replies old new turn → (other : Port) → other ≢ port → of_port other (asks_of new.book) ≡ of_port other (asks_of old.book)
 turn_apart laws port replies old new turn order (inl (none, is)) other ne = ap (λ (n : ServerState). of_port other (asks_of n.book)) is
 turn_apart laws port replies old new turn order (inr (calm, some, a)) other ne =
@@ -136,7 +136,7 @@ turn_apart laws port replies old new turn order (inr (calm, some, a)) other ne =
     ∙ answers_apart laws port c.done a.requests (record old { device = c.read }) a.mid order a.each other ne
 
 -- and of the slots of another port
-pub turn_slots : LawsBelow → (port : Port) (replies : List Reply) (old new : ServerState) (turn : HasTurn port (slots_at old.slots port.0) replies old.device new.device) → AnswersTurn port replies old new turn
+pub turn_slots : LawsBelow → (port : Port) (replies : List Reply) (old new : ServerState) (turn : HasTurnWithoutError port (slots_at old.slots port.0) replies old.device new.device) → AnswersTurn port replies old new turn
     → (other : ℕ) → other ≢ port.0 → slots_at new.slots other ≡ slots_at old.slots other
 turn_slots laws port replies old new turn (inl (none, is)) other ne = ap (λ (n : ServerState). slots_at n.slots other) is
 turn_slots laws port replies old new turn (inr (calm, some, a)) other ne =

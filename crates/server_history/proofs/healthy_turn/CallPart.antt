@@ -17,14 +17,14 @@ use Rattle.adapter.specs.declared.access.DeviceStep.{DeviceStep}
 use Rattle.adapter.specs.declared.command.Operation.TheVariants.{ReadLog}
 use Rattle.refinement.specs.Driven.{SendsNone}
 use Rattle.refinement.specs.Driver.{IsBacked}
-use Rattle.block_machine.specs.Events.{AllDevices, AllLawful, AllMay, Belong, IsByDevice, IsLawful, IssuesLast, IsToldBefore, AbstractState, Served, Service, Tells, answers_of, issues_it}
+use Rattle.block_machine.specs.Events.{AllDevices, AllLawful, AllMay, AreStepsOfCall, IsByDevice, IsLawful, IssuesLast, IsToldBefore, AbstractState, Served, Service, Tells, answers_of, issues_it}
 use Rattle.block_machine.specs.Histories.{IsReachable}
 use Rattle.block_machine.specs.Left.{after}
 use Rattle.block_machine.specs.Ports.{Evidence, IsServiced, Ports, SamePort}
 use Rattle.block_machine.specs.State.{Machine, Pending}
 use Rattle.block_machine.specs.Steps.{Step, Again, Answer, Issue}
 use Rattle.block_machine.specs.declared.due.QueueMode.{QueueMode}
-use Rattle.driver_history.specs.Heeding.{AllGrounded}
+use Rattle.driver_history.specs.Heeding.{OnlyFailedPortsRequeue}
 use Rattle.driver_history.specs.Evidence.{IsEvidencedOf}
 use Rattle.driver_history.specs.Histories.{IssuesDue}
 use Rattle.host_boot.specs.Taken.{probe_result_of}
@@ -32,7 +32,7 @@ use Rattle.port_control.specs.declared.events.PortEvent.TheVariants.{NoEvent}
 use Rattle.request_queue.specs.Entries.{Held, IsEarlier}
 use Rattle.slots.specs.declared.SlotUse.{SlotUse}
 use Rattle.server_history.specs.Below.{LawsBelow}
-use Rattle.server_history.specs.Served.{AnswersBy, AnswersTurn, HasEnded, HasTurn, IsAnsweredIn, IssuesOnly, SameSettings, answers_in}
+use Rattle.server_history.specs.Served.{AnswersBy, AnswersTurn, HasEnded, HasTurnWithoutError, IsAnsweredIn, IssuesOnly, SameSettings, answers_in}
 use Rattle.server_history.specs.Server.{ServerState, IsMachineOf, SettledInvariant, mode_in, ports_of, remembered_at, slots_at, state_of, used_for}
 use Rattle.server_history.specs.Turns.{InService, ServesPort, IsOfTurn, LeavesOthers, MakesTurn, NamesOnly, joint_state_of, abstract_state_of}
 use Rattle.server_history.proofs.state.AnswerSteps.{answered_in, ended_stood, issuing_answers, may_parts, no_answer, no_answer_issuing, told_so, with_ok}
@@ -94,7 +94,7 @@ device_lawful old evidence ports (Again e) base is l = absurd is
 device_lawful old evidence ports (Answer e o) base is l = absurd is
 device_lawful old evidence ports step base is l = l
 
-pub device_grounded : (evidence : Evidence) (step : Step) (base : List Step) → IsByDevice step → AllGrounded evidence base → AllGrounded evidence (step ∷ base)
+pub device_grounded : (evidence : Evidence) (step : Step) (base : List Step) → IsByDevice step → OnlyFailedPortsRequeue evidence base → OnlyFailedPortsRequeue evidence (step ∷ base)
 device_grounded evidence (Again e) base is g = absurd is
 device_grounded evidence (Answer e o) base is g = absurd is
 device_grounded evidence step base is g = g
@@ -151,7 +151,7 @@ told_ordered port (e ∷ requests) (p ∷ ended) each order =
 -- ---- the whole
 
 module _ (laws : LawsBelow) (port : Port) (replies : List Reply) (old new : ServerState) (t : SettledInvariant old) (ready : state_of (probe_result_of old.ports port.0) ≡ ReadyState)
-    (turn : HasTurn port (slots_at old.slots port.0) replies old.device new.device) (told : AnswersTurn port replies old new turn) where
+    (turn : HasTurnWithoutError port (slots_at old.slots port.0) replies old.device new.device) (told : AnswersTurn port replies old new turn) where
   low : port.0 < 4
   low = (ready_found old port.0 t.kept ready).0
 
@@ -225,8 +225,8 @@ module _ (laws : LawsBelow) (port : Port) (replies : List Reply) (old new : Serv
         (λ e base here rest. All-cons (IsOfTurn port) (Answer e Ok) base (ended_port e here) rest)
         (λ e base its_port rest. All-cons (IsOfTurn port) (Issue mode e) base its_port rest)
 
-    belong : Belong {D = DeviceStep} Service (ports_of new) x.steps
-    belong = all_steps (Belong {D = DeviceStep} Service (ports_of new)) tt
+    belong : AreStepsOfCall {D = DeviceStep} Service (ports_of new) x.steps
+    belong = all_steps (AreStepsOfCall {D = DeviceStep} Service (ports_of new)) tt
         (λ step base device rest. (rest, inl device))
         (λ e base here rest. (rest, inr tt))
         (λ e base its_port rest. (rest, inr (ap (ports_of new).state its_port ∙ port_same.1 ∙ ready, ap (ports_of new).mode its_port ∙ mode_same)))
@@ -244,8 +244,8 @@ module _ (laws : LawsBelow) (port : Port) (replies : List Reply) (old new : Serv
     lawful : AllLawful began its (ports_of new) x.steps
     lawful = all_steps (AllLawful began its (ports_of new)) tt (device_lawful began its (ports_of new)) (λ e base here rest. (rest, ok_lawful e here)) (λ e base its_port rest. rest)
 
-    grounded : AllGrounded its x.steps
-    grounded = all_steps (AllGrounded its) tt (device_grounded its) (λ e base here rest. rest) (λ e base its_port rest. rest)
+    grounded : OnlyFailedPortsRequeue its x.steps
+    grounded = all_steps (OnlyFailedPortsRequeue its) tt (device_grounded its) (λ e base here rest. rest) (λ e base its_port rest. rest)
 
     -- each answer is one of these
     only_ok : (e : Pending) (o : Outcome) → Contains x.steps (Answer e o) → Contains b.ended e × (o ≡ Ok)

@@ -16,7 +16,7 @@ use Rattle.refinement.specs.Driven.{AnyUse, IsDrivenBy, IsSimulated, SendsNone}
 use Rattle.refinement.specs.Driver.{IsBacked}
 use Rattle.refinement.specs.Slots.{IsOver, Serves, ServesRequest, Stage}
 use Rattle.server_history.proofs.state.FollowedAccesses.{followed_adds}
-use Rattle.server_history.specs.Laws.Fragment.{Finding, Looking, Serving}
+use Rattle.server_history.specs.Laws.AccessKind.{Finding, Looking, Serving}
 use Rattle.server_history.proofs.state.DrivenAccesses.{by_none}
 use Rattle.block_machine.specs.Events.{AllDevices, AllMay, issues_it}
 use Rattle.block_machine.specs.Histories.{IsReachable}
@@ -37,7 +37,7 @@ use Rattle.request_queue.specs.Entries.{Held, asks_of, due_ids}
 use Rattle.slots.specs.Uses.{PortSlots}
 use Rattle.slots.specs.declared.SlotUse.{SlotUse}
 use Rattle.server_history.specs.Below.{LawsBelow}
-use Rattle.server_history.specs.Served.{AnswersDone, AnswersEach, AnswersOne, HasNone, HasTurn, IsMaskOf, IssuesIn, IssuesOnly, IsAnsweredIn, answers_in, done_reply, is_used}
+use Rattle.server_history.specs.Served.{AnswersDone, AnswersEach, AnswersOne, HasNone, HasTurnWithoutError, IsMaskOf, IssuesIn, IssuesOnly, IsAnsweredIn, answers_in, done_reply, is_used}
 use Rattle.server_history.specs.Turns.{ServesPort}
 use Rattle.server_history.specs.Server.{ServerState, InCallInvariant, IsMachineOf, SettledInvariant, mode_in, slots_at, state_of, used_for, with_slot}
 use Rattle.server_history.proofs.healthy_turn.OneAnswer.{answer_kept}
@@ -79,7 +79,7 @@ followed_steps laws s new followed m reached is =
     let x = (followed_adds laws followed is.uses is.parked tt).adds m reached is.knows in
     (x.0, x.1, machine_on laws s new m x.0 is x.3.only x.2, x.3.backed, x.3.only)
 
-nobody_answered : LawsBelow → (s : ServerState) (new : Device) (port : Port) → SettledInvariant s → state_of (probe_result_of s.ports port.0) ≡ ReadyState → (turn : HasTurn port (slots_at s.slots port.0) [] s.device new) → IsSimulated IsService AnyUse s.device new
+nobody_answered : LawsBelow → (s : ServerState) (new : Device) (port : Port) → SettledInvariant s → state_of (probe_result_of s.ports port.0) ≡ ReadyState → (turn : HasTurnWithoutError port (slots_at s.slots port.0) [] s.device new) → IsSimulated IsService AnyUse s.device new
     → ((q : ℕ) → state_of (probe_result_of s.ports q) ≢ Dead → SendsNone q ReadLog s.device new)
     → (turn.look ≡ NoEvent → (slot : ℕ) (used : SlotUse) → slot < 32 → used_for s.slots port.0 slot ≡ Some used → (s.device.port port.0).ci slot ≡ false → (s.device.port port.0).sact slot ≡ false → ⊥)
     → ServesPort port [] s (record s { device = new })

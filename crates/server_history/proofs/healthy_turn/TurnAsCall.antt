@@ -35,7 +35,7 @@ use Rattle.port_control.specs.Looks.{IsLooking}
 use Rattle.port_control.specs.declared.events.PortEvent.TheVariants.{LinkChanged, NoEvent}
 use Rattle.slots.specs.declared.SlotUse.{SlotUse}
 use Rattle.server_history.specs.Below.{LawsBelow}
-use Rattle.server_history.specs.Served.{AnswersBy, Checks, HasEnded, HasTurn, IsAnsweredIn, IsMaskOf, answers_in, done_reply, is_used}
+use Rattle.server_history.specs.Served.{AnswersBy, Checks, HasEnded, HasTurnWithoutError, IsAnsweredIn, IsMaskOf, answers_in, done_reply, is_used}
 use Rattle.server_history.proofs.any_turn.TurnSteps.{counts_none}
 use Rattle.server_history.proofs.any_turn.UnusedSlotBits.{unused_clear}
 use Rattle.server_history.specs.Turns.{FindsTurn, InService, TurnCorresponds, joint_state_of, abstract_state_of}
@@ -64,7 +64,7 @@ tells_none q (step ∷ steps) told = tells_none q steps (λ x o here. told x o (
 -- ---- a turn
 
 module _ (laws : LawsBelow) (port : Port) (replies : List Reply) (old new : ServerState) (t : SettledInvariant old) (ready : state_of (probe_result_of old.ports port.0) ≡ ReadyState)
-    (turn : HasTurn port (slots_at old.slots port.0) replies old.device new.device) (list : TurnList port (slots_at old.slots port.0) replies old.device new.device turn)
+    (turn : HasTurnWithoutError port (slots_at old.slots port.0) replies old.device new.device) (list : TurnList port (slots_at old.slots port.0) replies old.device new.device turn)
     (same : SamePort (ports_of old) (ports_of new) port) (m : Machine) (reached : IsReachable m) (at : IsMachineOf old m) (steps : List Step) (may : AllMay m steps)
     (b : AnswersBy (mode_in old port) port replies steps)
     (answered : turn.look ≡ NoEvent → (slot : ℕ) (used : SlotUse) → slot < 32 → used_for old.slots port.0 slot ≡ Some used

@@ -27,7 +27,7 @@ use Rattle.block_machine.specs.Rules.{IsAllowedCount, IsNamed, Names, frames_for
 use Rattle.block_machine.specs.State as machine
 use Rattle.block_machine.specs.State.{Machine, block_of}
 use Rattle.block_machine.specs.Steps as steps
-use Rattle.block_machine.specs.Steps.{IsLiving, IsNew, Step, newly_accepted}
+use Rattle.block_machine.specs.Steps.{IsLiving, MayAccept, Step, newly_accepted}
 use Rattle.dma_frames.specs.Table.{Table, owner_of, lent_to, LendsOnly}
 use Rattle.host_boot.specs.Taken.{probe_result_of}
 use Rattle.request_queue.specs.Entries.{IsAccepted, unanswered_entries}
@@ -117,7 +117,7 @@ module _ (s : ServerState) (r : Request) (acc : IsAcceptable (server_situation s
       allowed : IsAcceptable (events.situation_of at.abstract) r
       allowed = subst (λ (x : Situation). IsAcceptable x r) (sym (situation_is laws s at (record { device_is = refl; ports_are = refl; machine = is }))) acc
 
-      pub is_new : IsNew m (request_in m)
+      pub is_new : MayAccept m (request_in m)
       is_new = record {
         id = id_is ∙ sym is.next;
         id_left = ⊎_elim (λ (low : m.next < 2 ^ 64). low) (λ high. absurd (allowed IdsSpent high)) (cases_lt m.next (2 ^ 64));

@@ -23,7 +23,7 @@ use Rattle.block_machine.specs.Refusals.{Situation, IsAcceptable}
 use Rattle.block_machine.specs.Rules.{IsNamed}
 use Rattle.block_machine.specs.State as machine
 use Rattle.block_machine.specs.State.{Machine}
-use Rattle.block_machine.specs.Steps.{Step, Accept, IsNew, after_step, lend}
+use Rattle.block_machine.specs.Steps.{Step, Accept, MayAccept, after_step, lend}
 use Rattle.block_machine.specs.declared.due.Unanswered.{Unanswered}
 use Rattle.server_history.proofs.state.ListMembers.{append_in, contains_there, some_in}
 use Rattle.refinement.specs.Driven.{IsDrivenBy, known}
@@ -133,7 +133,7 @@ module _ (laws : LawsBelow) (s : ServerState) (k : InCallInvariant s) (r : Reque
     abbrev request : machine.Accepted
     request = request_in s r acc row named port port_is id id_is m
 
-    fresh : IsNew m request
+    fresh : MayAccept m request
     fresh = is_new s r acc row named port port_is id id_is laws m was is
 
     abbrev next : Machine

@@ -14,7 +14,7 @@ use Rattle.refinement.specs.Slots.{op_of}
 use Rattle.refinement.specs.Driver.{IsBacked}
 use Rattle.server_history.proofs.state.DrivenAccesses.{by_none, driven_as}
 use Rattle.block_machine.specs.Due.{AreAllDueInOrder, IsDue, NoneDue, due_of, mark_issued, of_port, with_issued}
-use Rattle.block_machine.specs.Events.{Ask, AbstractState, AllDevices, AllLawful, AllMay, Belong, IsIssuedIn, IsByServer, IssuesLast, accepts_of, handles, issues_it}
+use Rattle.block_machine.specs.Events.{Ask, AbstractState, AllDevices, AllLawful, AllMay, AreStepsOfCall, IsIssuedIn, IsByServer, IssuesLast, accepts_of, handles, issues_it}
 use Rattle.block_machine.specs.Histories.{IsReachable}
 use Rattle.block_machine.specs.Left.{after}
 use Rattle.block_machine.specs.Ports.{Ports, Evidence}
@@ -82,8 +82,8 @@ only_append mode port (step ∷ late) early a b = (a.0, only_append mode port la
 
 -- what such steps are to a call: each is the device's, or issues a request of the port
 module _ (mode : QueueMode) (port : Port) where
-  pub belong_on : {D : Type 0} (ask : Ask D) (ports : Ports) → ((e : Pending) → e.request.port ≡ port → IsByServer ask ports (Issue mode e)) → (late early : List Step) → IssuesOnly mode port late → Belong ask ports early
-      → Belong ask ports (late ++ early)
+  pub belong_on : {D : Type 0} (ask : Ask D) (ports : Ports) → ((e : Pending) → e.request.port ≡ port → IsByServer ask ports (Issue mode e)) → (late early : List Step) → IssuesOnly mode port late → AreStepsOfCall ask ports early
+      → AreStepsOfCall ask ports (late ++ early)
   belong_on ask ports own [] early only b = b
   belong_on ask ports own (Issue its e ∷ late) early only b =
       (belong_on ask ports own late early only.2 b, inr (subst (λ (x : QueueMode). IsByServer ask ports (Issue x e)) (sym only.0) (own e only.1)))

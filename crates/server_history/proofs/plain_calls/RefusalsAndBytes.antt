@@ -41,8 +41,8 @@ use Rattle.ata_types.specs.declared.PortState.TheVariants.{Dead}
 use Rattle.ata_types.specs.declared.memory.TheConstants.{DRIVER_BYTES, DRIVER_FRAMES}
 use Rattle.port_control.specs.Services.{IsService}
 use Rattle.server_history.specs.Below.{LawsBelow}
-use Rattle.driver_history.specs.Heeding.{IsGrounded}
-use Rattle.driver_history.specs.Histories.{CameBy, Issues, IssuesDue, LosesNoPortError, PortCorresponds}
+use Rattle.driver_history.specs.Heeding.{OnlyFailedPortsRequeueIn}
+use Rattle.driver_history.specs.Histories.{ExplainsAccesses, Issues, IssuesDue, LosesNoPortError, PortCorresponds}
 use Rattle.driver_history.specs.Trace.{ClearsNone, LeavesEngine}
 use Rattle.server_history.specs.Histories.{ExtendsSettled, ExtendsHistory, LeadsToServer, ServerRelation, load_said, store_said}
 use Rattle.server_history.specs.Server.{HasCommand, ServerState, InCallInvariant, IsMachineOf, IsPortOf, SettledInvariant, OwnsClientFrames, mode_in, ports_of, server_situation, used_for}
@@ -151,7 +151,7 @@ module _ (laws : LawsBelow) where
   -- ---- calls that do nothing
 
   -- where there is no step, nothing needs a ground
-  none_grounded : (ask : Ask DeviceStep) (evidence : Evidence) → IsGrounded ask evidence []
+  none_grounded : (ask : Ask DeviceStep) (evidence : Evidence) → OnlyFailedPortsRequeueIn ask evidence []
   none_grounded Service evidence = tt
   none_grounded (Submit r) evidence = tt
   none_grounded (StoreAt client frame offset bytes) evidence = tt
@@ -162,7 +162,7 @@ module _ (laws : LawsBelow) where
   none_grounded (State port) evidence = tt
   none_grounded (Told step) evidence = tt
 
-  pub nothing_event : (s : ServerState) (ask : Ask DeviceStep) (said : CallResult) → GoesTo s s.device → ((m : AbstractState) → CameBy m ask said [] s.device s.device)
+  pub nothing_event : (s : ServerState) (ask : Ask DeviceStep) (said : CallResult) → GoesTo s s.device → ((m : AbstractState) → ExplainsAccesses m ask said [] s.device s.device)
       → ((old : JointState Device) → ServerRelation old s → (evidence : Evidence) → IsAnswered ask said old.abstract evidence [] (record { machine = old.abstract.machine; ports = ports_of s }))
       → ((old : JointState Device) → IsReachable old.abstract.machine → ServerRelation old s → (port : Port) → Issues ask [] old.abstract.machine (ports_of s) port)
       → Parts s s.device ask said [] []

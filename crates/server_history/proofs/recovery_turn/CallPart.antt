@@ -13,7 +13,7 @@ use Rattle.server_history.proofs.state.ListMembers.{map_in}
 use Rattle.std.specs.List.{Contains}
 use Rattle.server_history.proofs.dispositions.MetFates.{nobody}
 use Rattle.block_machine.specs.Due.{due_of, IsDue, NoneDue, of_port}
-use Rattle.block_machine.specs.Events.{Belong}
+use Rattle.block_machine.specs.Events.{AreStepsOfCall}
 use Rattle.block_machine.specs.Histories.{IsReachable}
 use Rattle.block_machine.specs.State.{Machine}
 use Rattle.block_machine.specs.declared.due.QueueMode.{QueueMode}
@@ -26,7 +26,7 @@ use Rattle.server_history.specs.Below.{LawsBelow}
 use Rattle.server_history.specs.ErrorHandling.{HasResolved, HandlesPortError}
 use Rattle.port_control.specs.declared.events.PortError.TheVariants.{TimedOut}
 use Rattle.server_history.specs.Server.{InCallInvariant, IsMachineOf, SettledInvariant, ServerState, mode_in, ports_of, state_of}
-use Rattle.server_history.specs.Turns.{HasPart, InRestart, InService, MakesTurn, OwesTurn, ServesPort, TurnCorresponds, Turn, ask_of_turn}
+use Rattle.server_history.specs.Turns.{IsPortTurn, InRestart, InService, MakesTurn, OwesTurn, ServesPort, TurnCorresponds, Turn, ask_of_turn}
 use Rattle.server_history.proofs.recovery_turn.TurnAsCall.{heeds_trouble, ties_recovered}
 use Rattle.server_history.proofs.recovery_turn.DecidedSteps.{DecidesTurn, recovered_decides}
 use Rattle.server_history.proofs.recovery_turn.TurnEvidence.{IsEvident, evident}
@@ -87,7 +87,7 @@ module _ (laws : LawsBelow) (port : Port) (replies : List Reply) (old new : Serv
     d : DecidesTurn port replies old new r (evidence_by r.settled) m
     d = recovered_decides laws port replies old new k ready r looks kept m reached is
 
-    makes : (turn : Turn) → Belong {D = DeviceStep} (ask_of_turn turn) (ports_of new) d.steps → OwesTurn turn port e.accesses old new m (evidence_by r.settled) d.steps
+    makes : (turn : Turn) → AreStepsOfCall {D = DeviceStep} (ask_of_turn turn) (ports_of new) d.steps → OwesTurn turn port e.accesses old new m (evidence_by r.settled) d.steps
         → TurnCorresponds turn port replies e.accesses old new m (evidence_by r.settled) d.steps → MakesTurn turn port replies e.accesses old new m
     makes turn belong owes ties = record {
       steps = d.steps;
@@ -113,7 +113,7 @@ module _ (laws : LawsBelow) (port : Port) (replies : List Reply) (old new : Serv
       ties = ties;
     }
 
-  has_part : (turn : Turn) → ((m : Machine) → IsReachable m → IsMachineOf old m → MakesTurn turn port replies e.accesses old new m) → HasPart turn port replies old new
+  has_part : (turn : Turn) → ((m : Machine) → IsReachable m → IsMachineOf old m → MakesTurn turn port replies e.accesses old new m) → IsPortTurn turn port replies old new
   has_part turn made = record {
     accesses = e.accesses;
     does = e.does;
@@ -132,7 +132,7 @@ module _ (laws : LawsBelow) (port : Port) (replies : List Reply) (old new : Serv
         makes m reached is InService its.belong (its.grounded unhung) (ties_recovered laws port replies old new k ready r looks kept e m reached is its unhung));
   }
 
-  pub restarted : r.settled.error_handled.port_error ≡ TimedOut → HasPart InRestart port replies old new
+  pub restarted : r.settled.error_handled.port_error ≡ TimedOut → IsPortTurn InRestart port replies old new
   restarted hung = has_part InRestart (λ m reached is.
       let its = d m reached is in
       makes m reached is InRestart (belongs laws port replies old new k ready r looks kept e m reached is its hung) (owes laws port replies old new k ready r looks kept e m reached is its hung)

@@ -15,7 +15,7 @@ use Rattle.ata_types.specs.declared.request.RequestId.{RequestId}
 use Rattle.adapter.specs.declared.access.DeviceStep.{DeviceStep}
 use Rattle.refinement.specs.Driven.{AnyUse, IsSimulated}
 use Rattle.refinement.specs.Driver.{IsBacked}
-use Rattle.block_machine.specs.Events.{AllDevices, AllLawful, AllMay, Belong, EndsUndone, IsIssuedIn, IsLawful, IssuesLast, IsToldBefore, AbstractState, Service, Tells, UnplugsAll, WasIssued, answers_of, issues_it, reply_of, IsReadyAgain}
+use Rattle.block_machine.specs.Events.{AllDevices, AllLawful, AllMay, AreStepsOfCall, EndsUndone, IsIssuedIn, IsLawful, IssuesLast, IsToldBefore, AbstractState, Service, Tells, UnplugsAll, WasIssued, answers_of, issues_it, reply_of, IsReadyAgain}
 use Rattle.block_machine.specs.Histories.{IsReachable}
 use Rattle.block_machine.specs.Left.{after}
 use Rattle.block_machine.specs.Ports.{Evidence, Ports, SameDisk}
@@ -25,7 +25,7 @@ use Rattle.block_machine.specs.declared.due.QueueMode.{QueueMode}
 use Rattle.block_machine.specs.declared.due.Unanswered.{Unanswered}
 use Rattle.server_history.proofs.state.ListMembers.{contains_here, map_in, in_filter}
 use Rattle.block_machine.specs.Due.{due_of}
-use Rattle.driver_history.specs.Heeding.{AllGrounded, AreTold}
+use Rattle.driver_history.specs.Heeding.{OnlyFailedPortsRequeue, AreTold}
 use Rattle.driver_history.specs.Histories.{IssuesDue}
 use Rattle.driver_history.specs.Holds.{NoneWaits}
 use Rattle.identify.specs.declared.error_log.FailedSlot.{FailedSlot}
@@ -81,10 +81,10 @@ pub record DecidesTurn (port : Port) (replies : List Reply) (old new : ServerSta
   pub stands : IsMachineOf new (after m steps)
   pub backed : IsBacked old.device new.device m steps
   pub own : All (IsOfTurn port) steps
-  pub belong : Belong {D = DeviceStep} Service (ports_of new) steps
+  pub belong : AreStepsOfCall {D = DeviceStep} Service (ports_of new) steps
   pub last : IssuesLast steps
   pub lawful : AllLawful (abstract_state_of old m) evidence (ports_of new) steps
-  pub grounded : r.settled.error_handled.port_error ≢ TimedOut → AllGrounded evidence steps
+  pub grounded : r.settled.error_handled.port_error ≢ TimedOut → OnlyFailedPortsRequeue evidence steps
   pub tells : Tells steps replies
   pub unplugs : UnplugsAll steps (after m steps)
   pub keeps : SameDisk (ports_of old) (ports_of new) port ⊎ NoneWaits (after m steps) port
@@ -346,12 +346,12 @@ module _ (laws : LawsBelow) (port : Port) (replies : List Reply) (old new : Serv
         none lost (inr (inr (inr (inl x)))) = subst RestsOnFailure x.1 rests
         none lost (inr (inr (inr (inr x)))) = not_same lost x.0
 
-    grounded : a.error_handled.port_error ≢ TimedOut → AllGrounded evidence (z.steps ++ base)
+    grounded : a.error_handled.port_error ≢ TimedOut → OnlyFailedPortsRequeue evidence (z.steps ++ base)
     grounded unhung =
-        issues_all (AllGrounded evidence) (mode_in r.mid port) port (device_grounded evidence) (λ e steps own g. g) z.steps base z.only
+        issues_all (OnlyFailedPortsRequeue evidence) (mode_in r.mid port) port (device_grounded evidence) (λ e steps own g. g) z.steps base z.only
         (grounded_join evidence f.dispositions (f.middle ++ (answers_in f.ended ++ f.first)) (deciding_grounded port evidence f.dispositions f.own (again_failed unhung) (answer_failed unhung))
-        (grounded_join evidence f.middle (answers_in f.ended ++ f.first) (devices_all (AllGrounded evidence) (device_grounded evidence) tt f.middle f.middle_only)
-        (answers_all (AllGrounded evidence) f.ended f.first (λ e steps here g. g) (devices_all (AllGrounded evidence) (device_grounded evidence) tt f.first f.first_only))))
+        (grounded_join evidence f.middle (answers_in f.ended ++ f.first) (devices_all (OnlyFailedPortsRequeue evidence) (device_grounded evidence) tt f.middle f.middle_only)
+        (answers_all (OnlyFailedPortsRequeue evidence) f.ended f.first (λ e steps here g. g) (devices_all (OnlyFailedPortsRequeue evidence) (device_grounded evidence) tt f.first f.first_only))))
 
     -- ---- its steps
 
@@ -378,12 +378,12 @@ module _ (laws : LawsBelow) (port : Port) (replies : List Reply) (old new : Serv
         let e = map_in (λ (x : Held). asks x.entry) r.mid.book y.0 due.here in
         ap (λ (ports : Ports). ports.state port) ports_same ∙ ap (λ (q : Port). state_of (probe_result_of r.mid.ports q.0)) (sym (ap (λ (u : Unanswered). u.port) (sym e.2) ∙ at)) ∙ of_ready r.mid k_mid e.0 e.1
 
-    belong : Belong {D = DeviceStep} Service (ports_of new) (z.steps ++ base)
+    belong : AreStepsOfCall {D = DeviceStep} Service (ports_of new) (z.steps ++ base)
     belong =
         belong_join Service (ports_of new) z.steps base (issuing_belong port (mode_in r.mid port) (ports_of new) mode_new z.steps z.only issued_ready)
         (belong_join Service (ports_of new) f.dispositions (f.middle ++ (answers_in f.ended ++ f.first)) (deciding_belong port (ports_of new) f.dispositions f.own (λ e here. let s = again_same e here in ap (ports_of new).state s.1 ∙ same_ready s.0))
         (belong_join Service (ports_of new) f.middle (answers_in f.ended ++ f.first) (devices_belong {D = DeviceStep} Service (ports_of new) f.middle f.middle_only)
-        (answers_all (Belong {D = DeviceStep} Service (ports_of new)) f.ended f.first (λ e rest here b. (b, inr tt)) (devices_belong {D = DeviceStep} Service (ports_of new) f.first f.first_only))))
+        (answers_all (AreStepsOfCall {D = DeviceStep} Service (ports_of new)) f.ended f.first (λ e rest here b. (b, inr tt)) (devices_belong {D = DeviceStep} Service (ports_of new) f.first f.first_only))))
 
     none_in_base : (id : RequestId) → list_any (issues_it id) base ≡ false
     none_in_base id =

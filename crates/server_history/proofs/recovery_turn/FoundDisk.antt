@@ -19,14 +19,14 @@ use Rattle.refinement.specs.Driver.{IsBacked}
 use Rattle.block_machine.specs.Events.{ShowsDisk, changes_disk}
 use Rattle.block_machine.specs.State.{Machine}
 use Rattle.block_machine.specs.Steps.{Step}
-use Rattle.host_boot.specs.Again.{BootsAgain, BootsStopped, IsOfStart}
+use Rattle.host_boot.specs.Again.{RebootsPort, BootsStopped, IsSurveyOrBoot}
 use Rattle.host_boot.specs.declared.Booted.{Booted}
 use Rattle.host_boot.specs.declared.ProbeResult.{ProbeResult}
 use Rattle.host_boot.specs.declared.ProbeResult.TheVariants.{Ready, Unready, Unserved}
 use Rattle.identify.specs.declared.wanted.Wanted.{Wanted}
-use Rattle.port_boot.specs.States.{EndsAs, EndsEarly, EndsLate, GetsReady, GetsUp, IsEarly, IsLate, IsOfBoot, ShowsOwnDisk, IsStateOfFault}
+use Rattle.port_boot.specs.States.{EndsAs, EndsBeforeStart, EndsAfterStart, BringsReady, BringsUpPort, IsBeforeStart, IsAfterStart, IsOfBoot, ShowsOwnDisk, IsStateOfFault}
 use Rattle.identify.specs.Wanted.{serial_of}
-use Rattle.port_control.specs.Ports.{FindsLink, HasLink, IsPlacing, Looks, ReadsUntil}
+use Rattle.port_control.specs.Ports.{FindsLink, HasLink, IsPlacingRegister, LooksAfterReset, ReadsUntil}
 use Rattle.port_control.specs.declared.PortFault.{PortFault}
 use Rattle.port_control.specs.declared.PortFault.TheVariants.{NoDevice, Busy, EngineStuck, NotAta}
 use Rattle.server_history.specs.Below.{LawsBelow}
@@ -57,7 +57,7 @@ module _ (laws : LawsBelow) (port : Port) where
       none = ap (λ (p : DevicePort). p.ssts_det) (laws.looks.put port Sctl 1 placed sent sends on.no_reset).here
 
   -- COMRESET was sent, and the link was found
-  found_then : (old placed sent ended linked new : Device) → IsOn old → IsDrivenBy (IsControl IsPlacing port) old placed → Writes (Px port Sctl) 1 placed sent → Writes (Px port Sctl) 0 sent ended
+  found_then : (old placed sent ended linked new : Device) → IsOn old → IsDrivenBy (IsControl IsPlacingRegister port) old placed → Writes (Px port Sctl) 1 placed sent → Writes (Px port Sctl) 0 sent ended
       → FindsLink port ended linked → IsDrivenBy (IsBeside port) linked new → SeesDevice port old new
   found_then old placed sent ended linked new on places sends ends found rest =
       let waited = (resetting laws port old placed sent ended found.sees.waited places sends ends (without laws port Ssts _ found.sees.count ended found.sees.waited found.sees.waits)).driven in
@@ -66,27 +66,27 @@ module _ (laws : LawsBelow) (port : Port) where
         seen = found.seen;
         early = (resetting laws port old placed sent ended found.seen places sends ends (until laws port Ssts _ ended found.seen found.sees)).driven;
         shows = sym (laws.looks.shown_after port Ssts found.sees.value found.sees.waited found.seen there.no_reset found.sees.reads) ∙ found.sees.shown;
-        own = own_then placed sent ended found.seen (laws.of_on port old placed on (driven_as (IsControl IsPlacing port) (IsOf port) old placed (λ access is. laws.booting_of port access (placing_boots laws port access is)) places)) sends ends found.sees;
+        own = own_then placed sent ended found.seen (laws.of_on port old placed on (driven_as (IsControl IsPlacingRegister port) (IsOf port) old placed (λ access is. laws.booting_of port access (placing_boots laws port access is)) places)) sends ends found.sees;
         late = cleared_then laws port found.seen linked new found.clears rest;
       }
 
   -- the port was started, and what came then
-  started : (old up new : Device) → IsOn old → GetsUp port old up → IsDrivenBy (IsBeside port) up new → SeesDevice port old new
+  started : (old up new : Device) → IsOn old → BringsUpPort port old up → IsDrivenBy (IsBeside port) up new → SeesDevice port old new
   started old up new on g rest = found_then old g.placed g.resets.sent g.resets.ended g.resets.rest.linked new on g.places g.resets.sends g.resets.ends g.resets.rest.links
       (started_then laws port old up new g rest)
 
   -- it wasn't started, but looked at, with a fault that isn't a missing device
-  early : (state : Shown) (old new : Device) → IsOn old → state ≢ Absent → EndsEarly port state old new → SeesDevice port old new
+  early : (state : Shown) (old new : Device) → IsOn old → state ≢ Absent → EndsBeforeStart port state old new → SeesDevice port old new
   early state old new on other g = by g.fault g.told g.resets.rest
     where
-      by : (fault : PortFault) → IsStateOfFault state fault → Looks port fault g.resets.ended new → SeesDevice port old new
+      by : (fault : PortFault) → IsStateOfFault state fault → LooksAfterReset port fault g.resets.ended new → SeesDevice port old new
       by NoDevice told l = absurd (other told)
       by Busy told l = found_then old g.placed g.resets.sent g.resets.ended l.linked new on g.places g.resets.sends g.resets.ends l.links (without laws port Tfd _ MOST_READINGS l.linked new l.waits)
       by (NotAta signature) told l = found_then old g.placed g.resets.sent g.resets.ended l.linked new on g.places g.resets.sends g.resets.ends l.links (linked_then laws port signature g.resets.ended new l)
       by EngineStuck told l = absurd l
 
   -- a port that isn't ready, by the way that it went
-  pub unready_sees : (state : Shown) (old new : Device) → IsOn old → state ≢ ReadyState → (IsEarly state → EndsEarly port state old new) → (IsLate state → EndsLate port old new) → ShowsDisk state → SeesDevice port old new
+  pub unready_sees : (state : Shown) (old new : Device) → IsOn old → state ≢ ReadyState → (IsBeforeStart state → EndsBeforeStart port state old new) → (IsAfterStart state → EndsAfterStart port old new) → ShowsDisk state → SeesDevice port old new
   unready_sees Absent old new on other first last shows = absurd shows
   unready_sees Dead old new on other first last shows = absurd shows
   unready_sees ReadyState old new on other first last shows = absurd (other refl)
@@ -103,7 +103,7 @@ module _ (laws : LawsBelow) (port : Port) where
       no is = let z : Unfit n ≡ Absent = is in cc
 
   -- and one that is ready
-  pub ready_sees : (old new : Device) → IsOn old → GetsReady port old new → SeesDevice port old new
+  pub ready_sees : (old new : Device) → IsOn old → BringsReady port old new → SeesDevice port old new
   ready_sees old new on g = started old g.up new on g.first (ready_then laws port old new g)
 
   -- each boot that finds a disk
@@ -124,7 +124,7 @@ pub record SeesOver (port : Port) (old asked new : Device) : Type 0 where
   pub later : Grows seen new
 
 pub booted_sees : (laws : LawsBelow) (port : Port) (wanted : Wanted) (booted : Booted) (accesses : List Access) (old d new : Device) → IsOn old → DoesAll accesses old d → All (IsOf port) accesses
-    → (b : BootsAgain wanted port booted d new) → ShowsDisk (state_of booted.found) → SeesOver port old b.asked new
+    → (b : RebootsPort wanted port booted d new) → ShowsDisk (state_of booted.found) → SeesOver port old b.asked new
 booted_sees laws port wanted booted accesses old d new on does of b shows = record {
   seen = sees.seen;
   accesses = until ++ sees.early.accesses;
@@ -136,7 +136,7 @@ booted_sees laws port wanted booted accesses old d new on does of b shows = reco
   later = late;
 }
   where
-    made : IsDrivenBy (IsOfStart port) d b.asked
+    made : IsDrivenBy (IsSurveyOrBoot port) d b.asked
     made = b.asks.driven
 
     until : List Access
@@ -147,7 +147,7 @@ booted_sees laws port wanted booted accesses old d new on does of b shows = reco
 
     sees : SeesDevice port b.asked new
     sees = boot_sees laws port wanted booted.found b.asked new
-        (laws.of_on port old b.asked on (record { accesses = until; all = asked; only = All-append (IsOf port) accesses made.accesses of (All-weaker (IsOfStart port) (IsOf port) (laws.recovery.start_of port) made.accesses made.only) }))
+        (laws.of_on port old b.asked on (record { accesses = until; all = asked; only = All-append (IsOf port) accesses made.accesses of (All-weaker (IsSurveyOrBoot port) (IsOf port) (laws.recovery.start_of port) made.accesses made.only) }))
         b.boots shows
 
     late : Grows sees.seen new
@@ -155,7 +155,7 @@ booted_sees laws port wanted booted accesses old d new on does of b shows = reco
 
 -- The machine had a disk in the port then, or one went or came, where the device went on after the boot.
 pub booted_had : (laws : LawsBelow) (port : Port) (s : ServerState) (wanted : Wanted) (booted : Booted) (accesses : List Access) (d new end : Device) → IsOn s.device → DoesAll accesses s.device d → All (IsOf port) accesses
-    → (b : BootsAgain wanted port booted d new) → ShowsDisk (state_of booted.found) → Grows new end → (m : Machine) → IsMachineOf s m → (steps : List Step) → IsBacked s.device end m steps
+    → (b : RebootsPort wanted port booted d new) → ShowsDisk (state_of booted.found) → Grows new end → (m : Machine) → IsMachineOf s m → (steps : List Step) → IsBacked s.device end m steps
     → (m.present port ≡ true) ⊎ (list_any (changes_disk port) steps ≡ true)
 booted_had laws port s wanted booted accesses d new end on does of b shows later m stands steps backed =
     let sees = booted_sees laws port wanted booted accesses s.device d new on does of b shows in

@@ -25,13 +25,13 @@ use Rattle.error_recovery.specs.Evidence.{GainsRunning}
 use Rattle.error_recovery.specs.declared.Next.{Next}
 use Rattle.error_recovery.specs.declared.Next.TheVariants as next
 use Rattle.host_boot.specs.Taken.{StillStandsBehind, probe_result_of, wanted_of}
-use Rattle.host_boot.specs.Again.{BootsAgain}
+use Rattle.host_boot.specs.Again.{RebootsPort}
 use Rattle.host_boot.specs.declared.Booted.{Booted}
 use Rattle.host_boot.specs.declared.ProbeResult.{ProbeResult}
 use Rattle.host_boot.specs.declared.ProbeResult.TheVariants.{Ready}
 use Rattle.identify.specs.declared.DiskInfo.{DiskInfo}
 use Rattle.identify.specs.declared.wanted.Wanted.{Wanted}
-use Rattle.port_boot.specs.States.{GetsReady}
+use Rattle.port_boot.specs.States.{BringsReady}
 use Rattle.port_control.specs.Looks.{IsLooking}
 use Rattle.port_control.specs.declared.events.PortError.{PortError}
 use Rattle.port_control.specs.declared.events.PortError.TheVariants.{TaskFileError}
@@ -95,7 +95,7 @@ module _ (laws : LawsBelow) (port : Port) where
   well_over old new on driven calm well = all_well driven.accesses old new on driven.only driven.all calm well
 
 -- one that got ready runs well, where no disk went or came, and nothing went wrong since ST was set
-module _ (laws : LawsBelow) (port : Port) (old asked mid new : Device) (on : IsOn asked) (way : GetsReady port asked mid) (later : IsDrivenBy (LeavesTrouble port) mid new) (mid_on : IsOn mid)
+module _ (laws : LawsBelow) (port : Port) (old asked mid new : Device) (on : IsOn asked) (way : BringsReady port asked mid) (later : IsDrivenBy (LeavesTrouble port) mid new) (mid_on : IsOn mid)
     (first : Grows old asked) where
   pub ready_well : PlugsNone port.0 old new → (GainsRunning (IsFaultOf port.0) port.0 old new → ⊥) → (GainsRunning (IsFatalOf port.0) port.0 old new → ⊥) → RunsWell (new.port port.0)
   ready_well none unfailed unbroken =
@@ -113,7 +113,7 @@ module _ (laws : LawsBelow) (port : Port) (old asked mid new : Device) (on : IsO
       well_over laws port mid new mid_on later parts.1 (way.well plugs.0 parts.0)
 
 -- and so does one that was booted
-module _ (laws : LawsBelow) (port : Port) (low : port.0 < 4) (wanted : Wanted) (info : DiskInfo) (booted : Booted) (old d mid new : Device) (on : IsOn d) (b : BootsAgain wanted port booted d mid) (found : booted.found ≡ Ready info)
+module _ (laws : LawsBelow) (port : Port) (low : port.0 < 4) (wanted : Wanted) (info : DiskInfo) (booted : Booted) (old d mid new : Device) (on : IsOn d) (b : RebootsPort wanted port booted d mid) (found : booted.found ≡ Ready info)
     (later : IsDrivenBy (LeavesTrouble port) mid new) (mid_on : IsOn mid) (until : Grows old d) where
   pub booted_well : PlugsNone port.0 old new → (GainsRunning (IsFaultOf port.0) port.0 old new → ⊥) → (GainsRunning (IsFatalOf port.0) port.0 old new → ⊥) → RunsWell (new.port port.0)
   booted_well = ready_well laws port old b.asked mid new (boot_asked_on laws port low wanted info booted old d mid new on b found later) (boot_ends laws port low wanted info booted old d mid new on b found later).way later mid_on

@@ -17,10 +17,10 @@ use Rattle.block_machine.specs.State.{Machine}
 use Rattle.disk_page.specs.Asking.{IsAsking}
 use Rattle.driver_history.specs.Histories.{LosesNoPortError}
 use Rattle.error_recovery.specs.Evidence.{ShowsTrouble}
-use Rattle.error_recovery.specs.Recovery.{EndsIn, RunsAgain}
+use Rattle.error_recovery.specs.Recovery.{EndsAsNext, RunsAgain}
 use Rattle.error_recovery.specs.declared.Next.{Next}
 use Rattle.error_recovery.specs.declared.Next.TheVariants as next
-use Rattle.host_boot.specs.Again.{BootsAgain, BootsStopped, IsOfStart}
+use Rattle.host_boot.specs.Again.{RebootsPort, BootsStopped, IsSurveyOrBoot}
 use Rattle.identify.specs.Wanted.{serial_of}
 use Rattle.port_boot.specs.Outcomes.{EndsReady}
 use Rattle.host_boot.specs.Taken.{probe_result_of, wanted_of}
@@ -28,7 +28,7 @@ use Rattle.host_boot.specs.declared.Booted.{Booted}
 use Rattle.host_boot.specs.declared.ProbeResult.{ProbeResult}
 use Rattle.host_boot.specs.declared.ProbeResult.TheVariants.{Ready, Unready}
 use Rattle.identify.specs.declared.DiskInfo.{DiskInfo}
-use Rattle.port_boot.specs.States.{GetsReady, IsOfBoot}
+use Rattle.port_boot.specs.States.{BringsReady, IsOfBoot}
 use Rattle.port_control.specs.Looks.{IsLooking}
 use Rattle.request_queue.specs.Entries.{asks_of, due_ids}
 use Rattle.identify.specs.declared.wanted.Wanted.{Wanted}
@@ -94,7 +94,7 @@ asking_leaves port (Storing at bytes) is = (tt, tt, tt, tt, stays_on (Storing at
 
 -- ---- a port that got ready
 
-module _ (laws : LawsBelow) (port : Port) (old asked mid new : Device) (on : IsOn asked) (way : GetsReady port asked mid) (later : IsDrivenBy (LeavesTrouble port) mid new) where
+module _ (laws : LawsBelow) (port : Port) (old asked mid new : Device) (on : IsOn asked) (way : BringsReady port asked mid) (later : IsDrivenBy (LeavesTrouble port) mid new) where
   pub ready_up_on : IsOn way.up
   ready_up_on = laws.of_on port asked way.up on (driven_as (IsOfBoot port) (IsOf port) asked way.up (λ access x. laws.booting_of port access x) (up_driven laws port asked way.up way.first))
 
@@ -111,15 +111,15 @@ module _ (laws : LawsBelow) (port : Port) (old asked mid new : Device) (on : IsO
 
 -- ---- a port that is ready once it was booted
 
-module _ (laws : LawsBelow) (port : Port) (low : port.0 < 4) (wanted : Wanted) (info : DiskInfo) (booted : Booted) (old d mid new : Device) (on : IsOn d) (b : BootsAgain wanted port booted d mid) (found : booted.found ≡ Ready info)
+module _ (laws : LawsBelow) (port : Port) (low : port.0 < 4) (wanted : Wanted) (info : DiskInfo) (booted : Booted) (old d mid new : Device) (on : IsOn d) (b : RebootsPort wanted port booted d mid) (found : booted.found ≡ Ready info)
     (later : IsDrivenBy (LeavesTrouble port) mid new) where
   pub boot_asked_on : IsOn b.asked
-  boot_asked_on = laws.of_on port d b.asked on (driven_as (IsOfStart port) (IsOf port) d b.asked (λ access s. (start_part laws port low access s).1) b.asks.driven)
+  boot_asked_on = laws.of_on port d b.asked on (driven_as (IsSurveyOrBoot port) (IsOf port) d b.asked (λ access s. (start_part laws port low access s).1) b.asks.driven)
 
   pub boot_ends : EndsReady (serial_of wanted) port info b.asked mid
   boot_ends = subst (λ (f : ProbeResult). BootsStopped wanted port f b.asked mid) found b.boots
 
-  abbrev boot_way : GetsReady port b.asked mid
+  abbrev boot_way : BringsReady port b.asked mid
   boot_way = boot_ends.way
 
   pub boot_shows : ShowsTrouble port.0 old new
@@ -156,7 +156,7 @@ module _ (laws : LawsBelow) (port : Port) (replies : List Reply) (old new : Serv
     again_is = subst (λ (n : Next). IsRevalidated (wanted_of old.wanted port.0) port x.port_error a.was n a.device r.mid.device a.found) is a.is
 
     pub again : RunsAgain x.queued port.0 a.mid.device a.device
-    again = (subst (λ (n : Next). EndsIn x.queued port n a.mid.device a.device) is x.handling.leaves.ends).1
+    again = (subst (λ (n : Next). EndsAsNext x.queued port n a.mid.device a.device) is x.handling.leaves.ends).1
 
     pub then_issuing : IsDrivenBy (LeavesTrouble port) a.device new.device
     then_issuing = subst (λ (d : Device). IsDrivenBy (LeavesTrouble port) d new.device) again_is.1 issuing
@@ -170,14 +170,14 @@ module _ (laws : LawsBelow) (port : Port) (replies : List Reply) (old new : Serv
     pub info : (info : DiskInfo) × (a.found ≡ Ready info)
     info = ready_info laws port replies old new k ready r looks kept is_ready
 
-    pub again_booted : (booted : Booted) × (booted.found ≡ a.found) × BootsAgain (wanted_of old.wanted port.0) port booted a.device r.mid.device
+    pub again_booted : (booted : Booted) × (booted.found ≡ a.found) × RebootsPort (wanted_of old.wanted port.0) port booted a.device r.mid.device
     again_booted =
         let after : IsRevalidated (wanted_of old.wanted port.0) port x.port_error a.was (next.Restart token) a.device r.mid.device a.found =
         subst (λ (n : Next). IsRevalidated (wanted_of old.wanted port.0) port x.port_error a.was n a.device r.mid.device a.found) is a.is in (
           after.0,
           after.1,
           ⊎_elim
-              (λ (boots : BootsAgain (wanted_of old.wanted port.0) port after.0 a.device r.mid.device). boots)
+              (λ (boots : RebootsPort (wanted_of old.wanted port.0) port after.0 a.device r.mid.device). boots)
               (λ absent. let z : Unready AbsentState ≡ Ready info.0 = sym absent.is ∙ after.1 ∙ info.1 in absurd cc)
               (boots_or_absent x.port_error (wanted_of old.wanted port.0) port after.0 a.device r.mid.device after.2),
         )

@@ -18,9 +18,9 @@ use Rattle.refinement.specs.Links.{SparesRegister}
 use Rattle.server_history.proofs.state.DrivenAccesses.{by_none, by_then, driven_as}
 use Rattle.disk_page.specs.Asking.{IsAsking}
 use Rattle.driver_history.specs.Trace.{ResetsLink}
-use Rattle.error_recovery.specs.Recovery.{IsRecovered, IsRecovering}
-use Rattle.port_boot.specs.States.{EndsEarly, EndsLate, GetsReady, GetsUp, IsBooting, IsOfBoot}
-use Rattle.port_control.specs.Ports.{ClearsErrors, FindsLink, FindsSignature, IsPlacing, Looks, ReadsNot, ReadsUntil, ReadsWithout, WritesCommand}
+use Rattle.error_recovery.specs.Recovery.{IsRecoveryRegister, IsRecovering}
+use Rattle.port_boot.specs.States.{EndsBeforeStart, EndsAfterStart, BringsReady, BringsUpPort, IsBootRegister, IsOfBoot}
+use Rattle.port_control.specs.Ports.{ClearsErrors, FindsLink, FindsSignature, IsPlacingRegister, LooksAfterReset, ReadsNot, ReadsUntil, ReadsWithout, IsCommandRegister}
 use Rattle.port_control.specs.declared.PortFault.{PortFault}
 use Rattle.port_control.specs.declared.PortFault.TheVariants.{NoDevice, Busy, EngineStuck, NotAta}
 use Rattle.server_history.specs.Below.{LawsBelow}
@@ -62,7 +62,7 @@ apart : (port at : Port) (r other : PortReg) → r ≢ other → Px at r ≢ Px 
 apart port at r other ne same = ne cc
 
 module _ (laws : LawsBelow) (port : Port) where
-  control_beside : (Such : PortReg → Type 0) → ((r : PortReg) → Such r → IsBooting r × (r ≢ Sctl)) → (access : Access) → IsControl Such port access → IsBeside port access
+  control_beside : (Such : PortReg → Type 0) → ((r : PortReg) → Such r → IsBootRegister r × (r ≢ Sctl)) → (access : Access) → IsControl Such port access → IsBeside port access
   control_beside Such each (Reading (Px at r) v) is = (inl is, tt)
   control_beside Such each (Reading r v) is = absurd is
   control_beside Such each (Writing (Px at r) v) is = let e = each r is.1 in (inl (is.0, e.0), apart port at r Sctl e.1)
@@ -70,21 +70,21 @@ module _ (laws : LawsBelow) (port : Port) where
   control_beside Such each (Loading at bytes) is = absurd is
   control_beside Such each (Storing at bytes) is = absurd is
 
-  command_beside : (r : PortReg) → WritesCommand r → IsBooting r × (r ≢ Sctl)
+  command_beside : (r : PortReg) → IsCommandRegister r → IsBootRegister r × (r ≢ Sctl)
   command_beside r is = (inl (inl is), λ same. let z : Cmd ≡ Sctl = sym is ∙ same in absurd cc)
 
-  placing_beside : (r : PortReg) → IsPlacing r → IsBooting r × (r ≢ Sctl)
+  placing_beside : (r : PortReg) → IsPlacingRegister r → IsBootRegister r × (r ≢ Sctl)
   placing_beside r is = (inl is, no is)
     where
-      no : IsPlacing r → r ≢ Sctl
+      no : IsPlacingRegister r → r ≢ Sctl
       no (inl x) same = let z : Cmd ≡ Sctl = sym x ∙ same in absurd cc
       no (inr (inl x)) same = let z : Clb ≡ Sctl = sym x ∙ same in absurd cc
       no (inr (inr (inl x))) same = let z : Clbu ≡ Sctl = sym x ∙ same in absurd cc
       no (inr (inr (inr (inl x)))) same = let z : Fb ≡ Sctl = sym x ∙ same in absurd cc
       no (inr (inr (inr (inr x)))) same = let z : Fbu ≡ Sctl = sym x ∙ same in absurd cc
 
-  pub placing_boots : (access : Access) → IsControl IsPlacing port access → IsOfBoot port access
-  placing_boots access is = (control_beside IsPlacing placing_beside access is).0
+  pub placing_boots : (access : Access) → IsControl IsPlacingRegister port access → IsOfBoot port access
+  placing_boots access is = (control_beside IsPlacingRegister placing_beside access is).0
 
   asking_beside : (access : Access) → IsAsking port access → IsBeside port access
   asking_beside (Reading r v) is = (inr is, tt)
@@ -93,7 +93,7 @@ module _ (laws : LawsBelow) (port : Port) where
   asking_beside (Storing at bytes) is = (inr is, tt)
 
   unread : (r : PortReg) (Sees : ℕ → Type 0) (access : Access) → ReadsNot port r Sees access → IsBeside port access
-  unread r Sees (Reading at v) is = (inl (subst (λ (x : Reg). IsControl IsBooting port (Reading x v)) (sym is.0) refl), tt)
+  unread r Sees (Reading at v) is = (inl (subst (λ (x : Reg). IsControl IsBootRegister port (Reading x v)) (sym is.0) refl), tt)
   unread r Sees (Writing at v) is = absurd is
   unread r Sees (Loading at bytes) is = absurd is
   unread r Sees (Storing at bytes) is = absurd is
@@ -105,7 +105,7 @@ module _ (laws : LawsBelow) (port : Port) where
   read_one : (r : PortReg) (v : ℕ) (old new : Device) → Reads (Px port r) v old new → IsDrivenBy (IsBeside port) old new
   read_one r v old new reads = one (Reading (Px port r) v) old new (inl refl, tt) reads
 
-  write_one : (r : PortReg) (v : ℕ) (old new : Device) → IsBooting r → r ≢ Sctl → Writes (Px port r) v old new → IsDrivenBy (IsBeside port) old new
+  write_one : (r : PortReg) (v : ℕ) (old new : Device) → IsBootRegister r → r ≢ Sctl → Writes (Px port r) v old new → IsDrivenBy (IsBeside port) old new
   write_one r v old new is other writes = one (Writing (Px port r) v) old new (inl (refl, is), apart port port r Sctl other) writes
 
   pub without : (r : PortReg) (Sees : ℕ → Type 0) (count : ℕ) (old new : Device) → ReadsWithout port r Sees count old new → IsDrivenBy (IsBeside port) old new
@@ -133,38 +133,38 @@ module _ (laws : LawsBelow) (port : Port) where
   signing : (signature : ℕ) (old new : Device) → FindsSignature port signature old new → IsDrivenBy (IsBeside port) old new
   signing signature old new f = by_then laws (linking old f.linked f.links) (linked_then signature old new f)
 
-  looking : (fault : PortFault) (old new : Device) → Looks port fault old new → IsDrivenBy (IsBeside port) old new
+  looking : (fault : PortFault) (old new : Device) → LooksAfterReset port fault old new → IsDrivenBy (IsBeside port) old new
   looking NoDevice old new l = without Ssts _ MOST_READINGS old new l
   looking Busy old new l = by_then laws (linking old l.linked l.links) (without Tfd _ MOST_READINGS l.linked new l.waits)
   looking (NotAta signature) old new l = signing signature old new l
   looking EngineStuck old new l = absurd l
 
-  pub commanding : (old new : Device) → IsDrivenBy (IsControl WritesCommand port) old new → IsDrivenBy (IsBeside port) old new
-  commanding old new driven = driven_as (IsControl WritesCommand port) (IsBeside port) old new (control_beside WritesCommand command_beside) driven
+  pub commanding : (old new : Device) → IsDrivenBy (IsControl IsCommandRegister port) old new → IsDrivenBy (IsBeside port) old new
+  commanding old new driven = driven_as (IsControl IsCommandRegister port) (IsBeside port) old new (control_beside IsCommandRegister command_beside) driven
 
   asking : (old new : Device) → IsDrivenBy (IsAsking port) old new → IsDrivenBy (IsBeside port) old new
   asking old new driven = driven_as (IsAsking port) (IsBeside port) old new asking_beside driven
 
   -- what comes once the link was found of a port that is started, and then
-  pub started_then : (old up new : Device) (g : GetsUp port old up) → IsDrivenBy (IsBeside port) up new → IsDrivenBy (IsBeside port) g.resets.rest.linked new
+  pub started_then : (old up new : Device) (g : BringsUpPort port old up) → IsDrivenBy (IsBeside port) up new → IsDrivenBy (IsBeside port) g.resets.rest.linked new
   started_then old up new g rest = by_then laws (linked_then 0x101 g.resets.ended g.found g.resets.rest) (by_then laws (commanding g.found up g.starts) rest)
 
   -- what comes once a port was started that is ready then, or stopped
-  pub ready_then : (old new : Device) (g : GetsReady port old new) → IsDrivenBy (IsBeside port) g.up new
+  pub ready_then : (old new : Device) (g : BringsReady port old new) → IsDrivenBy (IsBeside port) g.up new
   ready_then old new g = by_then laws (asking g.up g.then.asked g.then.asks) (write_one Ie named_causes g.then.asked new (inr (inr refl)) (λ e. let z : Ie ≡ Sctl = e in cc) g.then.tells)
 
-  pub late_then : (old new : Device) (g : EndsLate port old new) → IsDrivenBy (IsBeside port) g.up new
+  pub late_then : (old new : Device) (g : EndsAfterStart port old new) → IsDrivenBy (IsBeside port) g.up new
   late_then old new g = by_then laws (asking g.up g.then.asked g.then.asks) (commanding g.then.asked new g.then.stops)
 
   -- ---- the whole
 
-  pub resetting : (old placed sent ended new : Device) → IsDrivenBy (IsControl IsPlacing port) old placed → Writes (Px port Sctl) 1 placed sent → Writes (Px port Sctl) 0 sent ended → IsDrivenBy (IsBeside port) ended new → ResetsBy port old new
+  pub resetting : (old placed sent ended new : Device) → IsDrivenBy (IsControl IsPlacingRegister port) old placed → Writes (Px port Sctl) 1 placed sent → Writes (Px port Sctl) 0 sent ended → IsDrivenBy (IsBeside port) ended new → ResetsBy port old new
   resetting old placed sent ended new places sends ends rest = record {
     driven = record {
       accesses = places.accesses ++ list;
       all = laws.basic.does_append places.accesses list old placed new places.all (sent, sends, (ended, ends, rest.all));
       only = All-append (IsOfBoot port) places.accesses list
-          (All-weaker (IsControl IsPlacing port) (IsOfBoot port) placing_boots places.accesses places.only)
+          (All-weaker (IsControl IsPlacingRegister port) (IsOfBoot port) placing_boots places.accesses places.only)
           (All-cons (IsOfBoot port) (Writing (Px port Sctl) 1) (Writing (Px port Sctl) 0 ∷ rest.accesses) (inl (refl, inr (inl (inl refl))))
           (All-cons (IsOfBoot port) (Writing (Px port Sctl) 0) rest.accesses (inl (refl, inr (inl (inl refl)))) (All-weaker (IsBeside port) (IsOfBoot port) (λ access is. is.0) rest.accesses rest.only)));
     };
@@ -185,19 +185,19 @@ module _ (laws : LawsBelow) (port : Port) where
       list : List Access
       list = Writing (Px port Sctl) 1 ∷ Writing (Px port Sctl) 0 ∷ rest.accesses
 
-  getting_up : (old up new : Device) → GetsUp port old up → IsDrivenBy (IsBeside port) up new → ResetsBy port old new
+  getting_up : (old up new : Device) → BringsUpPort port old up → IsDrivenBy (IsBeside port) up new → ResetsBy port old new
   getting_up old up new g rest = resetting old g.placed g.resets.sent g.resets.ended new g.places g.resets.sends g.resets.ends (by_then laws (linking g.resets.ended g.resets.rest.linked g.resets.rest.links) (started_then old up new g rest))
 
-  pub ready_resets : (old new : Device) → GetsReady port old new → ResetsBy port old new
+  pub ready_resets : (old new : Device) → BringsReady port old new → ResetsBy port old new
   ready_resets old new g = getting_up old g.up new g.first (ready_then old new g)
 
-  pub early_resets : (state : Shown) (old new : Device) → EndsEarly port state old new → ResetsBy port old new
+  pub early_resets : (state : Shown) (old new : Device) → EndsBeforeStart port state old new → ResetsBy port old new
   early_resets state old new g = resetting old g.placed g.resets.sent g.resets.ended new g.places g.resets.sends g.resets.ends (looking g.fault g.resets.ended new g.resets.rest)
 
-  pub late_resets : (old new : Device) → EndsLate port old new → ResetsBy port old new
+  pub late_resets : (old new : Device) → EndsAfterStart port old new → ResetsBy port old new
   late_resets old new g = getting_up old g.up new g.first (late_then old new g)
 
-  pub up_driven : (old up : Device) → GetsUp port old up → IsDrivenBy (IsOfBoot port) old up
+  pub up_driven : (old up : Device) → BringsUpPort port old up → IsDrivenBy (IsOfBoot port) old up
   up_driven old up g = (getting_up old up up g (by_none (IsBeside port) up)).driven
 
   -- ---- recovery
@@ -211,9 +211,9 @@ module _ (laws : LawsBelow) (port : Port) where
 
   -- recovery leaves the link alone
   pub recovering_spares : (access : Access) → IsRecovering port access → SparesRegister (Px port Sctl) access
-  recovering_spares access (inl is) = control_spares IsRecovered no access is
+  recovering_spares access (inl is) = control_spares IsRecoveryRegister no access is
     where
-      no : (r : PortReg) → IsRecovered r → r ≢ Sctl
+      no : (r : PortReg) → IsRecoveryRegister r → r ≢ Sctl
       no r (inl x) same = let z : Cmd ≡ Sctl = sym x ∙ same in absurd cc
       no r (inr (inl x)) same = let z : Serr ≡ Sctl = sym x ∙ same in absurd cc
       no r (inr (inr x)) same = let z : Is ≡ Sctl = sym x ∙ same in absurd cc

@@ -42,7 +42,7 @@ use Rattle.request_queue.specs.declared.disposition.Revalidation.{Revalidation}
 use Rattle.request_queue.specs.declared.disposition.Revalidation.TheVariants.{SameDisk, DiskLost, Dead as NoEnd}
 use Rattle.slots.specs.Uses.{PortSlots}
 use Rattle.server_history.specs.Below.{LawsBelow}
-use Rattle.server_history.specs.Dispositions.{DecidesOn, MayMeet, MeetsInMachine, keeps_fate}
+use Rattle.server_history.specs.Dispositions.{DecidesOn, AreResolvable, AreResolvedInMachine, keeps_frames_lent}
 use Rattle.server_history.specs.ErrorHandling.{AreUnused, IsFailed, IsRevalidated, IsRevalidation, HasResolved, holdings_of, requests_of, with_port_found}
 use Rattle.server_history.specs.Served.{answers_in}
 use Rattle.server_history.specs.Server.{AreKept, AreUsesOf, InCallInvariant, IsMachineOf, ServerState, is_served, kept_at, slots_at, state_of, HasTrueMark}
@@ -144,7 +144,7 @@ module _ (laws : LawsBelow) (port : Port) (mid : ServerState) (k : InCallInvaria
   )
 
   -- one whose loan isn't kept has no slot
-  unserved : (e : Held) → Contains its e → keeps_fate (disposition e.entry) e.entry ≡ false → HasNoSlot t.uses e.entry.id
+  unserved : (e : Held) → Contains its e → keeps_frames_lent (disposition e.entry) e.entry ≡ false → HasNoSlot t.uses e.entry.id
   unserved e here never = by e.entry.issued refl
     where
       entry : (p : Pending) × Contains n.book p × IsEntry e p
@@ -161,8 +161,8 @@ module _ (laws : LawsBelow) (port : Port) (mid : ServerState) (k : InCallInvaria
       of (Restart token) z issued = served (λ stuck. let y : Restart token ≡ Stuck = sym z ∙ stuck in absurd cc) issued
       of Stuck z issued =
           let u = unnamed z in
-          let keeps : keeps_fate (disposition e.entry) e.entry ≡ true =
-          ap (λ (f : Option FailedRequest). keeps_fate (disposition_of f revalidation e.entry) e.entry) u.1 ∙ ap (λ (p : Revalidation). keeps_fate (disposition_on p e.entry) e.entry) (dead_end port_error was found revalidation expects u.0) ∙ issued in
+          let keeps : keeps_frames_lent (disposition e.entry) e.entry ≡ true =
+          ap (λ (f : Option FailedRequest). keeps_frames_lent (disposition_of f revalidation e.entry) e.entry) u.1 ∙ ap (λ (p : Revalidation). keeps_frames_lent (disposition_on p e.entry) e.entry) (dead_end port_error was found revalidation expects u.0) ∙ issued in
           absurd (false≢true (sym never ∙ keeps))
 
       by : (b : Bool) → e.entry.issued ≡ b → HasNoSlot t.uses e.entry.id
@@ -181,7 +181,7 @@ module _ (laws : LawsBelow) (port : Port) (mid : ServerState) (k : InCallInvaria
       (λ there. absurd (nowhere id (subst (λ (ids : List RequestId). Contains ids id) (is.unparked port.0 alive) there)))
       (Contains-append_cases _ (is.parked port.0) id (passed.left.its id here))
 
-  may_meet : MayMeet port disposition its (holdings_of port mid) (at_slots t device) w
+  may_meet : AreResolvable port disposition its (holdings_of port mid) (at_slots t device) w
   may_meet = record {
     reached = w_reached;
     knows = passed.passes.knows;
@@ -196,7 +196,7 @@ module _ (laws : LawsBelow) (port : Port) (mid : ServerState) (k : InCallInvaria
   }
 
   module _ (later : List Reply) (now : Holdings) (meets : AreResolved disposition its later (holdings_of port mid) now) where
-    pub met : MeetsInMachine port disposition its later (holdings_of port mid) now (at_slots t device) w
+    pub met : AreResolvedInMachine port disposition its later (holdings_of port mid) now (at_slots t device) w
     met = meet laws port disposition its (fits_each failed revalidation its) later (holdings_of port mid) now (at_slots t device) w may_meet meets
 
     abbrev z : Machine
@@ -206,7 +206,7 @@ module _ (laws : LawsBelow) (port : Port) (mid : ServerState) (k : InCallInvaria
     dies : (e : Pending) → Contains met.held e → (e.request.port ≡ port) × (found ≡ Unready Dead)
     dies e here = (x.2.port ∙ (of_its x.0 x.1).1, by revalidation refl)
       where
-        x : (request : Held) × Contains its request × IsEntry request e × (keeps_fate (disposition request.entry) request.entry ≡ true)
+        x : (request : Held) × Contains its request × IsEntry request e × (keeps_frames_lent (disposition request.entry) request.entry ≡ true)
         x = met.whose e here
 
         lives : revalidation ≢ NoEnd → ⊥
@@ -218,7 +218,7 @@ module _ (laws : LawsBelow) (port : Port) (mid : ServerState) (k : InCallInvaria
         by NoEnd same = subst (IsRevalidation port_error was found) same expects
 
     -- on another port nothing is decided
-    quiet : found ≢ Unready Dead → (e : PendingRequest) → keeps_fate (disposition e) e ≡ false
+    quiet : found ≢ Unready Dead → (e : PendingRequest) → keeps_frames_lent (disposition e) e ≡ false
     quiet other e = kept_dead_alone failed revalidation e (λ dead. other (subst (IsRevalidation port_error was found) dead expects))
 
     none_left : found ≢ Unready Dead → met.parked port.0 ≡ []
@@ -388,7 +388,7 @@ module _ (laws : LawsBelow) (port : Port) (later : List Reply) (old new : Server
       p = passed laws (wanted_of old.wanted port.0) port a.error_handled.port_error a.was a.error_handled.result.next a.error_handled.handling.accesses a.mid.device a.device new.device a.found a.error_handled.handling.does.slots a.is
           (record { uses = is_mid.uses; parked = is_mid.parked }) n n_reached is_mid.knows
 
-      f : MeetsInMachine port (disposition_of a.failed a.revalidation) (requests_of port a.mid.book) later (holdings_of port a.mid) a.now (at_slots p.slots new.device) (after n p.passes.steps)
+      f : AreResolvedInMachine port (disposition_of a.failed a.revalidation) (requests_of port a.mid.book) later (holdings_of port a.mid) a.now (at_slots p.slots new.device) (after n p.passes.steps)
       f = met laws port a.mid mid_kept mid_ready n n_reached is_mid a.error_handled.result.next a.found new.device p a.failed a.revalidation a.error_handled.port_error a.was a.expects unnamed later a.now a.meets
 
       then_is : after m (p.passes.steps ++ base) ≡ after n p.passes.steps

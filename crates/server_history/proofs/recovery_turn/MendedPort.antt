@@ -12,7 +12,7 @@ use Rattle.refinement.specs.Driven.{AnyUse, IsSimulated}
 use Rattle.block_machine.specs.Ports.{Evidence, IsInterrupted, IsServiced, SameDisk}
 use Rattle.error_recovery.specs.declared.Next.{Next}
 use Rattle.error_recovery.specs.declared.Next.TheVariants as next
-use Rattle.host_boot.specs.Again.{BootsAgain, BootsStopped}
+use Rattle.host_boot.specs.Again.{RebootsPort, BootsStopped}
 use Rattle.host_boot.specs.Taken.{probe_result_of, wanted_of}
 use Rattle.host_boot.specs.declared.ProbeResult.{ProbeResult}
 use Rattle.host_boot.specs.declared.ProbeResult.TheVariants.{Ready, Unready, Unserved}
@@ -64,11 +64,11 @@ found_dead wanted port port_error was next.Dead old new found is same = is.0
 pub found_served : (wanted : Wanted) (port : Port) (port_error : PortError) (was : DiskInfo) (then : Next) (old new : Device) (found : ProbeResult) → IsRevalidated wanted port port_error was then old new found → is_served found ≡ true
 found_served wanted port port_error was (next.Running token) old new found is = ap is_served is.0
 found_served wanted port port_error was (next.Restart token) old new found is = ap is_served (sym is.1) ∙ ⊎_elim
-    (λ (b : BootsAgain wanted port is.0 old new). by b is.0.found b.boots)
+    (λ (b : RebootsPort wanted port is.0 old new). by b is.0.found b.boots)
     (λ absent. ap is_served absent.is)
     (boots_or_absent port_error wanted port is.0 old new is.2)
   where
-    by : (b : BootsAgain wanted port is.0 old new) (f : ProbeResult) → BootsStopped wanted port f b.asked new → is_served f ≡ true
+    by : (b : RebootsPort wanted port is.0 old new) (f : ProbeResult) → BootsStopped wanted port f b.asked new → is_served f ≡ true
     by b Unserved none = absurd none
     by b (Ready info) x = refl
     by b (Unready state) x = refl

@@ -17,7 +17,7 @@ use Rattle.refinement.specs.Links.{SameAdapter}
 use Rattle.block_machine.specs.Histories.{IsReachable}
 use Rattle.block_machine.specs.State.{Machine}
 use Rattle.server_history.proofs.state.ListMembers.{contains_cases, contains_here, contains_there}
-use Rattle.error_recovery.specs.Recovery.{EndsIn}
+use Rattle.error_recovery.specs.Recovery.{EndsAsNext}
 use Rattle.error_recovery.specs.declared.Next.{Next}
 use Rattle.error_recovery.specs.declared.Next.TheVariants as next
 use Rattle.host_boot.specs.Taken.{IsServed, StillStandsBehind, probe_result_of, wanted_of}
@@ -116,7 +116,7 @@ module _ (laws : LawsBelow) (port : Port) (old mid : ServerState) (device : Devi
       room = let room = mid_kept.room in let size = same.size in omega (arith, room, size);
       agreed = (passed.0.uses, passed.2 (λ dead. let z : next.Restart token ≡ next.Dead = sym is ∙ dead in absurd cc), record { machine = passed.1.machine; parked = passed.0.parked; reached = passed.1.reached; knows = passed.1.knows });
     },
-    (subst (λ (n : Next). EndsIn r.queued port n mid.device device) is r.handling.leaves.ends).1,
+    (subst (λ (n : Next). EndsAsNext r.queued port n mid.device device) is r.handling.leaves.ends).1,
     saw_still laws port r.handling.accesses mid.device device r.handling.does.only (recovery_does port.0 r.result.next r.handling.accesses mid.device device r.handling.does.slots) mid_kept.on ((mid_kept.behind port.0 low).runs mid_ready).saw,
   )
 
@@ -175,7 +175,7 @@ module _ (laws : LawsBelow) (port : Port) (later : List Reply) (old new : Server
   Stands found d = StandsAt wanted found port.0 d
 
   -- it runs again
-  runs_then : (token : running_token.Running) → EndsIn r.queued port (next.Running token) mid.device a.device → Stands (Ready a.was) a.device
+  runs_then : (token : running_token.Running) → EndsAsNext r.queued port (next.Running token) mid.device a.device → Stands (Ready a.was) a.device
   runs_then token ends =
       let l = r.handling.leaves in
       let g = ends.1 in
@@ -196,7 +196,7 @@ module _ (laws : LawsBelow) (port : Port) (later : List Reply) (old new : Server
 
   its_stands : Stands a.found new.device
   its_stands = stands_after laws wanted port a.device new.device done.1.on served_then r.queued r.port_error a.was mid.device r.result.next a.found r.handling.leaves.ends is_after (alike.pi ∙ sym recovered_same.pi)
-      (λ token is. runs_then token (subst (λ (n : Next). EndsIn r.queued port n mid.device a.device) is r.handling.leaves.ends))
+      (λ token is. runs_then token (subst (λ (n : Next). EndsAsNext r.queued port n mid.device a.device) is r.handling.leaves.ends))
 
   -- ---- the requests
 

@@ -14,10 +14,10 @@ use Rattle.adapter.specs.Device.{Device}
 use Rattle.adapter.specs.Rules.{IsOn}
 use Rattle.adapter.specs.declared.command.Operation.{Operation}
 use Rattle.adapter.specs.declared.command.Operation.TheVariants.{Identify, ReadLog}
-use Rattle.refinement.specs.Acts.{Act, Comes, InSlots, act_steps, at_slots}
+use Rattle.refinement.specs.Acts.{Act, ActsReach, InSlots, act_steps, at_slots}
 use Rattle.refinement.specs.Relation.{port_at}
 use Rattle.refinement.specs.Driven.{AnyUse, IsControl, IsDrivenBy, IsSimulated, IsSimulatedTo, IsOf, SendsNone}
-use Rattle.refinement.specs.Driver.{AllFree, Goes, DriverRelation}
+use Rattle.refinement.specs.Driver.{AllFree, DriverAdvances, DriverRelation}
 use Rattle.refinement.specs.GivingUp.{given_up}
 use Rattle.refinement.specs.Halting.{IsHaltedAsTaken}
 use Rattle.refinement.specs.Links.{SparesRegister}
@@ -30,18 +30,18 @@ use Rattle.block_machine.specs.Left.{after}
 use Rattle.block_machine.specs.State.{Machine}
 use Rattle.command_table.specs.Written.{IsTableStore}
 use Rattle.disk_page.specs.Asking.{IsAsking}
-use Rattle.error_recovery.specs.Recovery.{IsRecovered, IsRecovering, LeavesSlots, RecoversOrStops, with_own}
+use Rattle.error_recovery.specs.Recovery.{IsRecoveryRegister, IsRecovering, LeavesSlots, RecoversOrStops, with_own}
 use Rattle.error_recovery.specs.declared.Next.{Next}
 use Rattle.error_recovery.specs.declared.Next.TheVariants as next
 use Rattle.error_recovery.specs.declared.Recovered.{Recovered}
-use Rattle.host_boot.specs.Again.{BootsAgain, BootsStopped, IsOfStart}
+use Rattle.host_boot.specs.Again.{RebootsPort, BootsStopped, IsSurveyOrBoot}
 use Rattle.host_boot.specs.Taken.{IsSurvey, probe_result_of}
 use Rattle.host_boot.specs.declared.Booted.{Booted}
 use Rattle.host_boot.specs.declared.ProbeResult.{ProbeResult}
 use Rattle.host_boot.specs.declared.ProbeResult.TheVariants.{Unserved, Ready, Unready}
 use Rattle.identify.specs.declared.DiskInfo.{DiskInfo}
 use Rattle.identify.specs.declared.wanted.Wanted.{Wanted}
-use Rattle.port_boot.specs.States.{IsBootTo, IsBooting, IsOfBoot, StopsOnWay}
+use Rattle.port_boot.specs.States.{IsBootTo, IsBootRegister, IsOfBoot, StopsOnWay}
 use Rattle.port_control.specs.Looks.{IsLooking}
 use Rattle.slots.specs.declared.SlotUse.{SlotUse}
 use Rattle.server_history.specs.Below.{LawsBelow}
@@ -79,10 +79,10 @@ looking_stores port access is at bytes e = absurd (subst (IsLooking port) e is)
 
 module _ (laws : LawsBelow) where
   recovering_mild : (port : Port) (access : Access) → IsRecovering port access → IsMild port access
-  recovering_mild port access is = (laws.recovering_of port access is, λ at bytes e. stored_in IsRecovered port at bytes (subst (IsRecovering port) e is))
+  recovering_mild port access is = (laws.recovering_of port access is, λ at bytes e. stored_in IsRecoveryRegister port at bytes (subst (IsRecovering port) e is))
 
   booting_mild : (port : Port) (access : Access) → IsOfBoot port access → IsMild port access
-  booting_mild port access is = (laws.booting_of port access is, λ at bytes e. stored_in IsBooting port at bytes (subst (IsOfBoot port) e is))
+  booting_mild port access is = (laws.booting_of port access is, λ at bytes e. stored_in IsBootRegister port at bytes (subst (IsOfBoot port) e is))
 
   mild_leaves : (port q : Port) (slot : ℕ) → q.0 ≢ port.0 → port.0 < 4 → q.0 < 4 → slot < 32 → (access : Access) → IsMild port access → LeavesStored q slot access
   mild_leaves port q slot other low small few access is = record {
@@ -130,7 +130,7 @@ module _ (laws : LawsBelow) (s : ServerState) (port : Port) (k : InCallInvariant
   -- ---- acts
 
   module _ (slots then : InSlots) (d new : Device) (p : Passes s port slots d) where
-    passes_on : (accesses : List Access) → DoesAll accesses d new → All (IsMild port) accesses → (Tells : List Act → Type 0) → Comes accesses (at_slots slots d) p.machine (at_slots then new) Tells
+    passes_on : (accesses : List Access) → DoesAll accesses d new → All (IsMild port) accesses → (Tells : List Act → Type 0) → ActsReach accesses (at_slots slots d) p.machine (at_slots then new) Tells
         → ((q : ℕ) (o : Operation) → q ≢ port.0 → probe_result_of s.ports q ≢ Unready DeadState → then.uses q 0 ≡ Own o → ⊥)
         → ((q : ℕ) (o : Operation) → op_of o ≡ None → q ≢ port.0 → probe_result_of s.ports q ≢ Unready DeadState → SendsNone q o d new) → Passes s port then new
     passes_on accesses all only Tells c clients silent = record {
@@ -162,7 +162,7 @@ module _ (laws : LawsBelow) (s : ServerState) (port : Port) (k : InCallInvariant
         its : IsDrivenBy (IsOf port) d new
         its = record { accesses = accesses; all = all; only = All-weaker (IsMild port) (IsOf port) (λ access is. is.0) accesses only }
 
-        goes : Goes (at_slots slots d) p.machine (act_steps c.acts) (at_slots then new)
+        goes : DriverAdvances (at_slots slots d) p.machine (act_steps c.acts) (at_slots then new)
         goes = laws.slots.acts_go c.acts (at_slots slots d) (at_slots then new) p.machine p.knows c.done
 
   -- ---- a stretch that is followed
@@ -199,7 +199,7 @@ module _ (laws : LawsBelow) (s : ServerState) (port : Port) (k : InCallInvariant
     given_free : AllFree (given_up port.0 slots).uses port.0
     given_free = laws.slots.given_free (at_slots slots d) port.0
 
-    given : (Tells : List Act → Type 0) → DoesAll r.accesses d new → Comes r.accesses (at_slots slots d) first.machine (at_slots (given_up port.0 slots) new) Tells → Passes s port (given_up port.0 slots) new
+    given : (Tells : List Act → Type 0) → DoesAll r.accesses d new → ActsReach r.accesses (at_slots slots d) first.machine (at_slots (given_up port.0 slots) new) Tells → Passes s port (given_up port.0 slots) new
     given Tells does c =
         passes_on slots (given_up port.0 slots) d new first r.accesses does mild Tells c
         (λ q o other alive is. first.clients q o other alive (ap (λ (f : ℕ → SlotState). f 0) (sym (given_others q other)) ∙ is)) silent
@@ -240,11 +240,11 @@ module _ (laws : LawsBelow) (s : ServerState) (port : Port) (k : InCallInvariant
         (slots, passes_followed slots d new p (IsOfBoot port) (λ uses. AllFree uses port.0) (λ uses. uses) (booting_mild laws port) free (λ q other. refl) b.boots.followed)
     stopped_passes wanted (Unready state) b = boot_to (StopsOnWay port state) state b.boots
 
-  pub start_passes : (slots : InSlots) (d new : Device) → Passes s port slots d → AllFree slots.uses port.0 → IsSimulated (IsOfStart port) (λ uses. AllFree uses port.0) d new → Passes s port slots new
+  pub start_passes : (slots : InSlots) (d new : Device) → Passes s port slots d → AllFree slots.uses port.0 → IsSimulated (IsSurveyOrBoot port) (λ uses. AllFree uses port.0) d new → Passes s port slots new
   start_passes slots d new p free asks =
-      passes_followed slots d new p (IsOfStart port) (λ uses. AllFree uses port.0) (λ uses. uses) (λ access is. ⊎_elim (survey_mild port access) (booting_mild laws port access) is) free (λ q other. refl) asks
+      passes_followed slots d new p (IsSurveyOrBoot port) (λ uses. AllFree uses port.0) (λ uses. uses) (λ access is. ⊎_elim (survey_mild port access) (booting_mild laws port access) is) free (λ q other. refl) asks
 
-  pub again_passes : (slots : InSlots) (d new : Device) → Passes s port slots d → AllFree slots.uses port.0 → (wanted : Wanted) (booted : Booted) → BootsAgain wanted port booted d new
+  pub again_passes : (slots : InSlots) (d new : Device) → Passes s port slots d → AllFree slots.uses port.0 → (wanted : Wanted) (booted : Booted) → RebootsPort wanted port booted d new
       → (then : InSlots) × Passes s port then new
   again_passes slots d new p free wanted booted b =
       let asked : Passes s port slots b.asked = start_passes slots d b.asked p free b.asks in
@@ -262,7 +262,7 @@ module _ (laws : LawsBelow) (s : ServerState) (port : Port) (k : InCallInvariant
   after_passes wanted port_error was (next.Running token) d new found (is, same) (slots, p, free) = (slots, subst (Passes s port slots) (sym same) p)
   after_passes wanted port_error was (next.Restart token) d new found (booted, is, b) (slots, p, free) =
       let free_then = free (λ dead. let z : next.Restart token ≡ next.Dead = dead in absurd cc) in ⊎_elim
-      (λ (boots : BootsAgain wanted port booted d new). again_passes slots d new p free_then wanted booted boots)
+      (λ (boots : RebootsPort wanted port booted d new). again_passes slots d new p free_then wanted booted boots)
       (λ absent. (slots, start_passes slots d new p free_then absent.starts))
       (boots_or_absent port_error wanted port booted d new b)
   after_passes wanted port_error was next.Dead d new found (is, same) (slots, p, free) = (slots, subst (Passes s port slots) (sym same) p)

@@ -28,7 +28,7 @@ use Rattle.block_machine.specs.Steps.{Step}
 use Rattle.error_recovery.specs.Recovery.{LeavesSlots, with_own}
 use Rattle.error_recovery.specs.declared.Next.{Next}
 use Rattle.error_recovery.specs.declared.Next.TheVariants.{Running, Restart, Dead as Stuck}
-use Rattle.host_boot.specs.Again.{BootsAgain, BootsStopped, IsOfStart}
+use Rattle.host_boot.specs.Again.{RebootsPort, BootsStopped, IsSurveyOrBoot}
 use Rattle.host_boot.specs.Taken.{probe_result_of}
 use Rattle.host_boot.specs.declared.ProbeResult.{ProbeResult}
 use Rattle.host_boot.specs.declared.ProbeResult.TheVariants.{Unserved, Ready, Unready}
@@ -199,7 +199,7 @@ passed laws wanted port port_error was (Running token) accesses old mid new foun
 }
 passed laws wanted port port_error was (Restart token) accesses old mid new found performs (its, is, again) s m reached knows =
     subst (λ (f : ProbeResult). IsPassed port.0 (Restart token) f old new s m) is (⊎_elim
-    (λ (b : BootsAgain wanted port its mid new). booted laws wanted port old b.asked new s m reached knows (started b.asked b.asks) (Restart token) its.found b.boots)
+    (λ (b : RebootsPort wanted port its mid new). booted laws wanted port old b.asked new s m reached knows (started b.asked b.asks) (Restart token) its.found b.boots)
     (λ (absent : IsFoundAbsent wanted port port_error its.found mid new). record {
       slots = given_up port.0 s;
       left = left_given laws port.0 s old (Restart token) its.found;
@@ -210,10 +210,10 @@ passed laws wanted port port_error was (Restart token) accesses old mid new foun
     x : Passes (at_slots s old) (at_slots (given_up port.0 s) mid) m
     x = passes_performs laws accesses (given_up port.0) old mid performs s m reached knows
 
-    started : (d : Device) → IsSimulated (IsOfStart port) (λ uses. AllFree uses port.0) mid d → Passes (at_slots s old) (at_slots (given_up port.0 s) d) m
+    started : (d : Device) → IsSimulated (IsSurveyOrBoot port) (λ uses. AllFree uses port.0) mid d → Passes (at_slots s old) (at_slots (given_up port.0 s) d) m
     started d asks =
         passes_then laws (at_slots s old) (at_slots (given_up port.0 s) mid) (at_slots (given_up port.0 s) d) m x
-        (passes_followed laws (IsOfStart port) (λ uses. AllFree uses port.0) (λ uses. uses) mid d asks (given_up port.0 s) (after m x.steps) (free_then laws port.0 s old) (laws.basic.reached m x.steps reached x.may) x.knows)
+        (passes_followed laws (IsSurveyOrBoot port) (λ uses. AllFree uses port.0) (λ uses. uses) mid d asks (given_up port.0 s) (after m x.steps) (free_then laws port.0 s old) (laws.basic.reached m x.steps reached x.may) x.knows)
 passed laws wanted port port_error was Stuck accesses old mid new found (inl performs) (is, same) s m reached knows = record {
   slots = s;
   left = left_stuck laws port.0 s old found is;

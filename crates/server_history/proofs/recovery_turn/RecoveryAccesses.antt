@@ -29,7 +29,7 @@ use Rattle.driver_history.specs.Trace.{IsDriversOwn, LeavesCommand, ResetsLink}
 use Rattle.error_recovery.specs.Recovery.{IsRecovering}
 use Rattle.error_recovery.specs.declared.Next.{Next}
 use Rattle.error_recovery.specs.declared.Next.TheVariants as next
-use Rattle.host_boot.specs.Again.{BootsAgain, BootsStopped, IsOfStart}
+use Rattle.host_boot.specs.Again.{RebootsPort, BootsStopped, IsSurveyOrBoot}
 use Rattle.identify.specs.Wanted.{serial_of}
 use Rattle.port_boot.specs.Outcomes.{EndsUnready}
 use Rattle.host_boot.specs.Taken.{IsSurvey}
@@ -95,7 +95,7 @@ survey_part port (Loading at bytes) is = absurd is
 survey_part port (Storing at bytes) is = absurd is
 
 -- what comes before a boot, and the boot
-pub start_part : LawsBelow → (port : Port) → port.0 < 4 → (access : Access) → IsOfStart port access → IsPart port access
+pub start_part : LawsBelow → (port : Port) → port.0 < 4 → (access : Access) → IsSurveyOrBoot port access → IsPart port access
 start_part laws port low access is = ⊎_elim (survey_part port access) (booting_part laws port low access) is
 
 -- ---- a port that is booted anew, where it has to be
@@ -120,7 +120,7 @@ pub record AfterList (port : Port) (port_error : PortError) (then : Next) (found
   pub silent : (q : Port) (o : Operation) → q.0 ≢ port.0 → op_of o ≡ None → ((token : Stopped) → then ≡ next.Restart token → (g : IsGivenUp port old) × (g.uses q.0 0 ≡ Own o → ⊥)) → SendsNone q.0 o old new
 
 module _ (laws : LawsBelow) (port : Port) (low : port.0 < 4) (wanted : Wanted) (port_error : PortError) where
-  module _ (token : Stopped) (old asked new : Device) (asks : IsSimulated (IsOfStart port) (λ uses. AllFree uses port.0) old asked) (then : SlotStates → SlotStates) (boots : IsSimulatedTo (IsOfBoot port) (λ uses. AllFree uses port.0) then asked new) where
+  module _ (token : Stopped) (old asked new : Device) (asks : IsSimulated (IsSurveyOrBoot port) (λ uses. AllFree uses port.0) old asked) (then : SlotStates → SlotStates) (boots : IsSimulatedTo (IsOfBoot port) (λ uses. AllFree uses port.0) then asked new) where
     boot_silent : (q : Port) (o : Operation) → q.0 ≢ port.0 → op_of o ≡ None → (g : IsGivenUp port old) → (g.uses q.0 0 ≡ Own o → ⊥) → SendsNone q.0 o old new
     boot_silent q o other own g none =
         let x = (followed_adds laws asks g.uses g.parked g.free).adds g.machine g.reached g.knows in
@@ -135,7 +135,7 @@ module _ (laws : LawsBelow) (port : Port) (low : port.0 < 4) (wanted : Wanted) (
       driven = record {
         accesses = asks.driven.accesses ++ by.accesses;
         all = laws.basic.does_append asks.driven.accesses by.accesses old asked new asks.driven.all by.all;
-        only = All-append (IsPart port) asks.driven.accesses by.accesses (All-weaker (IsOfStart port) (IsPart port) (start_part laws port low) asks.driven.accesses asks.driven.only)
+        only = All-append (IsPart port) asks.driven.accesses by.accesses (All-weaker (IsSurveyOrBoot port) (IsPart port) (start_part laws port low) asks.driven.accesses asks.driven.only)
             (All-weaker (IsOfBoot port) (IsPart port) (booting_part laws port low) by.accesses by.only);
       };
       sticks = λ dead _. laws.sticks_since asks.driven.accesses by.accesses port (sticks dead);
@@ -152,7 +152,7 @@ module _ (laws : LawsBelow) (port : Port) (low : port.0 < 4) (wanted : Wanted) (
   -- no device showed
   absent_list : (token : Stopped) (found : ProbeResult) (old new : Device) → IsFoundAbsent wanted port port_error found old new → AfterList port port_error (next.Restart token) found old new
   absent_list token found old new absent = record {
-    driven = record { accesses = made.accesses; all = made.all; only = All-weaker (IsOfStart port) (IsPart port) (start_part laws port low) made.accesses made.only };
+    driven = record { accesses = made.accesses; all = made.all; only = All-weaker (IsSurveyOrBoot port) (IsPart port) (start_part laws port low) made.accesses made.only };
     sticks = λ dead _. absurd (lives dead);
     stuck = λ dead _. absurd (lives dead);
     resets = λ _ _ _. inl (absent.lost, absent.is);
@@ -163,13 +163,13 @@ module _ (laws : LawsBelow) (port : Port) (low : port.0 < 4) (wanted : Wanted) (
         (λ access is. laws.of_spares port q Ci other access (start_part laws port low access is).1) (λ access is. laws.of_spares port q Sact other access (start_part laws port low access is).1) g.1;
   }
     where
-      made : IsDrivenBy (IsOfStart port) old new
+      made : IsDrivenBy (IsSurveyOrBoot port) old new
       made = absent.starts.driven
 
       lives : found ≡ Unready DeadState → ⊥
       lives dead = let z : Unready shown.Absent ≡ Unready DeadState = sym absent.is ∙ dead in cc
 
-  booted_list : (token : Stopped) (booted : Booted) (old new : Device) → BootsAgain wanted port booted old new → AfterList port port_error (next.Restart token) booted.found old new
+  booted_list : (token : Stopped) (booted : Booted) (old new : Device) → RebootsPort wanted port booted old new → AfterList port port_error (next.Restart token) booted.found old new
   booted_list token booted old new b = by booted.found b.boots
     where
       lives : (state : Shown) → state ≢ DeadState → Unready state ≡ Unready DeadState → ⊥
@@ -213,7 +213,7 @@ module _ (laws : LawsBelow) (port : Port) (low : port.0 < 4) (wanted : Wanted) (
         silent = λ q o other own given. silent_none q.0 o old;
       })
   after_list was (next.Restart token) old new found is = subst (λ (f : ProbeResult). AfterList port port_error (next.Restart token) f old new) is.1 (⊎_elim
-      (λ (b : BootsAgain wanted port is.0 old new). booted_list token is.0 old new b)
+      (λ (b : RebootsPort wanted port is.0 old new). booted_list token is.0 old new b)
       (λ (absent : IsFoundAbsent wanted port port_error is.0.found old new). absent_list token is.0.found old new absent)
       (boots_or_absent port_error wanted port is.0 old new is.2))
   after_list was next.Dead old new found is = subst (λ (d : Device). AfterList port port_error next.Dead found old d) (sym is.1) (record {

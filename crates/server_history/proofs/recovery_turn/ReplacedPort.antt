@@ -27,10 +27,10 @@ use Rattle.block_machine.specs.declared.due.QueueMode.{QueueMode}
 use Rattle.dma_frames.specs.Loan.{Lending}
 use Rattle.dma_frames.specs.Table.{Table}
 use Rattle.driver_history.specs.Holds.{Runs}
-use Rattle.error_recovery.specs.Recovery.{EndsIn}
+use Rattle.error_recovery.specs.Recovery.{EndsAsNext}
 use Rattle.error_recovery.specs.declared.Next.{Next}
 use Rattle.error_recovery.specs.declared.Next.TheVariants as next
-use Rattle.host_boot.specs.Again.{BootsAgain, BootsStopped, IsOfStart}
+use Rattle.host_boot.specs.Again.{RebootsPort, BootsStopped, IsSurveyOrBoot}
 use Rattle.host_boot.specs.Taken.{FoundBadDisk, IsServed, StillStandsBehind, probe_result_of, wanted_of}
 use Rattle.host_boot.specs.declared.Booted.{Booted}
 use Rattle.host_boot.specs.declared.ProbeResult.{ProbeResult}
@@ -122,7 +122,7 @@ module _ (laws : LawsBelow) (wanted : Wanted) (port : Port) (d new : Device) (on
     halts = λ is. let z : AbsentState ≡ ReadyState = is in absurd cc;
   }
 
-  module _ (booted : Booted) (b : BootsAgain wanted port booted d new) where
+  module _ (booted : Booted) (b : RebootsPort wanted port booted d new) where
     runs_as : (f : ProbeResult) → BootsStopped wanted port f b.asked new → state_of f ≡ ReadyState → Runs port.0 new
     runs_as Unserved none is = absurd none
     runs_as (Ready info) e is = record {
@@ -146,7 +146,7 @@ module _ (laws : LawsBelow) (wanted : Wanted) (port : Port) (d new : Device) (on
     shown_as (Unready state) is bad = laws.recovery.again_shown wanted port booted state d new on b bad is
 
     pub asked_on : IsOn b.asked
-    asked_on = laws.of_on port d b.asked on (driven_as (IsOfStart port) (IsOf port) d b.asked (laws.recovery.start_of port) b.asks.driven)
+    asked_on = laws.of_on port d b.asked on (driven_as (IsSurveyOrBoot port) (IsOf port) d b.asked (laws.recovery.start_of port) b.asks.driven)
 
     own_as : state_of booted.found ≡ ReadyState → ShowsOwnDisk (new.port port.0)
     own_as is =
@@ -163,7 +163,7 @@ module _ (laws : LawsBelow) (wanted : Wanted) (port : Port) (d new : Device) (on
     }
 
   -- it was found so, where it wasn't found running
-  pub stands_after : (queued : Bool) (port_error : PortError) (was : DiskInfo) (old : Device) (then : Next) (found : ProbeResult) → EndsIn queued port then old d → IsRevalidated wanted port port_error was then d new found → new.pi ≡ d.pi
+  pub stands_after : (queued : Bool) (port_error : PortError) (was : DiskInfo) (old : Device) (then : Next) (found : ProbeResult) → EndsAsNext queued port then old d → IsRevalidated wanted port port_error was then d new found → new.pi ≡ d.pi
       → ((token : running_token.Running) → then ≡ next.Running token → StandsAt wanted (Ready was) port.0 d) → StandsAt wanted found port.0 new
   stands_after queued port_error was old (next.Running token) found ends (is, same) same_pi runs =
       subst (λ (f : ProbeResult). StandsAt wanted f port.0 new) (sym is) (subst (StandsAt wanted (Ready was) port.0) (sym same) (runs token refl))

@@ -5,7 +5,7 @@ use Rattle.ata_types.specs.declared.PortState.TheVariants.{Ready as ReadyState}
 use Rattle.ata_types.specs.declared.request.Reply.{Reply}
 use Rattle.adapter.specs.declared.access.DeviceStep.{DeviceStep}
 use Rattle.refinement.specs.Driven.{AnyUse, IsSimulated}
-use Rattle.block_machine.specs.Events.{Belong, FindsAnother, Tick}
+use Rattle.block_machine.specs.Events.{AreStepsOfCall, FindsAnother, Tick}
 use Rattle.block_machine.specs.Histories.{IsReachable}
 use Rattle.block_machine.specs.Ports.{SameDisk}
 use Rattle.block_machine.specs.State.{Machine}
@@ -38,7 +38,7 @@ module _ (laws : LawsBelow) (port : Port) (replies : List Reply) (old new : Serv
   unfailed : a.error_handled.port_error ≢ TaskFileError
   unfailed failed = let z : TimedOut ≡ TaskFileError = sym hung ∙ failed in cc
 
-  pub belongs : Belong {D = DeviceStep} Tick (ports_of new) d.steps
+  pub belongs : AreStepsOfCall {D = DeviceStep} Tick (ports_of new) d.steps
   belongs = belong_tick (ports_of new) d.steps (d.gives unfailed) d.belong
 
   -- who is told Unplugged had another disk

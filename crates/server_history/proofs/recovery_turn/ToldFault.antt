@@ -41,7 +41,7 @@ use Rattle.request_queue.specs.declared.disposition.Disposition.TheVariants.{Com
 use Rattle.request_queue.specs.declared.disposition.Revalidation.{Revalidation}
 use Rattle.slots.specs.declared.SlotUse.{SlotUse}
 use Rattle.server_history.specs.Below.{LawsBelow}
-use Rattle.server_history.specs.ErrorHandling.{IsFailed, IsFoundOut, IsErrorHandled, HasResolved, HandlesPortError, holdings_of, requests_of, TellsErrorHandling}
+use Rattle.server_history.specs.ErrorHandling.{IsFailed, ErrorIsFound, IsErrorHandled, HasResolved, HandlesPortError, holdings_of, requests_of, TellsErrorHandling}
 use Rattle.server_history.specs.Served.{AnswersEach, is_used}
 use Rattle.server_history.specs.Server.{ServerState, InCallInvariant, IsMachineOf, ports_of, slots_at, state_of, used_for}
 use Rattle.server_history.specs.Turns.{IsOfTurn}
@@ -143,7 +143,7 @@ module _ (laws : LawsBelow) (port : Port) (replies : List Reply) (old new : Serv
     is_zero = (k.alone port.0 slot used its plain).0
 
     fault : ShowsFault (drop (x.found.port port.0).notes.st_set_at x.found.tape) (x.found.port port.0) port.0
-    fault = let may : MayRecover port.0 x.found = may_recover laws old x.seen x.found port x.mask x.done k ready (subst (λ (t : PortError). IsFoundOut port t old.device x.seen) failing x.finds) looks x.reads in may.recorded.fault may.halted
+    fault = let may : MayRecover port.0 x.found = may_recover laws old x.seen x.found port x.mask x.done k ready (subst (λ (t : PortError). ErrorIsFound port t old.device x.seen) failing x.finds) looks x.reads in may.recorded.fault may.halted
 
     unused_free : (other : ℕ) → other ≢ 0 → IsEmptySlot (x.found.port port.0) other
     unused_free other ne = subst (λ (u : SlotState). RelatesSlot from_kept.machine x.found.memory x.found.tape (x.found.port port.0) port.0 other u)

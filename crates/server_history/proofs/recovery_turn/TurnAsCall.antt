@@ -19,7 +19,7 @@ use Rattle.port_control.specs.declared.events.PortError.TheVariants.{FatalError,
 use Rattle.server_history.specs.Below.{LawsBelow}
 use Rattle.server_history.specs.ErrorHandling.{AreQueued, HandlesPortError}
 use Rattle.server_history.specs.Server.{ServerState, InCallInvariant, IsMachineOf, ports_of, slots_at, state_of}
-use Rattle.server_history.specs.Turns.{HeedsPortErrors, InService, TurnCorresponds, joint_state_of}
+use Rattle.server_history.specs.Turns.{HandlesShownErrors, InService, TurnCorresponds, joint_state_of}
 use Rattle.server_history.proofs.recovery_turn.DecidedSteps.{DecidesTurn}
 use Rattle.server_history.proofs.recovery_turn.TurnEvidence.{IsEvident}
 use Rattle.server_history.proofs.recovery_turn.ToldFault.{faulting}
@@ -77,7 +77,7 @@ module _ (laws : LawsBelow) (port : Port) (replies : List Reply) (old new : Serv
       by TimedOut is = absurd (unhung is)
 
   -- what a call does of trouble
-  pub heeds_trouble : HeedsPortErrors port evident.accesses (joint_state_of old m) (evidence_by r.settled) (ports_of new) new.device
+  pub heeds_trouble : HandlesShownErrors port evident.accesses (joint_state_of old m) (evidence_by r.settled) (ports_of new) new.device
   heeds_trouble = record {
     port_error = lasting laws port replies old new k ready r looks kept evident.parts m;
     well = going_well laws port replies old new k ready r looks kept evident plainly m;

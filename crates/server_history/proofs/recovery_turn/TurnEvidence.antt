@@ -26,7 +26,7 @@ use Rattle.server_history.proofs.state.ListMembers.{contains_cases}
 use Rattle.driver_history.specs.Evidence.{IsEvidencedOf}
 use Rattle.driver_history.specs.Trace.{IsDriversOwn}
 use Rattle.error_recovery.specs.Evidence.{HasFailed}
-use Rattle.error_recovery.specs.Recovery.{EndsIn, Rests, TellsEngine}
+use Rattle.error_recovery.specs.Recovery.{EndsAsNext, Rests, TellsEngine}
 use Rattle.error_recovery.specs.declared.Next.{Next}
 use Rattle.error_recovery.specs.declared.Next.TheVariants as next
 use Rattle.identify.specs.declared.error_log.FailedSlot.{FailedSlot}
@@ -42,7 +42,7 @@ use Rattle.slots.specs.Uses.{use_at}
 use Rattle.slots.specs.declared.SlotUse.{SlotUse}
 use Rattle.server_history.specs.Below.{LawsBelow}
 use Rattle.server_history.proofs.any_turn.ShownTrouble.{grows_over}
-use Rattle.server_history.specs.ErrorHandling.{IsFailed, IsRevalidated, IsFoundOut, IsRevalidation, IsErrorHandled, HasResolved, HandlesPortError}
+use Rattle.server_history.specs.ErrorHandling.{IsFailed, IsRevalidated, ErrorIsFound, IsRevalidation, IsErrorHandled, HasResolved, HandlesPortError}
 use Rattle.server_history.specs.Served.{AnswersEach}
 use Rattle.server_history.specs.Server.{ServerState, InCallInvariant, IsMachineOf, ports_of, slots_at, state_of, used_for, mode_in}
 use Rattle.server_history.specs.Turns.{IsOfCommand, LeavesOthers, NamesOnly, TellsFault, joint_state_of, abstract_state_of}
@@ -65,7 +65,7 @@ use Rattle.port_control.specs.declared.events.PortEvent.TheVariants as look
 use Rattle.port_control.specs.declared.events.PortError.{PortError}
 use Rattle.port_control.specs.declared.events.PortError.TheVariants.{FatalError, TaskFileError, TimedOut, LinkChanged}
 use Rattle.server_history.proofs.state.TurnAccesses.{look_list, look_does}
-use Rattle.host_boot.specs.Again.{BootsAgain}
+use Rattle.host_boot.specs.Again.{RebootsPort}
 use Rattle.host_boot.specs.declared.Booted.{Booted}
 use Rattle.host_boot.specs.declared.ProbeResult.{ProbeResult}
 use Rattle.server_history.proofs.plain_calls.IssueRounds.{each_driven}
@@ -84,7 +84,7 @@ module _ (laws : LawsBelow) (port : Port) (early part late : List Access) where
   engine_sticks (next.Restart token) engine later = laws.sticks_since early (part ++ late) port (laws.sticks_since part late port (later (λ e. let z : next.Restart token ≡ next.Dead = e in cc)))
   engine_sticks next.Dead engine later = laws.sticks_since early (part ++ late) port (laws.sticks_then part late port engine)
 
-  ends_stuck : (queued : Bool) (then : Next) (old new : Device) → EndsIn queued port then old new → then ≡ next.Dead → (new.port port.0).notes.engine_count ≡ MOST_READINGS
+  ends_stuck : (queued : Bool) (then : Next) (old new : Device) → EndsAsNext queued port then old new → then ≡ next.Dead → (new.port port.0).notes.engine_count ≡ MOST_READINGS
   ends_stuck queued (next.Running token) old new ends is = let z : next.Running token ≡ next.Dead = is in absurd cc
   ends_stuck queued (next.Restart token) old new ends is = let z : next.Restart token ≡ next.Dead = is in absurd cc
   ends_stuck queued next.Dead old new ends is = ends.1
@@ -280,7 +280,7 @@ module _ (laws : LawsBelow) (port : Port) (replies : List Reply) (old new : Serv
     had_seen told l error =
         had_at (look_list port l.causes l.own l.status) x.seen (look_does port told old.device x.seen l) (shows_device laws port old.device x.seen told l k.on (λ lost. ⊎_elim (λ (is : told ≡ look.TaskFileError). let z : look.LinkChanged ≡ look.TaskFileError = sym lost ∙ is in cc) (λ (is : told ≡ look.FatalError). let z : look.LinkChanged ≡ look.FatalError = sym lost ∙ is in cc) error)) grown_seen m stands steps backed
 
-    had_booted : (booted : Booted) → BootsAgain (wanted_of old.wanted port.0) port booted a.device r.mid.device → ShowsDisk (state_of booted.found) → Had
+    had_booted : (booted : Booted) → RebootsPort (wanted_of old.wanted port.0) port booted a.device r.mid.device → ShowsDisk (state_of booted.found) → Had
     had_booted booted b shows =
         booted_had laws port old (wanted_of old.wanted port.0) booted (t.early.accesses ++ part) a.device r.mid.device new.device k.on (laws.basic.does_append t.early.accesses part old.device a.mid.device a.device t.early.all t.does)
         (All-append (IsOf port) t.early.accesses part (All-weaker (IsEarlyPart port) (IsOf port) (λ access is. is.0.1) t.early.accesses t.early.only) (All-weaker (IsPart port) (IsOf port) (λ access is. is.1) part t.kinds))
@@ -307,7 +307,7 @@ module _ (laws : LawsBelow) (port : Port) (replies : List Reply) (old new : Serv
         shows_found : ShowsDisk (state_of a.found)
         shows_found = subst ShowsDisk (state_new laws port replies old new k ready r looks kept) shows
 
-        by : (port_error : PortError) → x.port_error ≡ port_error → IsFoundOut port port_error old.device x.seen → Had
+        by : (port_error : PortError) → x.port_error ≡ port_error → ErrorIsFound port port_error old.device x.seen → Had
         by TaskFileError is l = had_seen look.TaskFileError l (inl refl)
         by FatalError is l = had_seen look.FatalError l (inr refl)
         by LinkChanged is l = had_stopped (λ failed. let z : LinkChanged ≡ TaskFileError = sym is ∙ failed in cc) shows_found

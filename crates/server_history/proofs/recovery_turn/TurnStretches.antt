@@ -40,7 +40,7 @@ use Rattle.port_control.specs.declared.events.PortEvent.{PortEvent}
 use Rattle.port_control.specs.declared.events.PortEvent.TheVariants as look
 use Rattle.request_queue.specs.Entries.{Held, asks, asks_of, due_ids}
 use Rattle.server_history.specs.Below.{LawsBelow}
-use Rattle.server_history.specs.ErrorHandling.{IsFoundOut, IsErrorHandled, HasResolved, HandlesPortError}
+use Rattle.server_history.specs.ErrorHandling.{ErrorIsFound, IsErrorHandled, HasResolved, HandlesPortError}
 use Rattle.server_history.specs.Served.{IssuesEach, IssuesIn}
 use Rattle.server_history.specs.Server.{ServerState, InCallInvariant, mode_in, state_of, used_for}
 use Rattle.port_control.specs.declared.events.PortError.{PortError}
@@ -142,7 +142,7 @@ module _ (laws : LawsBelow) (port : Port) (replies : List Reply) (old new : Serv
         only = λ i d small. let t = look_turns port l.causes l.own l.status l.alone i d small in let leaves = turn_leaves laws port port _ t in ((t.1, leaves.0), leaves.1);
       }
 
-      by : (port_error : PortError) → IsFoundOut port port_error old.device x.seen → IsDrivenBy IsLookingOn old.device x.seen
+      by : (port_error : PortError) → ErrorIsFound port port_error old.device x.seen → IsDrivenBy IsLookingOn old.device x.seen
       by TaskFileError l = looked look.TaskFileError l
       by FatalError l = looked look.FatalError l
       by LinkChanged l = looked look.LinkChanged l

@@ -13,12 +13,12 @@ use Rattle.refinement.specs.Relation.{port_at}
 use Rattle.refinement.specs.Driven.{IsControl, IsDrivenBy}
 use Rattle.driver_history.specs.Parts.{HasTurnIn, IsOfOther, all_of}
 use Rattle.driver_history.specs.Trace.{ResetsLink}
-use Rattle.host_boot.specs.Taken.{GoesThrough, GoThrough, probe_result_of}
+use Rattle.host_boot.specs.Taken.{StopsAndBootsPort, FindsEachPort, probe_result_of}
 use Rattle.host_boot.specs.declared.ProbeResult.{ProbeResult}
 use Rattle.host_boot.specs.declared.ProbeResult.TheVariants.{Unserved, Ready, Unready}
-use Rattle.port_boot.specs.States.{EndsEarly, EndsLate, GetsReady, IsEarly, IsLate, IsOfBoot}
+use Rattle.port_boot.specs.States.{EndsBeforeStart, EndsAfterStart, BringsReady, IsBeforeStart, IsAfterStart, IsOfBoot}
 use Rattle.port_control.specs.Engines.{Sticks}
-use Rattle.port_control.specs.Ports.{WritesCommand}
+use Rattle.port_control.specs.Ports.{IsCommandRegister}
 use Rattle.server_history.specs.Below.{LawsBelow}
 use Rattle.server_history.proofs.any_turn.JoinedParts.{dead_or_not}
 use Rattle.server_history.proofs.recovery_turn.LinkResets.{ResetsBy, early_resets, late_resets, ready_resets, resets_since}
@@ -28,7 +28,7 @@ use Rattle.server_history.proofs.recovery_turn.LinkResets.{ResetsBy, early_reset
 -- What was done of a port that was found to be this. One that is ready got so once it was stopped. Its link was reset, unless it is dead: then one of its engines was seen to be stuck.
 abbrev pub DidBoot : Port → ProbeResult → List Access → Device → Device → Type 0
 DidBoot port Unserved accesses old new = Unit {0}
-DidBoot port (Ready info) accesses old new = ResetsLink port accesses × ((stopped : Device) × IsDrivenBy (IsControl WritesCommand port) old stopped × GetsReady port stopped new)
+DidBoot port (Ready info) accesses old new = ResetsLink port accesses × ((stopped : Device) × IsDrivenBy (IsControl IsCommandRegister port) old stopped × BringsReady port stopped new)
 DidBoot port (Unready state) accesses old new = (state ≡ DeadState → Sticks port accesses) × (state ≢ DeadState → state ≢ ReadyState → ResetsLink port accesses)
 
 -- an access of the port's boot, if it is served
@@ -39,7 +39,7 @@ IsBootOf port found access = (found ≢ Unserved) × IsOfBoot port access
 abbrev BootsBy : Port → ProbeResult → Device → Device → Type 0
 BootsBy port found old new = (driven : IsDrivenBy (IsBootOf port found) old new) × DidBoot port found driven.accesses old new
 
-pub command_boots : (port : Port) (access : Access) → IsControl WritesCommand port access → IsOfBoot port access
+pub command_boots : (port : Port) (access : Access) → IsControl IsCommandRegister port access → IsOfBoot port access
 command_boots port (Reading (Px at r) v) is = inl is
 command_boots port (Reading r v) is = absurd is
 command_boots port (Writing (Px at r) v) is = inl (is.0, inl (inl is.1))
@@ -48,14 +48,14 @@ command_boots port (Loading at bytes) is = absurd is
 command_boots port (Storing at bytes) is = absurd is
 
 module _ (laws : LawsBelow) where
-  module _ (port : Port) (found : ProbeResult) (served : found ≢ Unserved) (old stopped new : Device) (stops : IsDrivenBy (IsControl WritesCommand port) old stopped) where
+  module _ (port : Port) (found : ProbeResult) (served : found ≢ Unserved) (old stopped new : Device) (stops : IsDrivenBy (IsControl IsCommandRegister port) old stopped) where
     -- the stop, and then a boot
     then_boots : IsDrivenBy (IsOfBoot port) stopped new → IsDrivenBy (IsBootOf port found) old new
     then_boots boot = record {
       accesses = stops.accesses ++ boot.accesses;
       all = laws.basic.does_append stops.accesses boot.accesses old stopped new stops.all boot.all;
       only = All-append (IsBootOf port found) stops.accesses boot.accesses
-          (All-weaker (IsControl WritesCommand port) (IsBootOf port found) (λ access is. (served, command_boots port access is)) stops.accesses stops.only)
+          (All-weaker (IsControl IsCommandRegister port) (IsBootOf port found) (λ access is. (served, command_boots port access is)) stops.accesses stops.only)
           (All-weaker (IsOfBoot port) (IsBootOf port found) (λ access is. (served, is)) boot.accesses boot.only);
     }
 
@@ -63,12 +63,12 @@ module _ (laws : LawsBelow) where
     unfolding then_boots
     reset_by r = (then_boots r.driven, resets_since port stops.accesses r.driven.accesses r.resets)
 
-  module _ (port : Port) (old stopped new : Device) (stops : IsDrivenBy (IsControl WritesCommand port) old stopped) where
+  module _ (port : Port) (old stopped new : Device) (stops : IsDrivenBy (IsControl IsCommandRegister port) old stopped) where
     resets_by : (state : PortState) → state ≢ DeadState → ResetsBy port stopped new → BootsBy port (Unready state) old new
     resets_by state lives r =
         let x = reset_by port (Unready state) (λ e. let z : Unready state ≡ Unserved = e in cc) old stopped new stops r in (x.0, ((λ dead. absurd (lives dead)), λ _ _. x.1))
 
-    unready : (state : PortState) → IsDrivenBy (IsOfBoot port) stopped new → (IsEarly state → EndsEarly port state stopped new) → (IsLate state → EndsLate port stopped new) → state ≢ DeadState → BootsBy port (Unready state) old new
+    unready : (state : PortState) → IsDrivenBy (IsOfBoot port) stopped new → (IsBeforeStart state → EndsBeforeStart port state stopped new) → (IsAfterStart state → EndsAfterStart port stopped new) → state ≢ DeadState → BootsBy port (Unready state) old new
     unready DeadState boot early late other = absurd (other refl)
     unready ReadyState boot early late other = (then_boots port (Unready ReadyState) (λ e. let z : Unready ReadyState ≡ Unserved = e in cc) old stopped new stops boot, ((λ dead. absurd (other dead)), λ _ unready. absurd (unready refl)))
     unready Absent boot early late other = resets_by Absent other (early_resets laws port Absent stopped new (early tt))
@@ -81,7 +81,7 @@ module _ (laws : LawsBelow) where
         by_early : (n ≡ 7) ⊎ (n ≡ 8) → BootsBy port (Unready (Unfit n)) old new
         by_early is = resets_by (Unfit n) other (early_resets laws port (Unfit n) stopped new (early is))
 
-  boots_by : (port : Port) (found : ProbeResult) (old new : Device) → GoesThrough port found old new → BootsBy port found old new
+  boots_by : (port : Port) (found : ProbeResult) (old new : Device) → StopsAndBootsPort port found old new → BootsBy port found old new
   boots_by port Unserved old new same = (record { accesses = []; all = same; only = All-nil (IsBootOf port Unserved) }, tt)
   boots_by port (Ready info) old new (stopped, stops, boot, ready, news) =
       let r = reset_by port (Ready info) (λ e. let z : Ready info ≡ Unserved = e in cc) old stopped new stops (ready_resets laws port stopped new ready) in (r.0, (r.1, (stopped, stops, ready)))
@@ -116,7 +116,7 @@ module _ (laws : LawsBelow) where
   of_other port first ports before access (q, k, at, its) = (q, (λ same. absurd (omega (arith, before, same, at))), laws.booting_of q access its.1)
 
   -- the first of them
-  module _ (first : ℕ) (found : ProbeResult) (rest : List ProbeResult) (old mid new : Device) (way : GoesThrough (port_at first) found old mid) (more : WentBy (first + 1) rest mid new) where
+  module _ (first : ℕ) (found : ProbeResult) (rest : List ProbeResult) (old mid new : Device) (way : StopsAndBootsPort (port_at first) found old mid) (more : WentBy (first + 1) rest mid new) where
     one : BootsBy (port_at first) found old mid
     one = boots_by laws (port_at first) found old mid way
 
@@ -179,6 +179,6 @@ module _ (laws : LawsBelow) where
         each port zero at small = turn_here port (omega (arith, at))
         each port (suc k) at small = turn_later port k (omega (arith, at)) (omega (arith, small))
 
-  pub went_by : (first : ℕ) (ports : List ProbeResult) (old new : Device) → GoThrough first ports old new → WentBy first ports old new
+  pub went_by : (first : ℕ) (ports : List ProbeResult) (old new : Device) → FindsEachPort first ports old new → WentBy first ports old new
   went_by first [] old new same = record { driven = record { accesses = []; all = same; only = All-nil (IsOfFound first []) }; each = λ port k at small. absurd (omega (arith, small)) }
   went_by first (found ∷ rest) old new (mid, way, more) = went_more first found rest old mid new way (went_by (first + 1) rest mid new more)

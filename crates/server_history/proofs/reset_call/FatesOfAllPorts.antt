@@ -48,7 +48,7 @@ use Rattle.server_history.proofs.dispositions.FittingFates.{fits_each, kept_dead
 use Rattle.server_history.proofs.dispositions.MetFates.{meet, none_parked}
 use Rattle.server_history.proofs.dispositions.RemainingBook.{IsLeft, WasIn, ends_of, fated, marked_from, was_itself, was_more}
 use Rattle.server_history.specs.Below.{LawsBelow}
-use Rattle.server_history.specs.Dispositions.{DecidesOn, MayMeet, MeetsInMachine, keeps_fate}
+use Rattle.server_history.specs.Dispositions.{DecidesOn, AreResolvable, AreResolvedInMachine, keeps_frames_lent}
 use Rattle.server_history.specs.ErrorHandling.{holdings_of, requests_of}
 use Rattle.server_history.specs.Resets.{IsResetRevalidation, SettlePorts, SettlesPort, with_holdings}
 use Rattle.server_history.specs.Server.{AreKept, ServerState, kept_at, remembered_at, HasTrueMark}
@@ -132,7 +132,7 @@ module _ (laws : LawsBelow) (n : ℕ) (low : n < 4) (replies : List Reply) (old 
   abbrev found : ProbeResult
   found = probe_result_of old.ports n
 
-  may_meet : MayMeet port disposition its (holdings_of port old) (known at.uses at.parked old.device) m
+  may_meet : AreResolvable port disposition its (holdings_of port old) (known at.uses at.parked old.device) m
   may_meet = record {
     reached = reached;
     knows = at.knows;
@@ -146,7 +146,7 @@ module _ (laws : LawsBelow) (n : ℕ) (low : n < 4) (replies : List Reply) (old 
     unserved = λ e here never q slot serves. serves_none old.ports at.uses q slot (at.left q slot) e.entry.id serves;
   }
 
-  pub met : MeetsInMachine port disposition its replies (holdings_of port old) s.now (known at.uses at.parked old.device) m
+  pub met : AreResolvedInMachine port disposition its replies (holdings_of port old) s.now (known at.uses at.parked old.device) m
   met = meet laws port disposition its (fits_each None s.revalidation its) replies (holdings_of port old) s.now (known at.uses at.parked old.device) m may_meet s.meets
 
   pub left : IsLeft port disposition its (holdings_of port old) s.now
@@ -162,7 +162,7 @@ module _ (laws : LawsBelow) (n : ℕ) (low : n < 4) (replies : List Reply) (old 
   dies : (e : Pending) → Contains met.held e → (e.request.port ≡ port) × (found ≡ Unready Dead)
   dies e here = (x.2.port ∙ (of_requests port old.book x.0 x.1).1, by s.revalidation refl)
     where
-      x : (request : Held) × Contains its request × IsEntry request e × (keeps_fate (disposition request.entry) request.entry ≡ true)
+      x : (request : Held) × Contains its request × IsEntry request e × (keeps_frames_lent (disposition request.entry) request.entry ≡ true)
       x = met.whose e here
 
       lives : s.revalidation ≢ NoEnd → ⊥
@@ -173,11 +173,11 @@ module _ (laws : LawsBelow) (n : ℕ) (low : n < 4) (replies : List Reply) (old 
       by DiskLost same = absurd (lives (λ dead. let y : DiskLost ≡ NoEnd = sym same ∙ dead in absurd cc))
       by NoEnd same = subst (IsResetRevalidation was found) same s.expects
 
-  quiet : found ≢ Unready Dead → (e : PendingRequest) → keeps_fate (disposition e) e ≡ false
+  quiet : found ≢ Unready Dead → (e : PendingRequest) → keeps_frames_lent (disposition e) e ≡ false
   quiet lives e = kept_dead_alone None s.revalidation e (λ dead. lives (subst (IsResetRevalidation was found) dead s.expects))
 
   -- where no loan is kept, none is parked
-  none_left : ((e : PendingRequest) → keeps_fate (disposition e) e ≡ false) → met.parked n ≡ []
+  none_left : ((e : PendingRequest) → keeps_frames_lent (disposition e) e ≡ false) → met.parked n ≡ []
   none_left none =
       none_parked port disposition its (fits_each None s.revalidation its) replies (holdings_of port old) s.now (known at.uses at.parked old.device) m met none
       (λ id here. let w = at.its n (omega arith) id here in (w.0, in_requests port old.book w.0 w.1 w.4, w.2, w.3))
@@ -290,7 +290,7 @@ pub record AreFated (n : ℕ) (found : List ProbeResult) (replies : List Reply) 
 
 module _ (laws : LawsBelow) (n : ℕ) (low : n < 4) (found : ProbeResult) (rest : List ProbeResult) (replies its later : List Reply) (split : replies ≡ its ++ later) (old mid new : ServerState) (m : Machine) (reached : IsReachable m)
     (s : SettlesPort (port_at n) its old mid) (at : IsFatedTo n old m) where
-  abbrev one : MeetsInMachine (port_at n) (disposition_of None s.revalidation) (requests_of (port_at n) old.book) its (holdings_of (port_at n) old) s.now (known at.uses at.parked old.device) m
+  abbrev one : AreResolvedInMachine (port_at n) (disposition_of None s.revalidation) (requests_of (port_at n) old.book) its (holdings_of (port_at n) old) s.now (known at.uses at.parked old.device) m
   one = met laws n low its old mid m reached s at
 
   -- a request of the port has its fate

@@ -13,11 +13,11 @@ use Rattle.ata_types.specs.declared.PortState.{PortState as ShownState}
 use Rattle.ata_types.specs.declared.PortState.TheVariants.{Ready as ReadyState}
 use Rattle.block_machine.specs.Events.{ShowsDisk}
 use Rattle.hba_regs.specs.declared.reg.Reg.TheVariants.{Cap, Ghc, Pi}
-use Rattle.host_boot.specs.Taken.{GoThrough, GoesOver, GoesThrough, IsSurvey, probe_result_of}
+use Rattle.host_boot.specs.Taken.{FindsEachPort, SwitchesOnAndBoots, StopsAndBootsPort, IsSurvey, probe_result_of}
 use Rattle.host_boot.specs.declared.ProbeResult.{ProbeResult}
 use Rattle.host_boot.specs.declared.ProbeResult.TheVariants.{Ready, Unready, Unserved}
 use Rattle.port_boot.specs.States.{IsOfBoot}
-use Rattle.port_control.specs.Ports.{WritesCommand}
+use Rattle.port_control.specs.Ports.{IsCommandRegister}
 use Rattle.server_history.proofs.state.DrivenAccesses.{by_none, driven_as}
 use Rattle.server_history.proofs.recovery_turn.LinkResets.{IsBeside, commanding}
 use Rattle.server_history.proofs.any_turn.ShownTrouble.{grows_over}
@@ -53,7 +53,7 @@ module _ (laws : LawsBelow) where
   boot_of : (port : Port) (old new : Device) → IsDrivenBy (IsOfBoot port) old new → IsDrivenBy (IsOf port) old new
   boot_of port old new driven = driven_as (IsOfBoot port) (IsOf port) old new (laws.booting_of port) driven
 
-  stopping_of : (port : Port) (old new : Device) → IsDrivenBy (IsControl WritesCommand port) old new → IsDrivenBy (IsOf port) old new
+  stopping_of : (port : Port) (old new : Device) → IsDrivenBy (IsControl IsCommandRegister port) old new → IsDrivenBy (IsOf port) old new
   stopping_of port old new driven = boot_of port old new (driven_as (IsBeside port) (IsOfBoot port) old new (λ access is. is.0) (commanding laws port old new driven))
 
   of_both : (port : Port) (old mid new : Device) → IsDrivenBy (IsOf port) old mid → IsDrivenBy (IsOf port) mid new → IsDrivenBy (IsOf port) old new
@@ -63,7 +63,7 @@ module _ (laws : LawsBelow) where
     only = All-append (IsOf port) early.accesses late.accesses early.only late.only;
   }
 
-  through_of : (port : Port) (found : ProbeResult) (old new : Device) → GoesThrough port found old new → IsDrivenBy (IsOf port) old new
+  through_of : (port : Port) (found : ProbeResult) (old new : Device) → StopsAndBootsPort port found old new → IsDrivenBy (IsOf port) old new
   through_of port Unserved old new same = subst (IsDrivenBy (IsOf port) old) (sym same) (by_none (IsOf port) old)
   through_of port (Ready info) old new (stopped, stops, boots, gets, shows) = of_both port old stopped new (stopping_of port old stopped stops) (boot_of port stopped new boots)
   through_of port (Unready state) old new (stopped, stops, boots, first, last, sticks) = of_both port old stopped new (stopping_of port old stopped stops) (boot_of port stopped new boots)
@@ -72,7 +72,7 @@ module _ (laws : LawsBelow) where
   sees_saw port old new s = record { seen = s.seen; accesses = s.early.accesses; does = s.early.all; present = s.own s.shows; later = grows_over laws s.late.accesses s.seen new s.late.all }
 
   -- one that finds a disk
-  through_saw : (port : Port) (found : ProbeResult) (old new : Device) → IsOn old → ((state : ShownState) → found ≡ Unready state → state ≢ ReadyState) → ShowsDisk (state_of found) → GoesThrough port found old new → SawDisk port old new
+  through_saw : (port : Port) (found : ProbeResult) (old new : Device) → IsOn old → ((state : ShownState) → found ≡ Unready state → state ≢ ReadyState) → ShowsDisk (state_of found) → StopsAndBootsPort port found old new → SawDisk port old new
   through_saw port Unserved old new on other shows way = absurd shows
   through_saw port (Ready info) old new on other shows (stopped, stops, boots, gets, news) =
       let driven = stopping_of port old stopped stops in
@@ -84,18 +84,18 @@ module _ (laws : LawsBelow) where
 
   -- ---- one port after another
 
-  go_grows : (first : ℕ) (ports : List ProbeResult) (old new : Device) → GoThrough first ports old new → Grows old new
+  go_grows : (first : ℕ) (ports : List ProbeResult) (old new : Device) → FindsEachPort first ports old new → Grows old new
   go_grows first [] old new same = subst (Grows old) (sym same) (laws.looks.tape.grows_none old)
   go_grows first (found ∷ rest) old new (mid, way, more) =
       let driven = through_of (port_at first) found old mid way in
       laws.looks.tape.grows_more old mid new (grows_over laws driven.accesses old mid driven.all) (go_grows (first + 1) rest mid new more)
 
   go_saw : (port : Port) (found : ProbeResult) → ((state : ShownState) → found ≡ Unready state → state ≢ ReadyState) → ShowsDisk (state_of found)
-      → (first : ℕ) (ports : List ProbeResult) (k : ℕ) (old new : Device) → port.0 ≡ first + k → probe_result_of ports k ≡ found → IsOn old → GoThrough first ports old new → SawDisk port old new
+      → (first : ℕ) (ports : List ProbeResult) (k : ℕ) (old new : Device) → port.0 ≡ first + k → probe_result_of ports k ≡ found → IsOn old → FindsEachPort first ports old new → SawDisk port old new
   go_saw port found other shows first [] k old new at is on way = absurd (let none : ShowsDisk (state_of Unserved) = subst (λ (f : ProbeResult). ShowsDisk (state_of f)) (sym is) shows in none)
   go_saw port found other shows first (one ∷ rest) zero old new at is on (mid, way, more) =
       let same : port_at first ≡ port = ap port_at (sym (at ∙ (omega arith))) in
-      let own : GoesThrough port found old mid = subst (λ (p : Port). GoesThrough p found old mid) same (subst (λ (f : ProbeResult). GoesThrough (port_at first) f old mid) is way) in
+      let own : StopsAndBootsPort port found old mid = subst (λ (p : Port). StopsAndBootsPort p found old mid) same (subst (λ (f : ProbeResult). StopsAndBootsPort (port_at first) f old mid) is way) in
       saw_after port old mid new (go_grows (first + 1) rest mid new more) (through_saw port found old mid on other shows own)
   go_saw port found other shows first (one ∷ rest) (suc k) old new at is on (mid, way, more) =
       let driven = through_of (port_at first) one old mid way in
@@ -113,7 +113,7 @@ module _ (laws : LawsBelow) where
   survey_of port (Storing at bytes) is = absurd is
 
 pub taken_saw : (laws : ResetLaws) (port : Port) (found : ProbeResult) → ((state : ShownState) → found ≡ Unready state → state ≢ ReadyState) → ShowsDisk (state_of found) → (ports : List ProbeResult) (old new : Device) → IsIdle old
-    → probe_result_of ports port.0 ≡ found → GoesOver ports old new → SawDisk port old new
+    → probe_result_of ports port.0 ≡ found → SwitchesOnAndBoots ports old new → SawDisk port old new
 taken_saw laws port found other shows ports old new rest is way =
     let below : LawsBelow = laws.below in
     let on = laws.below.switches_on 0x80000000 old way.switched rest.no_reset refl refl way.switches in

@@ -17,7 +17,7 @@ use Rattle.ata_types.specs.declared.request.Reply.{Reply}
 use Rattle.ata_types.specs.declared.request.RequestId.{RequestId}
 use Rattle.server_history.proofs.state.ListMembers.{contains_cases}
 use Rattle.block_machine.specs.Due.{of_port}
-use Rattle.block_machine.specs.Events.{AllLawful, AllMay, AnswersReset, Belong, FindsAnother, EndsUndone, HadDisk, IsLawful, IssuesLast, KeepsDisks, AbstractState, NoneKeepsIssue, ReleasesOnce, Reset, ShowsDisk, Tells, UnplugsAll, WasIssued, WasReset, answers_of, issues_it, IsReadyAgain}
+use Rattle.block_machine.specs.Events.{AllLawful, AllMay, AnswersReset, AreStepsOfCall, FindsAnother, EndsUndone, HadDisk, IsLawful, IssuesLast, KeepsDisks, AbstractState, NoneKeepsIssue, ReleasesOnce, Reset, ShowsDisk, Tells, UnplugsAll, WasIssued, WasReset, answers_of, issues_it, IsReadyAgain}
 use Rattle.block_machine.specs.Histories.{Happening, JointState, IsReachable, now}
 use Rattle.block_machine.specs.Left.{after}
 use Rattle.block_machine.specs.Ports.{MayBecome, Ports, SameDisk}
@@ -62,7 +62,7 @@ use Rattle.server_history.proofs.state.PairedLists.{at_right}
 use Rattle.server_history.specs.Ended.{ResetLaws}
 use Rattle.server_history.specs.Histories.{ExtendsSettled, LeadsToServer}
 use Rattle.server_history.proofs.reset_call.ResetDevice.{IsRebootedBy}
-use Rattle.server_history.specs.Resets.{IsResetRevalidation, IsTakenAgain, IssuePorts, ResetsServer, SettlePorts}
+use Rattle.server_history.specs.Resets.{IsResetRevalidation, IsReinitialized, IssuePorts, ResetsServer, SettlePorts}
 use Rattle.server_history.specs.Server.{InCallInvariant, IsMachineOf, SettledInvariant, ServerState, disk_in, last_disk_of, is_served, mode_in, ports_of, remembered_at, last_sectors_of, last_serial_of, state_of}
 use Rattle.server_history.specs.Stalled.{BookInvariant}
 use Rattle.server_history.specs.Turns.{joint_state_of, abstract_state_of}
@@ -80,7 +80,7 @@ remembers Unserved remembered other = refl
 remembers (Ready info) remembered other = absurd (other refl)
 remembers (Unready state) remembered other = refl
 
-module _ (laws : ResetLaws) (s taken settled new : ServerState) (replies : List Reply) (booked : BookInvariant s) (takes : IsTakenAgain s taken) (settles : SettlePorts 0 taken.ports replies taken settled) (issues : IssuePorts 0 taken.ports settled new)
+module _ (laws : ResetLaws) (s taken settled new : ServerState) (replies : List Reply) (booked : BookInvariant s) (takes : IsReinitialized s taken) (settles : SettlePorts 0 taken.ports replies taken settled) (issues : IssuePorts 0 taken.ports settled new)
     (by : IsRebootedBy s new replies) (first : JointState Device) (past : List (Happening Device DeviceStep)) (leads : LeadsToServer first past s) where
   abbrev was : AbstractState
   was = (now first past).abstract
@@ -283,17 +283,17 @@ module _ (laws : ResetLaws) (s taken settled new : ServerState) (replies : List 
       rest)
       (why None has.revalidation has.request.entry o has.disposition)
 
-  begun_belong : Belong {D = DeviceStep} Reset (ports_of new) begun
+  begun_belong : AreStepsOfCall {D = DeviceStep} Reset (ports_of new) begun
   begun_belong = belong_join Reset (ports_of new) r.second (Release ∷ r.first) (devices_belong {D = DeviceStep} Reset (ports_of new) r.second r.second_only)
       (devices_belong {D = DeviceStep} Reset (ports_of new) r.first r.first_only, inr tt)
 
-  base_belong : Belong {D = DeviceStep} Reset (ports_of new) base
+  base_belong : AreStepsOfCall {D = DeviceStep} Reset (ports_of new) base
   base_belong = belong_join Reset (ports_of new) f.steps begun (decided_belong (ports_of new) f.steps f.decides gives_up again_ready) begun_belong
 
-  late_belong : Belong {D = DeviceStep} Reset (ports_of new) a.steps
-  late_belong = subst (λ (ports : Ports). Belong {D = DeviceStep} Reset ports a.steps) (sym ports_new) (reissued_belong (ports_of settled) a.steps a.only)
+  late_belong : AreStepsOfCall {D = DeviceStep} Reset (ports_of new) a.steps
+  late_belong = subst (λ (ports : Ports). AreStepsOfCall {D = DeviceStep} Reset ports a.steps) (sym ports_new) (reissued_belong (ports_of settled) a.steps a.only)
 
-  belong : Belong {D = DeviceStep} Reset (ports_of new) steps
+  belong : AreStepsOfCall {D = DeviceStep} Reset (ports_of new) steps
   belong = belong_join Reset (ports_of new) a.steps base late_belong base_belong
 
   begun_none : (id : RequestId) → list_any (issues_it id) begun ≡ false

@@ -23,16 +23,16 @@ use Rattle.driver_history.specs.Histories.{IsOnAndTells, IsPortServed}
 use Rattle.driver_history.specs.Parts.{HasTurnIn, IsOfOther}
 use Rattle.driver_history.specs.Trace.{IsDriversOwn, IsOfPorts, ResetsLink}
 use Rattle.host_boot.specs.Resets.{BeginsReset, IsOfReset}
-use Rattle.host_boot.specs.Taken.{GoesOver, IsServed, IsSurvey, StandsBehind, probe_result_of, wanted_of}
+use Rattle.host_boot.specs.Taken.{SwitchesOnAndBoots, IsServed, IsSurvey, StandsBehind, probe_result_of, wanted_of}
 use Rattle.host_boot.specs.declared.ProbeResult.{ProbeResult}
 use Rattle.host_boot.specs.declared.ProbeResult.TheVariants.{Unserved, Ready, Unready}
 use Rattle.identify.specs.declared.DiskInfo.{DiskInfo}
-use Rattle.port_boot.specs.States.{GetsReady, IsOfBoot}
+use Rattle.port_boot.specs.States.{BringsReady, IsOfBoot}
 use Rattle.port_control.specs.Engines.{Sticks}
-use Rattle.port_control.specs.Ports.{WritesCommand}
+use Rattle.port_control.specs.Ports.{IsCommandRegister}
 use Rattle.request_queue.specs.Entries.{asks_of, due_ids}
 use Rattle.server_history.specs.Below.{LawsBelow}
-use Rattle.server_history.specs.Resets.{IsTakenAgain, IssuePorts, ResetsServer, SettlePorts}
+use Rattle.server_history.specs.Resets.{IsReinitialized, IssuePorts, ResetsServer, SettlePorts}
 use Rattle.server_history.specs.Served.{IssuesIn}
 use Rattle.server_history.specs.Server.{ServerState, is_served, mode_in, ports_of}
 use Rattle.server_history.specs.Stalled.{BookInvariant}
@@ -201,13 +201,13 @@ served_if (Ready info) other = refl
 served_if (Unready state) other = refl
 
 module _ (laws : LawsBelow) (s new : ServerState) (replies : List Reply) (k : BookInvariant s) (r : ResetsServer replies s new) where
-  abbrev t : IsTakenAgain s r.taken
+  abbrev t : IsReinitialized s r.taken
   t = r.takes
 
   abbrev pub ports : List ProbeResult
   ports = t.host.ports
 
-  abbrev way : GoesOver ports t.idle r.taken.device
+  abbrev way : SwitchesOnAndBoots ports t.idle r.taken.device
   way = t.takes.way
 
   -- ---- what it is then
@@ -365,14 +365,14 @@ module _ (laws : LawsBelow) (s new : ServerState) (replies : List Reply) (k : Bo
       abbrev stopped : Device
       stopped = did.1.0
 
-      abbrev gets : GetsReady port stopped its.end
+      abbrev gets : BringsReady port stopped its.end
       gets = did.1.2
 
       start_on : IsOn its.start
       start_on = on_over laws its.before way.surveyed its.start surveyed_on (All-weaker (IsOfOther port) StaysOn (λ access other. (other_leaves laws port access other).4) its.before its.others) its.first
 
       stopped_on : IsOn stopped
-      stopped_on = laws.of_on port its.start stopped start_on (driven_as (IsControl WritesCommand port) (IsOf port) its.start stopped (λ access x. laws.booting_of port access (command_boots port access x)) did.1.1)
+      stopped_on = laws.of_on port its.start stopped start_on (driven_as (IsControl IsCommandRegister port) (IsOf port) its.start stopped (λ access x. laws.booting_of port access (command_boots port access x)) did.1.1)
 
       end_on : IsOn its.end
       end_on = laws.of_on port stopped its.end stopped_on (driven_as (IsOfBoot port) (IsOf port) stopped its.end (laws.booting_of port) (ready_resets laws port stopped its.end gets).driven)

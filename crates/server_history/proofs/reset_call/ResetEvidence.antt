@@ -26,7 +26,7 @@ use Rattle.identify.specs.declared.DiskInfo.{DiskInfo}
 use Rattle.port_control.specs.Engines.{Sticks}
 use Rattle.server_history.specs.Below.{LawsBelow}
 use Rattle.server_history.proofs.reset_call.ResetDevice.{IsRebootedBy}
-use Rattle.server_history.specs.Resets.{IsTakenAgain, ResetsServer}
+use Rattle.server_history.specs.Resets.{IsReinitialized, ResetsServer}
 use Rattle.server_history.specs.Server.{ServerState, is_served, ports_of, state_of}
 use Rattle.server_history.specs.Stalled.{BookInvariant}
 use Rattle.server_history.specs.Turns.{joint_state_of}
@@ -94,7 +94,7 @@ notes_over laws port (access ∷ list) old new on all (mid, does, rest) =
 -- ---- the whole
 
 module _ (laws : LawsBelow) (s new : ServerState) (replies : List Reply) (k : BookInvariant s) (r : ResetsServer replies s new) where
-  abbrev t : IsTakenAgain s r.taken
+  abbrev t : IsReinitialized s r.taken
   t = r.takes
 
   abbrev ports : List ProbeResult

@@ -8,7 +8,7 @@ use Rattle.ata_types.specs.declared.PortState.TheVariants.{Ready as ReadyState}
 use Rattle.ata_types.specs.declared.request.Outcome.{Outcome}
 use Rattle.ata_types.specs.declared.request.RequestId.{RequestId}
 use Rattle.server_history.proofs.state.ListMembers.{at_cases, contains_cases, contains_there, map_in, without_in}
-use Rattle.block_machine.specs.Events.{AllDevices, AllLawful, AllMay, Belong, EndsUndone, IsByDevice, IsIssuedIn, IsLawful, IssuesLast, AbstractState, Reset, WasIssued, answers_of, is_release, issues_it}
+use Rattle.block_machine.specs.Events.{AllDevices, AllLawful, AllMay, AreStepsOfCall, EndsUndone, IsByDevice, IsIssuedIn, IsLawful, IssuesLast, AbstractState, Reset, WasIssued, answers_of, is_release, issues_it}
 use Rattle.block_machine.specs.Left.{after}
 use Rattle.block_machine.specs.Ports.{Evidence, Ports}
 use Rattle.block_machine.specs.State.{Machine, Pending}
@@ -29,7 +29,7 @@ decided_none id (step ∷ steps) all = absurd (All-head Decides step steps all).
 
 module _ (ports : Ports) where
   pub decided_belong : (steps : List Step) → All Decides steps → ((e : Pending) (o : Outcome) → Contains steps (Answer e o) → EndsUndone o) → ((e : Pending) → Contains steps (Again e) → ports.state e.request.port ≡ ReadyState)
-      → Belong {D = DeviceStep} Reset ports steps
+      → AreStepsOfCall {D = DeviceStep} Reset ports steps
   decided_belong [] all answer again = tt
   decided_belong (Again e ∷ steps) all answer again = (
     decided_belong steps (All-tail Decides (Again e) steps all) (λ x o there. answer x o (contains_there (Again e) steps (Answer x o) there)) (λ x there. again x (contains_there (Again e) steps (Again x) there)),
@@ -57,7 +57,7 @@ decided_lawful old evidence ports (step ∷ steps) all answer again = absurd (Al
 -- ---- steps that issue
 
 module _ (ports : Ports) where
-  pub reissued_belong : (steps : List Step) → All (IsReissue ports) steps → Belong {D = DeviceStep} Reset ports steps
+  pub reissued_belong : (steps : List Step) → All (IsReissue ports) steps → AreStepsOfCall {D = DeviceStep} Reset ports steps
   reissued_belong [] all = tt
   reissued_belong (Issue mode e ∷ steps) all = (reissued_belong steps (All-tail (IsReissue ports) (Issue mode e) steps all), inr (All-head (IsReissue ports) (Issue mode e) steps all))
   reissued_belong (step ∷ steps) all = (reissued_belong steps (All-tail (IsReissue ports) step steps all), inl (All-head (IsReissue ports) step steps all))
@@ -101,7 +101,7 @@ reissue_keeps ports step is = tt
 
 -- one that is issued after such steps was issued in them, or before
 module _ (laws : LawsBelow) (ports : Ports) (m : Machine) where
-  pub issued_from : (steps : List Step) → Belong {D = DeviceStep} Reset ports steps → (z : Pending) → Contains (after m steps).book z → z.issued ≡ true → IsIssuedIn z.request.id steps ⊎ WasIssued m z.request.id
+  pub issued_from : (steps : List Step) → AreStepsOfCall {D = DeviceStep} Reset ports steps → (z : Pending) → Contains (after m steps).book z → z.issued ≡ true → IsIssuedIn z.request.id steps ⊎ WasIssued m z.request.id
   issued_from [] b z here is = inr (record { pending = z; here = here; id_is = refl; issued = is })
   issued_from (Issue mode e ∷ steps) b z here is =
       let w = map_in (at e.request.id newly_issued) (after m steps).book z here in
@@ -132,7 +132,7 @@ module _ (laws : LawsBelow) (ports : Ports) (m : Machine) where
       (issued_from steps b.0 l.0 l.1 (sym l.2.issued ∙ is))
 
   -- who is answered was in the book then
-  pub answered_issued : (steps : List Step) → Belong {D = DeviceStep} Reset ports steps → AllMay m steps → ((id : RequestId) → list_any (issues_it id) steps ≡ false) → (e : Pending) (o : Outcome) → Contains steps (Answer e o) → e.issued ≡ true
+  pub answered_issued : (steps : List Step) → AreStepsOfCall {D = DeviceStep} Reset ports steps → AllMay m steps → ((id : RequestId) → list_any (issues_it id) steps ≡ false) → (e : Pending) (o : Outcome) → Contains steps (Answer e o) → e.issued ≡ true
       → WasIssued m e.request.id
   answered_issued [] b may none e o here is = absurd (nowhere (Answer e o) here)
   answered_issued (step ∷ steps) b may none e o here is = ⊎_elim

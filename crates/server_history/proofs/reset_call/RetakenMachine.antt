@@ -37,7 +37,7 @@ use Rattle.server_history.specs.Below.{LawsBelow}
 use Rattle.server_history.specs.Ended.{ResetLaws}
 use Rattle.server_history.specs.Kept.{IsKeptIn, TakesBack}
 use Rattle.server_history.specs.ErrorHandling.{requests_of}
-use Rattle.server_history.specs.Resets.{IsTakenAgain, MaySettle}
+use Rattle.server_history.specs.Resets.{IsReinitialized, MaySettle}
 use Rattle.server_history.specs.Server.{AreKept, IsMachineOf, ServerState, kept_at}
 use Rattle.server_history.specs.Stalled.{BookInvariant}
 
@@ -174,7 +174,7 @@ pub record IsRetaken (s taken : ServerState) (uses : SlotStates) (m : Machine) :
   pub lent : (frame : Frame) → (after m (second ++ Release ∷ first)).lent frame ≡ lent_to taken.table frame
   pub next : (after m (second ++ Release ∷ first)).next ≡ s.last + 1
 
-module _ (laws : ResetLaws) (s taken : ServerState) (takes : IsTakenAgain s taken) (m : Machine) (reached : IsReachable m) (is : IsMachineOf s m) where
+module _ (laws : ResetLaws) (s taken : ServerState) (takes : IsReinitialized s taken) (m : Machine) (reached : IsReachable m) (is : IsMachineOf s m) where
   abbrev down : IsStretch (known is.uses is.parked s.device) (known is.uses is.parked takes.idle) m
   down = stretch laws.below takes.resets.followed is.uses is.parked tt m reached is.knows
 
@@ -263,7 +263,7 @@ accepted_then old new entries m limits book lent owners accepted i d small =
           sym (lent g) ∙ ap m.lent (get_or_default y.0.request.asked.frames.items k f _ inside) ∙ limits.lent y.0 (inl y.1) k inside ∙ ap Some y.2.id);
     }
 
-module _ (laws : ResetLaws) (s taken : ServerState) (booked : BookInvariant s) (takes : IsTakenAgain s taken) where
+module _ (laws : ResetLaws) (s taken : ServerState) (booked : BookInvariant s) (takes : IsReinitialized s taken) where
   its : IsRetaken s taken takes.takes.uses booked.machine
   its = retaken laws s taken takes booked.machine booked.reached booked.stands
 

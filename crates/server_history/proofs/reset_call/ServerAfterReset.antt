@@ -30,11 +30,11 @@ use Rattle.server_history.proofs.dispositions.RemainingBook.{WasIn}
 use Rattle.server_history.proofs.reset_call.RetakenMachine.{IsRetaken, issued_in, issued_on, may_settle, retaken}
 use Rattle.server_history.specs.Ended.{ResetLaws}
 use Rattle.server_history.proofs.state.PairedLists.{at_right}
-use Rattle.server_history.specs.Resets.{IsTakenAgain, IssuePorts, MaySettle, SettlePorts}
+use Rattle.server_history.specs.Resets.{IsReinitialized, IssuePorts, MaySettle, SettlePorts}
 use Rattle.server_history.specs.Server.{HasSlots, InCallInvariant, IsMachineOf, SettledInvariant, ServerState, is_served, mode_at, mode_found, state_of, used_for, HasTrueMark}
 use Rattle.server_history.specs.Stalled.{BookInvariant}
 
-module _ (laws : ResetLaws) (s taken settled : ServerState) (booked : BookInvariant s) (takes : IsTakenAgain s taken) (replies : List Reply) (settles : SettlePorts 0 taken.ports replies taken settled) (m : Machine) (reached : IsReachable m)
+module _ (laws : ResetLaws) (s taken settled : ServerState) (booked : BookInvariant s) (takes : IsReinitialized s taken) (replies : List Reply) (settles : SettlePorts 0 taken.ports replies taken settled) (m : Machine) (reached : IsReachable m)
     (is : IsMachineOf s m) where
   pub its_retaken : IsRetaken s taken takes.takes.uses m
   its_retaken = retaken laws s taken takes m reached is

@@ -13,7 +13,7 @@ use Rattle.request_queue.specs.declared.disposition.Disposition.{Disposition}
 use Rattle.request_queue.specs.declared.disposition.Disposition.TheVariants.{Complete}
 use Rattle.server_history.specs.Below.{LawsBelow}
 use Rattle.server_history.specs.ErrorHandling.{holdings_of}
-use Rattle.server_history.specs.Revoked.{RevokesGrant, without_grant}
+use Rattle.server_history.specs.Revoked.{RevokesGrant, with_grant_revoked}
 use Rattle.server_history.specs.Server.{ServerState}
 
 -- each is told Revoked
@@ -26,19 +26,19 @@ waiting_under client number book = filter (λ (e : Held). waits_under client num
 
 -- the server without the grant, with this book and these loans
 abbrev pub with_revoked : ClientId → ℕ → Table → List Held → ServerState → ServerState
-with_revoked client number table book s = record (without_grant client number s) { table = table; book = book }
+with_revoked client number table book s = record (with_grant_revoked client number s) { table = table; book = book }
 
 -- They met that fate one after another, and the table that this led to has the same lent as the server's.
 pub record RevokesEach (client : ClientId) (number : ℕ) (replies : List Reply) (s new : ServerState) : Type 0 where
   pub has : HasRow client number s.grants
   pub now : Holdings
-  pub meets : AreResolved ends_revoked (waiting_under client number (without_grant client number s).book) replies (holdings_of has.0.port (without_grant client number s)) now
+  pub meets : AreResolved ends_revoked (waiting_under client number (with_grant_revoked client number s).book) replies (holdings_of has.0.port (with_grant_revoked client number s)) now
   pub lends : LendsOnly now.table new.table [] None
   pub server : new ≡ with_revoked client number new.table now.book s
 
 abbrev pub revokes_each : LawsBelow → (s new : ServerState) (client : ClientId) (number : ℕ) (replies : List Reply) → BookIsInOrder s.book → All (IsAccepted s.table) s.book → RevokesGrant client number replies s new → RevokesEach client number replies s new
 revokes_each laws s new client number replies ordered accepted r =
-    let old = without_grant client number s in
+    let old = with_grant_revoked client number s in
     let each = laws.answered_each (waits_under client number) Revoked (λ e. refl) (holdings_of r.has.0.port old) (laws.marked s.book client number ordered) (laws.still_marked s.table s.book client number accepted) replies (holdings_of r.has.0.port new) r.answers in
     record {
       has = r.has;

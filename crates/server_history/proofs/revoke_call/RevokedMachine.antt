@@ -16,7 +16,7 @@ use Rattle.ata_types.specs.declared.request.RequestId.{RequestId}
 use Rattle.adapter.specs.declared.access.DeviceStep.{DeviceStep}
 use Rattle.refinement.specs.Driven.{known}
 use Rattle.refinement.specs.Driver.{HasNoSlot, IsBacked, DriverState}
-use Rattle.block_machine.specs.Events.{AllLawful, AllMay, Belong, IsLawful, IssuesLast, AbstractState, RevokeOf, Tells, answers_of, issues_it}
+use Rattle.block_machine.specs.Events.{AllLawful, AllMay, AreStepsOfCall, IsLawful, IssuesLast, AbstractState, RevokeOf, Tells, answers_of, issues_it}
 use Rattle.block_machine.specs.Histories.{IsReachable}
 use Rattle.block_machine.specs.Left.{after}
 use Rattle.block_machine.specs.Ports.{Evidence, Ports}
@@ -28,9 +28,9 @@ use Rattle.request_queue.specs.Entries.{Held, IsAccepted, BookIsInOrder, asks_of
 use Rattle.request_queue.specs.Machine.{IsBook, IsEntry}
 use Rattle.request_queue.specs.declared.disposition.Disposition.TheVariants.{Complete, Requeue}
 use Rattle.server_history.specs.Below.{LawsBelow}
-use Rattle.server_history.specs.Dispositions.{DecidesOn, MayMeet, MeetsInMachine}
+use Rattle.server_history.specs.Dispositions.{DecidesOn, AreResolvable, AreResolvedInMachine}
 use Rattle.server_history.specs.ErrorHandling.{holdings_of}
-use Rattle.server_history.specs.Revoked.{without_grant}
+use Rattle.server_history.specs.Revoked.{with_grant_revoked}
 use Rattle.server_history.specs.Server.{AreKept, HasTrueMark, IsMachineOf, ServerState}
 use Rattle.server_history.proofs.any_turn.JoinedParts.{answers_append}
 use Rattle.server_history.proofs.any_turn.TurnsInOrder.{belong_join, lawful_join}
@@ -80,7 +80,7 @@ module _ (laws : LawsBelow) (s : ServerState) (client : ClientId) (number : ℕ)
   marked = may_revoke.marked
 
   abbrev old : ServerState
-  old = without_grant client number s
+  old = with_grant_revoked client number s
 
   abbrev port : Port
   port = r.has.0.port
@@ -136,7 +136,7 @@ module _ (laws : LawsBelow) (s : ServerState) (client : ClientId) (number : ℕ)
       let p = at_left IsEntry old.book n.book n_book e w.0 in
       subst (HasNoSlot is.uses) p.2.id (laws.slots.waiting is.uses m s.device reached is.knows.agrees p.0 p.1 (p.2.issued ∙ w.1.waits))
 
-  may_meet : MayMeet port ends_revoked requests (holdings_of port old) k n
+  may_meet : AreResolvable port ends_revoked requests (holdings_of port old) k n
   may_meet = record {
     reached = n_reached;
     knows = laws.slots.revoked_agrees k m client number is.knows;
@@ -150,7 +150,7 @@ module _ (laws : LawsBelow) (s : ServerState) (client : ClientId) (number : ℕ)
     unserved = λ e there never. unserved e there;
   }
 
-  pub met : MeetsInMachine port ends_revoked requests replies (holdings_of port old) r.now k n
+  pub met : AreResolvedInMachine port ends_revoked requests replies (holdings_of port old) r.now k n
   met = meet laws port ends_revoked requests (fit client number s) replies (holdings_of port old) r.now k n may_meet r.meets
 
   abbrev z : Machine
@@ -253,7 +253,7 @@ module _ (laws : LawsBelow) (s : ServerState) (client : ClientId) (number : ℕ)
   pub backed : IsBacked s.device s.device m steps
   backed = laws.backed_parts s.device s.device s.device m (Revoke client number ∷ []) met.steps (laws.backed_own s.device m (Revoke client number) (λ none. none)) (met.backed s.device)
 
-  pub belong : (ports : Ports) → Belong {D = DeviceStep} (RevokeOf client number) ports steps
+  pub belong : (ports : Ports) → AreStepsOfCall {D = DeviceStep} (RevokeOf client number) ports steps
   belong ports = belong_join (RevokeOf client number) ports met.steps (Revoke client number ∷ [])
       (answers_belong IsRevoked (RevokeOf client number) ports (λ e o told. told.0) met.steps all_answers) (tt, inr (refl, refl))
 

@@ -16,7 +16,7 @@ use Rattle.host_boot.specs.Taken.{probe_result_of}
 use Rattle.request_queue.specs.Entries.{Held, all_marked_under, asks_of, IsAccepted}
 use Rattle.server_history.specs.Below.{LawsBelow}
 use Rattle.server_history.specs.ErrorHandling.{holdings_of}
-use Rattle.server_history.specs.Revoked.{without_grant}
+use Rattle.server_history.specs.Revoked.{with_grant_revoked}
 use Rattle.server_history.specs.Server.{InCallInvariant, ServerState, is_served, kept_at, mode_in, state_of}
 use Rattle.server_history.specs.Stalled.{StuckInvariant, BookInvariant}
 use Rattle.server_history.proofs.failed_reset.StalledInstant.{booked_then}
@@ -66,7 +66,7 @@ module _ (laws : LawsBelow) (s : ServerState) (client : ClientId) (number : ℕ)
         (after k.machine (revoked.steps laws s client number replies mid r k.machine may_revoke)) (revoked.reached_then laws s client number replies mid r k.machine may_revoke)
         (revoked.stands laws s client number replies mid r k.machine may_revoke)
       where
-        left : IsLeft r.has.0.port ends_revoked (waiting_under client number (without_grant client number s).book) (holdings_of r.has.0.port (without_grant client number s)) r.now
+        left : IsLeft r.has.0.port ends_revoked (waiting_under client number (with_grant_revoked client number s).book) (holdings_of r.has.0.port (with_grant_revoked client number s)) r.now
         left = revoked.left laws s client number replies mid r k.machine may_revoke
 
     pub none_other : ((q : Port) → NoneDue (mode_in s q) (asks_of s.book) q) → (q : Port) → q ≢ r.has.0.port → NoneDue (mode_in s q) (asks_of r.now.book) q
@@ -104,5 +104,5 @@ module _ (laws : LawsBelow) (s : ServerState) (client : ClientId) (number : ℕ)
       dead = t.dead;
     }
       where
-        left : IsLeft r.has.0.port ends_revoked (waiting_under client number (without_grant client number s).book) (holdings_of r.has.0.port (without_grant client number s)) r.now
+        left : IsLeft r.has.0.port ends_revoked (waiting_under client number (with_grant_revoked client number s).book) (holdings_of r.has.0.port (with_grant_revoked client number s)) r.now
         left = revoked.left laws s client number replies mid r b.machine may_revoke_off

@@ -10,7 +10,7 @@ use Rattle.ata_types.specs.declared.request.Reply.{Reply}
 use Rattle.ata_types.specs.declared.request.RequestId.{RequestId}
 use Rattle.adapter.specs.declared.access.DeviceStep.{DeviceStep}
 use Rattle.block_machine.specs.declared.due.QueueMode.{QueueMode}
-use Rattle.block_machine.specs.Events.{AllDevices, AllLawful, AllMay, Ask, Belong, IsByDevice, IsLawful, IsByServer, AbstractState, answers_of, issues_it, reply_of}
+use Rattle.block_machine.specs.Events.{AllDevices, AllLawful, AllMay, Ask, AreStepsOfCall, IsByDevice, IsLawful, IsByServer, AbstractState, answers_of, issues_it, reply_of}
 use Rattle.block_machine.specs.Left.{after}
 use Rattle.block_machine.specs.Ports.{Evidence, Ports}
 use Rattle.block_machine.specs.State.{Pending, Machine}
@@ -110,7 +110,7 @@ module _ (Told : Pending → Outcome → Type 0) where
   pub answer_told : (steps : List Step) → All (IsAnswerOf Told) steps → (e : Pending) (o : Outcome) → Contains steps (Answer e o) → Told e o
   answer_told steps all e o here = All-contains (IsAnswerOf Told) steps (Answer e o) all here
 
-  pub answers_belong : (ask : Ask DeviceStep) (ports : Ports) → ((e : Pending) (o : Outcome) → Told e o → IsByServer ask ports (Answer e o)) → (steps : List Step) → All (IsAnswerOf Told) steps → Belong ask ports steps
+  pub answers_belong : (ask : Ask DeviceStep) (ports : Ports) → ((e : Pending) (o : Outcome) → Told e o → IsByServer ask ports (Answer e o)) → (steps : List Step) → All (IsAnswerOf Told) steps → AreStepsOfCall ask ports steps
   answers_belong ask ports own [] all = tt
   answers_belong ask ports own (Answer e o ∷ steps) all =
       (answers_belong ask ports own steps (All-tail (IsAnswerOf Told) (Answer e o) steps all), inr (own e o (All-head (IsAnswerOf Told) (Answer e o) steps all)))

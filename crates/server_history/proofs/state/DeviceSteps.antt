@@ -2,12 +2,12 @@
 use Rattle.std.proofs.Common.{◌≡◌, true, List, [], ◌∷◌, refl, inl}
 use Rattle.std.proofs.lemmas.Bool.{false≢true}
 use Rattle.ata_types.specs.declared.request.RequestId.{RequestId}
-use Rattle.block_machine.specs.Events.{Ask, AbstractState, IsByDevice, AllDevices, Belong, IssuesLast, AllLawful, handles, transfers_of}
+use Rattle.block_machine.specs.Events.{Ask, AbstractState, IsByDevice, AllDevices, AreStepsOfCall, IssuesLast, AllLawful, handles, transfers_of}
 use Rattle.block_machine.specs.Ports.{Ports, Evidence}
 use Rattle.block_machine.specs.Steps.{Step, Issue, Again, Answer, Store, Load}
 
 -- they may come in every call
-pub devices_belong : {D : Type 0} (ask : Ask D) (ports : Ports) (steps : List Step) → AllDevices steps → Belong ask ports steps
+pub devices_belong : {D : Type 0} (ask : Ask D) (ports : Ports) (steps : List Step) → AllDevices steps → AreStepsOfCall ask ports steps
 devices_belong ask ports [] a = tt
 devices_belong ask ports (step ∷ before) a = (devices_belong ask ports before a.0, inl a.1)
 

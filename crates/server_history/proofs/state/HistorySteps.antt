@@ -15,7 +15,7 @@ use Rattle.refinement.specs.Driven.{known}
 use Rattle.refinement.specs.Driver.{DriverRelation, IsBacked}
 use Rattle.refinement.specs.Links.{SameAdapter}
 use Rattle.refinement.specs.Spares.{AllFurther, IsFurther, SparesBook}
-use Rattle.block_machine.specs.Events.{Ask, CallResult, AllMay, AllDevices, Belong, IssuesLast, AllLawful, IsAnswered, KeepsDisks}
+use Rattle.block_machine.specs.Events.{Ask, CallResult, AllMay, AllDevices, AreStepsOfCall, IssuesLast, AllLawful, IsAnswered, KeepsDisks}
 use Rattle.block_machine.specs.Histories.{JointState, Happening, IsHistory, IsReachable, now}
 use Rattle.block_machine.specs.Left.{IsRow, after}
 use Rattle.block_machine.specs.Ports.{Ports, AreFit, Evidence, SamePorts, SameDisk}
@@ -26,8 +26,8 @@ use Rattle.dma_frames.specs.Table.{Table}
 use Rattle.host_boot.specs.Taken.{probe_result_of}
 use Rattle.host_boot.specs.declared.ProbeResult.{ProbeResult}
 use Rattle.driver_history.specs.Evidence.{IsEvidenced}
-use Rattle.driver_history.specs.Heeding.{IsGrounded}
-use Rattle.driver_history.specs.Histories.{Begins, CameBy, Issues, CallCorresponds, PortCorresponds}
+use Rattle.driver_history.specs.Heeding.{OnlyFailedPortsRequeueIn}
+use Rattle.driver_history.specs.Histories.{Begins, ExplainsAccesses, Issues, CallCorresponds, PortCorresponds}
 use Rattle.driver_history.specs.Trace.{LeavesEngine}
 use Rattle.driver_history.specs.Holds.{HoldsAt}
 use Rattle.server_history.specs.Histories.{LeadsToServer}
@@ -184,12 +184,12 @@ holding s k m reached is = (slots s k m reached is, holds_with s k m reached is)
 -- a call, with what its event needs
 pub lead_with : LawsBelow → (first : JointState Device) (past : List (Happening Device DeviceStep)) (s new : ServerState) (ask : Ask DeviceStep) (said : CallResult) (evidence : Evidence) (steps : List Step)
     → new.wanted ≡ s.wanted → LeadsToServer first past s → IsHolding new → AreFit (ports_of new)
-    → AllMay (now first past).abstract.machine steps → Belong ask (ports_of new) steps → IssuesLast steps
+    → AllMay (now first past).abstract.machine steps → AreStepsOfCall ask (ports_of new) steps → IssuesLast steps
     → AllLawful (now first past).abstract evidence (ports_of new) steps
     → KeepsDisks (now first past).abstract (record { machine = after (now first past).abstract.machine steps; ports = ports_of new })
     → IsAnswered ask said (now first past).abstract evidence steps (record { machine = after (now first past).abstract.machine steps; ports = ports_of new })
-    → IsGrounded ask evidence steps
-    → (accesses : List Access) → CameBy (now first past).abstract ask said accesses s.device new.device
+    → OnlyFailedPortsRequeueIn ask evidence steps
+    → (accesses : List Access) → ExplainsAccesses (now first past).abstract ask said accesses s.device new.device
     → IsEvidenced ask said accesses (with_device s.device (now first past)) (ports_of new) new.device evidence
     → ((port : Port) → Issues ask steps (after (now first past).abstract.machine steps) (ports_of new) port)
     → ((port : Port) → PortCorresponds (with_device s.device (now first past)) (happening_with evidence new.device ask said steps (ports_of new)) accesses port)
@@ -237,11 +237,11 @@ lead_with laws first past s new ask said evidence steps wanted_is leads holds fi
 -- one in which no port is stopped, and each is what it was
 pub lead_by : LawsBelow → (first : JointState Device) (past : List (Happening Device DeviceStep)) (s new : ServerState) (ask : Ask DeviceStep) (said : CallResult) (steps : List Step)
     → new.wanted ≡ s.wanted → ports_of new ≡ ports_of s → LeadsToServer first past s → IsHolding new
-    → AllMay (now first past).abstract.machine steps → Belong ask (ports_of new) steps → IssuesLast steps
+    → AllMay (now first past).abstract.machine steps → AreStepsOfCall ask (ports_of new) steps → IssuesLast steps
     → AllLawful (now first past).abstract no_evidence (ports_of new) steps
     → IsAnswered ask said (now first past).abstract (told_by s.device (now first past).abstract.ports) steps (record { machine = after (now first past).abstract.machine steps; ports = ports_of new })
-    → IsGrounded ask (told_by s.device (now first past).abstract.ports) steps
-    → (accesses : List Access) → CameBy (now first past).abstract ask said accesses s.device new.device
+    → OnlyFailedPortsRequeueIn ask (told_by s.device (now first past).abstract.ports) steps
+    → (accesses : List Access) → ExplainsAccesses (now first past).abstract ask said accesses s.device new.device
     → ((port : Port) → All (LeavesEngine port) accesses)
     → ((port : Port) → Issues ask steps (after (now first past).abstract.machine steps) (ports_of new) port)
     → ((port : Port) → PortCorresponds (with_device s.device (now first past)) (happening (with_device s.device (now first past)) new.device ask said steps (ports_of new)) accesses port)

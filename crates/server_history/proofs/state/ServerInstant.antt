@@ -14,7 +14,7 @@ use Rattle.block_machine.specs.Due.{is_plain}
 use Rattle.block_machine.specs.declared.due.QueueMode.{QueueMode}
 use Rattle.block_machine.specs.Histories.{JointState, IsReachable}
 use Rattle.block_machine.specs.State.{Machine, Pending}
-use Rattle.driver_history.specs.Holds.{HasNothing, HasRequests, HoldsOf, HoldsWith, IsClients, IsOfKind, NoneWaits, Runs, ServesIn}
+use Rattle.driver_history.specs.Holds.{HasNothing, HasRequests, HoldsOf, HoldsWith, IsClients, IsQueuedAsAsked, NoneWaits, Runs, ServesIn}
 use Rattle.host_boot.specs.Taken.{FoundBadDisk, IsServed as IsServedPort, StillStandsBehind, probe_result_of, wanted_of}
 use Rattle.host_boot.specs.declared.ProbeResult.{ProbeResult}
 use Rattle.host_boot.specs.declared.ProbeResult.TheVariants.{Unserved, Ready, Unready}
@@ -89,7 +89,7 @@ module _ (s : ServerState) (k : InCallInvariant s) (m : Machine) (reached : IsRe
           let alike : x.0 ≡ u = cc in
           k.kinds port slot u x.2.0 used x.2.1 (x.2.3 ∙ ap (λ (v : SlotUse). v.id) alike) ∙ ap (λ (o : Op). not (is_plain mode o)) (sym x.2.2.op)
 
-      kind : (slot : ℕ) (e : Pending) → ServesIn slots instant port slot e → e.ended ≡ false → IsOfKind mode s.device port.0 slot e
+      kind : (slot : ℕ) (e : Pending) → ServesIn slots instant port slot e → e.ended ≡ false → IsQueuedAsAsked mode s.device port.0 slot e
       kind slot e serves unended =
           let x = serving slot e serves in
           let h = k.commands port.0 slot x.0 x.1 in

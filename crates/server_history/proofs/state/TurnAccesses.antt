@@ -24,7 +24,7 @@ use Rattle.driver_history.specs.Histories.{IssuesOn}
 use Rattle.commands.specs.Tasks.{IsIssuing}
 use Rattle.driver_history.specs.Trace.{IsDriversOwn, LeavesCommand, LeavesEngine, ReadsMasks}
 use Rattle.server_history.specs.Below.{LawsBelow}
-use Rattle.server_history.specs.Served.{Checks, HasNone, HasTurn, IsMaskOf, IssuesIn, is_used}
+use Rattle.server_history.specs.Served.{Checks, HasNone, HasTurnWithoutError, IsMaskOf, IssuesIn, is_used}
 use Rattle.slots.specs.Uses.{PortSlots, use_at}
 use Rattle.server_history.proofs.state.TransferAccesses.{both_read, issues_serve}
 use Rattle.port_control.specs.Looks.{LooksAt}
@@ -127,7 +127,7 @@ module _ (port : Port) where
   look_does look old new l = (l.seen, l.reads, (l.cleared, l.clears, (l.acknowledged, l.acknowledges, (new, l.shows, refl))))
 
   -- The accesses of a turn. Where the port goes well, the look tells nothing; and where slots were checked, they read the masks.
-  pub record TurnList (slots : PortSlots) (replies : List Reply) (old new : Device) (t : HasTurn port slots replies old new) : Type 0 where
+  pub record TurnList (slots : PortSlots) (replies : List Reply) (old new : Device) (t : HasTurnWithoutError port slots replies old new) : Type 0 where
     pub driven : IsDrivenBy (IsTurn port) old new
     pub of : All (IsOf port) driven.accesses
     pub own : All IsDriversOwn driven.accesses
@@ -135,7 +135,7 @@ module _ (port : Port) where
     pub calm : IsOn old → RunsWell (old.port port.0) → Undisturbed port.0 old new → t.look ≡ NoEvent
     pub masks : t.look ≡ NoEvent → IsBusy slots → (mask : ℕ) × IsMaskOf slots mask × ((c : Checks port slots mask replies t.seen new) × ReadsMasks port c.reads.issued c.reads.active driven.accesses)
 
-  module _ (laws : LawsBelow) (low : port.0 < 4) (slots : PortSlots) (replies : List Reply) (old new : Device) (t : HasTurn port slots replies old new) where
+  module _ (laws : LawsBelow) (low : port.0 < 4) (slots : PortSlots) (replies : List Reply) (old new : Device) (t : HasTurnWithoutError port slots replies old new) where
     of_all : (driven : IsDrivenBy (IsTurn port) old new) → All (IsOf port) driven.accesses
     of_all driven = All-weaker (IsTurn port) (IsOf port) (λ access is. is.1.1) driven.accesses driven.only
 

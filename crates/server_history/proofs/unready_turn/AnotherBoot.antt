@@ -17,7 +17,7 @@ use Rattle.refinement.specs.Acts.{InSlots}
 use Rattle.refinement.specs.Driven.{RelatesWith, AnyUse, IsSimulated, IsOf, SendsNone}
 use Rattle.block_machine.specs.Ports.{IsInterrupted, IsServiced}
 use Rattle.driver_history.specs.Trace.{IsDriversOwn}
-use Rattle.error_recovery.specs.Recovery.{EndsIn, StopsForReset, IsRecovering}
+use Rattle.error_recovery.specs.Recovery.{EndsAsNext, StopsForReset, IsRecovering}
 use Rattle.error_recovery.specs.declared.Next.{Next}
 use Rattle.error_recovery.specs.declared.Next.TheVariants as next
 use Rattle.error_recovery.specs.declared.Recovered.{Recovered}
@@ -93,7 +93,7 @@ module _ (laws : LawsBelow) (s : ServerState) (seen : Device) (port : Port) (sta
     -- and where it has stopped then, it may be booted
     pub may_boot : (token : Stopped) → result.next ≡ next.Restart token → (token.port ≡ port) × IsBootable port stopped × IsStopped (stopped.port port.0)
     may_boot token so =
-        let ends : EndsIn true port (next.Restart token) seen stopped = subst (λ (n : Next). EndsIn true port n seen stopped) so g.handling.leaves.ends in
+        let ends : EndsAsNext true port (next.Restart token) seen stopped = subst (λ (n : Next). EndsAsNext true port n seen stopped) so g.handling.leaves.ends in
         let same = same_over laws port s.device stopped done.1.driven in (
           ends.0,
           record {

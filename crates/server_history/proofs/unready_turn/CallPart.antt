@@ -36,7 +36,7 @@ use Rattle.request_queue.specs.Entries.{asks_of}
 use Rattle.server_history.specs.Below.{LawsBelow}
 use Rattle.server_history.specs.Server.{AreKept, InCallInvariant, IsMachineOf, IsPortOf, SettledInvariant, ServerState, is_served, mode_at, mode_in, plain_mode, state_of, usable_of, use_of}
 use Rattle.server_history.specs.Probing.{BootsOnce, IsProbedAnew, IsLookedAt, ProbesPort}
-use Rattle.server_history.specs.Turns.{HasPart, InProbe, ProbesUnready, abstract_state_of}
+use Rattle.server_history.specs.Turns.{IsPortTurn, InProbe, ProbesUnready, abstract_state_of}
 use Rattle.port_control.specs.declared.events.PortError.TheVariants.{TimedOut}
 use Rattle.server_history.proofs.unready_turn.AnotherBoot.{accesses, after_it, book_left, does, found_then, its_stand, listed, looking_part, low, never_ready, no_disk, only, others, silent, stuck_if, tells, then_is, unready, until, until_of, whole}
 use Rattle.server_history.proofs.state.DrivenAccesses.{driven_as}
@@ -195,7 +195,7 @@ module _ (laws : LawsBelow) (s new : ServerState) (seen : Device) (port : Port) 
   settled_then : SettledInvariant then
   settled_then = record { kept = kept_then; issued = none_due }
 
-  part_then : HasPart InProbe port [] s then
+  part_then : IsPortTurn InProbe port [] s then
   part_then =
       let its = only laws s new seen port state k is lives looks b in
       record {
@@ -209,8 +209,8 @@ module _ (laws : LawsBelow) (s new : ServerState) (seen : Device) (port : Port) 
             (adds m reached stood);
       }
 
-  pub booted_turn : HasPart InProbe port [] s new × SettledInvariant new
-  booted_turn = subst (λ (x : ServerState). HasPart InProbe port [] s x × SettledInvariant x) (sym b.server) (part_then, settled_then)
+  pub booted_turn : IsPortTurn InProbe port [] s new × SettledInvariant new
+  booted_turn = subst (λ (x : ServerState). IsPortTurn InProbe port [] s x × SettledInvariant x) (sym b.server) (part_then, settled_then)
 
 -- ---- it was looked at, and that is all
 
@@ -276,7 +276,7 @@ module _ (laws : LawsBelow) (s : ServerState) (seen : Device) (port : Port) (sta
     rests_settled : SettledInvariant rest
     rests_settled = record { kept = kept; issued = t.issued }
 
-    pub rests : HasPart InProbe port [] s rest × SettledInvariant rest
+    pub rests : IsPortTurn InProbe port [] s rest × SettledInvariant rest
     rests = (
       record {
         accesses = looks.driven.accesses;
@@ -304,7 +304,7 @@ dead_or_not DeadState = inl refl
 
 -- A dead port isn't looked at. Another one is, and booted where what it was looked at for was found.
 pub turns : LawsBelow → (s new : ServerState) (port : Port) → SettledInvariant s → (probes : ProbesPort port s new) → (probes.state ≢ DeadState → IsSimulated (IsLooking port) AnyUse s.device probes.seen)
-    → HasPart InProbe port [] s new × SettledInvariant new
+    → IsPortTurn InProbe port [] s new × SettledInvariant new
 turns laws s new port t probes looks = ⊎_elim
     (λ (dead : probes.state ≡ DeadState).
     let l = subst (λ (state : PortState). IsLookedAt state port probes.result s.device probes.seen) dead probes.looks in
@@ -315,8 +315,8 @@ turns laws s new port t probes looks = ⊎_elim
     (cases_Bool probes.result))
     (dead_or_not probes.state)
   where
-    whole_rest : probes.result ≡ false → IsSimulated (IsLooking port) AnyUse s.device probes.seen → InCallInvariant (record s { device = probes.seen }) → HasPart InProbe port [] s new × SettledInvariant new
-    whole_rest none its kept = subst (λ (n : ServerState). HasPart InProbe port [] s n × SettledInvariant n) (sym (probes.left none)) (rests laws s probes.seen port probes.state t probes.is its probes.result probes.looks none kept)
+    whole_rest : probes.result ≡ false → IsSimulated (IsLooking port) AnyUse s.device probes.seen → InCallInvariant (record s { device = probes.seen }) → IsPortTurn InProbe port [] s new × SettledInvariant new
+    whole_rest none its kept = subst (λ (n : ServerState). IsPortTurn InProbe port [] s n × SettledInvariant n) (sym (probes.left none)) (rests laws s probes.seen port probes.state t probes.is its probes.result probes.looks none kept)
 
 pub tried : LawsBelow → (s new : ServerState) (port : Port) → SettledInvariant s → (probes : ProbesPort port s new) → (probes.state ≢ DeadState → IsSimulated (IsLooking port) AnyUse s.device probes.seen) → ProbesUnready port s new × SettledInvariant new
 tried laws s new port t probes looks = let x = turns laws s new port t probes looks in (record { does = probes; part = x.0 }, x.1)

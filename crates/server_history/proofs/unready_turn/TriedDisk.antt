@@ -27,7 +27,7 @@ use Rattle.host_boot.specs.declared.ProbeResult.TheVariants.{Ready, Unready, Uns
 use Rattle.identify.specs.Wanted.{serial_of}
 use Rattle.identify.specs.declared.DiskInfo.{DiskInfo}
 use Rattle.identify.specs.declared.wanted.Wanted.{Wanted}
-use Rattle.port_boot.specs.States.{EndsAs, EndsEarly, EndsLate, IsStateOfFault}
+use Rattle.port_boot.specs.States.{EndsAs, EndsBeforeStart, EndsAfterStart, IsStateOfFault}
 use Rattle.port_control.specs.Ports.{HasClearErrors}
 use Rattle.port_control.specs.Looks.{IsLooking}
 use Rattle.server_history.specs.Below.{LawsBelow}
@@ -137,10 +137,10 @@ module _ (wanted : Wanted) (port : Port) (old new : Device) where
     pub clear : HasClearErrors port.0 old new
     pub undue : NoneComes port.0 old new → (new.port port.0).link_due ≡ false
 
-  early_clear : (state : Shown) → state ≢ Absent → EndsEarly port state old new → LeavesClear
+  early_clear : (state : Shown) → state ≢ Absent → EndsBeforeStart port state old new → LeavesClear
   early_clear state other e = let f = e.found (λ none. other (subst (IsStateOfFault state) none e.told)) in record { clear = f.clear; undue = f.undue }
 
-  late_clear : EndsLate port old new → LeavesClear
+  late_clear : EndsAfterStart port old new → LeavesClear
   late_clear e = record { clear = e.clear; undue = λ none. e.undue }
 
   unready_clear : (state : Shown) → EndsUnready (serial_of wanted) port state old new → ShowsDisk state → LeavesClear

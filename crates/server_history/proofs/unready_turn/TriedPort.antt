@@ -17,7 +17,7 @@ use Rattle.block_machine.specs.Left.{after}
 use Rattle.block_machine.specs.Ports.{Evidence, IsInterrupted, IsServiced, SamePort}
 use Rattle.block_machine.specs.State.{Machine}
 use Rattle.block_machine.specs.Steps.{Step}
-use Rattle.driver_history.specs.Heeding.{AllGrounded}
+use Rattle.driver_history.specs.Heeding.{OnlyFailedPortsRequeue}
 use Rattle.driver_history.specs.Evidence.{IsEvidencedOf}
 use Rattle.driver_history.specs.Histories.{LosesNoPortError, RunsWellAnew, ProbesDisk}
 use Rattle.driver_history.specs.Holds.{NoneWaits}
@@ -126,7 +126,7 @@ module _ (laws : LawsBelow) (port : Port) (old : ServerState) (k : InCallInvaria
       unplugs = record { emptied = λ e other here. absurd (no_answer x.steps x.only e Unplugged here); alike = λ e other here. absurd (no_answer x.steps x.only e Unplugged here) }
 
       owes : OwesTurn InProbe port accesses old new m its x.steps
-      owes = (devices_all (AllGrounded its) (device_grounded its) tt x.steps x.only, refl, refl)
+      owes = (devices_all (OnlyFailedPortsRequeue its) (device_grounded its) tt x.steps x.only, refl, refl)
 
       ties : TurnCorresponds InProbe port [] accesses old new m its x.steps
       ties = (

@@ -26,7 +26,7 @@ use Rattle.driver_history.specs.Parts.{EndsLinked}
 use Rattle.error_recovery.specs.Evidence.{GainsRunning, ShowsTrouble}
 use Rattle.error_recovery.specs.declared.Next.{Next}
 use Rattle.error_recovery.specs.declared.Next.TheVariants as next
-use Rattle.host_boot.specs.Again.{BootsAgain}
+use Rattle.host_boot.specs.Again.{RebootsPort}
 use Rattle.host_boot.specs.Taken.{FoundBadDisk, probe_result_of, wanted_of}
 use Rattle.host_boot.specs.declared.Booted.{Booted}
 use Rattle.host_boot.specs.declared.ProbeResult.{ProbeResult}
@@ -142,7 +142,7 @@ module _ (laws : LawsBelow) (s new : ServerState) (seen : Device) (port : Port) 
   record FindsSome : Type 0 where
     booted : Booted
     same : booted.found ≡ b.found
-    boots : BootsAgain (wanted_of s.wanted port.0) port booted b.anew.stopped new.device
+    boots : RebootsPort (wanted_of s.wanted port.0) port booted b.anew.stopped new.device
     resets : ResetsLink port made
     shows : ShowsDisk (state_of booted.found) ⊎ ((ports_of then).state port ≡ Absent)
 
@@ -158,7 +158,7 @@ module _ (laws : LawsBelow) (s new : ServerState) (seen : Device) (port : Port) 
           resets_since port looks.driven.accesses (b.anew.gives_up.handling.accesses ++ late.driven.accesses) (resets_since port b.anew.gives_up.handling.accesses late.driven.accesses
           (⊎_elim (λ lost. let z : TimedOut ≡ LinkChanged = lost.0 in absurd cc) (λ resets. resets) (late.resets token so alive)))
 
-      some : (token : Stopped) → b.anew.result.next ≡ next.Restart token → (booted : Booted) → booted.found ≡ b.found → BootsAgain (wanted_of s.wanted port.0) port booted b.anew.stopped new.device → ((ports_of then).state port ≡ DeadState) ⊎ FindsSome
+      some : (token : Stopped) → b.anew.result.next ≡ next.Restart token → (booted : Booted) → booted.found ≡ b.found → RebootsPort (wanted_of s.wanted port.0) port booted b.anew.stopped new.device → ((ports_of then).state port ≡ DeadState) ⊎ FindsSome
       some token so booted same boots = ⊎_elim
           (λ (shows : ShowsDisk (state_of b.found)). inr (record {
             booted = booted;

@@ -18,7 +18,7 @@ use Rattle.adapter.specs.Rules.{IsOn}
 use Rattle.refinement.specs.Relation.{port_at}
 use Rattle.refinement.specs.Driven.{IsDrivenBy, IsOf}
 use Rattle.refinement.specs.Slots.{IsMove, ServesRequest}
-use Rattle.block_machine.specs.Events.{Ask, AllLawful, Belong, IsIssuedIn, AbstractState, Served, ShowsDisk, WasIssued, changes_disk, issues_it}
+use Rattle.block_machine.specs.Events.{Ask, AllLawful, AreStepsOfCall, IsIssuedIn, AbstractState, Served, ShowsDisk, WasIssued, changes_disk, issues_it}
 use Rattle.block_machine.specs.Histories.{JointState, IsReachable}
 use Rattle.block_machine.specs.Left.{after}
 use Rattle.block_machine.specs.Ports.{Evidence, RequestFault, Ports, SameDisk, SamePort}
@@ -36,7 +36,7 @@ use Rattle.driver_history.specs.Histories.{IssuesDue}
 use Rattle.driver_history.specs.Parts.{HasTurnIn, IsOfOther, NamesAlike}
 use Rattle.driver_history.specs.Trace.{IsServing}
 use Rattle.server_history.specs.Below.{LawsBelow}
-use Rattle.server_history.specs.Turns.{HasPart, IsOfCommand, IsStepOf, MakesTurn, TakeTurns, TellsFault, abstract_state_of}
+use Rattle.server_history.specs.Turns.{IsPortTurn, IsOfCommand, IsStepOf, MakesTurn, EachPortTakesTurn, TellsFault, abstract_state_of}
 use Rattle.server_history.specs.Server.{ServerState, InCallInvariant, IsMachineOf, SettledInvariant, is_served, mode_in, ports_of, state_of, used_for}
 use Rattle.server_history.proofs.state.DueRequests.{same_book}
 use Rattle.server_history.proofs.any_turn.TurnSteps.{answered_own, issued_before, stood}
@@ -80,7 +80,7 @@ module _ (plan : Plan) (laws : LawsBelow) (s : ServerState) (start : SettledInva
 
   -- ---- a turn
 
-  module _ (n : ℕ) (c mid : ServerState) (before its : List Reply) (low : n < 4) (takes : TakesTurn plan (probe_result_of s.ports n)) (p : Progress n c before) (next : SettledInvariant mid) (part : HasPart (turn_at plan (probe_result_of s.ports n) n) (port_at n) its c mid) where
+  module _ (n : ℕ) (c mid : ServerState) (before its : List Reply) (low : n < 4) (takes : TakesTurn plan (probe_result_of s.ports n)) (p : Progress n c before) (next : SettledInvariant mid) (part : IsPortTurn (turn_at plan (probe_result_of s.ports n) n) (port_at n) its c mid) where
     abbrev m : Machine
     m = after old.machine p.steps
 
@@ -493,7 +493,7 @@ module _ (plan : Plan) (laws : LawsBelow) (s : ServerState) (start : SettledInva
       turns = its_turns;
       stands = subst (IsMachineOf mid) (sym whole_is) x.stands;
       backed = laws.backed_parts s.device c.device mid.device old.machine p.steps x.steps p.backed x.backed;
-      belong = belong_join (asks_for plan) (ports_of mid) x.steps p.steps (subst (λ (ask : Ask DeviceStep). Belong ask (ports_of mid) x.steps) (asks_so plan (probe_result_of s.ports n) n) x.belong)
+      belong = belong_join (asks_for plan) (ports_of mid) x.steps p.steps (subst (λ (ask : Ask DeviceStep). AreStepsOfCall ask (ports_of mid) x.steps) (asks_so plan (probe_result_of s.ports n) n) x.belong)
           (belong_on plan (λ q. q.0 < n) (ports_of c) (ports_of mid) (λ q lt. let same = same_other q (λ is. omega (arith, lt, is)) in (same.1, same.5)) p.steps p.turns.below p.belong);
       evidence = evidence;
       lost = All-append (λ (q : Port). state_at q.0 ≡ ReadyState) p.evidence.lost x.evidence.lost p.lost its_lost;
@@ -549,10 +549,10 @@ module _ (plan : Plan) (laws : LawsBelow) (s : ServerState) (start : SettledInva
 
   -- each port's turn is a part of the call: a ready one's; and another one's, unless it is passed over
   module _ (Such : Port → List Reply → ServerState → ServerState → Type 0) (Other : Port → ServerState → ServerState → Type 0)
-      (is_part : (n : ℕ) (c mid : ServerState) (before its : List Reply) → state_at n ≡ ReadyState → Progress n c before → Such (port_at n) its c mid → HasPart (turn_at plan (probe_result_of s.ports n) n) (port_at n) its c mid)
+      (is_part : (n : ℕ) (c mid : ServerState) (before its : List Reply) → state_at n ≡ ReadyState → Progress n c before → Such (port_at n) its c mid → IsPortTurn (turn_at plan (probe_result_of s.ports n) n) (port_at n) its c mid)
       (is_other : (n : ℕ) (c mid : ServerState) (before : List Reply) (state : PortState) → probe_result_of s.ports n ≡ Unready state → Progress n c before → Other (port_at n) c mid
-      → ((TakesTurn plan (probe_result_of s.ports n) → ⊥) × (mid ≡ c)) ⊎ (TakesTurn plan (probe_result_of s.ports n) × HasPart (turn_at plan (probe_result_of s.ports n) n) (port_at n) [] c mid)) where
-    pub go : (found : List ProbeResult) (n : ℕ) → ((i : ℕ) → probe_result_of s.ports (n + i) ≡ probe_result_of found i) → (c new : ServerState) (before replies : List Reply) → Progress n c before → TakeTurns Such Other n found replies c new
+      → ((TakesTurn plan (probe_result_of s.ports n) → ⊥) × (mid ≡ c)) ⊎ (TakesTurn plan (probe_result_of s.ports n) × IsPortTurn (turn_at plan (probe_result_of s.ports n) n) (port_at n) [] c mid)) where
+    pub go : (found : List ProbeResult) (n : ℕ) → ((i : ℕ) → probe_result_of s.ports (n + i) ≡ probe_result_of found i) → (c new : ServerState) (before replies : List Reply) → Progress n c before → EachPortTakesTurn Such Other n found replies c new
         → Whole new (before ++ replies)
     go [] n here c new before replies p turns = record {
       count = n;
@@ -571,14 +571,14 @@ module _ (plan : Plan) (laws : LawsBelow) (s : ServerState) (start : SettledInva
         let its_found = head_is (Unready state) found n here in
         ⊎_elim
         (λ over. go found (n + 1) (on (Unready state) found n here) c new before replies (skipped plan laws s start old reached at ports_are n c before over.0 p)
-        (subst (λ (x : ServerState). TakeTurns Such Other (n + 1) found replies x new) over.1 more))
+        (subst (λ (x : ServerState). EachPortTakesTurn Such Other (n + 1) found replies x new) over.1 more))
         (λ part. subst (λ (list : List Reply). Whole new (list ++ replies)) (append-nil before)
         (go found (n + 1) (on (Unready state) found n here) mid new (before ++ []) replies
         (had_turn n c mid before [] (kept.there n (ap is_served its_found)).0 part.0 p next part.1) more))
         (is_other n c mid before state its_found p turn)
 
 -- a server whose ports had their turns keeps what it keeps
-pub turns_kept : (Such : Port → List Reply → ServerState → ServerState → Type 0) (Other : Port → ServerState → ServerState → Type 0) (found : List ProbeResult) (n : ℕ) (s new : ServerState) (replies : List Reply) → SettledInvariant s → TakeTurns Such Other n found replies s new → SettledInvariant new
+pub turns_kept : (Such : Port → List Reply → ServerState → ServerState → Type 0) (Other : Port → ServerState → ServerState → Type 0) (found : List ProbeResult) (n : ℕ) (s new : ServerState) (replies : List Reply) → SettledInvariant s → EachPortTakesTurn Such Other n found replies s new → SettledInvariant new
 turns_kept Such Other [] n s new replies keeps turns = subst SettledInvariant (sym turns.1) keeps
 turns_kept Such Other (Ready info ∷ found) n s new replies keeps (mid, its, later, is, next, turn, more) = turns_kept Such Other found (n + 1) mid new later next more
 turns_kept Such Other (Unserved ∷ found) n s new replies keeps turns = turns_kept Such Other found (n + 1) s new replies keeps turns

@@ -29,7 +29,7 @@ use Rattle.host_boot.specs.Taken.{probe_result_of}
 use Rattle.host_boot.specs.declared.ProbeResult.{ProbeResult}
 use Rattle.server_history.specs.Below.{LawsBelow}
 use Rattle.server_history.specs.Server.{ServerState, IsMachineOf, SettledInvariant, is_served, ports_of, state_of}
-use Rattle.server_history.specs.Turns.{AtRest, HasPart, InRestart, MakesTurn, OwesTurn, RestartsPort, TurnCorresponds}
+use Rattle.server_history.specs.Turns.{AtRest, IsPortTurn, InRestart, MakesTurn, OwesTurn, RestartsPort, TurnCorresponds}
 use Rattle.server_history.proofs.whole_call.EarlierResults as carrying
 use Rattle.server_history.proofs.any_turn.JoinedParts.{ready_or_not, same_then}
 use Rattle.server_history.proofs.whole_call.TurnResults as lifting
@@ -91,7 +91,7 @@ module _ (laws : LawsBelow) (n : ℕ) where
       one (Storing at bytes) of own = (own, tt, tt)
 
   pub serving : (plan : Plan) (found : ProbeResult) (ports : Ports) → ports.served (port_at n) ≡ is_served found → ports.state (port_at n) ≡ state_of found → TakesTurn plan found → (its : List Reply) (c mid : ServerState) (m : Machine)
-      (part : HasPart (turn_at plan found n) (port_at n) its c mid) → MakesTurn (turn_at plan found n) (port_at n) its part.accesses c mid m → All (IsServing (Uses plan ports)) part.accesses
+      (part : IsPortTurn (turn_at plan found n) (port_at n) its c mid) → MakesTurn (turn_at plan found n) (port_at n) its part.accesses c mid m → All (IsServing (Uses plan ports)) part.accesses
   serving AService found ports served state takes its c mid m part x =
       of_such (Uses AService ports) (served ∙ takes.0, λ dead. takes.1 (sym state ∙ dead)) part.accesses part.of part.own
   serving (ATick hung) found ports served state takes its c mid m part x = ⊎_elim
@@ -115,7 +115,7 @@ module _ (hung : ℕ → Bool) (laws : LawsBelow) (s : ServerState) (start : Set
 
   -- ---- a port's turn
 
-  module _ (n : ℕ) (c mid : ServerState) (before its : List Reply) (ready : state_of (probe_result_of s.ports n) ≡ ReadyState) (p : Progress n c before) (next : SettledInvariant mid) (part : HasPart (turn_at plan (probe_result_of s.ports n) n) (port_at n) its c mid)
+  module _ (n : ℕ) (c mid : ServerState) (before its : List Reply) (ready : state_of (probe_result_of s.ports n) ≡ ReadyState) (p : Progress n c before) (next : SettledInvariant mid) (part : IsPortTurn (turn_at plan (probe_result_of s.ports n) n) (port_at n) its c mid)
       (m_reached : IsReachable (after old.machine p.steps)) (on_mid : IsOn mid.device) (evidence : Evidence) where
     abbrev m : Machine
     m = after old.machine p.steps
@@ -190,7 +190,7 @@ module _ (hung : ℕ → Bool) (laws : LawsBelow) (s : ServerState) (start : Set
 
   -- ---- another port, before it
 
-  module _ (n : ℕ) (c mid : ServerState) (before its : List Reply) (p : Progress n c before) (part : HasPart (turn_at plan (probe_result_of s.ports n) n) (port_at n) its c mid) (m_reached : IsReachable (after old.machine p.steps)) (q : Port) (apart : q ≢ port_at n)
+  module _ (n : ℕ) (c mid : ServerState) (before its : List Reply) (p : Progress n c before) (part : IsPortTurn (turn_at plan (probe_result_of s.ports n) n) (port_at n) its c mid) (m_reached : IsReachable (after old.machine p.steps)) (q : Port) (apart : q ≢ port_at n)
       (d : progress.IsDone plan laws s start old reached at ports_are c p.accesses p.steps p.evidence q) (evidence : Evidence) (alike : NamesAlike q p.evidence evidence) (same : SamePort (ports_of c) (ports_of mid) q) where
     abbrev m_so_far : Machine
     m_so_far = after old.machine p.steps
@@ -248,7 +248,7 @@ module _ (hung : ℕ → Bool) (laws : LawsBelow) (s : ServerState) (start : Set
 -- ---- both
 
 pub ties_turned : (plan : Plan) (laws : LawsBelow) (s : ServerState) (start : SettledInvariant s) (old : AbstractState) (reached : IsReachable old.machine) (at : IsMachineOf s old.machine) (ports_are : old.ports ≡ ports_of s) (n : ℕ) (c mid : ServerState) (before its : List Reply)
-    (takes : TakesTurn plan (probe_result_of s.ports n)) (p : progress.Progress plan laws s start old reached at ports_are n c before) (next : SettledInvariant mid) (part : HasPart (turn_at plan (probe_result_of s.ports n) n) (port_at n) its c mid)
+    (takes : TakesTurn plan (probe_result_of s.ports n)) (p : progress.Progress plan laws s start old reached at ports_are n c before) (next : SettledInvariant mid) (part : IsPortTurn (turn_at plan (probe_result_of s.ports n) n) (port_at n) its c mid)
     (m_reached : IsReachable (after old.machine p.steps)) (on_mid : IsOn mid.device) (evidence : Evidence) → NamesAlike (port_at n) (part.makes (after old.machine p.steps) m_reached p.stands).evidence evidence → SamePort old.ports (ports_of c) (port_at n)
     → TiesSoFar plan s old (port_at n) (p.accesses ++ part.accesses) mid evidence ((part.makes (after old.machine p.steps) m_reached p.stands).steps ++ p.steps)
 ties_turned AService laws s start old reached at ports_are n c mid before its takes p next part m_reached on_mid evidence alike same_n =
@@ -262,7 +262,7 @@ ties_turned AService laws s start old reached at ports_are n c mid before its ta
 ties_turned (ATick hung) laws s start old reached at ports_are n c mid before its takes p next part m_reached on_mid evidence alike same_n = ticked hung laws s start old reached at ports_are n c mid before its takes p next part m_reached on_mid evidence alike same_n
 
 pub ties_carried : (plan : Plan) (laws : LawsBelow) (s : ServerState) (start : SettledInvariant s) (old : AbstractState) (reached : IsReachable old.machine) (at : IsMachineOf s old.machine) (ports_are : old.ports ≡ ports_of s) (n : ℕ) (c mid : ServerState) (before its : List Reply)
-    (p : progress.Progress plan laws s start old reached at ports_are n c before) (part : HasPart (turn_at plan (probe_result_of s.ports n) n) (port_at n) its c mid) (m_reached : IsReachable (after old.machine p.steps)) (q : Port) (apart : q ≢ port_at n)
+    (p : progress.Progress plan laws s start old reached at ports_are n c before) (part : IsPortTurn (turn_at plan (probe_result_of s.ports n) n) (port_at n) its c mid) (m_reached : IsReachable (after old.machine p.steps)) (q : Port) (apart : q ≢ port_at n)
     (d : progress.IsDone plan laws s start old reached at ports_are c p.accesses p.steps p.evidence q) (evidence : Evidence) (alike : NamesAlike q p.evidence evidence) (same : SamePort (ports_of c) (ports_of mid) q)
     → TiesSoFar plan s old q (p.accesses ++ part.accesses) mid evidence ((part.makes (after old.machine p.steps) m_reached p.stands).steps ++ p.steps)
 ties_carried AService laws s start old reached at ports_are n c mid before its p part m_reached q apart d evidence alike same = ⊎_elim

@@ -23,7 +23,7 @@ use Rattle.driver_history.specs.Evidence.{ShowsChange, ShowsFailure}
 use Rattle.driver_history.specs.Histories.{IsUnfitOrForeign, HasFaultAlone, IsAnsweredFaulty, PortCorresponds}
 use Rattle.driver_history.specs.Parts.{HasTurnIn, NamesAlike}
 use Rattle.server_history.specs.Below.{LawsBelow}
-use Rattle.server_history.specs.Turns.{HasPart, HeedsPortErrors, InService, MakesTurn, happening_of_turn}
+use Rattle.server_history.specs.Turns.{IsPortTurn, HandlesShownErrors, InService, MakesTurn, happening_of_turn}
 use Rattle.server_history.specs.Server.{ServerState, InCallInvariant, IsMachineOf, SettledInvariant, ports_of}
 use Rattle.server_history.proofs.any_turn.JoinedParts.{same_then}
 use Rattle.server_history.proofs.any_turn.TurnSteps.{stood}
@@ -46,7 +46,7 @@ module _ (laws : LawsBelow) (s : ServerState) (start : SettledInvariant s) (old 
   abbrev Progress : ℕ → ServerState → List Reply → Type 0
   Progress n c replies = progress.Progress AService laws s start old reached at ports_are n c replies
 
-  module _ (n : ℕ) (c mid : ServerState) (before its : List Reply) (p : Progress n c before) (part : HasPart (turn_at AService (probe_result_of s.ports n) n) (port_at n) its c mid) (m_reached : IsReachable (after old.machine p.steps)) where
+  module _ (n : ℕ) (c mid : ServerState) (before its : List Reply) (p : Progress n c before) (part : IsPortTurn (turn_at AService (probe_result_of s.ports n) n) (port_at n) its c mid) (m_reached : IsReachable (after old.machine p.steps)) where
     abbrev m : Machine
     m = after old.machine p.steps
 
@@ -132,7 +132,7 @@ module _ (laws : LawsBelow) (s : ServerState) (start : SettledInvariant s) (old 
       not_absent : old.ports.state q ≡ Absent → ⊥
       not_absent absent = let z : Absent ≡ ReadyState = sym absent ∙ asked in absurd cc
 
-      heeds_trouble : HeedsPortErrors q accesses began evidence (ports_of mid) mid.device
+      heeds_trouble : HandlesShownErrors q accesses began evidence (ports_of mid) mid.device
       heeds_trouble = carrying.trouble_still AService laws s start old reached at ports_are n c mid before its p part m_reached q apart d evidence alike same (λ _. stops_troubled) (λ _. inl undue) (record { port_error = did.port_error; well = did.well })
 
       pub ties_still : PortCorresponds began (happening_of_turn InService [] mid evidence all) accesses q

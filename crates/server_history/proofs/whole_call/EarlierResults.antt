@@ -30,7 +30,7 @@ use Rattle.driver_history.specs.Parts.{HasTurnIn, IsOfOther, NamesAlike}
 use Rattle.driver_history.specs.Trace.{IsServing, ResetsLink}
 use Rattle.driver_history.specs.Holds.{Runs}
 use Rattle.server_history.specs.Below.{LawsBelow}
-use Rattle.server_history.specs.Turns.{HasPart, HeedsPortErrors, MakesTurn, abstract_state_of}
+use Rattle.server_history.specs.Turns.{IsPortTurn, HandlesShownErrors, MakesTurn, abstract_state_of}
 use Rattle.server_history.specs.Server.{ServerState, InCallInvariant, IsMachineOf, SettledInvariant, ports_of, state_of}
 use Rattle.server_history.proofs.any_turn.TurnSteps.{others_were}
 use Rattle.server_history.proofs.whole_call.ServiceAndTick.{Plan, Uses, no_reset, turn_at}
@@ -56,7 +56,7 @@ module _ (plan : Plan) (laws : LawsBelow) (s : ServerState) (start : SettledInva
   abbrev Progress : ℕ → ServerState → List Reply → Type 0
   Progress n c replies = progress.Progress plan laws s start old reached at ports_are n c replies
 
-  module _ (n : ℕ) (c mid : ServerState) (before its : List Reply) (p : Progress n c before) (part : HasPart (turn_at plan (probe_result_of s.ports n) n) (port_at n) its c mid) (m_reached : IsReachable (after old.machine p.steps)) where
+  module _ (n : ℕ) (c mid : ServerState) (before its : List Reply) (p : Progress n c before) (part : IsPortTurn (turn_at plan (probe_result_of s.ports n) n) (port_at n) its c mid) (m_reached : IsReachable (after old.machine p.steps)) where
     abbrev m : Machine
     m = after old.machine p.steps
 
@@ -179,7 +179,7 @@ module _ (plan : Plan) (laws : LawsBelow) (s : ServerState) (start : SettledInva
         pub trouble_still : (evidence : Evidence) → NamesAlike q p.evidence evidence → SamePort (ports_of c) (ports_of mid) q
             → ((old.ports.state q ≡ ReadyState) ⊎ (state_of (probe_result_of c.ports q.0) ≡ ReadyState) → ShowsFailure (s.device.port q.0) ⊎ ShowsChange (s.device.port q.0) → IsInterrupted p.evidence q)
             → (state_of (probe_result_of c.ports q.0) ≡ ReadyState → ((s.device.port q.0).link_due ≡ false) ⊎ ResetsLink q p.accesses)
-            → HeedsPortErrors q p.accesses began p.evidence (ports_of c) c.device → HeedsPortErrors q accesses began evidence (ports_of mid) mid.device
+            → HandlesShownErrors q p.accesses began p.evidence (ports_of c) c.device → HandlesShownErrors q accesses began evidence (ports_of mid) mid.device
         trouble_still evidence alike same stops_troubled linked did = record {
           port_error = laws.calls.call_trouble q began old (ports_of c) (ports_of mid) mid.device p.evidence evidence kept.on t p.on same alike same_self set_since stops_troubled did.port_error;
           well = laws.calls.call_well q began old (ports_of c) (ports_of mid) mid.device p.evidence evidence kept.on t p.on linked same alike (λ ready_c. (runs_so_far ready_c).recorded.known) did.well;

@@ -17,7 +17,7 @@ use Rattle.adapter.specs.Commands.{is_queued}
 use Rattle.adapter.specs.Device.{Device}
 use Rattle.adapter.specs.Rules.{IsOn}
 use Rattle.refinement.specs.Driver.{IsBacked}
-use Rattle.block_machine.specs.Events.{AllLawful, AnswersEnded, Belong, HadDisk, IsToldBefore, AbstractState, NoneKeepsIssue, Served, UnplugsAll, answers_of, reply_of}
+use Rattle.block_machine.specs.Events.{AllLawful, AnswersEnded, AreStepsOfCall, HadDisk, IsToldBefore, AbstractState, NoneKeepsIssue, Served, UnplugsAll, answers_of, reply_of}
 use Rattle.block_machine.specs.Histories.{JointState, IsReachable}
 use Rattle.block_machine.specs.Left.{after}
 use Rattle.block_machine.specs.Ports.{Evidence, RequestFault, IsInterrupted, IsServiced, Ports, SameDisk, SamePort}
@@ -30,7 +30,7 @@ use Rattle.driver_history.specs.Holds.{NoneWaits}
 use Rattle.driver_history.specs.Parts.{EndsLinked, IsOfOther}
 use Rattle.driver_history.specs.Trace.{IsServing, LeavesEngine, ResetsLink}
 use Rattle.server_history.specs.Below.{LawsBelow}
-use Rattle.server_history.specs.Turns.{HeedsPortErrors, InService, IsStepOf, abstract_state_of, happening_of_turn}
+use Rattle.server_history.specs.Turns.{HandlesShownErrors, InService, IsStepOf, abstract_state_of, happening_of_turn}
 use Rattle.server_history.proofs.whole_call.ServiceAndTick.{AService, ATick, OwesBy, Plan, TakesTurn, Uses, asks_for, owes_nothing, ready_takes}
 use Rattle.server_history.specs.Server.{ServerState, InCallInvariant, IsMachineOf, SettledInvariant, mode_at, mode_in, ports_of, remembered_at, slots_at, state_of}
 use Rattle.server_history.proofs.state.DueRequests.{none_issued}
@@ -52,7 +52,7 @@ pub record IsRestarted (old : JointState Device) (port : Port) (accesses : List 
   pub another : (e : Pending) → Contains steps (Answer e Unplugged) → e.request.port ≡ port
       → (state_of (probe_result_of c.ports port.0) ≢ Dead) × (state_of (probe_result_of c.ports port.0) ≡ ReadyState → SameDisk old.abstract.ports (ports_of c) port → ⊥)
   pub disk : HadDisk old.abstract steps (abstract_state_of c (after old.abstract.machine steps)) port
-  pub heeds : HeedsPortErrors port accesses old evidence (ports_of c) c.device
+  pub heeds : HandlesShownErrors port accesses old evidence (ports_of c) c.device
 
 -- It has let the port rest.
 pub record HasRested (old : AbstractState) (port : Port) (accesses : List Access) (c : ServerState) (evidence : Evidence) (steps : List Step) : Type 0 where
@@ -158,7 +158,7 @@ module _ (plan : Plan) (laws : LawsBelow) (s : ServerState) (start : SettledInva
     pub turns : AreTurns old n steps
     pub stands : IsMachineOf c (after old.machine steps)
     pub backed : IsBacked s.device c.device old.machine steps
-    pub belong : Belong (asks_for plan) (ports_of c) steps
+    pub belong : AreStepsOfCall (asks_for plan) (ports_of c) steps
     pub evidence : Evidence
     pub names : NamesSome (HadTurn n) evidence
     pub lost : All (λ q. state_at q.0 ≡ ReadyState) evidence.lost

@@ -23,7 +23,7 @@ use Rattle.driver_history.specs.Evidence.{IsEvidenced}
 use Rattle.request_queue.specs.Machine.{IsEntry}
 use Rattle.server_history.specs.Histories.{ExtendsSettled, LeadsToServer}
 use Rattle.server_history.specs.Below.{LawsBelow}
-use Rattle.server_history.specs.Turns.{HasPart, ServePorts, ServesPort, ProbesUnready}
+use Rattle.server_history.specs.Turns.{IsPortTurn, ServePorts, ServesPort, ProbesUnready}
 use Rattle.server_history.specs.Probing.{IsLookedAt}
 use Rattle.server_history.specs.Server.{ServerState, InCallInvariant, IsMachineOf, SettledInvariant, mode_in, ports_of, state_of}
 use Rattle.server_history.proofs.state.DueRequests.{none_due}
@@ -49,12 +49,12 @@ module _ (laws : LawsBelow) (s new : ServerState) (replies : List Reply) (start 
   reached = laws.basic.history_reached s.wanted first past leads.history
 
   ready_part : (n : ℕ) (c mid : ServerState) (before its : List Reply) → state_of (probe_result_of s.ports n) ≡ ReadyState → Progress AService laws s start old reached at same n c before → ServesPort (port_at n) its c mid
-      → HasPart (turn_at AService (probe_result_of s.ports n) n) (port_at n) its c mid
-  ready_part n c mid before its is_ready_n p serves = subst (λ (found : ProbeResult). HasPart (turn_at AService found n) (port_at n) its c mid) (sym (ready_found s n start.kept is_ready_n).1.1) serves.part
+      → IsPortTurn (turn_at AService (probe_result_of s.ports n) n) (port_at n) its c mid
+  ready_part n c mid before its is_ready_n p serves = subst (λ (found : ProbeResult). IsPortTurn (turn_at AService found n) (port_at n) its c mid) (sym (ready_found s n start.kept is_ready_n).1.1) serves.part
 
   -- a dead port is passed over
   other_part : (n : ℕ) (c mid : ServerState) (before : List Reply) (state : PortState) → probe_result_of s.ports n ≡ Unready state → Progress AService laws s start old reached at same n c before → ProbesUnready (port_at n) c mid
-      → ((TakesTurn AService (probe_result_of s.ports n) → ⊥) × (mid ≡ c)) ⊎ (TakesTurn AService (probe_result_of s.ports n) × HasPart (turn_at AService (probe_result_of s.ports n) n) (port_at n) [] c mid)
+      → ((TakesTurn AService (probe_result_of s.ports n) → ⊥) × (mid ≡ c)) ⊎ (TakesTurn AService (probe_result_of s.ports n) × IsPortTurn (turn_at AService (probe_result_of s.ports n) n) (port_at n) [] c mid)
   other_part n c mid before state is p probes = ⊎_elim
       (λ (dead : state ≡ Dead).
       let its_state : probes.does.state ≡ Dead =
@@ -67,7 +67,7 @@ module _ (laws : LawsBelow) (s new : ServerState) (replies : List Reply) (start 
       ))
       (λ (lives : state ≢ Dead). inr (
         subst (TakesTurn AService) (sym is) (refl, lives),
-        subst (λ (found : ProbeResult). HasPart (turn_at AService found n) (port_at n) [] c mid) (sym is) probes.part,
+        subst (λ (found : ProbeResult). IsPortTurn (turn_at AService found n) (port_at n) [] c mid) (sym is) probes.part,
       ))
       (dead_or_not state)
 

@@ -10,15 +10,15 @@ use Rattle.ata_types.specs.declared.request.Reply.{Reply}
 use Rattle.adapter.specs.Access.{Access}
 use Rattle.adapter.specs.Device.{Device}
 use Rattle.adapter.specs.declared.access.DeviceStep.{DeviceStep}
-use Rattle.block_machine.specs.Events.{Ask, Belong, IsByServer, Served, Service, Tick}
+use Rattle.block_machine.specs.Events.{Ask, AreStepsOfCall, IsByServer, Served, Service, Tick}
 use Rattle.block_machine.specs.Histories.{JointState}
 use Rattle.block_machine.specs.Ports.{Evidence, Ports}
 use Rattle.block_machine.specs.State.{Machine, Pending}
 use Rattle.block_machine.specs.Steps.{Step, Again, Answer, Issue}
 use Rattle.block_machine.specs.declared.due.QueueMode.{QueueMode}
-use Rattle.driver_history.specs.Heeding.{AllGrounded}
+use Rattle.driver_history.specs.Heeding.{OnlyFailedPortsRequeue}
 use Rattle.driver_history.specs.Evidence.{IsEndedReset, IsEvidencedOf}
-use Rattle.driver_history.specs.Histories.{TendsPort}
+use Rattle.driver_history.specs.Histories.{IsPortAlive}
 use Rattle.host_boot.specs.declared.ProbeResult.{ProbeResult}
 use Rattle.host_boot.specs.declared.ProbeResult.TheVariants.{Ready, Unready, Unserved}
 use Rattle.server_history.specs.Server.{ServerState, is_served, state_of}
@@ -71,12 +71,12 @@ unserved_waits (ATick hung) takes = let z : Absent ≡ ReadyState = takes in cc
 
 -- which ports' registers it uses
 abbrev pub Uses : Plan → Ports → Port → Type 0
-Uses AService ports port = TendsPort ports port
+Uses AService ports port = IsPortAlive ports port
 Uses (ATick hung) ports port = (ports.state port ≡ ReadyState) × (hung port.0 ≡ true)
 
 -- what it owes by its evidence
 abbrev pub OwesBy : Plan → Evidence → List Step → Type 0
-OwesBy AService evidence steps = AllGrounded evidence steps
+OwesBy AService evidence steps = OnlyFailedPortsRequeue evidence steps
 OwesBy (ATick hung) evidence steps = evidence.faults ≡ []
 
 pub owes_nothing : (plan : Plan) → OwesBy plan no_evidence []
@@ -99,8 +99,8 @@ answers_on AService old new e o is = is
 answers_on (ATick hung) old new e o is = is
 
 -- steps belong to a call after which these ports are what they were
-pub belong_on : (plan : Plan) (Such : Port → Type 0) (old new : Ports) → ((q : Port) → Such q → (new.state q ≡ old.state q) × (new.mode q ≡ old.mode q)) → (steps : List Step) → All (IsStepOf Such) steps → Belong (asks_for plan) old steps
-    → Belong (asks_for plan) new steps
+pub belong_on : (plan : Plan) (Such : Port → Type 0) (old new : Ports) → ((q : Port) → Such q → (new.state q ≡ old.state q) × (new.mode q ≡ old.mode q)) → (steps : List Step) → All (IsStepOf Such) steps → AreStepsOfCall (asks_for plan) old steps
+    → AreStepsOfCall (asks_for plan) new steps
 belong_on plan Such old new same [] all a = tt
 belong_on plan Such old new same (Issue mode e ∷ steps) all a = (
   belong_on plan Such old new same steps (All-tail (IsStepOf Such) (Issue mode e) steps all) a.0,
@@ -153,7 +153,7 @@ owes_join AService found n port accesses old new m early its steps late so_far t
     (grounded_on its (joined early its) (λ q there. Contains-append_right early.failed its.failed q there) late (by found turn))
     (grounded_on early (joined early its) (λ q there. Contains-append_left early.failed its.failed q there) steps so_far)
   where
-    by : (was : ProbeResult) → OwesTurn (turn_at AService was n) port accesses old new m its late → AllGrounded its late
+    by : (was : ProbeResult) → OwesTurn (turn_at AService was n) port accesses old new m its late → OnlyFailedPortsRequeue its late
     by (Ready info) o = o
     by (Unready state) o = o.0
     by Unserved o = o.0

@@ -45,7 +45,7 @@ use Rattle.request_queue.specs.Machine.{IsEntry}
 use Rattle.server_history.specs.Below.{LawsBelow}
 use Rattle.server_history.specs.Histories.{ExtendsSettled, LeadsToServer}
 use Rattle.server_history.specs.Server.{ServerState, InCallInvariant, IsMachineOf, SettledInvariant, mode_in, ports_of, state_of}
-use Rattle.server_history.specs.Turns.{AtRest, HasPart, HeedsPortErrors, InRestart, InService, IsStepOf, Ticks, TicksPort, a_tick_older, joint_state_of, is_ready}
+use Rattle.server_history.specs.Turns.{AtRest, IsPortTurn, HandlesShownErrors, InRestart, InService, IsStepOf, Ticks, TicksPort, a_tick_older, joint_state_of, is_ready}
 use Rattle.server_history.proofs.plain_calls.OlderRequests.{older_by, older_ended, older_issued, older_request, older_settled, older_stands, serves_on}
 use Rattle.server_history.proofs.plain_calls.Acceptances.{any_in}
 use Rattle.server_history.proofs.state.DueRequests.{none_due, none_issued}
@@ -89,7 +89,7 @@ is_so_overdue book port o = ⊎_elim
 -- ---- a port that rests
 
 module _ (laws : LawsBelow) (port : Port) (low : port.0 < 4) (c : ServerState) (settled : SettledInvariant c) where
-  resting : HasPart AtRest port [] c c
+  resting : IsPortTurn AtRest port [] c c
   resting = record {
     accesses = [];
     does = refl;
@@ -233,17 +233,17 @@ module _ (laws : LawsBelow) (s new : ServerState) (replies : List Reply) (start 
 
   -- a port's turn is a part of the tick
   turn_part : (n : ℕ) (c mid : ServerState) (before its : List Reply) → state_of (probe_result_of aged.ports n) ≡ ReadyState → Progress plan laws aged aged_start old aged_reached aged_at same n c before → TicksPort aged.book (port_at n) its c mid
-      → HasPart (turn_at plan (probe_result_of s.ports n) n) (port_at n) its c mid
+      → IsPortTurn (turn_at plan (probe_result_of s.ports n) n) (port_at n) its c mid
   turn_part n c mid before its is_ready_n p (inl (overdue, handling, is_hung, part)) =
-      subst (λ (b : Bool). HasPart (if b then InRestart else AtRest) (port_at n) its c mid) (sym (is_so_overdue aged.book n overdue)) part
+      subst (λ (b : Bool). IsPortTurn (if b then InRestart else AtRest) (port_at n) its c mid) (sym (is_so_overdue aged.book n overdue)) part
   turn_part n c mid before its is_ready_n p (inr (young, none, still)) =
-      subst (λ (b : Bool). HasPart (if b then InRestart else AtRest) (port_at n) its c mid)
+      subst (λ (b : Bool). IsPortTurn (if b then InRestart else AtRest) (port_at n) its c mid)
       (sym (⊎_elim (λ so. absurd (young (overdue_is aged.book n so))) (λ not_so. not_so) (cases_Bool (hung n))))
-      (subst (HasPart AtRest (port_at n) its c) (sym still) (subst (λ (list : List Reply). HasPart AtRest (port_at n) list c c) (sym none) (resting laws (port_at n) (ready_found s n kept is_ready_n).0 c p.settled)))
+      (subst (IsPortTurn AtRest (port_at n) its c) (sym still) (subst (λ (list : List Reply). IsPortTurn AtRest (port_at n) list c c) (sym none) (resting laws (port_at n) (ready_found s n kept is_ready_n).0 c p.settled)))
 
   -- another port is passed over
   other_part : (n : ℕ) (c mid : ServerState) (before : List Reply) (state : PortState) → probe_result_of s.ports n ≡ Unready state → Progress plan laws aged aged_start old aged_reached aged_at same n c before → mid ≡ c
-      → ((TakesTurn plan (probe_result_of s.ports n) → ⊥) × (mid ≡ c)) ⊎ (TakesTurn plan (probe_result_of s.ports n) × HasPart (turn_at plan (probe_result_of s.ports n) n) (port_at n) [] c mid)
+      → ((TakesTurn plan (probe_result_of s.ports n) → ⊥) × (mid ≡ c)) ⊎ (TakesTurn plan (probe_result_of s.ports n) × IsPortTurn (turn_at plan (probe_result_of s.ports n) n) (port_at n) [] c mid)
   other_part n c mid before state is p still = inl (λ is_ready_n. let z : Unready state ≡ Ready _ = sym is ∙ (ready_found s n kept is_ready_n).1.1 in absurd cc, still)
 
   ends : Whole plan laws aged aged_start old aged_reached aged_at same new replies
@@ -485,7 +485,7 @@ module _ (laws : LawsBelow) (s new : ServerState) (replies : List Reply) (start 
 
   -- ---- what it has done of each port
 
-  trouble_of : (port : Port) → HeedsPortErrors port p.accesses (record { device = s.device; abstract = old }) p.evidence (ports_of new) new.device
+  trouble_of : (port : Port) → HandlesShownErrors port p.accesses (record { device = s.device; abstract = old }) p.evidence (ports_of new) new.device
   trouble_of port = ⊎_elim
       (λ r. r.1.heeds)
       (λ r. record {

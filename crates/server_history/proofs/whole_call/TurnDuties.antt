@@ -29,7 +29,7 @@ use Rattle.driver_history.specs.Evidence.{ShowsChange, ShowsFailure}
 use Rattle.driver_history.specs.Histories.{BootsAnew, FindsDone, IsUnfitOrForeign, HasFaultAlone, IsAnsweredFaulty, IsIssuedOn, PortCorresponds}
 use Rattle.driver_history.specs.Parts.{HasTurnIn, NamesAlike}
 use Rattle.server_history.specs.Below.{LawsBelow}
-use Rattle.server_history.specs.Turns.{HasPart, HeedsPortErrors, InService, MakesTurn, TurnCorresponds, Turn, joint_state_of, abstract_state_of, happening_of_turn}
+use Rattle.server_history.specs.Turns.{IsPortTurn, HandlesShownErrors, InService, MakesTurn, TurnCorresponds, Turn, joint_state_of, abstract_state_of, happening_of_turn}
 use Rattle.server_history.specs.Server.{HasCommand, ServerState, InCallInvariant, IsMachineOf, SettledInvariant, ports_of, state_of}
 use Rattle.server_history.proofs.any_turn.JoinedParts.{same_then}
 use Rattle.server_history.proofs.whole_call.TurnResults as lifting
@@ -52,7 +52,7 @@ module _ (laws : LawsBelow) (s : ServerState) (start : SettledInvariant s) (old 
   abbrev Progress : ℕ → ServerState → List Reply → Type 0
   Progress n c replies = progress.Progress AService laws s start old reached at ports_are n c replies
 
-  module _ (n : ℕ) (c mid : ServerState) (before its : List Reply) (ready : state_at n ≡ ReadyState) (p : Progress n c before) (next : SettledInvariant mid) (part : HasPart (turn_at AService (probe_result_of s.ports n) n) (port_at n) its c mid)
+  module _ (n : ℕ) (c mid : ServerState) (before its : List Reply) (ready : state_at n ≡ ReadyState) (p : Progress n c before) (next : SettledInvariant mid) (part : IsPortTurn (turn_at AService (probe_result_of s.ports n) n) (port_at n) its c mid)
       (m_reached : IsReachable (after old.machine p.steps)) (on_mid : IsOn mid.device) where
     abbrev m : Machine
     m = after old.machine p.steps
@@ -228,7 +228,7 @@ module _ (laws : LawsBelow) (s : ServerState) (start : SettledInvariant s) (old 
       not_absent : old.ports.state (port_at n) ≡ Absent → ⊥
       not_absent absent = let z : Absent ≡ ReadyState = sym absent ∙ was_ready in absurd cc
 
-      heeds_trouble : HeedsPortErrors (port_at n) accesses began evidence (ports_of mid) mid.device
+      heeds_trouble : HandlesShownErrors (port_at n) accesses began evidence (ports_of mid) mid.device
       heeds_trouble = lifting.trouble_whole AService laws s start old reached at ports_are n c mid before its p next part m_reached on_mid evidence alike same_n (λ _. stops_troubled) (λ _. inl undue) (record { port_error = did.port_error; well = did.well })
 
       pub ties_whole : PortCorresponds began (happening_of_turn InService [] mid evidence all) accesses (port_at n)

@@ -36,7 +36,7 @@ use Rattle.driver_history.specs.Parts.{HasTurnIn, IsOfOther, NamesAlike}
 use Rattle.driver_history.specs.Trace.{LeavesCommand, LeavesEngine, ResetsLink}
 use Rattle.driver_history.specs.Holds.{Runs}
 use Rattle.server_history.specs.Below.{LawsBelow}
-use Rattle.server_history.specs.Turns.{FindsTurn, HasPart, HeedsPortErrors, MakesTurn, joint_state_of, abstract_state_of}
+use Rattle.server_history.specs.Turns.{FindsTurn, IsPortTurn, HandlesShownErrors, MakesTurn, joint_state_of, abstract_state_of}
 use Rattle.server_history.proofs.whole_call.ServiceAndTick.{Plan, TakesTurn, not_reset, turn_at}
 use Rattle.server_history.specs.Server.{ServerState, InCallInvariant, IsMachineOf, SettledInvariant, ports_of, state_of, used_for}
 use Rattle.server_history.proofs.any_turn.TurnSteps.{IsSame, counts_none}
@@ -78,7 +78,7 @@ module _ (plan : Plan) (laws : LawsBelow) (s : ServerState) (start : SettledInva
   abbrev Progress : ℕ → ServerState → List Reply → Type 0
   Progress n c replies = progress.Progress plan laws s start old reached at ports_are n c replies
 
-  module _ (n : ℕ) (c mid : ServerState) (before its : List Reply) (p : Progress n c before) (next : SettledInvariant mid) (part : HasPart (turn_at plan (probe_result_of s.ports n) n) (port_at n) its c mid)
+  module _ (n : ℕ) (c mid : ServerState) (before its : List Reply) (p : Progress n c before) (next : SettledInvariant mid) (part : IsPortTurn (turn_at plan (probe_result_of s.ports n) n) (port_at n) its c mid)
       (m_reached : IsReachable (after old.machine p.steps)) (on_mid : IsOn mid.device) where
     abbrev m : Machine
     m = after old.machine p.steps
@@ -166,11 +166,11 @@ module _ (plan : Plan) (laws : LawsBelow) (s : ServerState) (start : SettledInva
     -- what it did of trouble the call did so far
     module _ (evidence : Evidence) (alike : NamesAlike (port_at n) x.evidence evidence) (same_n : SamePort old.ports (ports_of c) (port_at n))
         (stops_troubled : (state_of (probe_result_of c.ports n) ≡ ReadyState) ⊎ (state_of (probe_result_of mid.ports n) ≡ ReadyState) → ShowsFailure (c.device.port n) ⊎ ShowsChange (c.device.port n) → IsInterrupted x.evidence (port_at n))
-        (linked : state_of (probe_result_of mid.ports n) ≡ ReadyState → ((s.device.port n).link_due ≡ false) ⊎ ResetsLink (port_at n) part.accesses) (did : HeedsPortErrors (port_at n) part.accesses (joint_state_of c m) x.evidence (ports_of mid) mid.device) where
+        (linked : state_of (probe_result_of mid.ports n) ≡ ReadyState → ((s.device.port n).link_due ≡ false) ⊎ ResetsLink (port_at n) part.accesses) (did : HandlesShownErrors (port_at n) part.accesses (joint_state_of c m) x.evidence (ports_of mid) mid.device) where
       same_self : SamePort (ports_of mid) (ports_of mid) (port_at n)
       same_self = (refl, refl, refl, refl, refl, refl)
 
-      pub trouble_whole : HeedsPortErrors (port_at n) accesses began evidence (ports_of mid) mid.device
+      pub trouble_whole : HandlesShownErrors (port_at n) accesses began evidence (ports_of mid) mid.device
       trouble_whole = record {
         port_error = laws.calls.call_trouble (port_at n) began (abstract_state_of c m) (ports_of mid) (ports_of mid) mid.device x.evidence evidence kept.on t on_mid same_self alike same_n set_since stops_troubled did.port_error;
         well = subst (λ (list : List Access). RunsWellAnew evidence (p.accesses ++ list) began (ports_of mid) mid.device (port_at n)) (append-nil part.accesses)

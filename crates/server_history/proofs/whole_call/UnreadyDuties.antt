@@ -22,7 +22,7 @@ use Rattle.host_boot.specs.declared.ProbeResult.{ProbeResult}
 use Rattle.host_boot.specs.declared.ProbeResult.TheVariants.{Ready, Unready, Unserved}
 use Rattle.server_history.specs.Below.{LawsBelow}
 use Rattle.server_history.specs.Server.{ServerState, InCallInvariant, IsMachineOf, SettledInvariant, ports_of, state_of}
-use Rattle.server_history.specs.Turns.{HasPart, HeedsPortErrors, InService, InProbe, MakesTurn, TurnCorresponds, Turn, joint_state_of, abstract_state_of, happening_of_turn}
+use Rattle.server_history.specs.Turns.{IsPortTurn, HandlesShownErrors, InService, InProbe, MakesTurn, TurnCorresponds, Turn, joint_state_of, abstract_state_of, happening_of_turn}
 use Rattle.server_history.proofs.whole_call.EarlierResults as carrying
 use Rattle.server_history.proofs.any_turn.JoinedParts.{dead_or_not}
 use Rattle.server_history.proofs.whole_call.TurnResults as lifting
@@ -61,7 +61,7 @@ module _ (laws : LawsBelow) (s : ServerState) (start : SettledInvariant s) (old 
 
   -- ---- its turn
 
-  module _ (n : ℕ) (c mid : ServerState) (before its : List Reply) (unready : state_of (probe_result_of s.ports n) ≢ ReadyState) (p : Progress n c before) (next : SettledInvariant mid) (part : HasPart (turn_at AService (probe_result_of s.ports n) n) (port_at n) its c mid)
+  module _ (n : ℕ) (c mid : ServerState) (before its : List Reply) (unready : state_of (probe_result_of s.ports n) ≢ ReadyState) (p : Progress n c before) (next : SettledInvariant mid) (part : IsPortTurn (turn_at AService (probe_result_of s.ports n) n) (port_at n) its c mid)
       (m_reached : IsReachable (after old.machine p.steps)) (on_mid : IsOn mid.device) (evidence : Evidence) where
     abbrev m : Machine
     m = after old.machine p.steps
@@ -111,7 +111,7 @@ module _ (laws : LawsBelow) (s : ServerState) (start : SettledInvariant s) (old 
           (λ anew. ⊎_elim (λ dead. let z : Dead ≡ ReadyState = sym dead ∙ ready in absurd cc) (λ rest. ⊎_elim (λ absent. let z : Absent ≡ ReadyState = sym absent ∙ ready in absurd cc) (λ r. r) rest) anew)
           did.boots.1
 
-      heeds : HeedsPortErrors (port_at n) accesses began evidence (ports_of mid) mid.device
+      heeds : HandlesShownErrors (port_at n) accesses began evidence (ports_of mid) mid.device
       heeds = lifting.trouble_whole AService laws s start old reached at ports_are n c mid before its p next part m_reached on_mid evidence alike same_n
           (λ ready port_error. ⊎_elim (λ before. absurd (never_then before)) stopped ready) (λ ready. inr (resets ready)) (record { port_error = did.port_error; well = did.well })
 
@@ -133,7 +133,7 @@ module _ (laws : LawsBelow) (s : ServerState) (start : SettledInvariant s) (old 
 
   -- ---- another port's turn after it
 
-  module _ (n : ℕ) (c mid : ServerState) (before its : List Reply) (p : Progress n c before) (part : HasPart (turn_at AService (probe_result_of s.ports n) n) (port_at n) its c mid) (m_reached : IsReachable (after old.machine p.steps)) (q : Port) (apart : q ≢ port_at n)
+  module _ (n : ℕ) (c mid : ServerState) (before its : List Reply) (p : Progress n c before) (part : IsPortTurn (turn_at AService (probe_result_of s.ports n) n) (port_at n) its c mid) (m_reached : IsReachable (after old.machine p.steps)) (q : Port) (apart : q ≢ port_at n)
       (d : IsDone c p.accesses p.steps p.evidence q) (evidence : Evidence) (alike : NamesAlike q p.evidence evidence) (same : SamePort (ports_of c) (ports_of mid) q) (unready : old.ports.state q ≢ ReadyState) where
     abbrev m_then : Machine
     m_then = after old.machine p.steps
@@ -171,7 +171,7 @@ module _ (laws : LawsBelow) (s : ServerState) (start : SettledInvariant s) (old 
         (λ anew. ⊎_elim (λ dead. let z : Dead ≡ ReadyState = sym dead ∙ ready in absurd cc) (λ rest. ⊎_elim (λ absent. let z : Absent ≡ ReadyState = sym absent ∙ ready in absurd cc) (λ r. r) rest) anew)
         so_far.boots.1
 
-    heeds_still : HeedsPortErrors q accesses_then began evidence (ports_of mid) mid.device
+    heeds_still : HandlesShownErrors q accesses_then began evidence (ports_of mid) mid.device
     heeds_still = carrying.trouble_still AService laws s start old reached at ports_are n c mid before its p part m_reached q apart d evidence alike same
         (λ ready port_error. ⊎_elim (λ before. absurd (unready before)) stopped_so_far ready) (λ ready. inr (reset_so_far ready)) (record { port_error = so_far.port_error; well = so_far.well })
 

@@ -33,7 +33,7 @@ use Rattle.refinement.specs.Links.{IsPlugging}
 use Rattle.error_recovery.specs.Evidence.{ShowsFatal}
 use Rattle.driver_history.specs.Heeding.{ServesReady}
 use Rattle.driver_history.specs.Evidence.{Gains, IsEvidencedOf, ShowsLoss, ShowsFailure}
-use Rattle.driver_history.specs.Histories.{FindsDone, IsIssuedOn, CallCorresponds, PortCorresponds, BootsAnew, LosesNoPortError, RunsWellAnew, TendsPort}
+use Rattle.driver_history.specs.Histories.{FindsDone, IsIssuedOn, CallCorresponds, PortCorresponds, BootsAnew, LosesNoPortError, RunsWellAnew, IsPortAlive}
 use Rattle.driver_history.specs.Trace.{LeavesCommand}
 use Rattle.port_control.specs.Engines.{Stops}
 use Rattle.witnesses.specs.Loss.{finding_turn, losing_turn, loss_evidence, LossIsAHistory}
@@ -191,10 +191,10 @@ stops = record {
 of_second : WritesOf (IsOf (port_at 1)) turns
 of_second = (refl, (refl, tt))
 
-of_served : AreServing (TendsPort both) turns
+of_served : AreServing (IsPortAlive both) turns
 of_served = (tended 0 refl, (tended 0 refl, (tended 1 refl, (tended 1 refl, ((λ is. cc, tended 1 refl), (tended 1 refl, ((λ is. cc, tended 1 refl), (tended 1 refl, tt))))))))
   where
-    tended : (n : ℕ) → both.served (port_at n) ≡ true → TendsPort both (port_at n)
+    tended : (n : ℕ) → both.served (port_at n) ≡ true → IsPortAlive both (port_at n)
     tended n served = (served, not_dead n)
 
 gains : Gains (IsPlugging 1) submitted lost
@@ -361,7 +361,7 @@ service_part n = record {
 service_ties : CallCorresponds (Any ∷ Any ∷ []) submitted_at service
 service_ties = record {
   accesses = turns;
-  came = (does_append finding_turn losing_turn submitted between lost finds loses, serving (TendsPort both) turns of_served);
+  came = (does_append finding_turn losing_turn submitted between lost finds loses, serving (IsPortAlive both) turns of_served);
   backed = service_backed;
   evidenced = record { faults = λ f here. absurd (nowhere f here); port = λ port. service_evidenced port.0 };
   grounded = tt;

@@ -15,7 +15,7 @@ use Rattle.block_machine.specs.State.{Pending}
 use Rattle.block_machine.specs.Steps.{Step, Answer}
 use Rattle.identify.specs.declared.wanted.Wanted.TheVariants.{Any}
 use Rattle.driver_history.specs.Heeding.{ServesReady}
-use Rattle.driver_history.specs.Histories.{BootsAnew, FindsDone, IsIssuedOn, TendsPort, CallCorresponds, PortCorresponds}
+use Rattle.driver_history.specs.Histories.{BootsAnew, FindsDone, IsIssuedOn, IsPortAlive, CallCorresponds, PortCorresponds}
 use Rattle.driver_history.specs.Trace.{LeavesCommand}
 use Rattle.witnesses.specs.Fatal.{FatalErrorIsAHistory, fatal_accesses, fatal_evidence, looking}
 use Rattle.witnesses.proofs.history.Accepting.{asked, both, first, issuing, submit, submit_happens, submit_parts, submit_ties, waiting, bits_set, leaves_other, none_there, not_ended, the_answer}
@@ -82,10 +82,10 @@ service = record {
   device = booted;
 }
 
-of_tended : AreServing (TendsPort both) fatal_accesses
-of_tended = (tended, ((λ is. cc, tended), ((λ is. cc, tt), (tended, of_served (TendsPort both) tended))))
+of_tended : AreServing (IsPortAlive both) fatal_accesses
+of_tended = (tended, ((λ is. cc, tended), ((λ is. cc, tt), (tended, of_served (IsPortAlive both) tended))))
   where
-    tended : TendsPort both (port_at 0)
+    tended : IsPortAlive both (port_at 0)
     tended = (refl, not_dead 0)
 
 -- ---- what it owes each port
@@ -148,7 +148,7 @@ part_of n = record {
 ties : CallCorresponds (Any ∷ Any ∷ []) broken_at service
 ties = record {
   accesses = fatal_accesses;
-  came = (does, serving (TendsPort both) fatal_accesses of_tended);
+  came = (does, serving (IsPortAlive both) fatal_accesses of_tended);
   backed = backed restart is_restart;
   evidenced = record { faults = λ f here. absurd (nowhere f here); port = λ port. evidenced restart is_restart port.0 };
   grounded = tt;

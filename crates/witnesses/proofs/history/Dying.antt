@@ -24,11 +24,11 @@ use Rattle.block_machine.specs.Steps.{Step, Answer, NoneKept}
 use Rattle.host_boot.specs.Taken.{wanted_of}
 use Rattle.identify.specs.declared.wanted.Wanted.TheVariants.{Any}
 use Rattle.driver_history.specs.Evidence.{IsEvidencedOf}
-use Rattle.driver_history.specs.Histories.{CallCorresponds, PortCorresponds, ProbesDisk, IsUnfitOrForeign, TendsPort}
+use Rattle.driver_history.specs.Histories.{CallCorresponds, PortCorresponds, ProbesDisk, IsUnfitOrForeign, IsPortAlive}
 use Rattle.driver_history.specs.Holds.{HoldsOf, HoldsWith, NoneWaits}
 use Rattle.driver_history.specs.Trace.{LeavesEngine, IsServing}
 use Rattle.host_boot.specs.Resets.{ReadsGlobalControl}
-use Rattle.witnesses.specs.Dead.{reset_accesses, DeathIsAHistory}
+use Rattle.witnesses.specs.Dead.{reset_accesses, StuckResetIsAHistory}
 use Rattle.witnesses.specs.Scene.{having, showing}
 use Rattle.hba_regs.specs.declared.reg.Reg.TheVariants.{Ghc}
 use Rattle.adapter.specs.Access.{DoesAll}
@@ -324,7 +324,7 @@ probes n served =
     not_bad is (inl foreign) = let x : Dead ≡ Foreign = sym is ∙ foreign in cc
     not_bad is (inr unfit) = let x : Dead ≡ Unfit unfit.0 = sym is ∙ unfit.1 in cc
 
-untended : (n : ℕ) → TendsPort dead (port_at n) → ⊥
+untended : (n : ℕ) → IsPortAlive dead (port_at n) → ⊥
 untended zero tends = tends.1 refl
 untended (suc zero) tends = tends.1 refl
 untended (suc (suc n)) tends = true≢false (sym tends.0)
@@ -352,7 +352,7 @@ service_backed = record { telling = refl; gained = []; tape = refl; tells = (tt,
 service_ties : CallCorresponds (Any ∷ Any ∷ []) pending_at service
 service_ties = record {
   accesses = [];
-  came = (refl, All-nil (IsServing (TendsPort dead)));
+  came = (refl, All-nil (IsServing (IsPortAlive dead)));
   backed = service_backed;
   evidenced = record { faults = λ f here. absurd (nowhere f here); port = λ port. service_evidenced port.0 };
   grounded = tt;
@@ -361,7 +361,7 @@ service_ties = record {
   holds = (first_slots, holds_dead answered knows_kept (λ n ne e here. absurd (nowhere e here)) kept_first);
 }
 
-pub death_is_a_history : DeathIsAHistory
+pub death_is_a_history : StuckResetIsAHistory
 unfolding reset_ties service_ties
 death_is_a_history = record {
   first = first;

@@ -40,7 +40,7 @@ use Rattle.block_machine.specs.declared.due.Unanswered.{Unanswered}
 use Rattle.identify.specs.declared.wanted.Wanted.TheVariants.{Any}
 use Rattle.driver_history.specs.Heeding.{ServesReady}
 use Rattle.driver_history.specs.Evidence.{IsEvidencedOf, ShowsFailure, ShowsLoss}
-use Rattle.driver_history.specs.Histories.{FindsDone, IsAnsweredOk, IsIssuedOn, TendsPort, CallCorresponds, PortCorresponds, unissued}
+use Rattle.driver_history.specs.Histories.{FindsDone, IsAnsweredOk, IsIssuedOn, IsPortAlive, CallCorresponds, PortCorresponds, unissued}
 use Rattle.driver_history.specs.Holds.{mode_of}
 use Rattle.driver_history.specs.Trace.{LeavesCommand, LeavesEngine}
 use Rattle.witnesses.specs.Scene.{queueing_cap}
@@ -292,7 +292,7 @@ module _ (c : Discovery) where
     unfoldable pub service_ties : CallCorresponds (Any ∷ Any ∷ []) before service
     service_ties = record {
       accesses = masks;
-      came = (is.does, serving (TendsPort (two_ready c.disk)) masks ((refl, not_dead 0), ((refl, not_dead 0), tt)));
+      came = (is.does, serving (IsPortAlive (two_ready c.disk)) masks ((refl, not_dead 0), ((refl, not_dead 0), tt)));
       backed = backed;
       evidenced = record { faults = λ f here. absurd (nowhere f here); port = λ port. evidenced port.0 };
       grounded = tt;

@@ -34,7 +34,7 @@ use Rattle.port_control.specs.Ports.{programmed}
 use Rattle.error_recovery.specs.Evidence.{GainsRunning}
 use Rattle.driver_history.specs.Evidence.{IsEvidencedOf, ShowsFailure, ShowsLoss, Gains}
 use Rattle.driver_history.specs.Histories.{IsUnfitOrForeign, ProbesDisk, LosesNoPortError}
-use Rattle.driver_history.specs.Holds.{HasNothing, HasRequests, IsClients, IsOfKind, IsUnservedAt, NoneWaits, Runs}
+use Rattle.driver_history.specs.Holds.{HasNothing, HasRequests, IsClients, IsQueuedAsAsked, IsUnservedAt, NoneWaits, Runs}
 use Rattle.driver_history.specs.Trace.{LeavesEngine}
 use Rattle.witnesses.specs.Scene.{page_entry, page_move}
 use Rattle.witnesses.proofs.history.Pages.{Kind}
@@ -123,7 +123,7 @@ requests_none s i port mode free unparked = record {
     unserved slot id is = let z : Free ≡ Serves id = sym (free slot) ∙ is in cc
 
 -- slot 0 of port 0 serves the one request, by a command of its kind
-pub requests_first : (i : JointState Device) (mode : QueueMode) → 1 ≤ mode.usable → ((e : Pending) → Contains i.abstract.machine.book e → IsOfKind mode i.device 0 0 e) → HasRequests first_slots i (port_at 0) mode
+pub requests_first : (i : JointState Device) (mode : QueueMode) → 1 ≤ mode.usable → ((e : Pending) → Contains i.abstract.machine.book e → IsQueuedAsAsked mode i.device 0 0 e) → HasRequests first_slots i (port_at 0) mode
 requests_first i mode usable kind = record {
   clients = clients;
   low = λ slot above. low slot (omega (arith, usable, above));
@@ -140,7 +140,7 @@ requests_first i mode usable kind = record {
     low zero above = absurd (omega (arith, above))
     low (suc slot) above = refl
 
-    kinds : (slot : ℕ) (e : Pending) → Contains i.abstract.machine.book e → uses_first 0 slot ≡ Serves e.request.id → IsOfKind mode i.device 0 slot e
+    kinds : (slot : ℕ) (e : Pending) → Contains i.abstract.machine.book e → uses_first 0 slot ≡ Serves e.request.id → IsQueuedAsAsked mode i.device 0 slot e
     kinds zero e here u = kind e here
     kinds (suc slot) e here u = absurd (let z : Free ≡ Serves e.request.id = u in cc)
 

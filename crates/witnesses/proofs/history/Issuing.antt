@@ -27,7 +27,7 @@ use Rattle.block_machine.specs.Left.{after}
 use Rattle.block_machine.specs.Ports.{Evidence}
 use Rattle.block_machine.specs.Refusals.{IsAcceptable}
 use Rattle.block_machine.specs.State.{Accepted, Block, Machine, block_of, unanswered}
-use Rattle.block_machine.specs.Steps.{Step, Accept, Issue, IsNew, May, newly_accepted, unanswered_of}
+use Rattle.block_machine.specs.Steps.{Step, Accept, Issue, MayAccept, May, newly_accepted, unanswered_of}
 use Rattle.block_machine.specs.declared.due.Unanswered.{Unanswered}
 use Rattle.identify.specs.declared.wanted.Wanted.TheVariants.{Any}
 use Rattle.driver_history.specs.Evidence.{IsEvidencedOf}
@@ -87,7 +87,7 @@ module _ (disk : Kind) (m : Machine) (id : RequestId) (k n : ℕ) (may : MayTake
         ids = may.left;
       })
 
-  pub is_new : IsNew m (accepted_as id k n (block_of m.memory (frame n ∷ [])))
+  pub is_new : MayAccept m (accepted_as id k n (block_of m.memory (frame n ∷ [])))
   is_new = record {
     id = may.id_is;
     id_left = may.left;

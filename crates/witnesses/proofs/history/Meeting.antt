@@ -32,7 +32,7 @@ use Rattle.host_boot.specs.Taken.{wanted_of}
 use Rattle.identify.specs.declared.wanted.Wanted.TheVariants.{Any}
 use Rattle.driver_history.specs.Evidence.{Gains, IsEvidencedOf, ShowsFailure, ShowsLoss}
 use Rattle.driver_history.specs.Histories.{LosesNoPortError, CallCorresponds, PortCorresponds}
-use Rattle.driver_history.specs.Holds.{HoldsOf, HoldsWith, IsOfKind, IsReadyAt}
+use Rattle.driver_history.specs.Holds.{HoldsOf, HoldsWith, IsQueuedAsAsked, IsReadyAt}
 use Rattle.driver_history.specs.Trace.{LeavesEngine}
 use Rattle.witnesses.specs.Scene.{having, page_entry, plain}
 use Rattle.witnesses.proofs.history.Accepting.{both, holds_submitted, in_book, issuing, submitted_at, waiting}
@@ -91,7 +91,7 @@ knows = agreeing issuing first_slots tape_broken read_memory broken second
     (record { own_first = refl; own_second = refl; disks = (refl, refl); present = present; ids = refl; sizes = refl; bytes = refl; lasting = (refl, refl); still = refl })
     slots holds_submitted.knows.agrees.apart (λ f b from small. past_driver f b from) holds_submitted.knows.have
 
-kind_of : (e : Pending) → e ≡ waiting → IsOfKind plain (dev broken) 0 0 e
+kind_of : (e : Pending) → e ≡ waiting → IsQueuedAsAsked plain (dev broken) 0 0 e
 kind_of e is = record {
   command = read_of 100 1;
   places = piece_addresses 0x64000 1;

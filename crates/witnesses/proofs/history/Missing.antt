@@ -28,7 +28,7 @@ use Rattle.host_boot.specs.Taken.{wanted_of}
 use Rattle.identify.specs.declared.wanted.Wanted.TheVariants.{Any}
 use Rattle.port_control.specs.Engines.{Stops}
 use Rattle.driver_history.specs.Evidence.{Gains, IsEvidencedOf, ShowsChange}
-use Rattle.driver_history.specs.Histories.{IsUnfitOrForeign, TendsPort, CallCorresponds, PortCorresponds, ProbesDisk}
+use Rattle.driver_history.specs.Histories.{IsUnfitOrForeign, IsPortAlive, CallCorresponds, PortCorresponds, ProbesDisk}
 use Rattle.driver_history.specs.Holds.{HoldsOf}
 use Rattle.driver_history.specs.Trace.{LeavesCommand, LeavesEngine, ResetsLink}
 use Rattle.witnesses.specs.Scene.{having, showing}
@@ -294,10 +294,10 @@ stops = record {
 of_first : WritesOf (IsOf (port_at 0)) (looking ++ passing)
 of_first = (refl, (refl, tt))
 
-of_served : AreServing (TendsPort unfit_ports) (looking ++ passing)
+of_served : AreServing (IsPortAlive unfit_ports) (looking ++ passing)
 of_served = (tended 0 refl, (tended 0 refl, (tended 0 refl, ((λ is. cc, tended 0 refl), (tended 0 refl, ((λ is. cc, tended 0 refl), (tended 0 refl, (tended 1 refl, (tended 1 refl, tt)))))))))
   where
-    tended : (n : ℕ) → unfit_ports.served (port_at n) ≡ true → TendsPort unfit_ports (port_at n)
+    tended : (n : ℕ) → unfit_ports.served (port_at n) ≡ true → IsPortAlive unfit_ports (port_at n)
     tended n served = (served, not_dead n)
 
 unnamed : (n : ℕ) → IsUnnamed evidence (port_at (suc n))
@@ -441,7 +441,7 @@ holds_of (suc (suc n)) = unserved_at no_slots looked_at (suc (suc n)) refl refl 
 service_ties : CallCorresponds (Any ∷ Any ∷ []) unplugged_at service
 service_ties = record {
   accesses = looking ++ passing;
-  came = (does, serving (TendsPort unfit_ports) (looking ++ passing) of_served);
+  came = (does, serving (IsPortAlive unfit_ports) (looking ++ passing) of_served);
   backed = service_backed;
   evidenced = record { faults = λ f here. absurd (nowhere f here); port = λ port. service_evidenced port.0 };
   grounded = tt;

@@ -37,11 +37,11 @@ use Rattle.identify.specs.declared.wanted.Wanted.TheVariants.{Any}
 use Rattle.error_recovery.specs.Evidence.{GainsRunning}
 use Rattle.driver_history.specs.Heeding.{ServesReady}
 use Rattle.driver_history.specs.Evidence.{Gains, IsEvidencedOf, ShowsLoss, ShowsFailure}
-use Rattle.driver_history.specs.Histories.{CallCorresponds, PortCorresponds, FindsDone, IsAnsweredOk, IsIssuedOn, LosesNoPortError, RunsWellAnew, TendsPort}
+use Rattle.driver_history.specs.Histories.{CallCorresponds, PortCorresponds, FindsDone, IsAnsweredOk, IsIssuedOn, LosesNoPortError, RunsWellAnew, IsPortAlive}
 use Rattle.driver_history.specs.Holds.{HoldsOf, HoldsWith, IsReadyAt}
 use Rattle.driver_history.specs.Trace.{LeavesCommand}
 use Rattle.port_control.specs.Engines.{Stops}
-use Rattle.witnesses.specs.Recovery.{fault_evidence, recovery_accesses, told_fault, RecoveryTies}
+use Rattle.witnesses.specs.Recovery.{fault_evidence, recovery_accesses, told_fault, RecoveryIsAHistory}
 use Rattle.witnesses.specs.Scene.{having, page_entry}
 use Rattle.witnesses.proofs.history.Command.{read_memory}
 use Rattle.witnesses.proofs.history.Devices.{IsOf, WritesOf, leaves, serving, AreServing}
@@ -156,10 +156,10 @@ unnamed n = record {
   stuck = nowhere (port_at (suc n));
 }
 
-of_served : AreServing (TendsPort both) recovery_accesses
+of_served : AreServing (IsPortAlive both) recovery_accesses
 of_served = (tended, (tended, (tended, (tended, ((λ is. cc, tended), (tended, ((λ is. cc, tended), ((λ is. cc, tended), (tended, (tended, ((λ is. cc, tended), tt)))))))))))
   where
-    tended : TendsPort both (port_at 0)
+    tended : IsPortAlive both (port_at 0)
     tended = (refl, not_dead 0)
 
 quiet : (n : ℕ) → both.state (port_at n) ≡ Ready → (ShowsLoss (port_at n) submitted recovered → ⊥) × (ShowsFailure (submitted.port n) → ⊥)
@@ -324,7 +324,7 @@ happens = record {
 ties : CallCorresponds (Any ∷ Any ∷ []) submitted_at service
 ties = record {
   accesses = recovery_accesses;
-  came = (does, serving (TendsPort both) recovery_accesses of_served);
+  came = (does, serving (IsPortAlive both) recovery_accesses of_served);
   backed = backed;
   evidenced = record {
     faults = λ f here. told f (only told_fault f here);
@@ -336,7 +336,7 @@ ties = record {
   holds = (no_slots, holds_recovered);
 }
 
-pub recovery_ties : RecoveryTies
+pub recovery_ties : RecoveryIsAHistory
 unfolding ties
 recovery_ties = record {
   first = first;

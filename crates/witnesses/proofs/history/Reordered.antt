@@ -23,7 +23,7 @@ use Rattle.block_machine.specs.State.{Accepted, Pending, unanswered}
 use Rattle.block_machine.specs.declared.due.Unanswered.{Unanswered}
 use Rattle.driver_history.specs.Evidence.{StaysHealthy}
 use Rattle.driver_history.specs.Histories.{IsAnsweredOk, IsIssuedOn}
-use Rattle.witnesses.specs.Queued.{OrderIsFree}
+use Rattle.witnesses.specs.Queued.{ReadsEndInAnyOrder}
 use Rattle.witnesses.specs.Scene.{queued, running_port}
 use Rattle.witnesses.proofs.history.Command.{queued_read, told_queued}
 use Rattle.witnesses.proofs.history.Devices.{no_bit, other_bit}
@@ -276,7 +276,7 @@ stays_healthy c is = record {
   undisturbed = record { gained = found_on.gained c; tape = refl; calm = All-from_recursion (λ e. IsDisturbance 0 e → ⊥) (found_on.gained c) (λ x. x, (λ x. x, tt)) };
 }
 
-pub order_is_free : OrderIsFree
+pub order_is_free : ReadsEndInAnyOrder
 unfolding issued_on.submit_ties found_on.service_ties
 order_is_free = record {
   first = first;

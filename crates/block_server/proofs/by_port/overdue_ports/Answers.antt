@@ -14,12 +14,12 @@ four book a b c d first second third fourth (suc (suc (suc zero))) small = fourt
 four book a b c d first second third fourth (suc (suc (suc (suc more)))) small = absurd (omega (arith, small))
 
 -- where none is overdue, none of a port is
-none : (book : List Held) (is_one : Bool) → is_one ≡ false → IsTrue is_one ↔ IsAnyOverdue book → (number : ℕ) → IsTrue false ↔ IsOverdue (port_at number) book
-none book is_one is tells number = ((λ yes. absurd (false≢true yes)), (λ one. absurd (false≢true (sym is ∙ tells.1 (port_at number, one)))))
+none : (book : List Held) (any_overdue : Bool) → any_overdue ≡ false → IsTrue any_overdue ↔ IsAnyOverdue book → (number : ℕ) → IsTrue false ↔ IsOverdue (port_at number) book
+none book any_overdue is tells number = ((λ yes. absurd (false≢true yes)), (λ one. absurd (false≢true (sym is ∙ tells.1 (port_at number, one)))))
 
-pub returns-then-not-is_one : goal.returns-then-not-is_one
-returns-then-not-is_one c =
-    let rests = none c.args.book.now c.args.is_one c.if-not-is_one.true c.requires in
+pub returns-then-not-any_overdue : goal.returns-then-not-any_overdue
+returns-then-not-any_overdue c =
+    let rests = none c.args.book.now c.args.any_overdue c.if-not-any_overdue.true c.requires in
     four c.args.book.now false false false false (rests 0) (rests 1) (rests 2) (rests 3)
 
 pub returns : goal.returns

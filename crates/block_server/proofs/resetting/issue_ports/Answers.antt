@@ -5,7 +5,7 @@ use Rattle.std.proofs.Math.Seq.{map-set_same}
 use Rattle.refinement.specs.Relation.{port_at}
 use Rattle.host_boot.specs.Taken.{probe_result_of}
 use Rattle.host_boot.specs.declared.ProbeResult.{ProbeResult}
-use Rattle.port_driver.specs.Parts.{HasParts, no_port}
+use Rattle.port_driver.specs.Parts.{HasPortAndShared, no_port}
 use Rattle.block_server.specs.FourPorts.{found_by_port, with_ports}
 use Rattle.port_driver.specs.Ports.{with_part}
 use Rattle.port_driver.specs.declared.served_port.ServedPort.{ServedPort}
@@ -65,7 +65,7 @@ loop-number-preserved g c =
           let shared : Shared = record c.loop-number.shared { book = w.issue_due.new.book } in
           let now : ServerState → ServerState = λ s. with_ports s (device c.loop-number.adapter) c.loop-number.shared ports in
           let later : ServerState → ServerState = λ s. with_ports s new shared (set ports number w.issue_due.new.self) in
-          let has : (s : ServerState) → HasParts (now s) (device c.loop-number.adapter) c.loop-number.shared (port_at number) p = λ s.
+          let has : (s : ServerState) → HasPortAndShared (now s) (device c.loop-number.adapter) c.loop-number.shared (port_at number) p = λ s.
           placing.has_parts s (device c.loop-number.adapter) c.loop-number.shared ports number w.index-ports-number.result low in
           let there : probe_result_of found number ≡ p.found = ap (λ (list : List ProbeResult). probe_result_of list number) (sym so_far.found) ∙ get_or-map (λ (q : ServedPort). q.found) ports number no_port
           ∙ ap (λ (q : ServedPort). q.found) (get_or_default ports number no_port w.index-ports-number.result low) in

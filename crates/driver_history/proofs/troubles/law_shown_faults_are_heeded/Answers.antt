@@ -8,14 +8,14 @@ use Rattle.block_machine.specs.Events.{Ask, Service, abstract_after}
 use Rattle.block_machine.specs.Histories.{Happening, JointState, now}
 use Rattle.identify.specs.declared.wanted.Wanted.{Wanted}
 use Rattle.driver_history.specs.Heeding.{HeedsAt, ServesReady}
-use Rattle.driver_history.specs.Claims.{HeedsFailure}
+use Rattle.driver_history.specs.Claims.{HandlesShownFailure}
 use Rattle.driver_history.specs.Evidence.{ShowsFailure}
 use Rattle.driver_history.specs.Histories.{IsDriverHistory, TellsPlainFaults}
 use Rattle.driver_history.proofs.troubles.law_shown_faults_are_heeded.Goals as goal
 
 heeds_fault : (wanted : List Wanted) (first : JointState Device) (past : List (Happening Device DeviceStep)) (h : Happening Device DeviceStep) (port : Port)
     → IsDriverHistory wanted first (h ∷ past) → h.event.ask ≡ Service → (now first past).abstract.ports.state port ≡ Ready → ShowsFailure ((now first past).device.port port.0)
-    → HeedsFailure port (now first past) h
+    → HandlesShownFailure port (now first past) h
 heeds_fault wanted first past h port history asks asked failure =
     let old = now first past in
     let ties = history.2.port port in

@@ -8,14 +8,14 @@ use Rattle.block_machine.specs.Events.{Ask, Service, abstract_after}
 use Rattle.block_machine.specs.Histories.{Happening, JointState, now}
 use Rattle.identify.specs.declared.wanted.Wanted.{Wanted}
 use Rattle.driver_history.specs.Heeding.{HeedsAt, ServesReady}
-use Rattle.driver_history.specs.Claims.{HeedsLoss}
+use Rattle.driver_history.specs.Claims.{HandlesShownLoss}
 use Rattle.driver_history.specs.Evidence.{ShowsLoss}
 use Rattle.driver_history.specs.Histories.{IsDriverHistory}
 use Rattle.driver_history.proofs.troubles.law_shown_losses_are_heeded.Goals as goal
 
 heeds_loss : (wanted : List Wanted) (first : JointState Device) (past : List (Happening Device DeviceStep)) (h : Happening Device DeviceStep) (port : Port)
     → IsDriverHistory wanted first (h ∷ past) → h.event.ask ≡ Service → (now first past).abstract.ports.state port ≡ Ready → ShowsLoss port (now first past).device h.device
-    → HeedsLoss port (now first past) h
+    → HandlesShownLoss port (now first past) h
 heeds_loss wanted first past h port history asks asked loss =
     let old = now first past in
     let gone = (history.2.evidenced.port port).gone_all asked loss in

@@ -1,10 +1,10 @@
 use Rattle.std.proofs.Common.{◌≡◌, inl, inr}
 use Rattle.hba_regs.specs.declared.reg.PortReg.TheVariants.{Clb, Clbu, Cmd, Fb, Fbu, Sctl}
 use Rattle.port_control.specs.Laws.RegisterSet.{Commanding, Placing, Resetting}
-use Rattle.port_control.specs.Ports.{IsPlacing}
+use Rattle.port_control.specs.Ports.{IsPlacingRegister}
 use Rattle.port_control.proofs.laws.law_calls_are_of_one_port.Goals as goal
 
-no_control : IsPlacing Sctl → ⊥
+no_control : IsPlacingRegister Sctl → ⊥
 no_control (inl e) = absurd (let k : Sctl ≡ Cmd = e in cc)
 no_control (inr (inl e)) = absurd (let k : Sctl ≡ Clb = e in cc)
 no_control (inr (inr (inl e))) = absurd (let k : Sctl ≡ Clbu = e in cc)

@@ -1,7 +1,7 @@
 use Rattle.std.proofs.Common.{true, arith, refl, sym, subst}
 use Rattle.ata_types.specs.declared.Port.{Port}
 use Rattle.error_recovery.specs.declared.Next.{Next}
-use Rattle.host_boot.specs.Again.{BootsAgain}
+use Rattle.host_boot.specs.Again.{RebootsPort}
 use Rattle.port_boot.specs.States.{IsBootable}
 use Rattle.port_control.specs.Ports.{IsStopped}
 use Rattle.server_history.specs.Probing.{IsProbedAnew}
@@ -26,7 +26,7 @@ returns-in-Restart-clause-finds g c =
     let new = g.A.Adapter.device c.reboot_port-booted.new.adapter in
     let its = c.requires.bootable stopped c.stop_for_reset-recovered.result c.in-Restart.stopped (c.stop_for_reset-recovered.ensures.gives_up true) c.in-Restart.is in
     let boots = c.reboot_port-booted.ensures.boots in
-    let B : Port → Type 0 = λ q. BootsAgain c.args.wanted.now q c.reboot_port-booted.result stopped new in
+    let B : Port → Type 0 = λ q. RebootsPort c.args.wanted.now q c.reboot_port-booted.result stopped new in
     let F : Next → Type 0 = λ next. IsProbedAnew c.args.wanted.now c.args.port next stopped new c.reboot_port-booted.result.found in
     record {
       result = c.stop_for_reset-recovered.result;

@@ -8,7 +8,7 @@ use Rattle.ata_types.specs.declared.request.RequestId.{RequestId}
 use Rattle.block_machine.specs.declared.due.Unanswered.{Unanswered}
 use Rattle.request_queue.specs.Entries.{Held, asks, asks_of}
 use Rattle.request_queue.specs.Holders.{IsHolderOf, has_holder}
-use Rattle.request_queue.specs.Walk.{is_issued_alone}
+use Rattle.request_queue.specs.Walk.{is_issued_plain}
 use Rattle.request_queue.specs.Store.{asks_at, blank_entry}
 use Rattle.request_queue.proofs.Holding.{a_holder, no_holder}
 use Rattle.request_queue.proofs.Own.{one_in, one_out, counted_more, any_more}
@@ -35,7 +35,7 @@ loop-place-preserved c =
     let places = c.loop-place.places.items in
     let v = c.loop-place.invariant in
     let p : Unanswered → Bool = λ r. r.port.0 == c.args.port.0 && not (has_holder book r) in
-    let alone : Unanswered → Bool = is_issued_alone c.args.mode in
+    let alone : Unanswered → Bool = is_issued_plain c.args.mode in
     let are = c.requires.holders in
     let n = are.number in
     let long = length-map es (λ (e : Held). asks e.entry) in
@@ -57,8 +57,8 @@ loop-place-preserved c =
             counted = omega (arith, w.count-is, v.counted, w.slots_of-slots.ensures, count);
             fits = omega (arith, w.count-is, v.fits, w.slots_of-slots.ensures, one);
             alone = w.alone-is
-                ∙ (ap (λ (b : Bool). b || w.is_issued_alone-issued_alone.result) v.alone
-                ∙ (ap (λ (b : Bool). list_any alone (asks_at es places) || b) w.is_issued_alone-issued_alone.ensures ∙ sym (any_more es places i r w.asks-asks.ensures alone)));
+                ∙ (ap (λ (b : Bool). b || w.is_issued_plain-issued_alone.result) v.alone
+                ∙ (ap (λ (b : Bool). list_any alone (asks_at es places) || b) w.is_issued_plain-issued_alone.ensures ∙ sym (any_more es places i r w.asks-asks.ensures alone)));
           })
       | then-is_none+else-asks-port w ↦
           let r = w.asks-asks.result in

@@ -33,7 +33,7 @@ returns-then-ends c =
     let is = c.find_unheld-issued.ensures.unheld in
     let ordered = unheld_in_order c.args.port all book is c.requires.ordered in
     let mine = own_at c.args.port all book is c.loop-number.number c.nth-asks.result c.nth-asks.ensures in
-    let clear = c.is_clear-clear.ensures book (reached c.args.port all book is c.requires.ordered c.args.mode c.loop-number.number c.nth-asks.result c.nth-asks.ensures c.loop-number.invariant.queued) c.find_unheld-issued.ensures.issued in
+    let clear = c.is_unblocked-clear.ensures book (reached c.args.port all book is c.requires.ordered c.args.mode c.loop-number.number c.nth-asks.result c.nth-asks.ensures c.loop-number.invariant.queued) c.find_unheld-issued.ensures.issued in
     let free = own_free c.args.port all book is c.args.mode c.free_slots-free.result (c.free_slots-free.ensures ∙ ap (λ (n : ℕ). c.args.mode.usable - n) c.find_unheld-issued.ensures.issued.0) in
     let so_far =
     steps_on c.law_earlier_ones_stand_before.ensures c.law_slots_by_due.ensures c.args.mode c.args.port book ordered c.loop-number.number c.nth-asks.result c.nth-asks.ensures mine
@@ -50,7 +50,7 @@ loop-number-preserved c =
     let is = c.find_unheld-issued.ensures.unheld in
     let ordered = unheld_in_order c.args.port all book is c.requires.ordered in
     let mine = own_at c.args.port all book is c.loop-number.number c.nth-asks.result c.nth-asks.ensures in
-    let clear = c.is_clear-clear.ensures book (reached c.args.port all book is c.requires.ordered c.args.mode c.loop-number.number c.nth-asks.result c.nth-asks.ensures c.loop-number.invariant.queued) c.find_unheld-issued.ensures.issued in
+    let clear = c.is_unblocked-clear.ensures book (reached c.args.port all book is c.requires.ordered c.args.mode c.loop-number.number c.nth-asks.result c.nth-asks.ensures c.loop-number.invariant.queued) c.find_unheld-issued.ensures.issued in
     let free = own_free c.args.port all book is c.args.mode c.free_slots-free.result (c.free_slots-free.ensures ∙ ap (λ (n : ℕ). c.args.mode.usable - n) c.find_unheld-issued.ensures.issued.0) in
     let small = has_room c.args.mode c.args.port book c.nth-asks.result c.len-in-loop-number.result c.free_slots-free.result free c.requires.usable (sym c.ends.ensures ∙ c.if-ends.false) in
     record {

@@ -6,7 +6,7 @@ use Rattle.refinement.proofs.driver.PortAccesses.{law_agreeing_goes_on, same_ove
 use Rattle.host_boot.specs.declared.ProbeResult.TheVariants.{Ready, Unserved}
 use Rattle.host_boot.proofs.Beginning.{taken_there}
 use Rattle.port_control.specs.Calls.{MayBeginReceiving}
-use Rattle.port_control.specs.Ports.{WritesCommand}
+use Rattle.port_control.specs.Ports.{IsCommandRegister}
 use Rattle.server_examples.proofs.waits.received_anew.Goals as goal
 
 pub stop-requires : goal.stop-requires
@@ -20,7 +20,7 @@ pub receive-requires : goal.receive-requires
 receive-requires g c =
     let taken = c.take_over-host.ensures.taken in
     let followed = c.in-Ok.ensures.halts.told.followed in
-    let same = same_over (IsControl WritesCommand (record { 0 = 0 })) _ _ followed.driven in
+    let same = same_over (IsControl IsCommandRegister (record { 0 = 0 })) _ _ followed.driven in
     let none : Ready c.in-Ready.field-0 ≡ Unserved → ⊥ = λ e. absurd cc in
     let there = taken_there _ _ 0 _ _ taken (omega arith) (λ e. none (sym c.in-Ready.is ∙ e)) in
     let M : Port → Type 0 = λ p. MayBeginReceiving p (g.A.Adapter.device c.stop.new.adapter) in
@@ -28,7 +28,7 @@ receive-requires g c =
       may = subst M (sym c.in-Ok.ensures.names) (record {
         on = c.stop.ensures.on;
         there = (there.0, ap (λ (pi : ℕ). bit pi 0) same.pi ∙ there.1);
-        agreed = (taken.uses, tt, law_agreeing_goes_on WritesCommand AnyUse (record { 0 = 0 }) taken.uses _ _ tt followed taken.agreed);
+        agreed = (taken.uses, tt, law_agreeing_goes_on IsCommandRegister AnyUse (record { 0 = 0 }) taken.uses _ _ tt followed taken.agreed);
         stopped = c.in-Ok.ensures.halts.stopped;
         room = let size = same.size in let had = taken.same.size in let room = c.requires.room in omega (arith, room, size, had);
       });

@@ -10,7 +10,7 @@ use Rattle.block_machine.specs.Rules.{HasNoFault}
 use Rattle.dma_frames.specs.Table.{owner_of, lent_to}
 use Rattle.block_server.specs.Calls.{AcceptsRequest, IsFor}
 use Rattle.std.specs.Box.{with_value}
-use Rattle.port_driver.specs.Parts.{HasServedPort}
+use Rattle.port_driver.specs.Parts.{HasPortAt}
 use Rattle.block_server.specs.FourPorts.{found_by_port, kept_by_port, last_disk_by_port, mode_by_port, slots_by_port, wanted_by_port}
 use Rattle.port_driver.specs.Ports.{HasReadyPort, with_part}
 use Rattle.port_driver.specs.declared.served_port.ServedPort.{ServedPort}
@@ -44,7 +44,7 @@ accept-requires-clause-few g c = accepted.has_place (server_of g.A.Adapter.devic
 abbrev its_port : (g : Over) (c : After-index-self-from g) → ServedPort
 its_port g c = get_or c.self.inside.ports c.from.result c.index-self-from.result
 
-has_port : (g : Over) (c : After-index-self-from g) → HasServedPort (server_of g.A.Adapter.device (seen c.self.inside)) c.args.port.0 (its_port g c)
+has_port : (g : Over) (c : After-index-self-from g) → HasPortAt (server_of g.A.Adapter.device (seen c.self.inside)) c.args.port.0 (its_port g c)
 has_port g c =
     let v = c.self.inside in
     let four = placing.four_ports v.ports (is_on g.A.Adapter.device (seen v) c.args.self.now c.self.view_is c.requires.on c.self.invariant).kept.four in

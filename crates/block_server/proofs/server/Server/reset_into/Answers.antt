@@ -8,10 +8,10 @@ use Rattle.host_boot.specs.declared.ProbeResult.{ProbeResult}
 use Rattle.identify.specs.declared.wanted.Wanted.{Wanted}
 use Rattle.server_history.specs.Histories.{ExtendsSettled, ExtendsHistory, ExtendsStuck}
 use Rattle.server_history.specs.Kept.{IsKeptIn, MayGoBack, TakesBack}
-use Rattle.server_history.specs.Resets.{IsTakenAgain, IssuePorts, ResetsServer, SettlePorts}
+use Rattle.server_history.specs.Resets.{IsReinitialized, IssuePorts, ResetsServer, SettlePorts}
 use Rattle.server_history.specs.Server.{InCallInvariant, ServerState}
 use Rattle.server_history.specs.Stalled.{ResetGetsStuck, BookInvariant}
-use Rattle.block_server.specs.FourPorts.{EachBecomes, IsTakenAnew, kept_by_port, wanted_by_port, with_ports}
+use Rattle.block_server.specs.FourPorts.{EachBecomes, BeginsAsHostFound, kept_by_port, wanted_by_port, with_ports}
 use Rattle.block_server.specs.Seen.{seen}
 use Rattle.block_server.specs.View.{ServerView, server_of}
 use Rattle.port_driver.specs.declared.served_port.ServedPort.{ServedPort}
@@ -81,7 +81,7 @@ shared_then g c = record { table = with_value c.self.inside.shared.table c.give_
 abbrev taken : (g : Over) (c : After-resolve_ports-arg-3-1 g) → ServerState
 taken g c = with_ports (server_of g.A.Adapter.device (seen c.self.inside)) (g.A.Adapter.device c.take_over-host.new.adapter) (shared_then g c) c.begin_anew.new.ports
 
-takes : (g : Over) (c : After-resolve_ports-arg-3-1 g) → IsTakenAgain (server_of g.A.Adapter.device (seen c.self.inside)) (taken g c)
+takes : (g : Over) (c : After-resolve_ports-arg-3-1 g) → IsReinitialized (server_of g.A.Adapter.device (seen c.self.inside)) (taken g c)
 takes g c =
     let device = g.A.Adapter.device in
     let v = c.self.inside in
@@ -90,7 +90,7 @@ takes g c =
     let new = device c.take_over-host.new.adapter in
     let idle = device c.reset.new.adapter in
     becoming.takes_again (server_of device (seen v)) (device v.adapter) idle new v.shared (shared_then g c) v.ports c.begin_anew.new.ports (placing.four_ports v.ports (its_books g c).four) host c.take_over-host.ensures.four
-    (subst (λ (ports : List ServedPort). EachBecomes (IsTakenAnew host) ports c.begin_anew.new.ports) back.ports c.begin_anew.ensures) c.in_default.ensures.reset
+    (subst (λ (ports : List ServedPort). EachBecomes (BeginsAsHostFound host) ports c.begin_anew.new.ports) back.ports c.begin_anew.ensures) c.in_default.ensures.reset
     (subst (λ (table : Table). TakesBack table c.give_all_back.new.table (IsKeptIn (kept_by_port v.ports))) c.deref_mut.ensures.value back.back)
     (subst (λ (wanted : List Wanted). TakesOver wanted host idle new) (c.wanted_disks.ensures ∙ ap wanted_by_port back.ports) c.take_over-host.ensures.taken) refl
 

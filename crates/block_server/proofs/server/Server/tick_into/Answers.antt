@@ -23,12 +23,12 @@ use Rattle.block_server.proofs.server.Server.tick_into.Goals as goal
 use Rattle.block_server.proofs.server.Server.tick_into.Goals.{After-loop-number, After-overdue_ports-overdue}
 
 -- requests are a tick older
-older : (g : Over) (c : After-overdue_ports-overdue g) → c.tick-is_one.new.self ≡ aged (λ port. is_ready (probe_result_of (found_by_port c.self.inside.ports) port.0)) c.self.inside.shared.book
+older : (g : Over) (c : After-overdue_ports-overdue g) → c.tick-any_overdue.new.self ≡ aged (λ port. is_ready (probe_result_of (found_by_port c.self.inside.ports) port.0)) c.self.inside.shared.book
 older g c =
-    c.tick-is_one.ensures.older_entry
+    c.tick-any_overdue.ensures.older_entry
     ∙ (λ i. aged (λ port. (c.ready_ports.ensures port ∙ ap is_ready (sym (get_or-map (λ (p : ServedPort). p.found) c.self.inside.ports port.0 no_port))) i) c.self.inside.shared.book)
 
-older_now : (g : Over) (c : After-overdue_ports-overdue g) → record (server_of g.A.Adapter.device (seen c.self.inside)) { book = c.tick-is_one.new.self } ≡ a_tick_older (server_of g.A.Adapter.device c.args.self.now)
+older_now : (g : Over) (c : After-overdue_ports-overdue g) → record (server_of g.A.Adapter.device (seen c.self.inside)) { book = c.tick-any_overdue.new.self } ≡ a_tick_older (server_of g.A.Adapter.device c.args.self.now)
 older_now g c =
     ap (λ (book : List Held). record (server_of g.A.Adapter.device (seen c.self.inside)) { book = book }) (older g c)
     ∙ ap (λ (v : ServerView g.row.A.Denot). a_tick_older (server_of g.A.Adapter.device v)) c.self.view_is
@@ -112,14 +112,14 @@ loop-number-init g c =
     let at = (goal.at.loop-number-init g c).After-overdue_ports-overdue in
     let ports = ap (λ (x : ServerView g.row.A.Denot). x.ports) c.self.view_is in
     let settled = now_on device refl c.if-self.false c.self.invariant in
-    let now : SettledInvariant (record (server_of device (seen v)) { book = c.tick-is_one.new.self }) =
+    let now : SettledInvariant (record (server_of device (seen v)) { book = c.tick-any_overdue.new.self }) =
     subst (λ (book : List Held). SettledInvariant (record (server_of device (seen v)) { book = book })) (sym (older g at)) (c.law_requests_get_older.ensures (server_of device (seen v)) settled) in
     let four = placing.four_ports v.ports settled.kept.four in
     record {
       first = ap length (sym ports) ∙ length-map v.ports (λ (p : ServedPort). p.found) ∙ four;
-      turns = subst (λ (told : List Reply). TurnsSoFar (TicksPort old.book) IsAtRest c.args.self.now.ports old v.ports told (record (server_of device (seen v)) { book = c.tick-is_one.new.self }) 0) (sym c.clear.ensures)
-          (none_yet (TicksPort old.book) IsAtRest c.args.self.now.ports old v.ports (record (server_of device (seen v)) { book = c.tick-is_one.new.self }) four ports now (older_now g at));
-      room = let all = c.law_the_book_stays_in_order.ensures.all c.tick-is_one.new.self now.kept.ordered in let none = ap length c.clear.ensures in omega (arith, all, none);
+      turns = subst (λ (told : List Reply). TurnsSoFar (TicksPort old.book) IsAtRest c.args.self.now.ports old v.ports told (record (server_of device (seen v)) { book = c.tick-any_overdue.new.self }) 0) (sym c.clear.ensures)
+          (none_yet (TicksPort old.book) IsAtRest c.args.self.now.ports old v.ports (record (server_of device (seen v)) { book = c.tick-any_overdue.new.self }) four ports now (older_now g at));
+      room = let all = c.law_the_book_stays_in_order.ensures.all c.tick-any_overdue.new.self now.kept.ordered in let none = ap length c.clear.ensures in omega (arith, all, none);
       on = c.if-self.false;
       cost = let same = ap (λ (x : ServerView g.row.A.Denot). g.A.Adapter.access_count x.adapter) c.self.view_is in omega (arith, same);
     }

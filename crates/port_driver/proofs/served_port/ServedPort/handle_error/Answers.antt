@@ -67,9 +67,9 @@ recovered g c s h =
 -- what the port is once it was found so
 abbrev found_so : (g : Over) (c : After-order_from-arg-1 g) → Option DiskInfo → ServedPort
 found_so g c disk = record c.complete_and_recover-failed.new.self {
-  found = c.revalidate_port-found.result.0;
+  found = c.resume_or_reboot-found.result.0;
   last_disk = disk;
-  mode = c.revalidate_port-found.result.1;
+  mode = c.resume_or_reboot-found.result.1;
   slots = c.begin_anew.new.self.slots;
 }
 
@@ -84,20 +84,20 @@ is_anew g c =
 same_kept : (g : Over) (c : After-complete_and_recover-failed g) (s : ServerState) → Has g c s → c.complete_and_recover-failed.new.self.kept ≡ kept_at s.kept c.args.port.0
 same_kept g c s h = ap (λ (p : ServedPort). p.kept) c.complete_and_recover-failed.ensures.rest ∙ sym h.port_is.kept_is
 
-pub revalidate_port-found-requires-clause-mode : goal.revalidate_port-found-requires-clause-mode
-revalidate_port-found-requires-clause-mode g c =
-    let a = (goal.at.revalidate_port-found-requires-clause-mode g c).After-complete_and_recover-failed in
+pub resume_or_reboot-found-requires-clause-mode : goal.resume_or_reboot-found-requires-clause-mode
+resume_or_reboot-found-requires-clause-mode g c =
+    let a = (goal.at.resume_or_reboot-found-requires-clause-mode g c).After-complete_and_recover-failed in
     let h = c.requires.sees in
     restoring.mode_then (recovered g a h.0 h.1) c.complete_and_recover-failed.new.self.mode (ap (λ (p : ServedPort). p.mode) c.complete_and_recover-failed.ensures.rest ∙ sym h.1.port_is.mode_is)
 
-pub revalidate_port-found-requires-clause-bootable : goal.revalidate_port-found-requires-clause-bootable
-revalidate_port-found-requires-clause-bootable g c =
-    restoring.bootable (recovered g (goal.at.revalidate_port-found-requires-clause-bootable g c).After-complete_and_recover-failed c.requires.sees.0 c.requires.sees.1)
+pub resume_or_reboot-found-requires-clause-bootable : goal.resume_or_reboot-found-requires-clause-bootable
+resume_or_reboot-found-requires-clause-bootable g c =
+    restoring.bootable (recovered g (goal.at.resume_or_reboot-found-requires-clause-bootable g c).After-complete_and_recover-failed c.requires.sees.0 c.requires.sees.1)
 
 pub begin_anew-requires : goal.begin_anew-requires
 begin_anew-requires g c =
-    let few = few_usable (g.A.Adapter.device c.revalidate_port-found.new.adapter).cap c.revalidate_port-found.result.0 in
-    subst (λ (mode : QueueMode). mode.usable ≤ 32) (sym c.revalidate_port-found.ensures.mode) few
+    let few = few_usable (g.A.Adapter.device c.resume_or_reboot-found.new.adapter).cap c.resume_or_reboot-found.result.0 in
+    subst (λ (mode : QueueMode). mode.usable ≤ 32) (sym c.resume_or_reboot-found.ensures.mode) few
 
 pub resolve-requires-clause-sound : goal.resolve-requires-clause-sound
 resolve-requires-clause-sound g c =
@@ -128,14 +128,14 @@ restored g c s h =
     let met = c.resolve.ensures.meet in
     let now = holding c.resolve.new.self.book c.resolve.new.self.table.value c.resolve.new.kept in
     let K : List Lending → Type 0 = λ loans. AreResolved (disposition_of c.complete_and_recover-failed.result.0 c.revalidation_of-revalidation.result) (requests_of c.args.port x.b) met.0 (holding x.b x.t loans) now in
-    let W : Wanted → Type 0 = λ wanted. IsRevalidated wanted c.args.port c.args.port_error c.in-Ready.was x.next x.one (device c.revalidate_port-found.new.adapter) c.revalidate_port-found.result.0 in
+    let W : Wanted → Type 0 = λ wanted. IsRevalidated wanted c.args.port c.args.port_error c.in-Ready.was x.next x.one (device c.resume_or_reboot-found.new.adapter) c.resume_or_reboot-found.result.0 in
     let wanted_is = (ap (λ (p : ServedPort). p.wanted) c.complete_and_recover-failed.ensures.rest ∙ sym h.port_is.wanted_is) in
     record {
-      two = device c.revalidate_port-found.new.adapter;
-      found = c.revalidate_port-found.result.0;
-      is_found = subst W wanted_is (c.revalidate_port-found.ensures.found c.args.port (restoring.token_of x));
-      mode = c.revalidate_port-found.result.1;
-      mode_is = c.revalidate_port-found.ensures.mode;
+      two = device c.resume_or_reboot-found.new.adapter;
+      found = c.resume_or_reboot-found.result.0;
+      is_found = subst W wanted_is (c.resume_or_reboot-found.ensures.found c.args.port (restoring.token_of x));
+      mode = c.resume_or_reboot-found.result.1;
+      mode_is = c.resume_or_reboot-found.ensures.mode;
       fresh = c.begin_anew.new.self.slots;
       usable = c.begin_anew.ensures.unused.usable;
       as_many = c.begin_anew.ensures.unused.places;
@@ -149,11 +149,11 @@ restored g c s h =
 
 -- and it has what issuing asks
 lends_anew : (g : Over) (c : After-order_from-arg-1 g) (s : ServerState) (h : Has g (at_mending g c) s)
-    → HasFoundPort (restoring.then (recovered g (at_mending g c) s h) (restored g c s h)) (g.A.Adapter.device c.revalidate_port-found.new.adapter) c.resolve.new.self.book c.begin_anew.new.self.slots c.args.port c.begin_anew.new.self.mode c.begin_anew.new.self.found
+    → HasFoundPort (restoring.then (recovered g (at_mending g c) s h) (restored g c s h)) (g.A.Adapter.device c.resume_or_reboot-found.new.adapter) c.resolve.new.self.book c.begin_anew.new.self.slots c.args.port c.begin_anew.new.self.mode c.begin_anew.new.self.found
 lends_anew g c s h =
     let x = recovered g (at_mending g c) s h in
     let y = restored g c s h in
-    let L : ServedPort → Type 0 = λ p. HasFoundPort (restoring.then x y) (g.A.Adapter.device c.revalidate_port-found.new.adapter) c.resolve.new.self.book p.slots c.args.port p.mode p.found in
+    let L : ServedPort → Type 0 = λ p. HasFoundPort (restoring.then x y) (g.A.Adapter.device c.resume_or_reboot-found.new.adapter) c.resolve.new.self.book p.slots c.args.port p.mode p.found in
     subst L (sym (is_anew g c)) (restoring.lends_found x y)
 
 pub issue_where_ready-requires : goal.issue_where_ready-requires

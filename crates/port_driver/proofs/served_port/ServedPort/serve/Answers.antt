@@ -3,7 +3,7 @@ use Rattle.ata_types.specs.declared.PortState.TheVariants.{Ready as ReadyState}
 use Rattle.adapter.specs.Device.{Device}
 use Rattle.host_boot.specs.Taken.{probe_result_of}
 use Rattle.refinement.specs.Driven.{AnyUse, IsSimulated}
-use Rattle.server_history.specs.ErrorHandling.{IsFoundOut}
+use Rattle.server_history.specs.ErrorHandling.{ErrorIsFound}
 use Rattle.server_history.specs.Served.{IsMaskOf}
 use Rattle.server_history.specs.Server.{InCallInvariant, SettledInvariant, ServerState, slots_at, state_of}
 use Rattle.server_history.specs.Turns.{ServesPort}
@@ -55,7 +55,7 @@ module _ (g : Over) (c : After-take_event-look g) (s : ServerState) (h : Has g c
       ∙ (λ i. record s { device = device; table = sym h.parts.table_is i; book = sym h.parts.book_is i })
 
   -- an error that the look tells
-  found : (port_error : PortError) → error_of c.take_event-look.result ≡ Some port_error → IsFoundOut c.args.port port_error s.device seen × (port_error ≢ TimedOut)
+  found : (port_error : PortError) → error_of c.take_event-look.result ≡ Some port_error → ErrorIsFound c.args.port port_error s.device seen × (port_error ≢ TimedOut)
   found port_error is = serving.found_out c.take_event-look.result port_error c.args.port s.device seen is looks
 
   in_error : (port_error : PortError) → error_of c.take_event-look.result ≡ Some port_error → IsInError s seen c.args.shared.now c.args.port c.args.self.now port_error

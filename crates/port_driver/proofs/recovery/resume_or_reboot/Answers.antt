@@ -2,7 +2,7 @@ use Rattle.std.proofs.Common.{◌≡◌, sym, ◌∙◌, ⊎_elim}
 use Rattle.ata_types.specs.declared.PortState.TheVariants.{Absent}
 use Rattle.host_boot.specs.declared.ProbeResult.TheVariants.{Ready, Unready}
 use Rattle.port_driver.proofs.Restoring.{boots_or_absent}
-use Rattle.port_driver.proofs.recovery.revalidate_port.Goals as goal
+use Rattle.port_driver.proofs.recovery.resume_or_reboot.Goals as goal
 
 pub boot_after-booted-requires-clause-bootable : goal.boot_after-booted-requires-clause-bootable
 boot_after-booted-requires-clause-bootable g c = (c.requires.bootable c.in-Restart.stopped c.in-Restart.is).0

@@ -1,7 +1,7 @@
 use Rattle.std.proofs.Common.{◌≡◌, ◌↔◌, ◌==◌, ◌&&◌, ℕ, Bool, true, sym, ap, ◌∙◌, eqb-true, eq-eqb}
 use Rattle.std.proofs.lemmas.Bool.{ne_eqb}
 use Rattle.request_queue.proofs.InTheWay.{plain_is_clear, queued_is_clear}
-use Rattle.request_queue.proofs.due.is_clear.Goals as goal
+use Rattle.request_queue.proofs.due.is_unblocked.Goals as goal
 
 as_test : (n : ℕ) → ((n == 0) ≡ true) ↔ (n ≡ 0)
 as_test n = (eqb-true n 0, eq-eqb n 0)
