@@ -17,7 +17,7 @@ fis_bytes = 0x27 ∷ 0x80 ∷ 0x25 ∷ 0 ∷ 0x64 ∷ 0 ∷ 0 ∷ 0x40 ∷ 0 ∷
 abbrev pub prd_bytes : List ℕ
 prd_bytes = 0 ∷ 0x40 ∷ 6 ∷ 0 ∷ 0 ∷ 0 ∷ 0 ∷ 0 ∷ 0 ∷ 0 ∷ 0 ∷ 0 ∷ 0xff ∷ 0x0f ∷ 0 ∷ 0 ∷ []
 
--- the command list is at 0, and the table of slot 0 at 1000h; all else is zero
+-- the command list is at 0, and the table of slot 0 at 1000h, with its PRD at 1080h; all else is zero
 unfoldable pub first_memory : ℕ → ℕ
 first_memory = patched (patched (patched (λ _. 0) 0 header_bytes) 0x1000 fis_bytes) 0x1080 prd_bytes
 

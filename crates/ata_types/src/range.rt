@@ -6,7 +6,7 @@ ghost use Rattle.ata_types.specs.Range.{IsWithin, Overlaps, range_end};
 #[derive(Clone, Copy, Debug, Default, PartialEq, Eq, PartialOrd, Ord, Hash)]
 pub struct Sector(pub u64);
 
-/// The sectors from `first` on, `count` of them. No sum of the two wraps: sectors past 2^64 are sectors too.
+/// The sectors from `first` on, `count` of them. The sum doesn't wrap: a range may end past 2^64, where no sector is.
 #[derive(Clone, Copy, Debug, Default, PartialEq, Eq, Hash)]
 pub struct Range {
     pub first: Sector,

@@ -50,8 +50,8 @@ fn overlap(a: &Range, b: &Range) -> bool
     a.overlaps(b)
 }
 
-/// Whether the two conflict: a flush with every request of its port, and two with a sector in common if one of them
-/// writes or trims.
+/// Whether the two conflict: both are of one port, and one of them is a flush, or they have a sector in common and one
+/// of them writes or trims.
 pub fn must_keep_order(a: &Unanswered, b: &Unanswered) -> bool
     ensures { result ≡ due.must_keep_order a.now b.now }
 {

@@ -9,8 +9,10 @@ use Rattle.device_model.specs.Settled.{IsSettled, LeadsOwn, SendsPages}
 use Rattle.device_model.specs.declared.disks.DiskIndex.{DiskIndex}
 use Rattle.device_model.specs.declared.model.Model.{Model}
 
--- A command that sends a page was taken in this slot, or was already: what is left of it is as before, and on its port
--- no other may be done to its end. Nothing of another port is another, nor of the disks.
+-- By steps of the model's own a command that sends a page is taken on the port: that of this slot, or one that was
+-- taken already. If that of the slot could be done to its end, it still can, with as much left. If it may be taken, a
+-- command of the port can be done to its end only if that one could. Nothing of another port is another, nor of the
+-- disks, and the tape has no more room than it had.
 pub record TakesPage {S : Type 0} (size : S → ℕ) (told : S → Option (ℕ → List ℕ)) (port slot : ℕ)
     (old new : Model S) : Type 0 where
   pub own : (held : List Bool) → IsPortLoose held port

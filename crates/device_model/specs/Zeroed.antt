@@ -9,8 +9,7 @@ use Rattle.device_model.specs.declared.clearing.SectorExtent.{SectorExtent}
 use Rattle.device_model.specs.declared.disks.DiskIndex.{DiskIndex}
 
 -- So many sectors of these, of the disk that is in, were made zero, the first of them first: all, or those before the
--- one at which the store failed. What they held is kept before, where there is room for that, so what is lasting of the
--- disk stays so.
+-- one at which the store failed. With a cache, what they held is kept before, so what is lasting of the disk stays so.
 pub record MakesZero {S : Type 0} (size : S → ℕ) (told : S → Option (ℕ → List ℕ)) (failures : S → Option Failures)
     (which : DiskIndex) (run : SectorExtent) (count : ℕ) (old new : S) (was now : Cache) : Type 0 where
   pub few : count ≤ run.count

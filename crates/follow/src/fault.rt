@@ -7,9 +7,9 @@ use std::{fmt, io};
 /// Why a run of the program doesn't end well.
 #[derive(Clone, Copy, Debug, PartialEq, Eq)]
 pub enum FollowError {
-    /// The words are not six, or the fifth is no number of 32 bits.
+    /// The words are fewer than six or more than nine, or the fifth is no number of 32 bits.
     CommandLine,
-    /// The configuration, the script or the image can't be read.
+    /// The configuration, the script or an image can't be read.
     Unread,
     /// The configuration has a fault of the kind with this number, 1 to 8.
     Config(u8),
@@ -41,6 +41,7 @@ impl From<AllocError> for FollowError {
     }
 }
 
+/// Of a play that didn't go well: one that did is an error only where its output wasn't handed on.
 impl From<Ended> for FollowError {
     fn from(ended: Ended) -> FollowError {
         match ended {

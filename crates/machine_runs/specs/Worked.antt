@@ -172,7 +172,7 @@ pub record MeetsTrouble : Type 0 where
   pub together : (again.request.port ≡ failed.request.port) × (ended.request.port ≡ failed.request.port)
   pub goes : Contains (steps_of asked) (Unplug lost.request.port)
   pub serves : (service.ask ≡ Service) × (third.ask ≡ Service) × (fourth.ask ≡ Service) × (last.ask ≡ Service)
-  -- the failed port's answers first, since its number is lower
+  -- the failed port's answers first, which so has the lower number
   pub tells : service.said ≡ Served (reply_of (failed, DeviceError 65 64) ∷ reply_of (ended, Ok)
       ∷ reply_of (lost, Unplugged) ∷ [])
   pub requeues : Contains service.steps (Again again)

@@ -25,8 +25,8 @@ pub record HasPortAt (s : ServerState) (number : ℕ) (p : ServedPort) : Type 0 
   pub kept_is : kept_at s.kept number ≡ p.kept
 
 -- the server has this device, and these loans and requests; and its port is this one
-pub record HasPortAndShared (s : ServerState) (device : Device) (shared : Shared) (port : Port) (p : ServedPort) : Type
-    0 where
+pub record HasPortAndShared (s : ServerState) (device : Device) (shared : Shared) (port : Port)
+    (p : ServedPort) : Type 0 where
   pub device_is : s.device ≡ device
   pub table_is : s.table ≡ shared.table.value
   pub book_is : s.book ≡ shared.book

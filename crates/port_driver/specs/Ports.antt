@@ -1,4 +1,4 @@
--- A port's part of a server, as it is lent to what drives the port (this project's own).
+-- A port's slots and the book, as they are lent to what issues and answers (this project's own).
 use Rattle.std.specs.Prelude.{ℕ, true, false, ◌≡◌, ◌+◌, ◌^◌, ◌<◌, ◌≤◌, ◌++◌, List, AllPairs, None, map, slice_set}
 use Rattle.ata_types.specs.declared.Port.{Port}
 use Rattle.ata_types.specs.declared.PortState.TheVariants.{Ready}

@@ -27,7 +27,8 @@ fn reset_revalidation(was: &Option<DiskInfo>, found: &ProbeResult) -> Revalidati
 }
 
 impl ServedPort {
-    /// Resolves the unanswered requests of the port after a reset, in order of acceptance.
+    /// Resolves the unanswered requests of the port after a reset, in order of acceptance, whether the reset ended or
+    /// got stuck. The replies come after those that there are.
     pub fn resolve_after_reset(&mut self, shared: &mut Shared, port: Port, replies: &mut Replies)
         requires settle { (s : ServerState) × MaySettle s × HasPortAndShared s s.device shared.old port self.old }
         requires room { length replies.old.items + length shared.old.book ≤ MOST_UNANSWERED }

@@ -1,5 +1,5 @@
-// Loans of a dead port that are kept when their requests are answered, until a reset ends: the device may still move
-// their sectors.
+// Loans of a dead port that are kept when their requests are answered, until a reset ends, or the server: the device
+// may still move their sectors.
 ghost use Rattle.std.specs.Prelude.{◌≡◌, ◌<◌, ◌++◌, ◌∷◌, [], All, AllPairs, Contains, IfOk, length};
 ghost use Rattle.server_history.specs.Kept.{TakesBack};
 ghost use Rattle.server_history.specs.Server.{AreOfTwo, IsLentOut};

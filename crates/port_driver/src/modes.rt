@@ -15,7 +15,7 @@ pub(crate) const PLAIN: QueueMode = QueueMode {
     usable: 1,
 };
 
-/// How a port that was found so takes commands, by an adapter with so many slots a port, which queues or doesn't:
+/// How a port that was found so takes commands, by an adapter with 1 to 32 slots a port, which queues or doesn't:
 /// queued where adapter and disk both can, in as many slots as both have; else one at a time.
 pub fn mode_of(slots: u8, queued: bool, found: &ProbeResult) -> QueueMode
     ensures found { (cap : ℕ) → slots ≡ cap / 256 % 32 + 1 → queued ≡ bit cap 30 → result ≡ mode_found cap found.now }

@@ -55,7 +55,8 @@ pub record NoneFails (port : ℕ) (old new : Device) : Type 0 where
   pub tape : new.tape ≡ old.tape ++ gained
   pub none : All (λ e. IsFaultOf port e → ⊥) gained
 
--- What the tape tells nothing of in two parts of a call it tells nothing of in the whole, and the other way round.
+-- What the tape tells nothing of in two parts of a call it tells nothing of in the whole, and the other way round,
+-- where the tape only grows; and where nothing was done it tells nothing of it.
 pub record IsOfEachPart (Untold : ℕ → Device → Device → Type 0) : Type 0 where
   pub none : (port : ℕ) (d : Device) → Untold port d d
   pub more : (port : ℕ) (old mid new : Device) → Untold port old mid → Untold port mid new → Untold port old new

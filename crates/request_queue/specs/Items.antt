@@ -26,7 +26,7 @@ StandsBefore x first id = (item_first x < first) ⊎ ((item_first x ≡ first) �
 abbrev pub AreSorted : List Item → Type 0
 AreSorted items = AllPairs (λ a b. StandsBefore a (item_first b) b.id.0) items
 
--- It is the greatest end of the items up to a place: at least each of their ends, and one of them.
+-- It is the greatest end of the items up to a place of the list: at least each of their ends, and one of them.
 pub record IsGreatestEnd (items : List Item) (place greatest : ℕ) : Type 0 where
   pub covers : (j : ℕ) (d : Item) → j ≤ place → item_end (slice_index_or items j d) ≤ greatest
   pub at : ℕ

@@ -138,19 +138,19 @@ IsLine (Device asked) = IsStep asked
 
 -- ---- what is read from words
 
--- if a step is, they are its words
+-- if a step is found, these are its words
 abbrev pub ReadsAsStep : List Word → Option DeviceStep → Type 0
 ReadsAsStep words found = IfSome found (λ s. IsStep s × (step_words s ≡ words))
 
--- each step whose words they are is
+-- the step whose words these are is found
 abbrev pub ReadsEachStep : List Word → Option DeviceStep → Type 0
 ReadsEachStep words found = (s : DeviceStep) → IsStep s → step_words s ≡ words → found ≡ Some s
 
--- if a call is put into the place, they are the words of its line
+-- if a call is found, which then stands in the place, these are its line's words
 abbrev pub ReadsAsLine : List Word → Option ⊤ → Call DeviceStep → Type 0
 ReadsAsLine words found call = OnSome found (IsLine call × (line_words call ≡ words))
 
--- each call whose line's words they are is
+-- the call whose line has these words is found
 abbrev pub ReadsEachLine : List Word → Option ⊤ → Call DeviceStep → Type 0
 ReadsEachLine words found call = (c : Call DeviceStep) → IsLine c → line_words c ≡ words
     → (found ≡ Some tt) × (call ≡ c)

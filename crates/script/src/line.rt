@@ -536,7 +536,7 @@ fn asked(name: &[u8], words: &[&[u8]], call: &mut CallPlace) -> Option<()>
 /// Reads the call that a line asks for, without its line feed. `None` says that no line is spelled so; what stands in
 /// the place then is any call.
 #[inline(never)]
-pub fn read_line_into(text: &[u8], call: &mut CallPlace) -> Option<()>
+pub fn parse_line_into(text: &[u8], call: &mut CallPlace) -> Option<()>
     ensures found { OnSome result (IsLine call.new × (line_text call.new ≡ text.now)) }
     ensures only { (c : Call DeviceStep) → IsLine c → line_text c ≡ text.now → (result ≡ Some tt) × (call.new ≡ c) }
 {
@@ -552,6 +552,6 @@ pub fn parse_line(text: &[u8]) -> Option<Call<DeviceStep>>
     ensures only { (c : Call DeviceStep) → IsLine c → line_text c ≡ text.now → result ≡ Some c }
 {
     let mut call = CallPlace::new();
-    read_line_into(text, &mut call)?;
+    parse_line_into(text, &mut call)?;
     Some(call.into_call())
 }

@@ -5,7 +5,7 @@ ghost use Rattle.script.specs.Script.{Asks, asked_of, AsksNothing, IsBad, IsFirs
 ghost use Rattle.adapter.specs.declared.access.DeviceStep.{DeviceStep};
 ghost use Rattle.ata_types.specs.declared.call.Call.{Call};
 
-use crate::line::read_line_into;
+use crate::line::parse_line_into;
 use crate::place::CallPlace;
 use thiserror::Error;
 
@@ -36,7 +36,7 @@ pub fn read_asked(text: &[u8], call: &mut CallPlace) -> Result<bool, Misspelled>
     if asks_nothing(text) {
         return Ok(false);
     }
-    match read_line_into(text, call) {
+    match parse_line_into(text, call) {
         Some(()) => Ok(true),
         None => Err(Misspelled),
     }

@@ -35,7 +35,7 @@ use Rattle.port_control.specs.declared.events.PortEvent.TheVariants.{FatalError,
 use Rattle.server_history.specs.Laws.{AccessKind, fits_of, may_of}
 
 pub record LookLaws : Type 0 where
-  -- a reading of a port's register
+  -- a reading of a port's register; what other accesses leave of a port
   pub seen : (port : Port) (r : PortReg) (v : ℕ) (old new : Device) → Reads (Px port r) v old new → old.hr ≡ false
       → SeenAt port.0 r v old new
   pub noted : (port : Port) (r : PortReg) (v : ℕ) (old new : Device) → old.hr ≡ false → Reads (Px port r) v old new
@@ -66,11 +66,11 @@ pub record LookLaws : Type 0 where
       × (status % 16 ≡ 3)
   pub looks_calm : (port : Port) (result : PortEvent) (old new : Device) → IsOn old → (l : LooksAt port result old new)
       → result ≡ NoEvent → ShowsNoTrouble (old.port port.0) × Undisturbed port.0 old l.seen
-  -- a command that fails is heeded
+  -- a fatal error is told
   pub looks_broken : (causes status : ℕ) → look_of causes status ≡ FatalError
       → ((bit causes 28 ≡ true) ⊎ (bit causes 29 ≡ true) ⊎ (bit causes 27 ≡ true)) × (bit causes 6 ≡ false)
       × (bit causes 22 ≡ false) × (status % 16 ≡ 3)
-  -- trouble is heeded
+  -- what a look doesn't tell hasn't come
   pub looks_fault : (port : Port) (result : PortEvent) (old new : Device) → IsOn old → (l : LooksAt port result old new)
       → bit l.causes 30 ≡ false → ShowsFaults port.0 old new
   pub looks_fatal : (port : Port) (result : PortEvent) (old new : Device) → IsOn old → (l : LooksAt port result old new)

@@ -3,7 +3,7 @@ use Rattle.std.proofs.lemmas.List.Splits.{join_with_byte-slice_split}
 use Rattle.std.specs.List.{join_with_byte, slice_split}
 use Rattle.std.specs.Bool.{◌==◌}
 use Rattle.script.proofs.LineLemmas.{parted_line, few_words, spelled}
-use Rattle.script.proofs.line.read_line_into.Goals as goal
+use Rattle.script.proofs.line.parse_line_into.Goals as goal
 
 pub returns-in_err-part-clause-only : goal.returns-in_err-part-clause-only
 returns-in_err-part-clause-only c = λ line is e.
