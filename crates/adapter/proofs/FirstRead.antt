@@ -6,7 +6,7 @@ use Rattle.std.proofs.lemmas.List.{length-replicate}
 use Rattle.std.proofs.lemmas.List.Elements.{All-replicate}
 use Rattle.adapter.specs.Memory.{patched, bytes_at, changed}
 use Rattle.adapter.specs.Device.{Disk, IsSector, IsDisk, TellsItsSectors, DevicePort, Device}
-use Rattle.adapter.specs.FirstRead.{header_bytes, fis_bytes, prd_bytes, first_memory, first_read_sector, first_disk, no_disk, quiet_port, reading_port, first_read}
+use Rattle.adapter.specs.FirstRead.{header_bytes, command_fis_bytes, prd_bytes, first_memory, first_disk_sector, first_disk, no_disk, empty_port, reading_port, first_read_device}
 use Rattle.adapter.specs.Idle.{IsIdlePort, IsSane}
 use Rattle.adapter.specs.OneCommand.{HasOneCommand, SaysCommand, Standing, standing, is_from, is_of_pieces, is_read_alone, is_written, is_unwritten, IsElsewhere}
 use Rattle.adapter.specs.ReadDone.{read_of, IsReadDone}
@@ -26,14 +26,14 @@ use Rattle.adapter.proofs.MemoryLemmas.{bytes_index, patched_before, patched_pas
 zero_between : (a : ℕ) → 12 ≤ a → a < 0x1000 → first_memory a ≡ 0
 unfolding first_memory
 zero_between a low high =
-    patched_before (patched (patched (λ _. 0) 0 header_bytes) 0x1000 fis_bytes) 0x1080 prd_bytes a (omega (arith, high))
-    ∙ (patched_before (patched (λ _. 0) 0 header_bytes) 0x1000 fis_bytes a high ∙ patched_past (λ _. 0) 0 header_bytes a low)
+    patched_before (patched (patched (λ _. 0) 0 header_bytes) 0x1000 command_fis_bytes) 0x1080 prd_bytes a (omega (arith, high))
+    ∙ (patched_before (patched (λ _. 0) 0 header_bytes) 0x1000 command_fis_bytes a high ∙ patched_past (λ _. 0) 0 header_bytes a low)
 
 zero_after_fis : (a : ℕ) → 0x100e ≤ a → a < 0x1080 → first_memory a ≡ 0
 unfolding first_memory
 zero_after_fis a low high =
-    patched_before (patched (patched (λ _. 0) 0 header_bytes) 0x1000 fis_bytes) 0x1080 prd_bytes a high
-    ∙ (patched_past (patched (λ _. 0) 0 header_bytes) 0x1000 fis_bytes a low ∙ patched_past (λ _. 0) 0 header_bytes a (omega (arith, low)))
+    patched_before (patched (patched (λ _. 0) 0 header_bytes) 0x1000 command_fis_bytes) 0x1080 prd_bytes a high
+    ∙ (patched_past (patched (λ _. 0) 0 header_bytes) 0x1000 command_fis_bytes a low ∙ patched_past (λ _. 0) 0 header_bytes a (omega (arith, low)))
 
 abbrev prd : Prd
 prd = record { address = 0x64000; bytes = 4096 }
@@ -96,8 +96,8 @@ and_right : (a b : Bool) → a && b ≡ true → b ≡ true
 and_right true b h = h
 and_right false b h = true-false h refl
 
-sector_is : (k : ℕ) → k < 256 → IsSector (first_read_sector k)
-unfolding first_read_sector
+sector_is : (k : ℕ) → k < 256 → IsSector (first_disk_sector k)
+unfolding first_disk_sector
 sector_is k small = (length-replicate 512 k, All-replicate (λ b. b < 256) 512 k small)
 
 told_sectors : (disk : Disk) (told : ℕ → List ℕ) → disk.sectors ≡ Some told → ((k : ℕ) → k < disk.size → IsSector (told k)) → IsDisk disk
@@ -127,14 +127,14 @@ small_patched memory at bs all small a =
 first_small : (a : ℕ) → first_memory a < 256
 unfolding first_memory are_small
 first_small =
-    small_patched (patched (patched (λ _. 0) 0 header_bytes) 0x1000 fis_bytes) 0x1080 prd_bytes refl
-    (small_patched (patched (λ _. 0) 0 header_bytes) 0x1000 fis_bytes refl (small_patched (λ _. 0) 0 header_bytes refl (λ a. omega arith)))
+    small_patched (patched (patched (λ _. 0) 0 header_bytes) 0x1000 command_fis_bytes) 0x1080 prd_bytes refl
+    (small_patched (patched (λ _. 0) 0 header_bytes) 0x1000 command_fis_bytes refl (small_patched (λ _. 0) 0 header_bytes refl (λ a. omega arith)))
 
-pub first_sane : IsSane first_read
+pub first_sane : IsSane first_read_device
 first_sane = record {
   bytes = first_small;
-  disk = changed_each (λ _. quiet_port) 0 reading_port (λ q p. IsDisk p.disk) (told_sectors first_disk first_read_sector refl (λ k small. sector_is k small)) (λ q. told_sectors no_disk (λ k. []) refl (λ k small. absurd (omega arith)));
-  told = λ _. changed_each (λ _. quiet_port) 0 reading_port (λ q p. TellsItsSectors p.disk) (first_read_sector, refl) (λ q. (λ k. [], refl));
+  disk = changed_each (λ _. empty_port) 0 reading_port (λ q p. IsDisk p.disk) (told_sectors first_disk first_disk_sector refl (λ k small. sector_is k small)) (λ q. told_sectors no_disk (λ k. []) refl (λ k small. absurd (omega arith)));
+  told = λ _. changed_each (λ _. empty_port) 0 reading_port (λ q p. TellsItsSectors p.disk) (first_disk_sector, refl) (λ q. (λ k. [], refl));
 }
 
 -- ---- tests of bytes
@@ -155,7 +155,7 @@ pieces_no first (suc n) at (inr past) = rw (from_no first 512 at (inr (omega (ar
 
 -- ---- the one command
 
-command : SaysCommand first_read 0 0
+command : SaysCommand first_read_device 0 0
 unfolding changed
 command = record { meaning = read_of 100 8; places = piece_addresses 0x64000 8; says = first_says }
 
@@ -163,7 +163,7 @@ command = record { meaning = read_of 100 8; places = piece_addresses 0x64000 8; 
 abbrev stands : Standing
 stands = record { header = 0; table = 0x1000; entries = 1; places = piece_addresses 0x64000 8; received = 0x400 }
 
-stands_is : standing first_read 0 0 command ≡ stands
+stands_is : standing first_read_device 0 0 command ≡ stands
 unfolding changed command first_says
 stands_is = refl
 
@@ -193,7 +193,7 @@ stands_apart at h =
           ap not (unwritten at (inr (omega (arith, in_table.0))) (inr (omega (arith, in_table.0))) (inl (omega (arith, in_table.1))))
     ]
 
-pub first_command : HasOneCommand first_read 0 0
+pub first_command : HasOneCommand first_read_device 0 0
 unfolding changed
 first_command = record {
   used = inl refl;
@@ -201,14 +201,14 @@ first_command = record {
   taken = λ t is. some-none is refl;
   apart = let P : Standing → Type 0 = λ s. (at : ℕ) → is_read_alone s at ≡ true → is_unwritten s at ≡ true in subst P (sym stands_is) stands_apart;
   other_slots = λ k ne. record { ci = changed_other (λ _. false) 0 true k ne; taken = refl };
-  other_ports = λ q ne. let P : DevicePort → Type 0 = λ p. IsIdlePort p in subst P (sym (changed_other (λ _. quiet_port) 0 reading_port q ne)) quiet;
+  other_ports = λ q ne. let P : DevicePort → Type 0 = λ p. IsIdlePort p in subst P (sym (changed_other (λ _. empty_port) 0 reading_port q ne)) quiet;
 }
   where
-    quiet : IsIdlePort quiet_port
+    quiet : IsIdlePort empty_port
     quiet = record { st = refl; cr = refl; fre = refl; fr = refl; ci = λ _. refl; sact = λ _. refl; taken = λ _. refl }
 
 -- the next frame is none of it
-elsewhere : IsElsewhere stands 0x65000 4096 first_read
+elsewhere : IsElsewhere stands 0x65000 4096 first_read_device
 elsewhere = record {
   inside = omega arith;
   elsewhere = λ a low high.
@@ -220,18 +220,18 @@ elsewhere = record {
     or_no : (a b : Bool) → a ≡ false → b ≡ false → a || b ≡ false
     or_no a b x y = rw (x, y) refl
 
-pub first_free : IsStable (IsUnowned 0x65000 4096) first_read
+pub first_free : IsStable (IsUnowned 0x65000 4096) first_read_device
 unfolding first_command
 first_free =
-    let P : Standing → Type 0 = λ s. IsElsewhere s 0x65000 4096 first_read in
-    elsewhere_free first_read 0 0 first_command 0x65000 4096 (subst P (sym stands_is) elsewhere)
+    let P : Standing → Type 0 = λ s. IsElsewhere s 0x65000 4096 first_read_device in
+    elsewhere_free first_read_device 0 0 first_command 0x65000 4096 (subst P (sym stands_is) elsewhere)
 
 -- ---- and it can be done
 
-pub first_done : (new : Device) × IsReadDone first_read new 0 0 100 8 (piece_addresses 0x64000 8) first_read_sector
+pub first_done : (new : Device) × IsReadDone first_read_device new 0 0 100 8 (piece_addresses 0x64000 8) first_disk_sector
 unfolding changed
 first_done =
-    read_done first_read 0 0 100 8 (piece_addresses 0x64000 8) first_read_sector
+    read_done first_read_device 0 0 100 8 (piece_addresses 0x64000 8) first_disk_sector
     (record {
       fetch = record {
         fetchable = record { st = refl; issued = refl; free = refl };

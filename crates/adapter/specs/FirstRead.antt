@@ -10,8 +10,8 @@ abbrev pub header_bytes : List ℕ
 header_bytes = 5 ∷ 0 ∷ 1 ∷ 0 ∷ 0 ∷ 0 ∷ 0 ∷ 0 ∷ 0 ∷ 0x10 ∷ 0 ∷ 0 ∷ []
 
 -- the FIS of READ DMA EXT, but for its zeros at the end: sector 64h, and 8 of them
-abbrev pub fis_bytes : List ℕ
-fis_bytes = 0x27 ∷ 0x80 ∷ 0x25 ∷ 0 ∷ 0x64 ∷ 0 ∷ 0 ∷ 0x40 ∷ 0 ∷ 0 ∷ 0 ∷ 0 ∷ 8 ∷ 0 ∷ []
+abbrev pub command_fis_bytes : List ℕ
+command_fis_bytes = 0x27 ∷ 0x80 ∷ 0x25 ∷ 0 ∷ 0x64 ∷ 0 ∷ 0 ∷ 0x40 ∷ 0 ∷ 0 ∷ 0 ∷ 0 ∷ 8 ∷ 0 ∷ []
 
 -- the PRD: a whole frame at 64000h, where frame 100 begins
 abbrev pub prd_bytes : List ℕ
@@ -19,14 +19,14 @@ prd_bytes = 0 ∷ 0x40 ∷ 6 ∷ 0 ∷ 0 ∷ 0 ∷ 0 ∷ 0 ∷ 0 ∷ 0 ∷ 0 ∷
 
 -- the command list is at 0, and the table of slot 0 at 1000h, with its PRD at 1080h; all else is zero
 unfoldable pub first_memory : ℕ → ℕ
-first_memory = patched (patched (patched (λ _. 0) 0 header_bytes) 0x1000 fis_bytes) 0x1080 prd_bytes
+first_memory = patched (patched (patched (λ _. 0) 0 header_bytes) 0x1000 command_fis_bytes) 0x1080 prd_bytes
 
 -- sector k holds the byte k
-unfoldable pub first_read_sector : ℕ → List ℕ
-first_read_sector k = replicate 512 k
+unfoldable pub first_disk_sector : ℕ → List ℕ
+first_disk_sector k = replicate 512 k
 
 abbrev pub first_disk : Disk
-first_disk = record { name = 0; size = 256; sectors = Some first_read_sector }
+first_disk = record { name = 0; size = 256; sectors = Some first_disk_sector }
 
 abbrev pub no_disk : Disk
 no_disk = record { name = 0; size = 0; sectors = Some (λ k. []) }
@@ -51,8 +51,8 @@ no_notes =
     }
 
 -- a port with no device, as after a reset
-abbrev pub quiet_port : DevicePort
-quiet_port =
+abbrev pub empty_port : DevicePort
+empty_port =
     record {
       bases = record { clb = 0; fb = 0; clb_set = false; clbu_set = false; fb_set = false; fbu_set = false };
       st = false;
@@ -86,7 +86,7 @@ quiet_port =
 -- a port that runs, with a disk, its command list at 0 and its received FIS area at 400h; slot 0 is issued
 abbrev pub reading_port : DevicePort
 reading_port =
-    record quiet_port {
+    record empty_port {
       bases = record { clb = 0; fb = 0x400; clb_set = true; clbu_set = true; fb_set = true; fbu_set = true };
       st = true;
       fre = true;
@@ -104,8 +104,8 @@ reading_port =
     }
 
 -- the adapter is switched on, has 256 frames of memory, 32 slots and four ports, and has done nothing yet
-abbrev pub first_read : Device
-first_read =
+abbrev pub first_read_device : Device
+first_read_device =
     record {
       telling = true;
       size = FRAME_BYTES * 256;
@@ -115,6 +115,6 @@ first_read =
       hr = false;
       ae = true;
       ie = false;
-      port = changed (λ _. quiet_port) 0 reading_port;
+      port = changed (λ _. empty_port) 0 reading_port;
       tape = [];
     }

@@ -7,7 +7,7 @@ use Rattle.hba_regs.specs.declared.reg.PortReg.TheVariants.{Is, Ie}
 use Rattle.adapter.specs.Access.{Access, is_cause, named_causes, written}
 use Rattle.adapter.specs.Access.Access.{Writing}
 use Rattle.adapter.specs.Device.{Device, DevicePort, FetchedCommand}
-use Rattle.adapter.specs.FirstRead.{first_read, reading_port}
+use Rattle.adapter.specs.FirstRead.{first_read_device, reading_port}
 use Rattle.adapter.specs.Steps.{DeviceTransition, device_after, begun, with_port}
 use Rattle.adapter.specs.Memory.{changed}
 use Rattle.adapter.specs.Steps.DeviceTransition.{FetchFault, Done, Fault, Fatal, LinkUp, Unplug, Plug}
@@ -58,7 +58,7 @@ flush_taken = begun (record { operation = Flush; first = 0; count = 0 }) []
 
 abbrev pub flushing : Device
 flushing =
-    with_port first_read 0
+    with_port first_read_device 0
     (record reading_port { ie = named_causes; taken = changed reading_port.taken 0 (Some flush_taken) })
 
 abbrev pub flushed : Device

@@ -12,7 +12,7 @@ ghost use Rattle.adapter.specs.Access.{Access, ShowsPending, Does, DoesAll, IsDr
 ghost use Rattle.adapter.specs.Asked.{Asked, IsScribbled, memory_filled};
 ghost use Rattle.adapter.specs.Commands.{Meaning};
 ghost use Rattle.adapter.specs.Device.{Device, DevicePort};
-ghost use Rattle.adapter.specs.FirstRead.{first_read, first_read_sector};
+ghost use Rattle.adapter.specs.FirstRead.{first_read_device, first_disk_sector};
 ghost use Rattle.adapter.specs.Guarded.{Passing, Spares, IsGuarded, IsApart};
 ghost use Rattle.adapter.specs.Idle.{IsIdle, IsSane};
 ghost use Rattle.adapter.specs.Kept.{Keeps, KeepsControls};
@@ -213,10 +213,11 @@ pub fn law_a_read_can_be_done()
 /// read into frame 100. It is switched on; its memory and disks are sane; the bytes of the slot say the read; frame 101
 /// is free, whatever the device does; and the read can be done.
 pub fn law_a_first_read_exists()
-    ensures on { IsOn first_read }
-    ensures sane { IsSane first_read }
-    ensures command { HasOneCommand first_read 0 0 }
-    ensures says { DecodesTo first_read.memory 0 0 (read_of 100 8) (piece_addresses 0x64000 8) }
-    ensures free { IsStable (IsUnowned 0x65000 FRAME_BYTES) first_read }
-    ensures done { (new : Device) × IsReadDone first_read new 0 0 100 8 (piece_addresses 0x64000 8) first_read_sector }
+    ensures on { IsOn first_read_device }
+    ensures sane { IsSane first_read_device }
+    ensures command { HasOneCommand first_read_device 0 0 }
+    ensures says { DecodesTo first_read_device.memory 0 0 (read_of 100 8) (piece_addresses 0x64000 8) }
+    ensures free { IsStable (IsUnowned 0x65000 FRAME_BYTES) first_read_device }
+    ensures done { (new : Device) × IsReadDone first_read_device new 0 0 100 8 (piece_addresses 0x64000 8)
+        first_disk_sector }
 {}

@@ -3,7 +3,7 @@ use Rattle.std.proofs.Common.{◌≡◌, ℕ, ◌+◌, ◌-◌, ◌<◌, ◌≤�
 use Rattle.std.proofs.lemmas.Bool.{cases_eq, cases_lt, or_left, and_parts, and_from, cond-true, cond-false, both_ways}
 use Rattle.ata_types.specs.declared.Port.{Port}
 use Rattle.block_machine.specs.State.{Block, DiskBytes, Accepted, Pending, Machine, waiting, sector_of, written_by}
-use Rattle.block_machine.specs.Due.{must_keep_order, is_writer}
+use Rattle.block_machine.specs.Due.{conflict, changes_sectors}
 use Rattle.block_machine.specs.Steps.{Step, Accept, Issue, Touch, End, Age, Again, Answer, Revoke, Release, Unplug, Replace, Store, Load, May, after_step, MayStillMove, put_sector, disks_after}
 use Rattle.block_machine.specs.Left.{plug_count, bytes_when_plugged, IsTouch, HasTouched, Wrote, IsLastWritten}
 use Rattle.block_machine.proofs.Sound.{Sound}
@@ -66,17 +66,17 @@ content_replace start h m at id size disk port k seen last = ⊎_elim same other
 content_touch : (start : Machine) (h : List Step) (m : Machine) (e : Pending) (i : ℕ) (block : Block) (port : Port) (k : ℕ) → Sound m → AllSeen m h → MayStillMove m e → i < e.request.asked.count
     → IsLastWritten start port k (plug_count port h) m.next h (m.disks port k)
     → IsLastWritten start port k (plug_count port h) m.next (Touch e i block ∷ h) (disks_after e.request i m.disks port k)
-content_touch start h m e i block port k s seen r lt last = by_op (is_writer e.request.asked.op) refl
+content_touch start h m e i block port k s seen r lt last = by_op (changes_sectors e.request.asked.op) refl
   where
     -- no writer's touch of this sector
-    quiet : (left : Block) → left ≡ m.disks port k → ((w : Accepted) → is_writer w.asked.op ≡ true → w.port ≡ port → IsTouch (Touch e i block) w k → ⊥)
+    quiet : (left : Block) → left ≡ m.disks port k → ((w : Accepted) → changes_sectors w.asked.op ≡ true → w.port ≡ port → IsTouch (Touch e i block) w k → ⊥)
         → IsLastWritten start port k (plug_count port h) m.next (Touch e i block ∷ h) left
     quiet left same none =
         subst (λ (b : Block). IsLastWritten start port k (plug_count port h) m.next (Touch e i block ∷ h) b) (sym same)
         (last_from start port k (plug_count port h) m.next m.next (Touch e i block) h (m.disks port k) (le_refl _)
         (λ w a b _ t. none w a b t) (λ w o. o.earlier) (λ w o. o.earlier) last)
 
-    latest : is_writer e.request.asked.op ≡ true → e.request.port ≡ port → e.request.asked.first.0 + i ≡ k
+    latest : changes_sectors e.request.asked.op ≡ true → e.request.port ≡ port → e.request.asked.first.0 + i ≡ k
         → (w : Accepted) → Wrote port k (plug_count port h) m.next (Touch e i block ∷ h) w → w.id.0 ≤ e.request.id.0
     latest writes here at w o = ⊎_elim
         (λ (t : IsTouch (Touch e i block) w k × (plug_count w.port h ≡ plug_count port h)).
@@ -84,13 +84,13 @@ content_touch start h m e i block port k s seen r lt last = by_op (is_writer e.r
         (λ (t : HasTouched w k (plug_count port h) h). ⊎_elim
         (λ (less : e.request.id.0 < w.id.0).
         let q = seen w k (plug_count port h) t in
-        let con : must_keep_order (waiting e.request) (waiting w) ≡ true = conflict_at e.request w k (here ∙ sym o.here) (or_left _ _ writes) (omega (arith, at)) (omega (arith, at, lt)) q.from q.to in
+        let con : conflict (waiting e.request) (waiting w) ≡ true = conflict_at e.request w k (here ∙ sym o.here) (or_left _ _ writes) (omega (arith, at)) (omega (arith, at, lt)) q.from q.to in
         absurd (q.order e (runs_lives m e r) less con))
         (λ (le : w.id.0 ≤ e.request.id.0). le)
         (cases_lt e.request.id.0 w.id.0))
         o.touched
 
-    by_place : is_writer e.request.asked.op ≡ true → (b : Bool) → ((port.0 == e.request.port.0) && (k == e.request.asked.first.0 + i)) ≡ b
+    by_place : changes_sectors e.request.asked.op ≡ true → (b : Bool) → ((port.0 == e.request.port.0) && (k == e.request.asked.first.0 + i)) ≡ b
         → IsLastWritten start port k (plug_count port h) m.next (Touch e i block ∷ h) (put_sector e.request.port (e.request.asked.first.0 + i) (written_by e.request.asked.op e.request.held i) m.disks port k)
     by_place writes true t =
         let p = and_parts (port.0 == e.request.port.0) (k == e.request.asked.first.0 + i) t in
@@ -111,15 +111,15 @@ content_touch start h m e i block port k s seen r lt last = by_op (is_writer e.r
         let k_same : k ≡ e.request.asked.first.0 + i = sym touch.1 ∙ ap (λ (j : Accepted). sector_of j i) (sym touch.0) in
         both_ways _ t (and_from _ _ (eq-eqb port.0 e.request.port.0 (ap (λ (q : Port). q.0) port_same)) (eq-eqb k (e.request.asked.first.0 + i) k_same)))
 
-    by_op : (b : Bool) → is_writer e.request.asked.op ≡ b
+    by_op : (b : Bool) → changes_sectors e.request.asked.op ≡ b
         → IsLastWritten start port k (plug_count port h) m.next (Touch e i block ∷ h) (disks_after e.request i m.disks port k)
     by_op true w =
         subst (λ (d : Port → DiskBytes). IsLastWritten start port k (plug_count port h) m.next (Touch e i block ∷ h) (d port k))
-        (sym (cond-true (is_writer e.request.asked.op) (put_sector e.request.port (e.request.asked.first.0 + i) (written_by e.request.asked.op e.request.held i) m.disks) m.disks w))
+        (sym (cond-true (changes_sectors e.request.asked.op) (put_sector e.request.port (e.request.asked.first.0 + i) (written_by e.request.asked.op e.request.held i) m.disks) m.disks w))
         (by_place w _ refl)
     by_op false w =
-        quiet _ (ap (λ (d : Port → DiskBytes). d port k) (cond-false (is_writer e.request.asked.op) (put_sector e.request.port (e.request.asked.first.0 + i) (written_by e.request.asked.op e.request.held i) m.disks) m.disks w))
-        (λ x writes here touch. both_ways _ w (subst (λ (j : Accepted). is_writer j.asked.op ≡ true) (sym touch.0) writes))
+        quiet _ (ap (λ (d : Port → DiskBytes). d port k) (cond-false (changes_sectors e.request.asked.op) (put_sector e.request.port (e.request.asked.first.0 + i) (written_by e.request.asked.op e.request.held i) m.disks) m.disks w))
+        (λ x writes here touch. both_ways _ w (subst (λ (j : Accepted). changes_sectors j.asked.op ≡ true) (sym touch.0) writes))
 
 -- the disks hold what was last put there, after each step
 pub content_step : (start : Machine) (h : List Step) (m : Machine) (step : Step) → May m step → Sound m → AllSeen m h → Holds start h m → Holds start (step ∷ h) (after_step m step)

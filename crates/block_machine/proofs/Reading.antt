@@ -9,7 +9,7 @@ use Rattle.ata_types.specs.declared.request.Op.{Op}
 use Rattle.ata_types.specs.declared.request.Op.TheVariants.{Read, Write, Trim, Flush}
 use Rattle.ata_types.specs.declared.refusal.MemFault.TheVariants as fault
 use Rattle.block_machine.specs.Refusals.{IsOpen}
-use Rattle.block_machine.specs.Due.{is_writer}
+use Rattle.block_machine.specs.Due.{changes_sectors}
 use Rattle.block_machine.specs.State.{Block, Memory, Accepted, Pending, Machine, block_of, frame_at, sector_of, is_reader}
 use Rattle.block_machine.specs.Steps.{Step, Accept, Issue, Touch, End, Age, Again, Answer, Revoke, Release, Unplug, Replace, Store, Load, May, after_step, at, IsLiving, MayStillMove, newly_issued, touch, mark_ended, requeued, older, newly_accepted, put_bytes, memory_after}
 use Rattle.block_machine.specs.Left.{plug_count, IsTouch, touches, disk_number_read, Wrote, IsLastWritten, IsLeft, TellsSectors}
@@ -34,7 +34,7 @@ AllGood start h m =
 good_more : (start : Machine) (h : List Step) (m n : Machine) (step : Step) (request : Accepted) (i : ℕ)
     → ((b : ℕ) → b < 512 → block_of n.memory request.asked.frames.items i b ≡ block_of m.memory request.asked.frames.items i b)
     → touches request.id (request.asked.first.0 + i) step ≡ false
-    → ((w : Accepted) → is_writer w.asked.op ≡ true → w.port ≡ request.port → w.id.0 < request.id.0 → IsTouch step w (request.asked.first.0 + i) → ⊥)
+    → ((w : Accepted) → changes_sectors w.asked.op ≡ true → w.port ≡ request.port → w.id.0 < request.id.0 → IsTouch step w (request.asked.first.0 + i) → ⊥)
     → IsGood start h m request i → IsGood start (step ∷ h) n request i
 good_more start h m n step request i same own others good =
     let k : ℕ = request.asked.first.0 + i in
@@ -56,14 +56,14 @@ good_now start h m n e i block s seen holds r lt reads now =
       m.disks e.request.port k,
       subst (λ (x : ℕ). IsLastWritten start e.request.port k x e.request.id.0 (Touch e i block ∷ h) (m.disks e.request.port k)) (sym found)
           (last_from start e.request.port k (plug_count e.request.port h) m.next e.request.id.0 (Touch e i block) h (m.disks e.request.port k) (le_refl _)
-          (λ w writes _ _ t. reader_is_no_writer e.request.asked.op reads (subst (λ (j : Accepted). is_writer j.asked.op ≡ true) (sym t.0) writes))
+          (λ w writes _ _ t. reader_is_no_writer e.request.asked.op reads (subst (λ (j : Accepted). changes_sectors j.asked.op ≡ true) (sym t.0) writes))
           earlier
           (λ w o. (seen w k (plug_count e.request.port h) o.touched).below)
           (holds e.request.port k)),
       now,
     )
   where
-    reader_is_no_writer : (op : Op) → is_reader op ≡ true → is_writer op ≡ true → ⊥
+    reader_is_no_writer : (op : Op) → is_reader op ≡ true → changes_sectors op ≡ true → ⊥
     reader_is_no_writer Read a b = false≢true b
     reader_is_no_writer Write a b = false≢true a
     reader_is_no_writer Trim a b = false≢true a
@@ -73,7 +73,7 @@ good_now start h m n e i block s seen holds r lt reads now =
     earlier w o =
         let q = seen w (e.request.asked.first.0 + i) (plug_count e.request.port h) o.touched in
         ⊎_elim
-        (λ (same : e.request.id.0 ≡ w.id.0). absurd (reader_is_no_writer e.request.asked.op reads (subst (λ (j : Accepted). is_writer j.asked.op ≡ true) (sym (q.one e (runs_lives m e r) same)) o.writes)))
+        (λ (same : e.request.id.0 ≡ w.id.0). absurd (reader_is_no_writer e.request.asked.op reads (subst (λ (j : Accepted). changes_sectors j.asked.op ≡ true) (sym (q.one e (runs_lives m e r) same)) o.writes)))
         (λ (x : (e.request.id.0 < w.id.0) ⊎ (w.id.0 < e.request.id.0)). ⊎_elim
         (λ (less : e.request.id.0 < w.id.0). absurd (q.order e (runs_lives m e r) less
         (conflict_at e.request w (e.request.asked.first.0 + i) (sym o.here) (or_right _ _ o.writes) (omega arith) (omega (arith, lt)) q.from q.to)))
@@ -212,7 +212,7 @@ touch_good start h m e i block told s seen holds r li good x hx reads k lt touch
     n : Machine
     n = after_step m (Touch e i block)
 
-    clash : (op : Op) → is_reader op ≡ true → is_writer op ≡ true → ⊥
+    clash : (op : Op) → is_reader op ≡ true → changes_sectors op ≡ true → ⊥
     clash Read a b = false≢true b
     clash Write a b = false≢true a
     clash Trim a b = false≢true a
@@ -262,7 +262,7 @@ touch_good start h m e i block told s seen holds r li good x hx reads k lt touch
             good_more start h m (after_step m (Touch e i block)) (Touch e i block) o.request k
             (λ b lb. memory_touch m s e o r (inl ho) i block k b li (omega (arith, room, lt_o)) lb (λ _ _ p. ne p))
             (and_right _ _ (ne_eqb (e.request.asked.first.0 + i) (o.request.asked.first.0 + k) (λ p. ne (omega (arith, p, first)))))
-            (λ w writes _ _ t. clash o.request.asked.op reads_o (subst (λ (j : Accepted). is_writer j.asked.op ≡ true) (sym (je ∙ t.0)) writes))
+            (λ w writes _ _ t. clash o.request.asked.op reads_o (subst (λ (j : Accepted). changes_sectors j.asked.op ≡ true) (sym (je ∙ t.0)) writes))
             (good o ho reads_o k lt_o was).1
 
     -- the request is another
@@ -279,7 +279,7 @@ touch_good start h m e i block told s seen holds r li good x hx reads k lt touch
               (and_left _ _ (ne_eqb e.request.id.0 o.request.id.0 (λ p. ne (sym p))))
               (λ w writes port less t.
               let same_port : e.request.port ≡ o.request.port = ap (λ (j : Accepted). j.port) t.0 ∙ port in
-              let writes_e : is_writer e.request.asked.op ≡ true = subst (λ (j : Accepted). is_writer j.asked.op ≡ true) (sym t.0) writes in
+              let writes_e : changes_sectors e.request.asked.op ≡ true = subst (λ (j : Accepted). changes_sectors j.asked.op ≡ true) (sym t.0) writes in
               let less_e : e.request.id.0 < o.request.id.0 = subst (λ (j : Accepted). j.id.0 < o.request.id.0) (sym t.0) less in
               let sector : e.request.asked.first.0 + i ≡ o.request.asked.first.0 + k = ap (λ (j : Accepted). sector_of j i) t.0 ∙ t.1 in
               s.order o e (inl (ho, g.0)) (runs_lives m e r) less_e

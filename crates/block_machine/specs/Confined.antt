@@ -11,7 +11,7 @@ use Rattle.ata_types.specs.declared.limits.TheConstants.{MOST_UNANSWERED}
 use Rattle.ata_types.specs.declared.refusal.Rule.{Rule}
 use Rattle.ata_types.specs.declared.refusal.Rule.TheVariants.{Frames}
 use Rattle.block_machine.specs.Rules.{IsNamed, Breaks}
-use Rattle.block_machine.specs.Due.{is_writer}
+use Rattle.block_machine.specs.Due.{changes_sectors}
 use Rattle.block_machine.specs.State.{Accepted, Pending, Machine, block_of, frame_at, sector_of, is_reader}
 use Rattle.block_machine.specs.Steps.{Step, Touch, Replace, Store, MayAccept, IsLiving, unanswered_of}
 use Rattle.block_machine.specs.Left.{after, IsAccept}
@@ -93,7 +93,7 @@ MayChangeByte m _ frame b = ⊥
 -- What may change a sector of a port's disk: a touch of it by a write or trim of the port, or a disk that is put in
 -- there.
 abbrev pub MayChangeSector : Step → Port → ℕ → Type 0
-MayChangeSector (Touch e i block) port k = (is_writer e.request.asked.op ≡ true) × (e.request.port ≡ port)
+MayChangeSector (Touch e i block) port k = (changes_sectors e.request.asked.op ≡ true) × (e.request.port ≡ port)
     × (sector_of e.request i ≡ k)
 MayChangeSector (Replace p id size disk) port k = p ≡ port
 MayChangeSector _ port k = ⊥

@@ -17,10 +17,10 @@ is_flush Flush = true
 is_flush _ = false
 
 -- the operation changes sectors
-abbrev pub is_writer : Op → Bool
-is_writer Write = true
-is_writer Trim = true
-is_writer _ = false
+abbrev pub changes_sectors : Op → Bool
+changes_sectors Write = true
+changes_sectors Trim = true
+changes_sectors _ = false
 
 -- the ranges have a sector in common
 abbrev pub overlap : Range → Range → Bool
@@ -28,9 +28,9 @@ overlap a b = (nat_lt a.first.0 (range_end b) && nat_lt b.first.0 (range_end a))
     (nat_lt 0 a.count && nat_lt 0 b.count)
 
 -- two requests of one port conflict if one is a flush, or if one of them writes or trims and their ranges overlap
-abbrev pub must_keep_order : Unanswered → Unanswered → Bool
-must_keep_order a b = a.port.0 == b.port.0
-    && ((is_flush a.op || is_flush b.op) || ((is_writer a.op || is_writer b.op) && overlap a.range b.range))
+abbrev pub conflict : Unanswered → Unanswered → Bool
+conflict a b = a.port.0 == b.port.0
+    && ((is_flush a.op || is_flush b.op) || ((changes_sectors a.op || changes_sectors b.op) && overlap a.range b.range))
 
 -- trims and flushes are plain, and so are reads and writes where commands aren't queued
 abbrev pub is_plain : QueueMode → Op → Bool
@@ -48,7 +48,7 @@ abbrev pub waits_for : QueueMode → Unanswered → Unanswered → Bool
 waits_for mode r other = other.port.0 == r.port.0 && (if is_plain mode r.op
     then other.issued || nat_lt other.id.0 r.id.0
     else (is_plain mode other.op && other.issued)
-    || (nat_lt other.id.0 r.id.0 && (is_plain mode other.op || must_keep_order other r)))
+    || (nat_lt other.id.0 r.id.0 && (is_plain mode other.op || conflict other r)))
 
 -- it waits, and nothing stands in its way
 abbrev pub is_unblocked : QueueMode → List Unanswered → Unanswered → Bool

@@ -9,7 +9,7 @@ use Rattle.ata_types.specs.declared.request.Op.TheVariants.{Read}
 use Rattle.ata_types.specs.declared.grant.GrantRow.{GrantRow}
 use Rattle.ata_types.specs.declared.memory.TheConstants.{DRIVER_FRAMES, MOST_FRAMES}
 use Rattle.block_machine.specs.Rules.{DifferInName}
-use Rattle.block_machine.specs.Due.{is_writer}
+use Rattle.block_machine.specs.Due.{changes_sectors}
 use Rattle.block_machine.specs.State.{Block, DiskBytes, Memory, Accepted, Machine, block_of, sector_of, written_by}
 use Rattle.block_machine.specs.Steps.{Step, Accept, Issue, Touch, End, Replace, May, HasHeld, after_step}
 
@@ -118,7 +118,7 @@ disk_number_read r k (step ∷ past) = if touches r.id k step then plug_count r.
 
 -- a write or trim of the port, accepted before this id, touched sector k while disk number n was in
 pub record Wrote (port : Port) (k n before : ℕ) (history : List Step) (writer : Accepted) : Type 0 where
-  pub writes : is_writer writer.asked.op ≡ true
+  pub writes : changes_sectors writer.asked.op ≡ true
   pub here : writer.port ≡ port
   pub earlier : writer.id.0 < before
   pub touched : HasTouched writer k n history

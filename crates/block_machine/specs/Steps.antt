@@ -13,7 +13,7 @@ use Rattle.ata_types.specs.declared.refusal.Rule.{Rule}
 use Rattle.block_machine.specs.declared.due.QueueMode.{QueueMode}
 use Rattle.block_machine.specs.Rules.{IsNamed, Breaks, HasRow, without_row}
 use Rattle.block_machine.specs.Refusals.{IsOpen}
-use Rattle.block_machine.specs.Due.{IsDue, is_flush, is_writer}
+use Rattle.block_machine.specs.Due.{IsDue, is_flush, changes_sectors}
 use Rattle.block_machine.specs.State.{Block, DiskBytes, Memory, Accepted, Pending, Machine, block_of, frame_at, sector_of, unanswered, is_reader, written_by}
 
 -- A step. A pending request in it is the one that the step finds.
@@ -103,12 +103,13 @@ put_bytes frame offset n bytes memory f b =
 -- what a touch of sector number i leaves on the disks: a writer's own bytes, or zeros
 abbrev pub disks_after : Accepted → ℕ → (Port → DiskBytes) → Port → DiskBytes
 disks_after r i disks =
-    if is_writer r.asked.op then put_sector r.port (sector_of r i) (written_by r.asked.op r.held i) disks else disks
+    if changes_sectors r.asked.op then put_sector r.port (sector_of r i) (written_by r.asked.op r.held i) disks
+    else disks
 
 -- and what it overwrites is put aside, the newest first: a disk may lose what its cache holds
 abbrev pub put_aside : Accepted → ℕ → (Port → DiskBytes) → (Port → ℕ → List Block) → Port → ℕ → List Block
 put_aside r i disks aside p k =
-    if is_writer r.asked.op && (p.0 == r.port.0 && k == sector_of r i) then disks p k ∷ aside p k else aside p k
+    if changes_sectors r.asked.op && (p.0 == r.port.0 && k == sector_of r i) then disks p k ∷ aside p k else aside p k
 
 -- and in memory: for a read, the bytes that were moved
 abbrev pub memory_after : Accepted → ℕ → Block → Memory → Memory

@@ -24,8 +24,8 @@ pub struct Unanswered {
 }
 
 /// Whether the operation changes sectors.
-pub fn is_writer(op: Op) -> bool
-    ensures { result ≡ due.is_writer op }
+pub fn changes_sectors(op: Op) -> bool
+    ensures { result ≡ due.changes_sectors op }
 {
     match op {
         Op::Read | Op::Flush => false,
@@ -52,11 +52,11 @@ fn overlap(a: &Range, b: &Range) -> bool
 
 /// Whether the two conflict: both are of one port, and one of them is a flush, or they have a sector in common and one
 /// of them writes or trims.
-pub fn must_keep_order(a: &Unanswered, b: &Unanswered) -> bool
-    ensures { result ≡ due.must_keep_order a.now b.now }
+pub fn conflict(a: &Unanswered, b: &Unanswered) -> bool
+    ensures { result ≡ due.conflict a.now b.now }
 {
     let flush = a.op == Op::Flush || b.op == Op::Flush;
-    let writes = is_writer(a.op) || is_writer(b.op);
+    let writes = changes_sectors(a.op) || changes_sectors(b.op);
     a.port.0 == b.port.0 && (flush || (writes && overlap(&a.range, &b.range)))
 }
 
@@ -72,6 +72,6 @@ pub fn waits_for(mode: QueueMode, r: &Unanswered, other: &Unanswered) -> bool
         other.issued || earlier
     } else {
         let plain = is_plain(mode, other.op);
-        (plain && other.issued) || (earlier && (plain || must_keep_order(other, r)))
+        (plain && other.issued) || (earlier && (plain || conflict(other, r)))
     }
 }

@@ -10,4 +10,4 @@
 mod due;
 pub mod laws;
 
-pub use due::{QueueMode, Unanswered, is_plain, is_writer, must_keep_order, waits_for};
+pub use due::{QueueMode, Unanswered, changes_sectors, conflict, is_plain, waits_for};

@@ -18,7 +18,7 @@ use Rattle.server_history.specs.Kept.{IsKeptIn, TakesBack}
 use Rattle.server_history.specs.Resets.{IsReinitialized}
 use Rattle.server_history.specs.Server.{ServerState, kept_at, last_disk_of, mode_at, mode_found, plain_mode, remembered_at, slots_at, used_for}
 use Rattle.server_history.specs.Stalled.{ResetGetsStuck, stuck_found}
-use Rattle.block_server.specs.FourPorts.{EachBecomes, BeginsAsHostFound, found_by_port, kept_by_port, last_disk_by_port, mode_by_port, port_in, slots_by_port, wanted_by_port, with_ports, without_loans}
+use Rattle.block_server.specs.FourPorts.{EachBecomes, BeginsAsHostFound, found_by_port, kept_by_port, remembered_by_port, mode_by_port, port_in, slots_by_port, wanted_by_port, with_ports, without_loans}
 use Rattle.port_driver.specs.Parts.{BeginsAnew, no_port}
 use Rattle.port_driver.specs.declared.served_port.ServedPort.{ServedPort}
 use Rattle.port_driver.specs.declared.served_port.Shared.{Shared}
@@ -73,14 +73,14 @@ module _ (found : ℕ → ProbeResult) (mode : ℕ → QueueMode) (old new : Lis
   pub its_found : (number : ℕ) → number < 4 → probe_result_of (found_by_port new) number ≡ found number
   its_found number low = get_or-map (λ (p : ServedPort). p.found) new number no_port ∙ ap (λ (p : ServedPort). p.found) (each number low).fields
 
-  pub its_last_disk : (number : ℕ) → remembered_at (last_disk_by_port new) number ≡ last_disk_of (probe_result_of (found_by_port old) number) (remembered_at (last_disk_by_port old) number)
+  pub its_last_disk : (number : ℕ) → remembered_at (remembered_by_port new) number ≡ last_disk_of (probe_result_of (found_by_port old) number) (remembered_at (remembered_by_port old) number)
   its_last_disk number =
-      get_or-map (λ (p : ServedPort). p.last_disk) new number no_port
+      get_or-map (λ (p : ServedPort). p.remembered) new number no_port
       ∙ ⊎_elim
-      (λ (low : number < 4). ap (λ (p : ServedPort). p.last_disk) (each number low).fields)
-      (λ (more : 4 ≤ number). ap (λ (p : ServedPort). p.last_disk) (beyond new four number more) ∙ sym (ap (λ (p : ServedPort). last_disk_of p.found p.last_disk) (beyond old four_old number more)))
+      (λ (low : number < 4). ap (λ (p : ServedPort). p.remembered) (each number low).fields)
+      (λ (more : 4 ≤ number). ap (λ (p : ServedPort). p.remembered) (beyond new four number more) ∙ sym (ap (λ (p : ServedPort). last_disk_of p.found p.remembered) (beyond old four_old number more)))
       (cases_lt number 4)
-      ∙ (λ i. last_disk_of (sym (get_or-map (λ (p : ServedPort). p.found) old number no_port) i) (sym (get_or-map (λ (p : ServedPort). p.last_disk) old number no_port) i))
+      ∙ (λ i. last_disk_of (sym (get_or-map (λ (p : ServedPort). p.found) old number no_port) i) (sym (get_or-map (λ (p : ServedPort). p.remembered) old number no_port) i))
 
   pub its_mode : (number : ℕ) → number < 4 → mode_at (mode_by_port new) number ≡ mode number
   its_mode number low = get_or-map (λ (p : ServedPort). p.mode) new number no_port ∙ ap (λ (p : ServedPort). p.mode) (each number low).fields
@@ -127,7 +127,7 @@ module _ (s : ServerState) (before device : Device) (shared : Shared) (old new :
         ∙ sym (ap (λ (p : ServedPort). stuck_found p.found) (beyond old four_old number more)) ∙ sym (ap stuck_found (get_or-map (λ (p : ServedPort). p.found) old number no_port)))
         (cases_lt number 4);
     remembered = its_last_disk found mode old new four_old stuck.four stuck.each;
-    four = length-map new (λ (p : ServedPort). p.last_disk) ∙ stuck.four;
+    four = length-map new (λ (p : ServedPort). p.remembered) ∙ stuck.four;
     four_modes = length-map new (λ (p : ServedPort). p.mode) ∙ stuck.four;
     modes = its_mode found mode old new four_old stuck.four stuck.each;
     four_slots = length-map new (λ (p : ServedPort). p.slots) ∙ stuck.four;
@@ -178,8 +178,8 @@ module _ (s : ServerState) (before idle device : Device) (first later : Shared) 
   found_mid : (number : ℕ) → probe_result_of (found_by_port mid) number ≡ probe_result_of (found_by_port old) number
   found_mid number = get_or-map (λ (p : ServedPort). p.found) mid number no_port ∙ ap (λ (p : ServedPort). p.found) (mid_is number) ∙ sym (get_or-map (λ (p : ServedPort). p.found) old number no_port)
 
-  last_disk_mid : (number : ℕ) → remembered_at (last_disk_by_port mid) number ≡ remembered_at (last_disk_by_port old) number
-  last_disk_mid number = get_or-map (λ (p : ServedPort). p.last_disk) mid number no_port ∙ ap (λ (p : ServedPort). p.last_disk) (mid_is number) ∙ sym (get_or-map (λ (p : ServedPort). p.last_disk) old number no_port)
+  remembered_mid : (number : ℕ) → remembered_at (remembered_by_port mid) number ≡ remembered_at (remembered_by_port old) number
+  remembered_mid number = get_or-map (λ (p : ServedPort). p.remembered) mid number no_port ∙ ap (λ (p : ServedPort). p.remembered) (mid_is number) ∙ sym (get_or-map (λ (p : ServedPort). p.remembered) old number no_port)
 
   abbrev f : ℕ → ProbeResult
   f = found_by host four_host mid new four_mid taken
@@ -203,8 +203,8 @@ module _ (s : ServerState) (before idle device : Device) (first later : Shared) 
     host = host;
     takes = subst (λ (wanted : List Wanted). TakesOver wanted host idle device) wanted_still takes;
     four = four_host;
-    remembered = λ number. its_last_disk f m mid new four_mid taken.four e number ∙ (λ i. last_disk_of (found_mid number i) (last_disk_mid number i));
-    four_remembered = length-map new (λ (p : ServedPort). p.last_disk) ∙ taken.four;
+    remembered = λ number. its_last_disk f m mid new four_mid taken.four e number ∙ (λ i. last_disk_of (found_mid number i) (remembered_mid number i));
+    four_remembered = length-map new (λ (p : ServedPort). p.remembered) ∙ taken.four;
     four_modes = length-map new (λ (p : ServedPort). p.mode) ∙ taken.four;
     modes = modes_follow host four_host mid new four_mid taken device.cap takes.slots takes.queued;
     four_slots = length-map new (λ (p : ServedPort). p.slots) ∙ taken.four;

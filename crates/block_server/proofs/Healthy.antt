@@ -42,7 +42,7 @@ use Rattle.server_history.specs.Server.{is_served, ports_of, state_of}
 use Rattle.block_server.specs.Clients.{ConfinesMoves, EachAfter, HoldsBetween, IsBackedCall, IsInState, IsSeenAt, OutlivesUnplugs}
 use Rattle.block_server.specs.Made.{IsInitialServer}
 use Rattle.block_server.specs.Promise.{IsServedWell, IsToldWell, Simulates, ServesPorts}
-use Rattle.block_server.specs.Running.{ask_of, said_of}
+use Rattle.block_server.specs.Running.{ask_of, machine_result_of}
 use Rattle.block_server.specs.View.{ServerView, server_of, visible_of}
 use Rattle.arrayvec.specs.ArrayVec.{ArrayVec}
 use Rattle.ata_types.specs.declared.call.Call.{Call}
@@ -264,7 +264,7 @@ module _ (laws : HistoryLaws) where
             subst (λ (d : Device). RunsWell (d.port port.0)) here.stands.device_is served.0.well,
           )
 
-    pub one_call : (old new : ServerView A) (event : Call DeviceStep) (one : call.CallResult (ArrayVec Reply)) → ExtendsHistory (server_of device old) (server_of device new) (ask_of event) (said_of one)
+    pub one_call : (old new : ServerView A) (event : Call DeviceStep) (one : call.CallResult (ArrayVec Reply)) → ExtendsHistory (server_of device old) (server_of device new) (ask_of event) (machine_result_of one)
         → new.wanted ≡ old.wanted → Simulates device old new (event ∷ []) (one ∷ [])
     one_call old new event one adds wanted first past leads =
         let x = adds first past leads in
@@ -314,7 +314,7 @@ module _ (laws : HistoryLaws) where
           added = two ++ one;
           clients = record {
             asks = mapped (λ h. h.event.ask) one two _ _ a.clients.asks b.clients.asks ∙ sym (map-append ask_of events further);
-            says = mapped (λ h. h.event.said) one two _ _ a.clients.says b.clients.says ∙ sym (map-append said_of said more);
+            says = mapped (λ h. h.event.said) one two _ _ a.clients.says b.clients.says ∙ sym (map-append machine_result_of said more);
             wanted = b.clients.wanted ∙ a.clients.wanted;
             from = a.clients.from;
             to = subst (λ (l : Calls). IsSeenAt (visible_of device new) (now first l)) whole b.clients.to;

@@ -22,7 +22,7 @@ use Rattle.host_boot.specs.declared.ProbeResult.TheVariants.{Unserved}
 use Rattle.identify.specs.declared.wanted.Wanted.{Wanted}
 use Rattle.configuration.specs.Plan.{HasClientFrames, IsClient, IsPlan, IsServedGrant, PlanView}
 use Rattle.server_history.specs.Server.{IsNewServer, ServerState, kept_at, last_disk_of, mode_at, mode_found, no_slots, remembered_at, used_for}
-use Rattle.block_server.specs.FourPorts.{EachBecomes, BeginsAsHostFound, found_by_port, kept_by_port, last_disk_by_port, mode_by_port, port_in, slots_by_port, wanted_by_port}
+use Rattle.block_server.specs.FourPorts.{EachBecomes, BeginsAsHostFound, found_by_port, kept_by_port, remembered_by_port, mode_by_port, port_in, slots_by_port, wanted_by_port}
 use Rattle.port_driver.specs.Parts.{BeginsAnew}
 use Rattle.port_driver.specs.declared.served_port.ServedPort.{ServedPort}
 use Rattle.block_server.proofs.Becoming as becoming
@@ -97,8 +97,8 @@ module _ (s : ServerState) (host : Host) (plan : PlanView) (is : IsPlan plan) (r
 pub record NewPorts (host : Host) (wanted_disks : List Wanted) (ports : List ServedPort) : Type 0 where
   pub wanted : wanted_by_port ports ≡ wanted_disks
   pub found : found_by_port ports ≡ host.ports
-  pub four_remembered : length (last_disk_by_port ports) ≡ 4
-  pub forgotten : (port : ℕ) → remembered_at (last_disk_by_port ports) port ≡ None
+  pub four_remembered : length (remembered_by_port ports) ≡ 4
+  pub forgotten : (port : ℕ) → remembered_at (remembered_by_port ports) port ≡ None
   pub four_kept : length (kept_by_port ports) ≡ 4
   pub unkept : (port : ℕ) → kept_at (kept_by_port ports) port ≡ []
   pub four_slots : length (slots_by_port ports) ≡ 4
@@ -110,7 +110,7 @@ pub record NewPorts (host : Host) (wanted_disks : List Wanted) (ports : List Ser
 
 -- so it is once its adapter was taken over, where none was served before
 module _ (host : Host) (four_host : length host.ports ≡ 4) (wanted_disks : List Wanted) (kept : List (List Lending)) (none : kept ≡ [] ∷ [] ∷ [] ∷ [] ∷ []) (first ports : List ServedPort)
-    (wanted : wanted_by_port first ≡ wanted_disks) (keeps : kept_by_port first ≡ kept) (found : found_by_port first ≡ replicate 4 Unserved) (forgotten : last_disk_by_port first ≡ replicate 4 None)
+    (wanted : wanted_by_port first ≡ wanted_disks) (keeps : kept_by_port first ≡ kept) (found : found_by_port first ≡ replicate 4 Unserved) (forgotten : remembered_by_port first ≡ replicate 4 None)
     (taken : EachBecomes (BeginsAsHostFound host) first ports) where
   four_first : length first ≡ 4
   four_first = sym (length-map first (λ (p : ServedPort). p.found)) ∙ ap length found ∙ length-replicate 4 Unserved
@@ -130,7 +130,7 @@ module _ (host : Host) (four_host : length host.ports ≡ 4) (wanted_disks : Lis
       record {
         wanted = becoming.same_wanted f m first ports four_first taken.four e ∙ wanted;
         found = becoming.found_host host four_host first ports four_first taken;
-        four_remembered = length-map ports (λ (p : ServedPort). p.last_disk) ∙ taken.four;
+        four_remembered = length-map ports (λ (p : ServedPort). p.remembered) ∙ taken.four;
         forgotten = λ port.
             becoming.its_last_disk f m first ports four_first taken.four e port
             ∙ (λ i. last_disk_of (probe_result_of (found i) port) (remembered_at (forgotten i) port))

@@ -9,7 +9,7 @@ use Rattle.host_boot.specs.Taken.{probe_result_of}
 use Rattle.host_boot.specs.declared.ProbeResult.{ProbeResult}
 use Rattle.host_boot.specs.declared.ProbeResult.TheVariants.{Unserved}
 use Rattle.server_history.specs.Server.{ServerState}
-use Rattle.port_driver.specs.Parts.{HasPortAndShared, HasPortAt, no_port, with_parts}
+use Rattle.port_driver.specs.Parts.{HasPortAndShared, HasPortAt, no_port, with_served_port}
 use Rattle.block_server.specs.FourPorts.{found_by_port, port_in, slots_by_port, with_ports}
 use Rattle.port_driver.specs.declared.served_port.ServedPort.{ServedPort}
 use Rattle.port_driver.specs.declared.served_port.Shared.{Shared}
@@ -24,7 +24,7 @@ module _ (s : ServerState) (device : Device) (shared : Shared) (ports : List Ser
   has_port = record {
     wanted_is = get_or-map (λ (p : ServedPort). p.wanted) ports number no_port;
     found_is = get_or-map (λ (p : ServedPort). p.found) ports number no_port;
-    last_disk_is = get_or-map (λ (p : ServedPort). p.last_disk) ports number no_port;
+    remembered_is = get_or-map (λ (p : ServedPort). p.remembered) ports number no_port;
     mode_is = get_or-map (λ (p : ServedPort). p.mode) ports number no_port;
     slots_are = get_or-map (λ (p : ServedPort). p.slots) ports number no_port;
     kept_is = get_or-map (λ (p : ServedPort). p.kept) ports number no_port;
@@ -36,13 +36,13 @@ module _ (s : ServerState) (device : Device) (shared : Shared) (ports : List Ser
       (record { device_is = refl; table_is = refl; book_is = refl; port_is = has_port })
 
   -- the server, with another in its place
-  pub placed : (d : Device) (other : Shared) (p : ServedPort) → with_parts (with_ports s device shared ports) d other (port_at number) p ≡ with_ports s d other (set ports number p)
+  pub placed : (d : Device) (other : Shared) (p : ServedPort) → with_served_port (with_ports s device shared ports) d other (port_at number) p ≡ with_ports s d other (set ports number p)
   placed d other p = λ i. record s {
     device = d;
     table = other.table.value;
     wanted = sym (map-set (λ (q : ServedPort). q.wanted) ports number p) i;
     ports = sym (map-set (λ (q : ServedPort). q.found) ports number p) i;
-    remembered = sym (map-set (λ (q : ServedPort). q.last_disk) ports number p) i;
+    remembered = sym (map-set (λ (q : ServedPort). q.remembered) ports number p) i;
     modes = sym (map-set (λ (q : ServedPort). q.mode) ports number p) i;
     slots = sym (map-set (λ (q : ServedPort). q.slots) ports number p) i;
     kept = sym (map-set (λ (q : ServedPort). q.kept) ports number p) i;
@@ -70,7 +70,7 @@ slots_placed s ports place default device shared p is = λ i. record s {
   table = shared.table.value;
   wanted = map-set_same (λ (q : ServedPort). q.wanted) ports place p default (ap (λ (q : ServedPort). q.wanted) is) i;
   ports = map-set_same (λ (q : ServedPort). q.found) ports place p default (ap (λ (q : ServedPort). q.found) is) i;
-  remembered = map-set_same (λ (q : ServedPort). q.last_disk) ports place p default (ap (λ (q : ServedPort). q.last_disk) is) i;
+  remembered = map-set_same (λ (q : ServedPort). q.remembered) ports place p default (ap (λ (q : ServedPort). q.remembered) is) i;
   modes = map-set_same (λ (q : ServedPort). q.mode) ports place p default (ap (λ (q : ServedPort). q.mode) is) i;
   slots = map-set (λ (q : ServedPort). q.slots) ports place p i;
   kept = map-set_same (λ (q : ServedPort). q.kept) ports place p default (ap (λ (q : ServedPort). q.kept) is) i;

@@ -19,7 +19,7 @@ use Rattle.server_history.specs.Server.{InCallInvariant, ServerState, kept_at}
 use Rattle.slots.specs.Uses.{PortSlots}
 use Rattle.port_driver.specs.Dispositions.{holding}
 use Rattle.port_driver.specs.Parts.{HasPortAt}
-use Rattle.port_driver.specs.Ports.{HasFoundPort, with_part}
+use Rattle.port_driver.specs.Ports.{HasFoundPort, with_port_slots}
 use Rattle.port_driver.specs.declared.served_port.ServedPort.{ServedPort}
 
 -- the row was there, and these are left
@@ -64,6 +64,6 @@ module _ (s : ServerState) (client : ClientId) (number : ℕ) (row : GrantRow) (
     lends p has = record { kept = goes_on; found_is = has.found_is; device_is = refl; book_is = refl; slots_are = has.slots_are; mode_is = has.mode_is }
 
     -- and then what is due was issued
-    pub issued : (place : ℕ) → place ≡ row.port.0 → (new : Device) (later : List Held) (slots : PortSlots) → IssuesAll row.port mid (with_part mid new later slots row.port)
+    pub issued : (place : ℕ) → place ≡ row.port.0 → (new : Device) (later : List Held) (slots : PortSlots) → IssuesAll row.port mid (with_port_slots mid new later slots row.port)
         → IssuesAll row.port mid (record mid { device = new; slots = set s.slots place slots; book = later })
     issued place is new later slots issues = subst (λ (n : ℕ). IssuesAll row.port mid (record mid { device = new; slots = set s.slots n slots; book = later })) (sym is) issues

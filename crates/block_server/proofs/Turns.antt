@@ -10,7 +10,7 @@ use Rattle.host_boot.specs.declared.ProbeResult.{ProbeResult}
 use Rattle.host_boot.specs.declared.ProbeResult.TheVariants.{Ready, Unready, Unserved}
 use Rattle.server_history.specs.Server.{ServerState, SettledInvariant}
 use Rattle.server_history.specs.Turns.{EachPortTakesTurn}
-use Rattle.port_driver.specs.Parts.{IsSettledWith, TakesTurn, TurnBy, with_parts}
+use Rattle.port_driver.specs.Parts.{IsSettledWith, TakesTurn, TurnBy, with_served_port}
 use Rattle.port_driver.specs.declared.served_port.ServedPort.{ServedPort}
 use Rattle.port_driver.specs.declared.served_port.Shared.{Shared}
 use Rattle.block_server.specs.FourPorts.{found_by_port, with_ports}
@@ -53,7 +53,7 @@ module _ (Such : Port → List Reply → ServerState → ServerState → Type 0)
 
     -- and now it has had its turn
     pub one_more : (low : number < 4) → length found ≡ 4 → (default : ServedPort) (d : Device) (other : Shared) (p : ServedPort) (after : List Reply)
-        → TakesTurn (TurnBy Such Other (get_or ports number default).found (port_at number)) told after (with_ports s device shared ports) (with_parts (with_ports s device shared ports) d other (port_at number) p)
+        → TakesTurn (TurnBy Such Other (get_or ports number default).found (port_at number)) told after (with_ports s device shared ports) (with_served_port (with_ports s device shared ports) d other (port_at number) p)
         → TurnsSoFar (set ports number p) after (with_ports s d other (set ports number p)) (number + 1)
     one_more low many default d other p after takes =
         let mid : ServerState = with_ports s d other (set ports number p) in

@@ -26,8 +26,8 @@ wanted_by_port ports = map (λ p. p.wanted) ports
 abbrev pub found_by_port : List ServedPort → List ProbeResult
 found_by_port ports = map (λ p. p.found) ports
 
-abbrev pub last_disk_by_port : List ServedPort → List (Option DiskInfo)
-last_disk_by_port ports = map (λ p. p.last_disk) ports
+abbrev pub remembered_by_port : List ServedPort → List (Option DiskInfo)
+remembered_by_port ports = map (λ p. p.remembered) ports
 
 abbrev pub mode_by_port : List ServedPort → List QueueMode
 mode_by_port ports = map (λ p. p.mode) ports
@@ -45,7 +45,7 @@ with_ports s device shared ports = record s {
   table = shared.table.value;
   wanted = wanted_by_port ports;
   ports = found_by_port ports;
-  remembered = last_disk_by_port ports;
+  remembered = remembered_by_port ports;
   modes = mode_by_port ports;
   slots = slots_by_port ports;
   kept = kept_by_port ports;

@@ -25,7 +25,7 @@ use Rattle.host_boot.specs.Taken.{probe_result_of}
 use Rattle.server_history.specs.Histories.{LeadsToServer}
 use Rattle.server_history.specs.Server.{state_of}
 use Rattle.block_server.specs.Clients.{ConfinesMoves, EachAfter, OutlivesUnplugs, ServesClients}
-use Rattle.block_server.specs.Running.{ask_of, said_of}
+use Rattle.block_server.specs.Running.{ask_of, machine_result_of}
 use Rattle.block_server.specs.View.{ServerView, server_of, visible_of}
 
 -- What is told where nothing goes wrong. A call that revokes a grant tells Revoked, of requests that aren't issued
@@ -89,7 +89,7 @@ pub record KeepsPromise {A : Type 0} (device : A → Device) (first : JointState
     (old new : ServerView A) (calls : List (Call DeviceStep)) (said : List (CallResult (ArrayVec Reply))) : Type 0 where
   pub added : List (Happening Device DeviceStep)
   pub clients : ServesClients first past added (visible_of device old) (visible_of device new) (map ask_of calls)
-      (map said_of said)
+      (map machine_result_of said)
   pub moves : ConfinesMoves first past added
   pub disks : OutlivesUnplugs first (added ++ past)
   pub driver : DrivesDevice device first past added old new

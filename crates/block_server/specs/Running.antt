@@ -25,15 +25,15 @@ ask_of (State port) = AskState port
 ask_of (Step step) = AskDevice step
 
 -- what it said
-abbrev pub said_of : CallResult (ArrayVec Reply) → machine.CallResult
-said_of (said.Submitted result) = Submitted result
-said_of (said.Stored result) = store_said result
-said_of (said.Loaded (Ok bytes)) = Loaded (Ok bytes.items)
-said_of (said.Loaded (Err fault)) = Loaded (Err fault)
-said_of (said.Served replies) = Served replies.items
-said_of (said.WasReset (Ok replies)) = WasReset (Some replies.items)
-said_of (said.WasReset (Err why)) = WasReset None
-said_of (said.WasRevoked (Ok replies)) = WasRevoked (Some replies.items)
-said_of (said.WasRevoked (Err none)) = WasRevoked None
-said_of (said.State state) = Shown state
-said_of (said.Stepped done) = Stepped done
+abbrev pub machine_result_of : CallResult (ArrayVec Reply) → machine.CallResult
+machine_result_of (said.Submitted result) = Submitted result
+machine_result_of (said.Stored result) = store_said result
+machine_result_of (said.Loaded (Ok bytes)) = Loaded (Ok bytes.items)
+machine_result_of (said.Loaded (Err fault)) = Loaded (Err fault)
+machine_result_of (said.Served replies) = Served replies.items
+machine_result_of (said.WasReset (Ok replies)) = WasReset (Some replies.items)
+machine_result_of (said.WasReset (Err why)) = WasReset None
+machine_result_of (said.WasRevoked (Ok replies)) = WasRevoked (Some replies.items)
+machine_result_of (said.WasRevoked (Err none)) = WasRevoked None
+machine_result_of (said.State state) = Shown state
+machine_result_of (said.Stepped done) = Stepped done

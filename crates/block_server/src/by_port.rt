@@ -1,7 +1,7 @@
 // What there is of each of four ports, by port.
 ghost use Rattle.std.specs.Prelude.{ℕ, ◌≡◌, ◌<◌, ◌↔◌, ◌∷◌, [], IfOk, IsTrue, None, false, replicate, slice_index_or};
 ghost use Rattle.ata_types.specs.declared.Port.{Port};
-ghost use Rattle.block_server.specs.FourPorts.{found_by_port, kept_by_port, last_disk_by_port, port_in, wanted_by_port};
+ghost use Rattle.block_server.specs.FourPorts.{found_by_port, kept_by_port, remembered_by_port, port_in, wanted_by_port};
 ghost use Rattle.host_boot.specs.declared.ProbeResult.TheVariants.{Unserved};
 ghost use Rattle.refinement.specs.Relation.{port_at};
 ghost use Rattle.request_queue.specs.Entries.{IsAnyOverdue, IsOverdue, is_among};
@@ -62,7 +62,7 @@ pub(crate) fn unserved_ports(
     ensures wanted { wanted_by_port result ≡ wanted.now }
     ensures kept { kept_by_port result ≡ kept }
     ensures found { found_by_port result ≡ replicate 4 Unserved }
-    ensures forgotten { last_disk_by_port result ≡ replicate 4 None }
+    ensures forgotten { remembered_by_port result ≡ replicate 4 None }
 {
     let [first, second, third, fourth] = kept;
     [

@@ -15,7 +15,7 @@ ghost use Rattle.server_history.specs.Histories.{ExtendsHistory};
 ghost use Rattle.server_history.specs.Server.{state_of};
 ghost use Rattle.block_server.specs.Promise.{Simulates};
 ghost use Rattle.block_server.specs.Made.{IsInitialServer};
-ghost use Rattle.block_server.specs.Running.{ask_of, said_of};
+ghost use Rattle.block_server.specs.Running.{ask_of, machine_result_of};
 ghost use Rattle.block_server.specs.View.{ServerView, server_of};
 ghost use Rattle.block_server.specs.Costs.{MOST_OF_NEW, MOST_OF_RESET, MOST_OF_REVOKE, MOST_OF_SERVICE, MOST_OF_SUBMIT, MOST_OF_TICK};
 
@@ -36,7 +36,7 @@ use host_boot::laws::law_what_was_taken_over_may_be_served;
 pub fn law_runs_keep_their_promise<A: Stepped>()
     ensures none { (s : ServerView A) → Simulates A.device s s [] [] }
     ensures one { (old new : ServerView A) (call : Call DeviceStep) (one : CallResult (ArrayVec Reply))
-        → ExtendsHistory (server_of A.device old) (server_of A.device new) (ask_of call) (said_of one)
+        → ExtendsHistory (server_of A.device old) (server_of A.device new) (ask_of call) (machine_result_of one)
         → new.wanted ≡ old.wanted → Simulates A.device old new (call ∷ []) (one ∷ []) }
     ensures more { (old mid new : ServerView A) (calls further : List (Call DeviceStep))
         (said more : List (CallResult (ArrayVec Reply))) → Simulates A.device old mid calls said

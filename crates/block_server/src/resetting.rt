@@ -15,7 +15,7 @@ use ata_types::{MOST_UNANSWERED, PORTS, Port, Replies};
 use dma_frames::FrameTable;
 use host_boot::{Host, ProbeResult};
 use port_driver::laws::law_loans_end_in_turn;
-use port_driver::{ServedPort, Shared, mode_of};
+use port_driver::{ServedPort, Shared, mode_found};
 use server_history::laws::law_requests_keep;
 use server_history::stalled::law_settling_goes_on;
 
@@ -32,12 +32,12 @@ pub(crate) fn give_all_back(ports: &mut [ServedPort; PORTS], table: &mut FrameTa
 }
 
 /// Notes that a reset of the adapter got stuck: each port that is served is dead.
-pub(crate) fn get_stuck(ports: &mut [ServedPort; PORTS])
+pub(crate) fn note_stuck_reset(ports: &mut [ServedPort; PORTS])
     ensures { EachBecomes (λ number old new. BeginsAnew (stuck_found old.found) plain_mode old new) ports.old
         ports.new }
 {
     for number in 0..PORTS {
-        ports[number].get_stuck();
+        ports[number].note_stuck_reset();
     }
 }
 
@@ -48,7 +48,7 @@ pub(crate) fn begin_anew(ports: &mut [ServedPort; PORTS], host: &Host)
 {
     for number in 0..PORTS {
         let found = host.ports[number];
-        let mode = mode_of(host.slots, host.queued, &found);
+        let mode = mode_found(host.slots, host.queued, &found);
         ports[number].begin_anew(found, mode);
     }
 }

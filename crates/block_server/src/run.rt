@@ -11,7 +11,7 @@ use ata_types::{Call, CallResult, ClientId, Frame, MOST_CALL_BYTES, MemFault, Re
 
 impl<A: Adapter> Server<A> {
     ghost use Rattle.block_machine.specs.Events.{LoadAt};
-    ghost use Rattle.block_server.specs.Running.{said_of};
+    ghost use Rattle.block_server.specs.Running.{machine_result_of};
     ghost use Rattle.block_server.specs.View.{server_of};
     ghost use Rattle.server_history.specs.Histories.{ExtendsHistory};
     ghost use Rattle.adapter.specs.Counted.{MakesAtMost};
@@ -27,7 +27,7 @@ impl<A: Adapter> Server<A> {
         count: u32,
     ) -> Result<ArrayVec<u8, MOST_CALL_BYTES>, MemFault>
         ensures adds { ExtendsHistory (server_of A.device self.old) (server_of A.device self.new)
-            (LoadAt client frame offset (min count MOST_CALL_BYTES)) (said_of (CallResult.Loaded result)) }
+            (LoadAt client frame offset (min count MOST_CALL_BYTES)) (machine_result_of (CallResult.Loaded result)) }
         ensures wanted { self.new.wanted ≡ self.old.wanted }
         ensures cost { MakesAtMost 1 (A.access_count self.old.adapter) (A.access_count self.new.adapter) }
     {
@@ -42,7 +42,7 @@ impl<A: Adapter> Server<A> {
 
 impl<A: Stepped> Server<A> {
     ghost use Rattle.block_server.specs.Promise.{RunsAsPromised};
-    ghost use Rattle.block_server.specs.Running.{ask_of, said_of};
+    ghost use Rattle.block_server.specs.Running.{ask_of, machine_result_of};
     ghost use Rattle.block_server.specs.View.{server_of};
     ghost use Rattle.server_history.specs.Histories.{ExtendsHistory};
     ghost use Rattle.adapter.specs.Counted.{MakesAtMost};
@@ -52,7 +52,7 @@ impl<A: Stepped> Server<A> {
     /// all that `replies` has then; of what it has after another call nothing is told.
     fn make_call(&mut self, call: &Call<DeviceStep>, replies: &mut Replies) -> CallResult<()>
         ensures adds { ExtendsHistory (server_of A.device self.old) (server_of A.device self.new) (ask_of call.now)
-            (said_of (with_replies result replies.new.items)) }
+            (machine_result_of (with_replies result replies.new.items)) }
         ensures wanted { self.new.wanted ≡ self.old.wanted }
         ensures cost { MakesAtMost (most_of call.now)
             (A.access_count self.old.adapter) (A.access_count self.new.adapter) }

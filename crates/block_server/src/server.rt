@@ -9,7 +9,7 @@ use crate::by_port::{
     end_all, into_loans, none_kept, overdue_ports, ready_ports, unserved_ports, wanted_disks,
 };
 use crate::limits::{CLIENT_PLACES, leaves_disk};
-use crate::resetting::{begin_anew, get_stuck, give_all_back, issue_ports, resolve_ports};
+use crate::resetting::{begin_anew, give_all_back, issue_ports, note_stuck_reset, resolve_ports};
 use adapter::{Adapter, DeviceStep, Stepped};
 use ata_types::{
     AdapterStuck, MOST_UNANSWERED, Op, PORTS, Port, PortState, Range, Refusal, Replies, Request,
@@ -156,12 +156,12 @@ impl<A: Adapter> Server<A> {
     }
 
     /// The disk that a port is ready with, or was last ready with, if it ever was.
-    fn disk(&self, port: Port) -> Option<DiskInfo>
+    fn last_disk(&self, port: Port) -> Option<DiskInfo>
         ensures { result ≡ last_disk_of (probe_result_of self.now.ports port.0)
             (remembered_at self.now.remembered port.0) }
     {
         match self.ports.get(usize::from(port.0)) {
-            Some(its) => its.disk(),
+            Some(its) => its.last_disk(),
             None => None,
         }
     }
@@ -172,7 +172,7 @@ impl<A: Adapter> Server<A> {
             ≡ last_sectors_of (last_disk_of (probe_result_of self.now.ports port.0)
             (remembered_at self.now.remembered port.0)) }
     {
-        match self.disk(port) {
+        match self.last_disk(port) {
             Some(info) => info.sectors,
             None => 0,
         }
@@ -441,7 +441,7 @@ impl<A: Adapter> Server<A> {
         law_the_book_stays_in_order();
         replies.clear();
         if let Err(stuck) = reset(&mut self.adapter) {
-            get_stuck(&mut self.ports);
+            note_stuck_reset(&mut self.ports);
             self.stuck = true;
             return Err(stuck);
         }

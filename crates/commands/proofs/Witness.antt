@@ -6,7 +6,7 @@ use Rattle.ata_types.specs.declared.refusal.Rule.TheVariants.{FrameCount}
 use Rattle.ata_types.specs.declared.request.Op.{Op}
 use Rattle.ata_types.specs.declared.request.Op.TheVariants.{Read}
 use Rattle.adapter.specs.Commands.{Meaning, is_queued, is_ranged}
-use Rattle.adapter.specs.FirstRead.{first_read}
+use Rattle.adapter.specs.FirstRead.{first_read_device}
 use Rattle.adapter.specs.Memory.{changed}
 use Rattle.adapter.specs.ReadDone.{read_of}
 use Rattle.adapter.specs.Decoding.{DecodesTo, piece_addresses}
@@ -34,7 +34,7 @@ frames_fit start (step ∷ past) r was = ⊎_elim
 
 -- given what the laws say of the first read, and of requests that are issued
 module _ (known : PreparedIsKnown) (one : (memory : ℕ → ℕ) (list slot : ℕ) (m n : Meaning) (xs ys : List ℕ) → DecodesTo memory list slot m xs → DecodesTo memory list slot n ys → (m ≡ n) × (xs ≡ ys))
-    (says : DecodesTo first_read.memory 0 0 (read_of 100 8) (piece_addresses 0x64000 8))
+    (says : DecodesTo first_read_device.memory 0 0 (read_of 100 8) (piece_addresses 0x64000 8))
     (issued : (start : Machine) (history : List Step) (mode : QueueMode) (e : Pending) → IsInitial start → IsLegal start history → May (after start history) (Issue mode e) → WasAccepted start history e.request) where
   prepared : IsPrepared (idle prepared_read).uses known.machine prepared_read 0 0 known.mode known.request 1
   prepared = known.prepared
@@ -45,7 +45,7 @@ module _ (known : PreparedIsKnown) (one : (memory : ℕ → ℕ) (list slot : �
   -- memory says the first read, so the request is that read
   same : (prepared.command ≡ read_of 100 8) × (prepared.places ≡ piece_addresses 0x64000 8)
   unfolding changed
-  same = one first_read.memory 0 0 prepared.command (read_of 100 8) prepared.places (piece_addresses 0x64000 8) prepared.told.says says
+  same = one first_read_device.memory 0 0 prepared.command (read_of 100 8) prepared.places (piece_addresses 0x64000 8) prepared.told.says says
 
   read_is : request.asked.op ≡ Read
   read_is = some_read (sym prepared.means.op ∙ ap (λ (m : Meaning). op_of m.operation) same.0)

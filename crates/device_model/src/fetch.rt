@@ -273,7 +273,7 @@ fn header_bytes(memory: &[u8], at: usize) -> [u8; 32]
 }
 
 /// The bytes of the FIS of the command table to which a header's bytes point.
-fn fis_bytes(memory: &[u8], header: &[u8; 32]) -> [u8; 20]
+fn command_fis_bytes(memory: &[u8], header: &[u8; 32]) -> [u8; 20]
     ensures { result ≡ bytes_at (bytes_of memory.now) (little_from 8 4 header.now) 20 }
 {
     let mut bytes = [0; 20];
@@ -434,7 +434,7 @@ pub fn may_say_page(memory: &[u8], list: u32, slot: u8) -> bool
         → DecodesTo (bytes_of memory.now) list slot m places → ⊥ }
 {
     let header = header_bytes(memory, header_place(list, slot));
-    let fis = fis_bytes(memory, &header);
+    let fis = command_fis_bytes(memory, &header);
     match transfer_coded(fis[2]) {
         Some(transfer) => transfer.sends_page(),
         None => false,
@@ -451,7 +451,7 @@ pub fn read_page(memory: &[u8], list: u32, slot: u8) -> Option<TakenCommand>
         → DecodesTo (bytes_of memory.now) list slot m places → ⊥ }
 {
     let header = header_bytes(memory, header_place(list, slot));
-    let fis = fis_bytes(memory, &header);
+    let fis = command_fis_bytes(memory, &header);
     let transfer = transfer_coded(fis[2])?;
     if !transfer.sends_page() {
         return None;
@@ -502,7 +502,7 @@ pub fn read_into(memory: &[u8], list: u32, slot: u8, command: &mut TakenCommand)
         → ⊥ }
 {
     let header = header_bytes(memory, header_place(list, slot));
-    let fis = fis_bytes(memory, &header);
+    let fis = command_fis_bytes(memory, &header);
     match transfer_coded(fis[2]) {
         Some(transfer) => decode_command(memory, &header, &fis, slot, transfer, command),
         None => false,

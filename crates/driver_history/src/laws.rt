@@ -35,7 +35,7 @@ use super::lawful::{law_base, law_runs};
 use adapter::DeviceStep;
 use adapter::laws::law_what_is_asked_is_steps;
 use block_machine::laws::law_rows_shrink_and_owners_stay;
-use durability::laws::law_every_plug_finds;
+use durability::laws::law_flushed_writes_survive_replug;
 use port_boot::laws::law_a_port_runs_on;
 use refinement::facts::{law_frames_are_still, law_healthy_stays};
 use refinement::laws::law_disks_are_told;
@@ -74,7 +74,7 @@ pub fn law_plugs_find()
         → EveryPlugFinds first.abstract.machine (steps_of (events_of past)) }
 {
     law_runs();
-    law_every_plug_finds::<DeviceStep>();
+    law_flushed_writes_survive_replug::<DeviceStep>();
 }
 
 /// Each move of a client's data, of any call of a history, is of a sector of its own request's, at its place in a frame

@@ -7,7 +7,7 @@ use Rattle.ata_types.specs.declared.request.RequestId.{RequestId}
 use Rattle.ata_types.specs.declared.request.Op.TheVariants.{Flush}
 use Rattle.ata_types.specs.declared.request.Outcome.TheVariants.{Ok, DeviceError}
 use Rattle.block_machine.specs.State.{Block, DiskBytes, Accepted, Pending, Machine, sector_of, written_by}
-use Rattle.block_machine.specs.Due.{is_flush, is_writer}
+use Rattle.block_machine.specs.Due.{is_flush, changes_sectors}
 use Rattle.block_machine.specs.Steps.{Step, Accept, Issue, Touch, End, Age, Again, Answer, Release, Revoke, Unplug, Replace, Store, Load, May, MayStillMove, after_step, at, newly_issued, touch, mark_ended, requeued, older, newly_accepted, put_sector, SameBytes, HasHeld}
 use Rattle.block_machine.specs.Left.{after, IsLegal, IsInitial, IsAccept, IsTouch, HasTouched, plug_count}
 use Rattle.durability.specs.Durable.{IsOk, takes_out, brings_other, WriteAccepted, WriteAnswered, FlushAccepted, FlushAnswered, IsWrittenSince, FindsFlushed, EveryPlugFinds}
@@ -54,7 +54,7 @@ IsReplace _ port id size disk = ⊥
 record IsWritten (m : Machine) (step : Step) (port : Port) (k : ℕ) : Type 0 where
   entry : Pending
   runs : MayStillMove m entry
-  writes : is_writer entry.request.asked.op ≡ true
+  writes : changes_sectors entry.request.asked.op ≡ true
   here : entry.request.port ≡ port
   touched : IsTouch step entry.request k
   from : entry.request.asked.first.0 ≤ k
@@ -71,15 +71,15 @@ record IsReplaced (m : Machine) (step : Step) (port : Port) : Type 0 where
 
 record IsIdle (m : Machine) (step : Step) (port : Port) (k : ℕ) : Type 0 where
   same : (after_step m step).disks port k ≡ m.disks port k
-  quiet : (w : Accepted) → is_writer w.asked.op ≡ true → w.port ≡ port → IsTouch step w k → ⊥
+  quiet : (w : Accepted) → changes_sectors w.asked.op ≡ true → w.port ≡ port → IsTouch step w k → ⊥
 
 abbrev Effect : Machine → Step → Port → ℕ → Type 0
 Effect m step port k = IsIdle m step port k ⊎ (IsWritten m step port k ⊎ IsReplaced m step port)
 
 effect_touch : (m : Machine) (e : Pending) (i : ℕ) (block : Block) (port : Port) (k : ℕ) → MayStillMove m e → i < e.request.asked.count → Effect m (Touch e i block) port k
-effect_touch m e i block port k r lt = by_op (is_writer e.request.asked.op) refl
+effect_touch m e i block port k r lt = by_op (changes_sectors e.request.asked.op) refl
   where
-    by_place : is_writer e.request.asked.op ≡ true → (after_step m (Touch e i block)).disks port k ≡ put_sector e.request.port (e.request.asked.first.0 + i) (written_by e.request.asked.op e.request.held i) m.disks port k
+    by_place : changes_sectors e.request.asked.op ≡ true → (after_step m (Touch e i block)).disks port k ≡ put_sector e.request.port (e.request.asked.first.0 + i) (written_by e.request.asked.op e.request.held i) m.disks port k
         → (b : Bool) → ((port.0 == e.request.port.0) && (k == e.request.asked.first.0 + i)) ≡ b → Effect m (Touch e i block) port k
     by_place w now true t =
         let p = and_parts (port.0 == e.request.port.0) (k == e.request.asked.first.0 + i) t in
@@ -103,11 +103,11 @@ effect_touch m e i block port k r lt = by_op (is_writer e.request.asked.op) refl
           both_ways _ t (and_from _ _ (eq-eqb port.0 e.request.port.0 (ap (λ (q : Port). q.0) port_same)) (eq-eqb k (e.request.asked.first.0 + i) k_same));
     })
 
-    by_op : (b : Bool) → is_writer e.request.asked.op ≡ b → Effect m (Touch e i block) port k
-    by_op true w = by_place w (ap (λ (d : Port → DiskBytes). d port k) (cond-true (is_writer e.request.asked.op) (put_sector e.request.port (e.request.asked.first.0 + i) (written_by e.request.asked.op e.request.held i) m.disks) m.disks w)) _ refl
+    by_op : (b : Bool) → changes_sectors e.request.asked.op ≡ b → Effect m (Touch e i block) port k
+    by_op true w = by_place w (ap (λ (d : Port → DiskBytes). d port k) (cond-true (changes_sectors e.request.asked.op) (put_sector e.request.port (e.request.asked.first.0 + i) (written_by e.request.asked.op e.request.held i) m.disks) m.disks w)) _ refl
     by_op false w = inl (record {
-      same = ap (λ (d : Port → DiskBytes). d port k) (cond-false (is_writer e.request.asked.op) (put_sector e.request.port (e.request.asked.first.0 + i) (written_by e.request.asked.op e.request.held i) m.disks) m.disks w);
-      quiet = λ x writes _ touch. both_ways _ w (subst (λ (j : Accepted). is_writer j.asked.op ≡ true) (sym touch.0) writes);
+      same = ap (λ (d : Port → DiskBytes). d port k) (cond-false (changes_sectors e.request.asked.op) (put_sector e.request.port (e.request.asked.first.0 + i) (written_by e.request.asked.op e.request.held i) m.disks) m.disks w);
+      quiet = λ x writes _ touch. both_ways _ w (subst (λ (j : Accepted). changes_sectors j.asked.op ≡ true) (sym touch.0) writes);
     })
 
 effect_replace : (m : Machine) (p : Port) (id size : ℕ) (disk : DiskBytes) (port : Port) (k : ℕ) → m.present p ≡ false → Effect m (Replace p id size disk) port k
@@ -164,7 +164,7 @@ since_same : (w : Accepted) (k : ℕ) (h : List Step) (a b : Block) → a ≡ b 
 since_same w k h a b e s = since_bytes w k h a b (λ x lt. ap (λ (c : Block). c x) e) s
 
 -- a writer's touch after w's is of w or a later request
-since_written : (m : Machine) (step : Step) (h : List Step) (w : Accepted) (k : ℕ) → Seen m w k → is_writer w.asked.op ≡ true → (t : IsWritten m step w.port k) → IsWrittenSince w k (step ∷ h) ((after_step m step).disks w.port k)
+since_written : (m : Machine) (step : Step) (h : List Step) (w : Accepted) (k : ℕ) → Seen m w k → changes_sectors w.asked.op ≡ true → (t : IsWritten m step w.port k) → IsWrittenSince w k (step ∷ h) ((after_step m step).disks w.port k)
 since_written m step h w k seen writes t = record {
   writer = t.entry.request;
   writes = t.writes;
@@ -219,7 +219,7 @@ none_other m step port may here = false_from_ne_true _ (λ t. both_ways _ (other
 absent_here : (m : Machine) (port : Port) → m.present port ≡ true → m.present port ≡ false → ⊥
 absent_here m port a b = both_ways _ b a
 
-stage_step : (start : Machine) (step : Step) (past : List Step) (w : Accepted) (k : ℕ) → IsInitial start → IsLegal start (step ∷ past) → is_writer w.asked.op ≡ true
+stage_step : (start : Machine) (step : Step) (past : List Step) (w : Accepted) (k : ℕ) → IsInitial start → IsLegal start (step ∷ past) → changes_sectors w.asked.op ≡ true
     → takes_out w.port step ≡ false → Stage start past w k → Stage start (step ∷ past) w k
 stage_step start step past w k s legal writes out g = record {
   here = stays_in (after start past) step w.port legal.1 out g.here;
@@ -280,7 +280,7 @@ came m (Store client frame offset bytes) may s x i hx t = inl (x, hx, refl, t)
 came m (Load client frame offset bytes) may s x i hx t = inl (x, hx, refl, t)
 
 -- a writer that touches its sector number i now
-stage_now : (start : Machine) (step : Step) (past : List Step) (w : Accepted) (i : ℕ) → IsInitial start → IsLegal start (step ∷ past) → is_writer w.asked.op ≡ true → takes_out w.port step ≡ false
+stage_now : (start : Machine) (step : Step) (past : List Step) (w : Accepted) (i : ℕ) → IsInitial start → IsLegal start (step ∷ past) → changes_sectors w.asked.op ≡ true → takes_out w.port step ≡ false
     → IsTouchAt step w i → Stage start (step ∷ past) w (w.asked.first.0 + i)
 stage_now start (Touch e n block) past w i s legal writes out t =
     let k : ℕ = w.asked.first.0 + i in
@@ -334,7 +334,7 @@ new_entry m step w may s t x hx same =
     (append_in m.book (newly_accepted w) x (subst (λ (y : Step). Contains (after_step m y).book x) e hx))
 
 -- Each sector that an accepted writer touched is at its stage, while no disk was taken out.
-accepted_stage : (start : Machine) (h : List Step) (w : Accepted) → IsInitial start → IsLegal start h → is_writer w.asked.op ≡ true → WriteAccepted w h
+accepted_stage : (start : Machine) (h : List Step) (w : Accepted) → IsInitial start → IsLegal start h → changes_sectors w.asked.op ≡ true → WriteAccepted w h
     → (x : Pending) → Contains (after start h).book x → x.request ≡ w → (i : ℕ) → x.touched i ≡ true → Stage start h w (w.asked.first.0 + i)
 accepted_stage start [] w s legal writes a x hx same i t = absurd a
 accepted_stage start (step ∷ past) w s legal writes (inl a) x hx same i t =
@@ -346,7 +346,7 @@ accepted_stage start (step ∷ past) w s legal writes (inr a) x hx same i t = �
     (λ (q : IsTouchAt step x.request i). stage_now start step past w i s legal writes a.0 (subst (λ (j : Accepted). IsTouchAt step j i) same q))
     (came (after start past) step legal.1 (traced start past s legal.0).sound x i hx t)
 
-stored_stage : (start : Machine) (h : List Step) (w : Accepted) → IsInitial start → IsLegal start h → AllWhole h → is_writer w.asked.op ≡ true → WriteAnswered w h → (i : ℕ) → i < w.asked.count → Stage start h w (w.asked.first.0 + i)
+stored_stage : (start : Machine) (h : List Step) (w : Accepted) → IsInitial start → IsLegal start h → AllWhole h → changes_sectors w.asked.op ≡ true → WriteAnswered w h → (i : ℕ) → i < w.asked.count → Stage start h w (w.asked.first.0 + i)
 stored_stage start [] w s legal whole writes a i lt = absurd a
 stored_stage start (step ∷ past) w s legal whole writes (inl a) i lt =
     let e = ok_entry (after start past) step w legal.1 whole.1 a.0 in
@@ -354,7 +354,7 @@ stored_stage start (step ∷ past) w s legal whole writes (inl a) i lt =
     (accepted_stage start past w s legal.0 writes a.1 e.0 e.1 e.2 i (e.3 i lt))
 stored_stage start (step ∷ past) w s legal whole writes (inr a) i lt = stage_step start step past w (w.asked.first.0 + i) s legal writes a.0 (stored_stage start past w s legal.0 whole.0 writes a.1 i lt)
 
-asked_stage : (start : Machine) (h : List Step) (w flush : Accepted) → IsInitial start → IsLegal start h → AllWhole h → is_writer w.asked.op ≡ true → FlushAccepted w flush h → (i : ℕ) → i < w.asked.count → Stage start h w (w.asked.first.0 + i)
+asked_stage : (start : Machine) (h : List Step) (w flush : Accepted) → IsInitial start → IsLegal start h → AllWhole h → changes_sectors w.asked.op ≡ true → FlushAccepted w flush h → (i : ℕ) → i < w.asked.count → Stage start h w (w.asked.first.0 + i)
 asked_stage start [] w flush s legal whole writes a i lt = absurd a
 asked_stage start (step ∷ past) w flush s legal whole writes (inl a) i lt = stage_step start step past w (w.asked.first.0 + i) s legal writes (accept_out w.port step flush a.0) (stored_stage start past w s legal.0 whole.0 writes a.1 i lt)
 asked_stage start (step ∷ past) w flush s legal whole writes (inr a) i lt = stage_step start step past w (w.asked.first.0 + i) s legal writes a.0 (asked_stage start past w flush s legal.0 whole.0 writes a.1 i lt)
@@ -383,7 +383,7 @@ same_disk start past (Replace p i n d) port k id size disk may back other inside
     (subst (λ (x : Port). HeldSince start x k (d k) past) t.0 (back named' k (omega (arith, large, inside))))
 same_disk start past _ port k id size disk may back other inside t = absurd t
 
-lasts_step : (start : Machine) (step : Step) (past : List Step) (w : Accepted) (k : ℕ) → IsInitial start → IsLegal start (step ∷ past) → is_writer w.asked.op ≡ true
+lasts_step : (start : Machine) (step : Step) (past : List Step) (w : Accepted) (k : ℕ) → IsInitial start → IsLegal start (step ∷ past) → changes_sectors w.asked.op ≡ true
     → ComesBack start past step → brings_other (after start past) w.port step ≡ false → Lasts start past w k → Lasts start (step ∷ past) w k
 lasts_step start step past w k s legal writes back other g = record {
   inside = subst (λ (n : ℕ). k < n) (sym (sizes_stay (after start past) step w.port legal.1 other)) g.inside;
@@ -462,7 +462,7 @@ lasts_end start (End e) past w flush k port op t g = record {
 }
 lasts_end start _ past w flush k port op t g = absurd t
 
-asked_lasts : (start : Machine) (h : List Step) (w flush : Accepted) → IsInitial start → IsLegal start h → AllWhole h → IsVolatile start h → is_writer w.asked.op ≡ true → flush.port ≡ w.port → flush.asked.op ≡ Flush
+asked_lasts : (start : Machine) (h : List Step) (w flush : Accepted) → IsInitial start → IsLegal start h → AllWhole h → IsVolatile start h → changes_sectors w.asked.op ≡ true → flush.port ≡ w.port → flush.asked.op ≡ Flush
     → FlushAccepted w flush h → (x : Pending) → Contains (after start h).book x → x.request ≡ flush → x.ended ≡ true → (i : ℕ) → i < w.asked.count → Lasts start h w (w.asked.first.0 + i)
 asked_lasts start [] w flush s legal whole back writes port op a x hx same t i lt = absurd a
 asked_lasts start (step ∷ past) w flush s legal whole back writes port op (inl a) x hx same t i lt =
@@ -480,7 +480,7 @@ asked_lasts start (step ∷ past) w flush s legal whole back writes port op (inr
 ok_other : (m : Machine) (port : Port) (step : Step) (w : Accepted) → IsOk step w → brings_other m port step ≡ false
 ok_other m port step w ok = let r = answer_ok step w ok in ap (brings_other m port) r.1
 
-flushed_lasts : (start : Machine) (h : List Step) (w flush : Accepted) → IsInitial start → IsLegal start h → AllWhole h → IsVolatile start h → is_writer w.asked.op ≡ true → flush.port ≡ w.port → flush.asked.op ≡ Flush
+flushed_lasts : (start : Machine) (h : List Step) (w flush : Accepted) → IsInitial start → IsLegal start h → AllWhole h → IsVolatile start h → changes_sectors w.asked.op ≡ true → flush.port ≡ w.port → flush.asked.op ≡ Flush
     → FlushAnswered start w flush h → (i : ℕ) → i < w.asked.count → Lasts start h w (w.asked.first.0 + i)
 flushed_lasts start [] w flush s legal whole back writes port op a i lt = absurd a
 flushed_lasts start (step ∷ past) w flush s legal whole back writes port op (inl a) i lt =
@@ -499,10 +499,10 @@ finds start past (Replace port id size disk) s legal whole back = λ same w flus
     lasts.since (disk (sector_of w i)) (subst (λ (p : Port). HeldSince start p (sector_of w i) (disk (sector_of w i)) past) (sym here) (back.1 same (sector_of w i) (omega (arith, inside, large))))
 finds start past _ s legal whole back = tt
 
-pub law_every_plug_finds : (start : Machine) (h : List Step) → IsInitial start → IsLegal start h → AllWhole h → IsVolatile start h → EveryPlugFinds start h
-law_every_plug_finds start [] s legal whole back = tt
-law_every_plug_finds start (step ∷ past) s legal whole back = (law_every_plug_finds start past s legal.0 whole.0 back.0, finds start past step s legal whole.0 back)
+pub law_flushed_writes_survive_replug : (start : Machine) (h : List Step) → IsInitial start → IsLegal start h → AllWhole h → IsVolatile start h → EveryPlugFinds start h
+law_flushed_writes_survive_replug start [] s legal whole back = tt
+law_flushed_writes_survive_replug start (step ∷ past) s legal whole back = (law_flushed_writes_survive_replug start past s legal.0 whole.0 back.0, finds start past step s legal whole.0 back)
 
 -- a disk that comes back in a run has the writes that were flushed
 pub run_finds : {D : Type 0} (first : AbstractState) (run : List (CallRecord D)) → IsRun first run → IsVolatile first.machine (steps_of run) → EveryPlugFinds first.machine (steps_of run)
-run_finds first run r back = law_every_plug_finds first.machine (steps_of run) (run_starts first run r) (run_legal first run r) (run_whole first run r) back
+run_finds first run r back = law_flushed_writes_survive_replug first.machine (steps_of run) (run_starts first run r) (run_legal first run r) (run_whole first run r) back

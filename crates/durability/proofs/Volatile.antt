@@ -4,7 +4,7 @@ use Rattle.std.proofs.lemmas.Bool.{eqb-false}
 use Rattle.std.specs.List.{Contains}
 use Rattle.ata_types.specs.declared.Port.{Port}
 use Rattle.block_machine.specs.State.{Block, DiskBytes, Pending, Machine, sector_of}
-use Rattle.block_machine.specs.Due.{is_flush, is_writer}
+use Rattle.block_machine.specs.Due.{is_flush, changes_sectors}
 use Rattle.block_machine.specs.Steps.{Step, Touch, End, Replace, SameBytes, after_step}
 use Rattle.block_machine.specs.Left.{after, AllTellSectors, TellsSectors}
 use Rattle.durability.specs.Durable.{EveryPlugFinds}
@@ -17,7 +17,7 @@ abbrev Aside : Machine → Step → Port → ℕ → Block → Type 0
 Aside m step port k old = (starts_lasting m port step ≡ false) × ((old ≡ m.disks port k) ⊎ Contains (m.aside port k) old)
 
 aside_touch : (m : Machine) (e : Pending) (i : ℕ) (block : Block) (port : Port) (k : ℕ) (old : Block) → Contains ((after_step m (Touch e i block)).aside port k) old → Aside m (Touch e i block) port k old
-aside_touch m e i block port k old h = (refl, go (is_writer e.request.asked.op && ((port.0 == e.request.port.0) && (k == sector_of e.request i))) h)
+aside_touch m e i block port k old h = (refl, go (changes_sectors e.request.asked.op && ((port.0 == e.request.port.0) && (k == sector_of e.request i))) h)
   where
     go : (b : Bool) → Contains (cond b (m.disks port k ∷ m.aside port k) (m.aside port k)) old → (old ≡ m.disks port k) ⊎ Contains (m.aside port k) old
     go true c = contains_cases (m.disks port k) (m.aside port k) old c

@@ -3,7 +3,7 @@ use Rattle.std.specs.Prelude.{◌≡◌, ◌⊎◌, ℕ, ◌-◌, ◌<◌, ◌�
 use Rattle.ata_types.specs.declared.Port.{Port}
 use Rattle.ata_types.specs.declared.request.Op.TheVariants.{Flush}
 use Rattle.ata_types.specs.declared.request.Outcome.TheVariants.{Ok}
-use Rattle.block_machine.specs.Due.{is_writer}
+use Rattle.block_machine.specs.Due.{changes_sectors}
 use Rattle.block_machine.specs.State.{Block, DiskBytes, Accepted, Machine, sector_of, written_by}
 use Rattle.block_machine.specs.Steps.{Step, Answer, Unplug, Replace, SameBytes}
 use Rattle.block_machine.specs.Left.{after, IsAccept, HasTouched}
@@ -50,7 +50,7 @@ FlushAnswered start w flush (step ∷ past) =
 -- the write or trim was answered Ok before the flush of its port was accepted, and the flush was answered Ok, all on
 -- one disk
 pub record IsFlushed (start : Machine) (w flush : Accepted) (history : List Step) : Type 0 where
-  pub writes : is_writer w.asked.op ≡ true
+  pub writes : changes_sectors w.asked.op ≡ true
   pub flush_is : flush.asked.op ≡ Flush
   pub port : flush.port ≡ w.port
   pub answered : FlushAnswered start w flush history
@@ -60,7 +60,7 @@ pub record IsFlushed (start : Machine) (w flush : Accepted) (history : List Step
 -- port, maybe several times.)
 pub record IsWrittenSince (w : Accepted) (k : ℕ) (history : List Step) (block : Block) : Type 0 where
   pub writer : Accepted
-  pub writes : is_writer writer.asked.op ≡ true
+  pub writes : changes_sectors writer.asked.op ≡ true
   pub here : writer.port ≡ w.port
   pub later : w.id.0 ≤ writer.id.0
   pub disk : ℕ

@@ -9,7 +9,7 @@ ghost use Rattle.durability.specs.Durable.{EveryPlugFinds};
 /// Over every run of calls on disks that tell what they hold: where a write or trim was answered Ok before a flush of
 /// its port was accepted, the flush was answered Ok, and no disk was taken out between, the same disk has what that put
 /// there, or what a later one did, each time that it comes back, whatever its cache lost (FLUSH CACHE EXT, ACS-3).
-pub fn law_every_plug_finds<D>()
+pub fn law_flushed_writes_survive_replug<D>()
     ensures { (first : AbstractState) (run : List (CallRecord D)) → IsRun first run
         → AllTellSectors first.machine (steps_of run)
         → EveryPlugFinds first.machine (steps_of run) }

@@ -10,7 +10,7 @@ use Rattle.hba_regs.specs.declared.reg.Reg.TheVariants.{Px}
 use Rattle.adapter.specs.Access.{Access, Reads, Writes, noted, written}
 use Rattle.adapter.specs.Access.Access.{Reading, Writing}
 use Rattle.adapter.specs.Device.{Device}
-use Rattle.adapter.specs.FirstRead.{first_read}
+use Rattle.adapter.specs.FirstRead.{first_read_device}
 use Rattle.adapter.specs.Memory.{changed}
 use Rattle.adapter.specs.Rules.{HasPort, IsOn, MayWrite, IsStable}
 use Rattle.adapter.specs.Steps.{device_after}
@@ -35,7 +35,7 @@ use Rattle.error_recovery.proofs.Stretching.{told_both}
 -- ---- the way of the device
 
 abbrev broken : Device
-broken = device_after (Fatal 0 27) first_read
+broken = device_after (Fatal 0 27) first_read_device
 
 abbrev seen : Device
 seen = noted (Px (port_at 0) Ssts) 3 broken
@@ -52,7 +52,7 @@ fallen = device_after (Fall 0) stopping
 abbrev stopped : Device
 stopped = noted (Px (port_at 0) Cmd) 0x4010 fallen
 
-sees : Reads (Px (port_at 0) Ssts) 3 first_read seen
+sees : Reads (Px (port_at 0) Ssts) 3 first_read_device seen
 unfolding changed
 sees = record { mid = broken; steps = record { steps = Fatal 0 27 ∷ []; lead = ((refl, inl refl), refl) }; shows = refl; effect = refl }
 
@@ -151,8 +151,8 @@ module _ (laws : Laws)
       stopped = stands;
     }
 
-    agreed : IsRelated first_uses first_read → IsRelated first_uses seen
-    agreed a = laws.fragments.agreed kind (λ uses. uses) first_uses first_read seen tt (laws.fragments.reads kind (Px (port_at 0) Ssts) 3 first_read seen refl sees).followed a
+    agreed : IsRelated first_uses first_read_device → IsRelated first_uses seen
+    agreed a = laws.fragments.agreed kind (λ uses. uses) first_uses first_read_device seen tt (laws.fragments.reads kind (Px (port_at 0) Ssts) 3 first_read_device seen refl sees).followed a
 
     pub may_be_given_up : ((uses : SlotStates) (port slot : ℕ) (u : SlotState) → put uses port slot u port slot ≡ u) → FirstIsKnown → MayBeGivenUp
     may_be_given_up here k = record {

@@ -7,7 +7,7 @@ use Rattle.hba_regs.specs.declared.reg.PortReg.TheVariants.{Ssts}
 use Rattle.hba_regs.specs.declared.reg.Reg.TheVariants.{Px}
 use Rattle.adapter.specs.Device.{Device, Halt, Notes}
 use Rattle.adapter.specs.Device.Halt.{HaltedPlain, HaltedQueued}
-use Rattle.adapter.specs.FirstRead.{first_read}
+use Rattle.adapter.specs.FirstRead.{first_read_device}
 use Rattle.adapter.specs.Memory.{changed}
 use Rattle.refinement.specs.Relation.{port_at}
 use Rattle.refinement.specs.Driven.{IsRelated}
@@ -66,7 +66,7 @@ module _ (laws : Laws) (old : Device) (slot : ℕ) (halt : Halt) (runs : RunsPla
 
 -- ---- the two ports
 
-first_runs : RunsPlaced first_read
+first_runs : RunsPlaced first_read_device
 unfolding changed
 first_runs = record {
   room = record { on = record { ae = refl; no_reset = refl }; there = (omega arith, refl); room = omega arith };
@@ -100,18 +100,18 @@ first_alone plain slot low set = ⊎_elim
 module _ (laws : Laws)
     (here : (uses : SlotStates) (port slot : ℕ) (u : SlotState) → put uses port slot u port slot ≡ u)
     (others : (uses : SlotStates) (port slot : ℕ) (u : SlotState) (other_port other_slot : ℕ) → (other_port ≡ port → other_slot ≡ slot → ⊥) → put uses port slot u other_port other_slot ≡ uses other_port other_slot) where
-  pub plain_may_be_asked : FaultIsSeen first_read 0 HaltedPlain → FirstIsKnown → MayBeAsked false
+  pub plain_may_be_asked : FaultIsSeen first_read_device 0 HaltedPlain → FirstIsKnown → MayBeAsked false
   plain_may_be_asked f k = record {
     device = f.seen;
-    on = (seen_room laws first_read 0 HaltedPlain first_runs f).on;
-    there = (seen_room laws first_read 0 HaltedPlain first_runs f).there;
-    room = (seen_room laws first_read 0 HaltedPlain first_runs f).room;
+    on = (seen_room laws first_read_device 0 HaltedPlain first_runs f).on;
+    there = (seen_room laws first_read_device 0 HaltedPlain first_runs f).there;
+    room = (seen_room laws first_read_device 0 HaltedPlain first_runs f).room;
     agreed = (
       first_uses,
       λ plain slot other. others (λ port at. Free) 0 0 (Serves first_id) 0 slot (λ same z. other z),
-      seen_agreed laws first_read 0 HaltedPlain first_runs f first_uses (record { machine = k.machine; parked = λ port. []; reached = k.reached; knows = k.knows }),
+      seen_agreed laws first_read_device 0 HaltedPlain first_runs f first_uses (record { machine = k.machine; parked = λ port. []; reached = k.reached; knows = k.knows }),
     );
-    may = seen_may laws first_read 0 HaltedPlain first_runs f (inl refl);
+    may = seen_may laws first_read_device 0 HaltedPlain first_runs f (inl refl);
     outstanding = 1;
     alone = first_alone;
     fault = f.fault;

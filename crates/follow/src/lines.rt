@@ -14,7 +14,7 @@ const MOST_NOTICES: u32 = 65_536;
 /// A peer behind two files: one takes a line for each access, and the other gives a line for each. The registers begin
 /// at an address, and the memory at address 0.
 #[derive(Drop)]
-pub struct LinePeer<R, W> {
+pub struct QtestPeer<R, W> {
     from: R,
     to: W,
     registers: u32,
@@ -24,17 +24,17 @@ pub struct LinePeer<R, W> {
     answer: Vec<u8>,
 }
 
-impl<R: BufRead + Drop, W: Write + Drop> LinePeer<R, W> {
+impl<R: BufRead + Drop, W: Write + Drop> QtestPeer<R, W> {
     /// A peer whose registers begin at this address. Nothing is asked yet.
     pub fn new(
         alloc: Global,
         from: R,
         to: W,
         registers: u32,
-    ) -> Result<LinePeer<R, W>, AllocError> {
+    ) -> Result<QtestPeer<R, W>, AllocError> {
         let asked = Vec::with_capacity(alloc, 4 * CHUNK)?;
         let answer = Vec::with_capacity(alloc, 4 * CHUNK)?;
-        Ok(LinePeer {
+        Ok(QtestPeer {
             from,
             to,
             registers,
@@ -105,7 +105,7 @@ impl<R: BufRead + Drop, W: Write + Drop> LinePeer<R, W> {
     }
 }
 
-impl<R: BufRead + Drop, W: Write + Drop> Peer for LinePeer<R, W> {
+impl<R: BufRead + Drop, W: Write + Drop> Peer for QtestPeer<R, W> {
     fn read(&mut self, r: Reg) -> Result<u32, PeerFault> {
         let place = self.place(r);
         self.asked.clear();

@@ -14,16 +14,16 @@
 
 mod differences;
 mod divergence;
-mod fault;
+mod error;
 mod followed;
 mod lines;
 mod peer;
 mod words;
 
 use device_model::{Disks, Model, ModelDisk, PortDisks};
-use fault::{FollowError, unless_memory};
+use error::{FollowError, unless_memory};
 use followed::Followed;
-use lines::LinePeer;
+use lines::QtestPeer;
 use play::{Stop, model_with, play_over, read};
 use sector_store::{DiskStore, FileStore, MemStore};
 use std::fs::{self, File, Files, OpenOptions};
@@ -33,7 +33,7 @@ use std::rt::Env;
 use words::Words;
 
 /// The adapter that is followed, over files.
-type Adapter = Followed<Model<DiskStore>, LinePeer<BufReader<File>, File>>;
+type Adapter = Followed<Model<DiskStore>, QtestPeer<BufReader<File>, File>>;
 
 /// The serial number of the disk of port 0; those of ports 1 to 3 have the port's digit behind it.
 const SERIAL: [u8; 20] = *b"IMAGEDISK           ";
@@ -85,7 +85,7 @@ fn disks(
 fn open_peer(
     rt: &(impl AllocGlobal + Files<File = File>),
     words: &Words,
-) -> Result<LinePeer<BufReader<File>, File>, FollowError> {
+) -> Result<QtestPeer<BufReader<File>, File>, FollowError> {
     let unopened = |error: io::Error| unless_memory(&error, FollowError::Peer);
     let to = OpenOptions::new()
         .write(true)
@@ -93,7 +93,7 @@ fn open_peer(
         .map_err(unopened)?;
     let from = fs::open(rt, words.from.as_str()).map_err(unopened)?;
     let from = BufReader::new(rt.alloc(), from).map_err(unopened)?;
-    Ok(LinePeer::new(rt.alloc(), from, to, words.registers)?)
+    Ok(QtestPeer::new(rt.alloc(), from, to, words.registers)?)
 }
 
 /// Tells where the two strayed, or how many accesses were made, and what the run's end was.
@@ -113,7 +113,7 @@ fn told(
     let _told = eprintln!(rt; "follow: passed over: {}", adapter.passed_over());
     if let Some(divergence) = adapter.divergence() {
         let _told = eprintln!(rt; "follow: strayed: {divergence}");
-        return Err(FollowError::Strayed);
+        return Err(FollowError::Diverged);
     }
     match performed {
         Ok(()) => Ok(()),

@@ -1,5 +1,5 @@
 // The words that the program is started with.
-use crate::fault::{FollowError, unless_memory};
+use crate::error::{FollowError, unless_memory};
 use ata_types::PORTS;
 use std::alloc::Global;
 use std::env;

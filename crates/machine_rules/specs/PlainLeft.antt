@@ -4,7 +4,7 @@ use Rattle.ata_types.specs.declared.Port.{Port}
 use Rattle.machine_rules.specs.declared.history.HistoryRequest.{HistoryRequest}
 use Rattle.machine_rules.specs.declared.history.DiskEvent.{DiskEvent}
 use Rattle.machine_rules.specs.declared.history.DiskEvent.TheVariants.{Touched, Plugged}
-use Rattle.block_machine.specs.Due.{is_writer}
+use Rattle.block_machine.specs.Due.{changes_sectors}
 use Rattle.block_machine.specs.State.{Accepted, Machine}
 use Rattle.block_machine.specs.Steps.{Step, Touch, Replace, newly_accepted}
 use Rattle.block_machine.specs.Left.{IsTouch, Wrote}
@@ -57,7 +57,7 @@ start_filled fill = record {
 
 -- the step is a touch of sector k by this write or trim, of the read's port and accepted before it
 pub record IsWriterNow (read : HistoryRequest) (k : ℕ) (step : Step) (w : HistoryRequest) : Type 0 where
-  pub writes : is_writer w.op ≡ true
+  pub writes : changes_sectors w.op ≡ true
   pub here : w.port ≡ read.port
   pub earlier : w.id.0 < read.id.0
   pub touched : IsTouch step (accepted_of w) k

@@ -6,7 +6,7 @@ ghost use Rattle.machine_rules.specs.PlainLeft as plain_left;
 ghost use Rattle.machine_rules.specs.PlainLeft.{history_of, step_of, accepted_of, start_filled, IsWriterNow, IsLater, IsLastWriter};
 
 use ata_types::{Op, Port, Range, RequestId};
-use block_machine::is_writer;
+use block_machine::changes_sectors;
 
 /// A request of a small history. A write has, in all places of its i-th sector, the byte `fill` + i, modulo 256.
 #[derive(Clone, Copy, Debug, Default, PartialEq, Eq)]
@@ -107,7 +107,7 @@ fn writes(read: &HistoryRequest, sector: u64, happened: &DiskEvent) -> Option<Hi
         DiskEvent::Touched(writer, number) => {
             let touched = writer.range.first.0 as u128 + *number as u128;
             let here = writer.port.0 == read.port.0 && touched == sector as u128;
-            if here && is_writer(writer.op) && writer.id.0 < read.id.0 {
+            if here && changes_sectors(writer.op) && writer.id.0 < read.id.0 {
                 Some(*writer)
             } else {
                 None

@@ -6,7 +6,7 @@ use Rattle.ata_types.specs.declared.request.Frame.{Frame}
 use Rattle.ata_types.specs.declared.request.Op.{Op}
 use Rattle.ata_types.specs.declared.request.Op.TheVariants.{Read, Write, Trim, Flush}
 use Rattle.ata_types.specs.declared.refusal.MemFault.TheVariants as fault
-use Rattle.block_machine.specs.Due.{is_writer}
+use Rattle.block_machine.specs.Due.{changes_sectors}
 use Rattle.block_machine.specs.State.{Block, DiskBytes, Memory, Machine, frame_at, sector_of, is_reader, written_by}
 use Rattle.block_machine.specs.Steps.{Step, Touch, Replace, Store, after_step, put_bytes, put_sector, disks_after}
 use Rattle.block_machine.specs.Left.{after, IsLegal, IsInitial}
@@ -59,15 +59,15 @@ law_bytes_change_by start h (Store client frame offset bytes) f b s legal ne =
 law_bytes_change_by start h _ f b s legal ne = ne refl
 
 pub law_sectors_change_by : (m : Machine) (step : Step) (port : Port) (k b : ℕ) → (after_step m step).disks port k b ≢ m.disks port k b → MayChangeSector step port k
-law_sectors_change_by m (Touch e i block) port k b ne = by (is_writer e.request.asked.op) refl
+law_sectors_change_by m (Touch e i block) port k b ne = by (changes_sectors e.request.asked.op) refl
   where
-    by : (t : Bool) → is_writer e.request.asked.op ≡ t → MayChangeSector (Touch e i block) port k
+    by : (t : Bool) → changes_sectors e.request.asked.op ≡ t → MayChangeSector (Touch e i block) port k
     by false t = absurd (ne (ap (λ (d : Port → DiskBytes). d port k b)
-        (cond-false (is_writer e.request.asked.op) (put_sector e.request.port (sector_of e.request i) (written_by e.request.asked.op e.request.held i) m.disks) m.disks t)))
+        (cond-false (changes_sectors e.request.asked.op) (put_sector e.request.port (sector_of e.request i) (written_by e.request.asked.op e.request.held i) m.disks) m.disks t)))
     by true t = go ((port.0 == e.request.port.0) && (k == sector_of e.request i)) refl
       where
         put : disks_after e.request i m.disks ≡ put_sector e.request.port (sector_of e.request i) (written_by e.request.asked.op e.request.held i) m.disks
-        put = cond-true (is_writer e.request.asked.op) (put_sector e.request.port (sector_of e.request i) (written_by e.request.asked.op e.request.held i) m.disks) m.disks t
+        put = cond-true (changes_sectors e.request.asked.op) (put_sector e.request.port (sector_of e.request i) (written_by e.request.asked.op e.request.held i) m.disks) m.disks t
 
         go : (u : Bool) → ((port.0 == e.request.port.0) && (k == sector_of e.request i)) ≡ u → MayChangeSector (Touch e i block) port k
         go true u =

@@ -15,11 +15,11 @@ use Rattle.ata_types.specs.Grant.{Allows}
 use Rattle.block_machine.specs.declared.due.QueueMode.{QueueMode}
 use Rattle.block_machine.specs.Rules.{IsAllowedCount, frames_for}
 use Rattle.block_machine.specs.Refusals.{Situation}
-use Rattle.block_machine.specs.Due.{is_flush, is_writer}
+use Rattle.block_machine.specs.Due.{is_flush, changes_sectors}
 use Rattle.block_machine.specs.State.{Block, Memory, Accepted, Pending, Machine, block_of, is_reader, written_by}
 use Rattle.block_machine.specs.Steps.{Step, Accept, Issue, Touch, End, Answer, newly_accepted, newly_issued, touch, mark_ended, unanswered_of, MayAccept}
 use Rattle.block_machine.specs.Left.{after, HoldsLeft, IsLeft, HasTouched, Wrote}
-use Rattle.machine_runs.specs.Worked.{AllMayWithoutKeptRule, GoesWrong}
+use Rattle.machine_runs.specs.Worked.{AllMayWithoutKeptRule, ReadsWrongWithoutKeptRule}
 use Rattle.block_machine.proofs.Setting.{client, port, frame, row, two_rows, request, empty, its_row, is_trim, filled_starts, IsFit, acceptable}
 
 -- each frame is filled with its number
@@ -103,8 +103,8 @@ read_fits : (m : Machine) (n : ℕ) → m.rows ≡ two_rows → m.owner (frame (
     → IsFit 0 (meets m) (one_sector n Read).asked
 read_fits m n same own free none ids = fit m n Read same own free none ids (λ e. false≢true (ap is_trim e)) (λ e. false≢true (ap is_flush e)) refl (omega arith, omega arith) refl
 
-touched_only : (w : Accepted) → is_writer w.asked.op ≡ true → HasTouched w 100 0 history → (w ≡ one_sector 2 Write) ⊎ (w ≡ one_sector 1 Write)
-touched_only w op (inl t) = absurd (false≢true (subst (λ (j : Accepted). is_writer j.asked.op ≡ true) (sym t.0.0) op))
+touched_only : (w : Accepted) → changes_sectors w.asked.op ≡ true → HasTouched w 100 0 history → (w ≡ one_sector 2 Write) ⊎ (w ≡ one_sector 1 Write)
+touched_only w op (inl t) = absurd (false≢true (subst (λ (j : Accepted). changes_sectors j.asked.op ≡ true) (sym t.0.0) op))
 touched_only w op (inr (inl t)) = absurd t.0
 touched_only w op (inr (inr (inl t))) = absurd t.0
 touched_only w op (inr (inr (inr (inl t)))) = absurd t.0
@@ -145,7 +145,7 @@ one_touched i lt = or_left _ _ (eq-eqb i 0 (omega arith))
 loose : AllMayWithoutKeptRule start history
 loose = ((((((((((((tt, new start 1 Write (write_fits start 1 refl refl refl refl (omega arith)) refl refl refl), (here (newly_accepted (one_sector 1 Write)), record { here = (0, omega arith, refl); clear = refl; slot = λ _. omega arith })), (here one, tt)), new (after start first_part) 2 Write (write_fits (after start first_part) 2 refl refl refl refl (omega arith)) refl refl refl), (here (newly_accepted (one_sector 2 Write)), record { here = (0, omega arith, refl); clear = refl; slot = λ _. omega arith })), (inl (here two, refl), omega arith, refl, omega arith, λ _ b lt. refl)), (inr (here one), omega arith, refl, omega arith, λ _ b lt. refl)), (inl (here (touch 0 two), refl), one_touched, refl)), (here (mark_ended (touch 0 two)), tt)), new (after start second_part) 3 Read (read_fits (after start second_part) 3 refl refl refl refl (omega arith)) refl refl refl), (here (newly_accepted (one_sector 3 Read)), record { here = (0, omega arith, refl); clear = refl; slot = λ _. omega arith })), (inl (here read, refl), omega arith, refl, omega arith, λ e. absurd (false≢true (sym (ap is_reader e)))))
 
-pub goes_wrong : GoesWrong
+pub goes_wrong : ReadsWrongWithoutKeptRule
 goes_wrong = record {
   start = start;
   history = history;

@@ -1,7 +1,7 @@
 -- What is left for a read that was answered stays what it is, however long the run goes on.
 use Rattle.std.proofs.Common.{◌≡◌, ◌≢◌, ℕ, ◌<◌, true, false, List, ◌∷◌, refl, sym, ap, ◌∙◌, subst, arith, eqb-true, ◌-◌, [], inl, inr}
 use Rattle.std.proofs.lemmas.Bool.{or_left, and_parts, cond-false, false_from_ne_true}
-use Rattle.block_machine.specs.Due.{is_writer}
+use Rattle.block_machine.specs.Due.{changes_sectors}
 use Rattle.block_machine.specs.State.{Block, Accepted, Pending, Machine, sector_of, written_by}
 use Rattle.block_machine.specs.Steps.{Step, Touch, May, IsLiving}
 use Rattle.block_machine.specs.Left.{after, IsLegal, IsInitial, IsTouch, touches, HasTouched, plug_count, disk_number_read, IsLastWritten, IsLeft}
@@ -15,11 +15,11 @@ no_touch m (Touch e i block) may r k gone = false_from_ne_true _ (λ t.
 no_touch m _ may r k gone = refl
 
 -- no earlier write or trim touches a sector that the read touched
-no_earlier : (m : Machine) (step : Step) → May m step → (r : Accepted) (k : ℕ) → Seen m r k → (w : Accepted) → is_writer w.asked.op ≡ true → w.port ≡ r.port → w.id.0 < r.id.0 → IsTouch step w k → ⊥
+no_earlier : (m : Machine) (step : Step) → May m step → (r : Accepted) (k : ℕ) → Seen m r k → (w : Accepted) → changes_sectors w.asked.op ≡ true → w.port ≡ r.port → w.id.0 < r.id.0 → IsTouch step w k → ⊥
 no_earlier m (Touch e i block) may r k seen w writes here less t =
     let less_e : e.request.id.0 < r.id.0 = subst (λ (a : Accepted). a.id.0 < r.id.0) (sym t.0) less in
     let here_e : e.request.port ≡ r.port = ap (λ (a : Accepted). a.port) t.0 ∙ here in
-    let writes_e : is_writer e.request.asked.op ≡ true = subst (λ (a : Accepted). is_writer a.asked.op ≡ true) (sym t.0) writes in
+    let writes_e : changes_sectors e.request.asked.op ≡ true = subst (λ (a : Accepted). changes_sectors a.asked.op ≡ true) (sym t.0) writes in
     let at : sector_of e.request i ≡ k = ap (λ (a : Accepted). sector_of a i) t.0 ∙ t.1 in
     seen.order e (runs_lives m e may.0) less_e
     (conflict_at e.request r k here_e (or_left _ _ writes_e) (omega (arith, at)) (omega (arith, at, may.1)) seen.from seen.to)

@@ -12,7 +12,7 @@ use Rattle.block_machine.specs.Ports.{Evidence}
 use Rattle.block_machine.specs.State.{Block, DiskBytes, Accepted, block_of, is_reader, unanswered}
 use Rattle.block_machine.specs.Steps.{Step, Accept, Issue, Touch, End, Answer, Unplug, Replace, Store, Load, newly_accepted, newly_issued, touch, mark_ended, HasHeld, SameBytes}
 use Rattle.block_machine.specs.Events.{Submit, StoreAt, LoadAt, Service, Device, Submitted, Stored, Loaded, Served, Stepped, CallRecord, Happens, IsRun, abstract_after_all, situation_of, steps_of, ShowsDisk}
-use Rattle.machine_runs.specs.Worked.{FindsTheFlushed, MayComeBack, ReadsOneOf}
+use Rattle.machine_runs.specs.Worked.{FindsFlushedOrLater, MayComeBack, ReadsOneOf}
 use Rattle.block_machine.proofs.Members.{contains_none, contains_here, contains_there, contains_cases}
 use Rattle.block_machine.proofs.Setting.{client, port, frame, request, empty_starts, acceptable, granted}
 use Rattle.machine_runs.proofs.Scene.{none, mode, first, at_port, ports_in, id, call, reply, sector_request, done, served, is_open, IsQuiet, row_zero, fit_write, fit_read, fit_flush, new, one_issued, none_there, one_told, none_told, one_touched, ports_fit, none_dead, none_unplugged, plain_service, ready_port, shows_none, changed_here, absent_not_dead, none_ended}
@@ -389,7 +389,7 @@ finds disk back = record {
         cond-true (nat_le 0 (0 + b) && nat_lt (0 + b) 512) (disk 100 ((0 + b) - 0)) ((abstract_after_all first (run12 disk)).machine.memory (frame 101) (0 + b))
         (and_from _ _ (le-leb 0 (0 + b) (omega arith)) (lt-ltb (0 + b) 512 (omega (arith, lt)))) ∙ ap (disk 100) all ∙ same b lt
 
-pub finds_the_flushed : FindsTheFlushed
+pub finds_the_flushed : FindsFlushedOrLater
 finds_the_flushed = record {
   first = first;
   early = run8;

@@ -7,20 +7,20 @@ use Rattle.ata_types.specs.declared.request.Op.TheVariants.{Read, Write, Flush}
 use Rattle.ata_types.specs.declared.request.Outcome.TheVariants.{Ok, DeviceError, Aborted, Unplugged, PortDead}
 use Rattle.block_machine.specs.declared.due.QueueMode.{QueueMode}
 use Rattle.block_machine.specs.State.{DiskBytes, Memory, Accepted, Pending, Machine, block_of, sector_of, unanswered}
-use Rattle.block_machine.specs.Due.{IsDue, must_keep_order}
+use Rattle.block_machine.specs.Due.{IsDue, conflict}
 use Rattle.block_machine.specs.Steps.{Step, Issue, Again, Answer, Unplug, Replace, May, AllTouched, SameBytes}
 use Rattle.block_machine.specs.Left.{after, IsInitial, AllTellSectors, HoldsLeft, TellsSectors}
 use Rattle.durability.specs.Durable.{IsFlushed}
 use Rattle.block_machine.specs.Events.{AbstractState, CallRecord, Service, Tick, Reset, Device, Served, WasReset, IsRun, accepts_of, reply_of, steps_of, abstract_after_all}
 
 -- the disk that was last in at the port is put in again after this run, with these bytes
-abbrev pub same_again : AbstractState → List (CallRecord (Unit {0})) → Port → DiskBytes → Step
-same_again first run port disk = Replace port ((abstract_after_all first run).machine.disk_ids port)
+abbrev pub replug_of : AbstractState → List (CallRecord (Unit {0})) → Port → DiskBytes → Step
+replug_of first run port disk = Replace port ((abstract_after_all first run).machine.disk_ids port)
     ((abstract_after_all first run).machine.sizes port) disk
 
 -- with a volatile cache it may come back so
 abbrev pub MayComeBack : AbstractState → List (CallRecord (Unit {0})) → Port → DiskBytes → Type 0
-MayComeBack first run port disk = TellsSectors (abstract_after_all first run).machine (same_again first run port disk)
+MayComeBack first run port disk = TellsSectors (abstract_after_all first run).machine (replug_of first run port disk)
 
 -- The run goes on: the disk is put in again with these bytes, a service boots the port, and a read of the first sector
 -- of the two writes is answered Ok. Its frame then has the bytes of the one, or those of the other.
@@ -31,7 +31,7 @@ pub record ReadsOneOf (first : AbstractState) (run : List (CallRecord (Unit {0})
   pub late : List (CallRecord (Unit {0}))
   pub runs : IsRun first (late ++ service ∷ plug ∷ run)
   pub told : AllTellSectors first.machine (steps_of (late ++ service ∷ plug ∷ run))
-  pub comes : plug.steps ≡ same_again first run one.port disk ∷ []
+  pub comes : plug.steps ≡ replug_of first run one.port disk ∷ []
   pub serves : service.ask ≡ Service
   pub boots : (abstract_after_all first (service ∷ plug ∷ run)).ports.state one.port ≡ Ready
   pub read : Pending
@@ -49,7 +49,7 @@ pub record ReadsOneOf (first : AbstractState) (run : List (CallRecord (Unit {0})
 -- Ok too, and not flushed. The disk is taken out, and a service notices. Whatever the disk holds when it comes back, as
 -- one with a volatile cache may, a read then finds the bytes of the one write or of the other; and it may come back
 -- with either.
-pub record FindsTheFlushed : Type 0 where
+pub record FindsFlushedOrLater : Type 0 where
   pub first : AbstractState
   pub early : List (CallRecord (Unit {0}))
   pub unplug : CallRecord (Unit {0})
@@ -96,7 +96,7 @@ pub record WaitsItsTurn : Type 0 where
   pub both : (abstract_after_all first early).machine.book ≡ issued ∷ waits ∷ []
   pub is_issued : issued.issued ≡ true
   pub is_waiting : waits.issued ≡ false
-  pub conflicts : must_keep_order (unanswered issued) (unanswered waits) ≡ true
+  pub conflicts : conflict (unanswered issued) (unanswered waits) ≡ true
   pub done : Pending
   pub answers : Contains call.steps (Answer done Ok)
   pub its : done.request ≡ issued.request
@@ -116,7 +116,7 @@ pub record WaitsItsTurn : Type 0 where
 -- In a run of calls three ticks go by after a request was issued, and the third issues it again. A reset is then stuck,
 -- and a service answers the request PortDead: it is kept, and its frame stays lent. A reset that ends gives the frame
 -- back.
-pub record EndsWithAReset : Type 0 where
+pub record QuarantineEndsWithReset : Type 0 where
   pub first : AbstractState
   pub asked : List (CallRecord (Unit {0}))
   pub one : CallRecord (Unit {0})
@@ -152,7 +152,7 @@ pub record EndsWithAReset : Type 0 where
 -- first port's disk is taken out. One service then answers the first port's request Unplugged, and, since the other
 -- port failed too, answers what had ended there Ok, tells the fault of one request, and issues the last anew. That
 -- fails with its port each time, and is aborted after its fourth issue.
-pub record MeetsTrouble : Type 0 where
+pub record MeetsErrors : Type 0 where
   pub first : AbstractState
   pub asked : List (CallRecord (Unit {0}))
   pub service : CallRecord (Unit {0})
@@ -193,7 +193,7 @@ pub record MeetsTrouble : Type 0 where
 
 -- In a run of calls a request is two ticks old, and the device is told to end it. The third tick finds its port hung,
 -- and answers the request Ok.
-pub record EndsAtATick : Type 0 where
+pub record IsAnsweredByTick : Type 0 where
   pub first : AbstractState
   pub early : List (CallRecord (Unit {0}))
   pub ending : CallRecord (Unit {0})
@@ -298,7 +298,7 @@ AllMayWithoutKeptRule start (step ∷ past) = AllMayWithoutKeptRule start past
     × MayWithoutKeptRule (after start past) step
 
 -- a read with all its sectors touched that doesn't have what was left, though it moved its disk's bytes
-pub record GoesWrong : Type 0 where
+pub record ReadsWrongWithoutKeptRule : Type 0 where
   pub start : Machine
   pub history : List Step
   pub read : Pending

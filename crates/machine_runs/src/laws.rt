@@ -12,7 +12,7 @@ ghost use Rattle.ata_types.specs.declared.request.Outcome.{Outcome};
 ghost use Rattle.ata_types.specs.declared.request.Outcome.TheVariants.{Ok, Aborted};
 ghost use Rattle.ata_types.specs.declared.request.Reply.{Reply};
 ghost use Rattle.ata_types.specs.declared.grant.GrantRow.{GrantRow};
-ghost use Rattle.block_machine.specs.Due.{must_keep_order};
+ghost use Rattle.block_machine.specs.Due.{conflict};
 ghost use Rattle.block_machine.specs.State.{Block, Accepted, Pending, Machine, sector_of, waiting};
 ghost use Rattle.block_machine.specs.Steps.{Step, Answer, HasGrant, after_step, IsLiving, MayStillMove};
 ghost use Rattle.block_machine.specs.Left.{IsInitial, IsLegal, HasTouched, HasTouchedSinceIssue, HasEndedSinceIssue, IsLeft, after, bytes_when_plugged, disk_number_read};
@@ -20,7 +20,7 @@ ghost use Rattle.block_machine.specs.Confined.{GrantsNoWrites, WasAccepted, MayC
 ghost use Rattle.block_machine.specs.Events.{AbstractState, CallRecord, AllIssued, Happens, EveryReadHolds, IsLawful, IsRun, IsStillStuck, accepts_it, answers_it, issues_it, gives_id, replies_of, all_replies, WasGiven, abstract_after_all, steps_of};
 ghost use Rattle.machine_runs.specs.Told.{AsksFor, CameFrom, CallAnswersOk, WasAsked, waits_again};
 ghost use Rattle.machine_runs.specs.Revoked.{IsTakenBack};
-ghost use Rattle.machine_runs.specs.Worked.{FindsTheFlushed, WaitsItsTurn, EndsWithAReset, MeetsTrouble, EndsAtATick, IsTakenOutBeforeATick, GoesAgainInResets, DiesInAService, GoesWrong};
+ghost use Rattle.machine_runs.specs.Worked.{FindsFlushedOrLater, WaitsItsTurn, QuarantineEndsWithReset, MeetsErrors, IsAnsweredByTick, IsTakenOutBeforeATick, GoesAgainInResets, DiesInAService, ReadsWrongWithoutKeptRule};
 
 /// Where no grant lets its client write or trim, what is left on a sector for a read is what the disk that it found
 /// there held when it was put in.
@@ -52,7 +52,7 @@ pub fn law_left_stays()
 
 /// A run exists in which ticks, a reset that is stuck, and one that ends do what they have to.
 pub fn law_a_reset_run_exists()
-    ensures { EndsWithAReset }
+    ensures { QuarantineEndsWithReset }
 {}
 
 /// Where a run answers a request Ok, each of its sectors was touched, and since then the request wasn't issued again.
@@ -250,7 +250,7 @@ pub fn law_conflicting_requests_take_turns()
         → IsLegal start history
         → IsLiving (after start history) earlier → MayStillMove (after start history) later
         → earlier.request.id.0 < later.request.id.0
-        → must_keep_order (waiting earlier.request) (waiting later.request) ≡ true
+        → conflict (waiting earlier.request) (waiting later.request) ≡ true
         → ⊥ }
 {}
 
@@ -262,7 +262,7 @@ pub fn law_a_start_exists()
 /// A run exists in which a read finds a flushed write or a later one, whichever the disk kept while it was out: so the
 /// laws on reads and on flushed writes have something to say.
 pub fn law_a_worked_run_exists()
-    ensures { FindsTheFlushed }
+    ensures { FindsFlushedOrLater }
 {}
 
 /// A run exists in which a request waits for another, and is issued by the call that answers that one.
@@ -286,12 +286,12 @@ pub fn law_a_revoking_run_exists()
 /// A run exists in which two ports serve requests, the one fails and the other loses its disk, and a fault, an
 /// unplugged request, one that is issued anew and one that is aborted are told as they have to be.
 pub fn law_a_troubled_run_exists()
-    ensures { MeetsTrouble }
+    ensures { MeetsErrors }
 {}
 
 /// A run exists in which a tick answers a request that had ended.
 pub fn law_a_ticked_run_exists()
-    ensures { EndsAtATick }
+    ensures { IsAnsweredByTick }
 {}
 
 /// A run exists in which a tick finds a port hung whose disk was taken out, and tells its requests Unplugged, issued or
@@ -313,5 +313,5 @@ pub fn law_a_dying_run_exists()
 
 /// Without the rule on kept requests a read may go wrong.
 pub fn law_kept_requests_matter()
-    ensures { GoesWrong }
+    ensures { ReadsWrongWithoutKeptRule }
 {}

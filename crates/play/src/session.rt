@@ -22,7 +22,7 @@ use block_server::laws::law_runs_keep_their_promise;
 use block_server::{Sayings, Server};
 use configuration::{Config, ConfigFault, FaultKind};
 use device_model::{Model, NoMemory, Watched};
-use script::{BadLine, CallPlace, check_script, first_line, read_asked};
+use script::{BadLine, CallBuffer, check_script, first_line, read_asked};
 use sector_store::SectorStore;
 use std::alloc::{AllocFailed, Global};
 use std::{io, slice};
@@ -247,7 +247,7 @@ fn perform<A: Watched, W: io::Write>(
         text: Vec::new(alloc),
     };
     let mut shown = 0;
-    let mut asked = CallPlace::new();
+    let mut asked = CallBuffer::new();
     let mut rest = Some(script);
     while let Some(text) = rest {
         let (line, after) = first_line(text);

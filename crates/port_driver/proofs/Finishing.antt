@@ -17,7 +17,7 @@ use Rattle.adapter.specs.Device.{Device}
 use Rattle.adapter.specs.Rules.{HasPort}
 use Rattle.block_machine.specs.declared.due.QueueMode.{QueueMode}
 use Rattle.refinement.specs.Slots.{IsOver}
-use Rattle.port_driver.specs.Ports.{AnswersDoneSlots, AnswersSlot, HasReadyPort, HasDonePort, with_answers, with_part}
+use Rattle.port_driver.specs.Ports.{AnswersDoneSlots, AnswersSlot, HasReadyPort, HasDonePort, with_answers, with_port_slots}
 use Rattle.dma_frames.specs.Table.{LendsOnly, Table}
 use Rattle.host_boot.specs.Taken.{probe_result_of}
 use Rattle.request_queue.specs.Entries.{Held, IsEarlier, BookIsInOrder, has_id, without_entry}
@@ -262,7 +262,7 @@ module _ (s : ServerState) (port : Port) (done : ℕ) (before after : List Reply
   pub lends_on : (mode : QueueMode) → mode_in s port ≡ mode → HasReadyPort (with_answers s table book slots port) s.device book slots port mode
   lends_on mode mode_is = record { kept = lent.kept; ready = lent.ready; device_is = refl; book_is = refl; slots_are = lent.slots_are; mode_is = mode_is }
 
-  pub finishes : (device : Device) (later : List Held) (u : PortSlots) → IssuesAll port (with_answers s table book slots port) (with_part (with_answers s table book slots port) device later u port)
+  pub finishes : (device : Device) (later : List Held) (u : PortSlots) → IssuesAll port (with_answers s table book slots port) (with_port_slots (with_answers s table book slots port) device later u port)
       → (number : ℕ) → number ≡ port.0 → AnswersDone port done (map done_reply answers.requests) s (record s { device = device; table = table; slots = set s.slots number u; book = later })
   finishes device later u issues number is = record {
     requests = answers.requests;

@@ -11,7 +11,7 @@ use Rattle.identify.specs.declared.wanted.Wanted.{Wanted}
 use Rattle.identify.specs.declared.wanted.Wanted.TheVariants.{Nothing}
 use Rattle.server_history.specs.Server.{ServerState, no_slots, plain_mode}
 use Rattle.slots.specs.Uses.{PortSlots}
-use Rattle.port_driver.specs.Parts.{HasPortAt, with_parts}
+use Rattle.port_driver.specs.Parts.{HasPortAt, with_served_port}
 use Rattle.port_driver.specs.declared.served_port.ServedPort.{ServedPort}
 use Rattle.port_driver.specs.declared.served_port.Shared.{Shared}
 
@@ -28,8 +28,8 @@ module _ (s : ServerState) (port : Port) (p : ServedPort) (has : HasPortAt s por
   same_found : set s.ports port.0 p.found ≡ s.ports
   same_found = put_back s.ports port.0 Unserved p.found has.found_is
 
-  same_last_disk : set s.remembered port.0 p.last_disk ≡ s.remembered
-  same_last_disk = put_back s.remembered port.0 None p.last_disk has.last_disk_is
+  same_remembered : set s.remembered port.0 p.remembered ≡ s.remembered
+  same_remembered = put_back s.remembered port.0 None p.remembered has.remembered_is
 
   same_mode : set s.modes port.0 p.mode ≡ s.modes
   same_mode = put_back s.modes port.0 plain_mode p.mode has.mode_is
@@ -42,28 +42,28 @@ module _ (s : ServerState) (port : Port) (p : ServedPort) (has : HasPortAt s por
 
   module _ (device : Device) (shared : Shared) where
     -- nothing of the port changed
-    pub with_same : with_parts s device shared port p ≡ record s { device = device; table = shared.table.value; book = shared.book }
-    with_same = λ i. record (with_parts s device shared port p) {
+    pub with_same : with_served_port s device shared port p ≡ record s { device = device; table = shared.table.value; book = shared.book }
+    with_same = λ i. record (with_served_port s device shared port p) {
       wanted = same_wanted i;
       ports = same_found i;
-      remembered = same_last_disk i;
+      remembered = same_remembered i;
       modes = same_mode i;
       slots = same_slots i;
       kept = same_kept i;
     }
 
     -- its slots are others
-    pub with_slots : (slots : PortSlots) → with_parts s device shared port (record p { slots = slots })
+    pub with_slots : (slots : PortSlots) → with_served_port s device shared port (record p { slots = slots })
         ≡ record s { device = device; table = shared.table.value; slots = set s.slots port.0 slots; book = shared.book }
     with_slots slots = λ i. record (with_same i) { slots = set s.slots port.0 slots }
 
     -- other loans are kept of it
-    pub with_kept : (kept : List Lending) → with_parts s device shared port (record p { kept = kept })
+    pub with_kept : (kept : List Lending) → with_served_port s device shared port (record p { kept = kept })
         ≡ record s { device = device; table = shared.table.value; kept = set s.kept port.0 kept; book = shared.book }
     with_kept kept = λ i. record (with_same i) { kept = set s.kept port.0 kept }
 
     -- it was found anew
-    pub with_found : (found : ProbeResult) (mode : QueueMode) (slots : PortSlots) → with_parts s device shared port (record p { found = found; mode = mode; slots = slots }) ≡ record s {
+    pub with_found : (found : ProbeResult) (mode : QueueMode) (slots : PortSlots) → with_served_port s device shared port (record p { found = found; mode = mode; slots = slots }) ≡ record s {
       device = device;
       table = shared.table.value;
       ports = set s.ports port.0 found;
@@ -74,24 +74,24 @@ module _ (s : ServerState) (port : Port) (p : ServedPort) (has : HasPortAt s por
     with_found found mode slots = λ i. record (with_same i) { ports = set s.ports port.0 found; modes = set s.modes port.0 mode; slots = set s.slots port.0 slots }
 
     -- only the disk that is wanted is the same
-    pub with_other : (q : ServedPort) → q.wanted ≡ p.wanted → with_parts s device shared port q ≡ record s {
+    pub with_other : (q : ServedPort) → q.wanted ≡ p.wanted → with_served_port s device shared port q ≡ record s {
       device = device;
       table = shared.table.value;
       ports = set s.ports port.0 q.found;
-      remembered = set s.remembered port.0 q.last_disk;
+      remembered = set s.remembered port.0 q.remembered;
       modes = set s.modes port.0 q.mode;
       slots = set s.slots port.0 q.slots;
       kept = set s.kept port.0 q.kept;
       book = shared.book;
     }
-    with_other q is = ap (λ (list : List Wanted). record (with_parts s device shared port q) { wanted = list }) (ap (set s.wanted port.0) is ∙ same_wanted)
+    with_other q is = ap (λ (list : List Wanted). record (with_served_port s device shared port q) { wanted = list }) (ap (set s.wanted port.0) is ∙ same_wanted)
 
 -- it has the port on another device
 pub on_device : (s : ServerState) (device : Device) (number : ℕ) (p : ServedPort) → HasPortAt s number p → HasPortAt (record s { device = device }) number p
 on_device s device number p has = record {
   wanted_is = has.wanted_is;
   found_is = has.found_is;
-  last_disk_is = has.last_disk_is;
+  remembered_is = has.remembered_is;
   mode_is = has.mode_is;
   slots_are = has.slots_are;
   kept_is = has.kept_is;

@@ -22,13 +22,13 @@ use Rattle.port_driver.specs.declared.served_port.Shared.{Shared}
 
 -- The port's requests were resolved.
 pub settles_port : (s : ServerState) (shared : Shared) (port : Port) (p : ServedPort) → HasPortAndShared s s.device shared port p → (table : Table) (book : List Held) (kept : List Lending)
-    → (revalidation : Revalidation) → IsResetRevalidation p.last_disk p.found revalidation → (its : List Reply)
+    → (revalidation : Revalidation) → IsResetRevalidation p.remembered p.found revalidation → (its : List Reply)
     → AreResolved (disposition_of None revalidation) (requests_of port shared.book) its (holding shared.book shared.table.value p.kept) (holding book table kept)
     → SettlesPort port its s (record s { table = table; kept = set s.kept port.0 kept; book = book })
 settles_port s shared port p has table book kept revalidation expects its meets = record {
   revalidation = revalidation;
-  expects = subst (λ (x : Option DiskInfo). IsResetRevalidation x (probe_result_of s.ports port.0) revalidation) (sym has.port_is.last_disk_is)
-      (subst (λ (x : ProbeResult). IsResetRevalidation p.last_disk x revalidation) (sym has.port_is.found_is) expects);
+  expects = subst (λ (x : Option DiskInfo). IsResetRevalidation x (probe_result_of s.ports port.0) revalidation) (sym has.port_is.remembered_is)
+      (subst (λ (x : ProbeResult). IsResetRevalidation p.remembered x revalidation) (sym has.port_is.found_is) expects);
   now = now;
   meets = subst (λ (x : List Held). AreResolved disposition (requests_of port x) its (record { book = x; table = s.table; kept = kept_at s.kept port.0 }) now) (sym has.book_is)
       (subst (λ (x : Table). AreResolved disposition (requests_of port shared.book) its (record { book = shared.book; table = x; kept = kept_at s.kept port.0 }) now) (sym has.table_is)

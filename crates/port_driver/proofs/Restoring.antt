@@ -41,7 +41,7 @@ use Rattle.port_control.specs.declared.events.PortError.{PortError}
 use Rattle.port_control.specs.declared.events.PortError.TheVariants.{FatalError, TaskFileError, TimedOut, LinkChanged}
 use Rattle.slots.specs.Uses.{PortSlots, use_at}
 use Rattle.port_driver.specs.Dispositions.{HavePlaces, BookIsSound, holding}
-use Rattle.port_driver.specs.Ports.{HasFoundPort, with_part}
+use Rattle.port_driver.specs.Ports.{HasFoundPort, with_port_slots}
 use Rattle.port_driver.specs.Recovery.{HandlesPortErrorOf, CompletesAndRecovers, SeesPortError}
 use Rattle.port_driver.proofs.Sending.{served_ready}
 
@@ -134,7 +134,7 @@ pub record Ordered (x : Recovery) (y : Restoration x) : Type 0 where
   pub three : Device
   pub book : List Held
   pub slots : PortSlots
-  pub issues : IssuesAll x.port (then x y) (with_part (then x y) three book slots x.port)
+  pub issues : IssuesAll x.port (then x y) (with_port_slots (then x y) three book slots x.port)
   pub all : List Reply
   pub its : List Reply
   pub after : List Reply
@@ -252,7 +252,7 @@ module _ (x : Recovery) where
           let w = ap length told_all ∙ length-append x.before (map done_reply x.rest.error_handled.requests ++ y.later) in
           omega (arith, a, n, p, w)
 
-      pub recovers_port : HandlesPortError x.port o.its x.s (with_part (then x y) o.three o.book o.slots x.port)
+      pub recovers_port : HandlesPortError x.port o.its x.s (with_port_slots (then x y) o.three o.book o.slots x.port)
       unfolding settled_after
       recovers_port = record {
         later = y.later;
@@ -264,13 +264,13 @@ module _ (x : Recovery) where
       }
 
       -- it goes on, whatever the trouble was
-      goes_on : (its_trouble : PortError) → x.rest.error_handled.port_error ≡ its_trouble → SettledInvariant (with_part (then x y) o.three o.book o.slots x.port)
+      goes_on : (its_trouble : PortError) → x.rest.error_handled.port_error ≡ its_trouble → SettledInvariant (with_port_slots (then x y) o.three o.book o.slots x.port)
       unfolding settled_after recovers_port
-      goes_on TaskFileError is = (x.laws.error_handled x.s (with_part (then x y) o.three o.book o.slots x.port) x.port o.its o.settled x.sees.ready recovers_port (λ hung. let z : TaskFileError ≡ TimedOut = sym is ∙ hung in cc) x.rest.followed).1
-      goes_on FatalError is = (x.laws.error_handled x.s (with_part (then x y) o.three o.book o.slots x.port) x.port o.its o.settled x.sees.ready recovers_port (λ hung. let z : FatalError ≡ TimedOut = sym is ∙ hung in cc) x.rest.followed).1
-      goes_on LinkChanged is = (x.laws.error_handled x.s (with_part (then x y) o.three o.book o.slots x.port) x.port o.its o.settled x.sees.ready recovers_port (λ hung. let z : LinkChanged ≡ TimedOut = sym is ∙ hung in cc) x.rest.followed).1
-      goes_on TimedOut is = (x.laws.restarted x.s (with_part (then x y) o.three o.book o.slots x.port) x.port o.its o.settled x.sees.ready recovers_port is).1
+      goes_on TaskFileError is = (x.laws.error_handled x.s (with_port_slots (then x y) o.three o.book o.slots x.port) x.port o.its o.settled x.sees.ready recovers_port (λ hung. let z : TaskFileError ≡ TimedOut = sym is ∙ hung in cc) x.rest.followed).1
+      goes_on FatalError is = (x.laws.error_handled x.s (with_port_slots (then x y) o.three o.book o.slots x.port) x.port o.its o.settled x.sees.ready recovers_port (λ hung. let z : FatalError ≡ TimedOut = sym is ∙ hung in cc) x.rest.followed).1
+      goes_on LinkChanged is = (x.laws.error_handled x.s (with_port_slots (then x y) o.three o.book o.slots x.port) x.port o.its o.settled x.sees.ready recovers_port (λ hung. let z : LinkChanged ≡ TimedOut = sym is ∙ hung in cc) x.rest.followed).1
+      goes_on TimedOut is = (x.laws.restarted x.s (with_port_slots (then x y) o.three o.book o.slots x.port) x.port o.its o.settled x.sees.ready recovers_port is).1
 
-      pub error_handled : HandlesPortErrorOf x.port x.port_error o.its x.s (with_part (then x y) o.three o.book o.slots x.port) × SettledInvariant (with_part (then x y) o.three o.book o.slots x.port)
+      pub error_handled : HandlesPortErrorOf x.port x.port_error o.its x.s (with_port_slots (then x y) o.three o.book o.slots x.port) × SettledInvariant (with_port_slots (then x y) o.three o.book o.slots x.port)
       unfolding settled_after recovers_port
       error_handled = (record { handling = recovers_port; trouble_is = x.rest.trouble_is; followed = x.rest.followed }, goes_on x.port_error x.rest.trouble_is)

@@ -15,7 +15,7 @@ use Rattle.block_machine.specs.Due.{AreAllDueInOrder, IsDue, is_plain}
 use Rattle.block_machine.specs.Rules.{IsAllowedCount, frames_for}
 use Rattle.block_machine.specs.declared.due.QueueMode.{QueueMode}
 use Rattle.block_machine.specs.declared.due.Unanswered.{Unanswered}
-use Rattle.port_driver.specs.Ports.{HasReadyPort, HasFoundPort, MayGoIn, with_part}
+use Rattle.port_driver.specs.Ports.{HasReadyPort, HasFoundPort, MayGoIn, with_port_slots}
 use Rattle.dma_frames.specs.Table.{Table}
 use Rattle.adapter.specs.Rules.{HasPort}
 use Rattle.refinement.specs.Driven.{RelatesWith}
@@ -89,17 +89,17 @@ module _ (s : ServerState) (device : Device) (book : List Held) (slots : PortSlo
   in_list = let f = l.kept.four in let p = there.0 in omega (arith, f, p)
 
   -- what is lent is where it was
-  pub lent_same : with_part s device book slots port ≡ s
+  pub lent_same : with_port_slots s device book slots port ≡ s
   lent_same =
       (λ i. record s { device = sym l.device_is i; slots = set s.slots port.0 (sym l.slots_are i); book = sym l.book_is i })
       ∙ ap (λ (list : List PortSlots). record s { slots = list }) (set-get_or s.slots port.0 no_slots)
 
   -- other parts in its place
   module _ (new : Device) (later : List Held) (used : PortSlots) where
-    pub lent_on_from : InCallInvariant (with_part s new later used port) → HasReadyPort (with_part s new later used port) new later used port mode
+    pub lent_on_from : InCallInvariant (with_port_slots s new later used port) → HasReadyPort (with_port_slots s new later used port) new later used port mode
     lent_on_from kept = record { kept = kept; ready = l.ready; device_is = refl; book_is = refl; slots_are = get_or-set_same s.slots port.0 used no_slots in_list; mode_is = l.mode_is }
 
-    pub lent_again : (d : Device) (b : List Held) (u : PortSlots) → with_part (with_part s new later used port) d b u port ≡ with_part s d b u port
+    pub lent_again : (d : Device) (b : List Held) (u : PortSlots) → with_port_slots (with_port_slots s new later used port) d b u port ≡ with_port_slots s d b u port
     lent_again d b u = ap (λ (list : List PortSlots). record s { device = d; slots = list; book = b }) (set-set s.slots port.0 used u)
 
   module _ (id : RequestId) (turn : IsTurn book port mode id) where
@@ -176,7 +176,7 @@ module _ (s : ServerState) (device : Device) (book : List Held) (slots : PortSlo
     -- it was issued
     pub sent : (slot : ℕ) → slot < 32 → IsLowestFree slots slot → (new : Device) → IssuesTask port slot (task_of mode e) e.frames device new
         → IsStored new port.0 slot (meaning_of (task_of mode e)) (addresses_of port.0 e.entry.op e.entry.range.count e.frames) → HasBlockOf e.entry.op e.entry.range port.0 new.memory → (later : List Held) → later ≡ map (at_entry id issue) book
-        → (used : PortSlots) → used ≡ with_use slots slot (Some (record { id = id; queued = not (is_plain mode e.entry.op) })) → IssuesOne port id s (with_part s new later used port)
+        → (used : PortSlots) → used ≡ with_use slots slot (Some (record { id = id; queued = not (is_plain mode e.entry.op) })) → IssuesOne port id s (with_port_slots s new later used port)
     sent slot small lowest new issues stored block later later_is used used_is = record {
       request = e;
       here = here;
@@ -239,11 +239,11 @@ module _ (s : ServerState) (device : Device) (book : List Held) (slots : PortSlo
 -- on another nothing is due, and so nothing issued
 pub none_issued : ((s : ServerState) (port : Port) → InCallInvariant s → ((info : DiskInfo) → probe_result_of s.ports port.0 ≡ FoundReady info → ⊥) → due_ids (mode_in s port) port (asks_of s.book) ≡ [])
     → (s : ServerState) (device : Device) (book : List Held) (slots : PortSlots) (port : Port) (mode : QueueMode) (found : ProbeResult) → HasFoundPort s device book slots port mode found → ((info : DiskInfo) → found ≡ FoundReady info → ⊥)
-    → IssuesAll port s (with_part s device book slots port)
+    → IssuesAll port s (with_port_slots s device book slots port)
 none_issued undue s device book slots port mode found l unready =
-    subst (λ (ids : List RequestId). IssuesEach port ids s (with_part s device book slots port)) (sym (undue s port l.kept (λ info is. unready info (sym l.found_is ∙ is)))) same
+    subst (λ (ids : List RequestId). IssuesEach port ids s (with_port_slots s device book slots port)) (sym (undue s port l.kept (λ info is. unready info (sym l.found_is ∙ is)))) same
   where
-    same : with_part s device book slots port ≡ s
+    same : with_port_slots s device book slots port ≡ s
     same =
         (λ i. record s { device = sym l.device_is i; slots = set s.slots port.0 (sym l.slots_are i); book = sym l.book_is i })
         ∙ ap (λ (list : List PortSlots). record s { slots = list }) (set-get_or s.slots port.0 no_slots)

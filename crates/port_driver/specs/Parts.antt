@@ -19,7 +19,7 @@ use Rattle.port_driver.specs.declared.served_port.Shared.{Shared}
 pub record HasPortAt (s : ServerState) (number : ℕ) (p : ServedPort) : Type 0 where
   pub wanted_is : wanted_of s.wanted number ≡ p.wanted
   pub found_is : probe_result_of s.ports number ≡ p.found
-  pub last_disk_is : remembered_at s.remembered number ≡ p.last_disk
+  pub remembered_is : remembered_at s.remembered number ≡ p.remembered
   pub mode_is : mode_at s.modes number ≡ p.mode
   pub slots_are : slots_at s.slots number ≡ p.slots
   pub kept_is : kept_at s.kept number ≡ p.kept
@@ -33,13 +33,13 @@ pub record HasPortAndShared (s : ServerState) (device : Device) (shared : Shared
   pub port_is : HasPortAt s port.0 p
 
 -- the server, with these in their place
-abbrev pub with_parts : ServerState → Device → Shared → Port → ServedPort → ServerState
-with_parts s device shared port p = record s {
+abbrev pub with_served_port : ServerState → Device → Shared → Port → ServedPort → ServerState
+with_served_port s device shared port p = record s {
   device = device;
   table = shared.table.value;
   wanted = slice_set s.wanted port.0 p.wanted;
   ports = slice_set s.ports port.0 p.found;
-  remembered = slice_set s.remembered port.0 p.last_disk;
+  remembered = slice_set s.remembered port.0 p.remembered;
   modes = slice_set s.modes port.0 p.mode;
   slots = slice_set s.slots port.0 p.slots;
   kept = slice_set s.kept port.0 p.kept;
@@ -85,7 +85,7 @@ abbrev pub no_port : ServedPort
 no_port = record {
   wanted = Nothing;
   found = Unserved;
-  last_disk = None;
+  remembered = None;
   mode = plain_mode;
   slots = no_slots;
   kept = [];
@@ -96,7 +96,7 @@ pub record BeginsAnew (found : ProbeResult) (mode : QueueMode) (old new : Served
   pub unused : AreUnused mode new.slots
   pub fields : new ≡ record old {
     found = found;
-    last_disk = last_disk_of old.found old.last_disk;
+    remembered = last_disk_of old.found old.remembered;
     mode = mode;
     slots = new.slots;
   }

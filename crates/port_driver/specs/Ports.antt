@@ -43,8 +43,9 @@ pub record HasFoundPort (s : ServerState) (device : Device) (book : List Held) (
   pub mode_is : mode_in s port ≡ mode
 
 -- the server, with these in their place
-abbrev pub with_part : ServerState → Device → List Held → PortSlots → Port → ServerState
-with_part s device book slots port = record s { device = device; slots = slice_set s.slots port.0 slots; book = book }
+abbrev pub with_port_slots : ServerState → Device → List Held → PortSlots → Port → ServerState
+with_port_slots s device book slots port =
+    record s { device = device; slots = slice_set s.slots port.0 slots; book = book }
 
 -- The server keeps what it keeps, and has these loans, this book, and these slots of a port that is ready. The commands
 -- of the slots that have their bits set here are over.

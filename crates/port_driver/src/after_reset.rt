@@ -1,7 +1,7 @@
 // What becomes of a port's requests where its adapter is reset.
 ghost use Rattle.std.specs.Prelude.{◌≡◌, ◌≤◌, ◌+◌, ◌++◌, List, length};
 ghost use Rattle.ata_types.specs.declared.request.Reply.{Reply};
-ghost use Rattle.port_driver.specs.Parts.{HasPortAndShared, with_parts};
+ghost use Rattle.port_driver.specs.Parts.{HasPortAndShared, with_served_port};
 ghost use Rattle.server_history.specs.Resets.{IsResetRevalidation, MaySettle, SettlesPort};
 ghost use Rattle.server_history.specs.Server.{ServerState};
 
@@ -34,11 +34,11 @@ impl ServedPort {
         requires room { length replies.old.items + length shared.old.book ≤ MOST_UNANSWERED }
         ensures settles { (s : ServerState) → MaySettle s → HasPortAndShared s s.device shared.old port self.old
             → (its : List Reply) × (replies.new.items ≡ replies.old.items ++ its)
-            × SettlesPort port its s (with_parts s s.device shared.new port self.new) }
+            × SettlesPort port its s (with_served_port s s.device shared.new port self.new) }
         ensures rest { self.new ≡ record self.old { kept = self.new.kept } }
         ensures room { length replies.new.items + length shared.new.book ≤ MOST_UNANSWERED }
     {
-        let revalidation = reset_revalidation(&self.last_disk, &self.found);
+        let revalidation = reset_revalidation(&self.remembered, &self.found);
         shared.resolve(&mut self.kept, port, &None, revalidation, replies);
     }
 }

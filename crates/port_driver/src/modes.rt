@@ -17,7 +17,7 @@ pub(crate) const PLAIN: QueueMode = QueueMode {
 
 /// How a port that was found so takes commands, by an adapter with 1 to 32 slots a port, which queues or doesn't:
 /// queued where adapter and disk both can, in as many slots as both have; else one at a time.
-pub fn mode_of(slots: u8, queued: bool, found: &ProbeResult) -> QueueMode
+pub fn mode_found(slots: u8, queued: bool, found: &ProbeResult) -> QueueMode
     ensures found { (cap : ℕ) → slots ≡ cap / 256 % 32 + 1 → queued ≡ bit cap 30 → result ≡ mode_found cap found.now }
     ensures plain { (cap : ℕ) → ((info : DiskInfo) → found.now ≡ Ready info → ⊥) → result ≡ mode_found cap found.now }
     ensures few { result.usable ≤ 32 }

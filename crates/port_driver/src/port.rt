@@ -1,7 +1,7 @@
 // What is due on a port is issued.
 ghost use Rattle.std.specs.Prelude.{◌≡◌, ◌<◌, ◌≤◌, ◌*◌, ◌/◌, ◌%◌, [], length};
 ghost use Rattle.block_machine.specs.Due.{IsDue, due_of};
-ghost use Rattle.port_driver.specs.Ports.{HasReadyPort, HasFoundPort, MayGoIn, with_part};
+ghost use Rattle.port_driver.specs.Ports.{HasReadyPort, HasFoundPort, MayGoIn, with_port_slots};
 ghost use Rattle.commands.specs.Issuing.{IsIssued, MayIssueTask};
 ghost use Rattle.request_queue.specs.Entries.{Held, asks, asks_of};
 ghost use Rattle.server_history.specs.Served.{IssuesAll, IssuesOne};
@@ -52,7 +52,7 @@ impl ServedPort {
             × (request.entry.port ≡ port) × IsDue self.old.mode (asks_of book.old) (asks request.entry) }
         ensures issues { (s : ServerState)
             → HasReadyPort s (A.device adapter.old) book.old self.old.slots port self.old.mode
-            → IssuesOne port id s (with_part s (A.device adapter.new) book.new self.new.slots port) }
+            → IssuesOne port id s (with_port_slots s (A.device adapter.new) book.new self.new.slots port) }
         ensures rest { self.new ≡ record self.old { slots = self.new.slots } }
         ensures cost { MakesAtMost ISSUE_ACCESSES (A.access_count adapter.old) (A.access_count adapter.new) }
     {
@@ -77,7 +77,7 @@ impl ServedPort {
             × HasReadyPort s (A.device adapter.old) book.old self.old.slots port self.old.mode }
         ensures issues { (s : ServerState)
             → HasReadyPort s (A.device adapter.old) book.old self.old.slots port self.old.mode
-            → IssuesAll port s (with_part s (A.device adapter.new) book.new self.new.slots port) }
+            → IssuesAll port s (with_port_slots s (A.device adapter.new) book.new self.new.slots port) }
         ensures rest { self.new ≡ record self.old { slots = self.new.slots } }
         ensures as_many { length book.new ≡ length book.old }
         ensures none { due_of self.old.mode port (asks_of book.old) ≡ [] → adapter.new ≡ adapter.old }
@@ -102,7 +102,7 @@ impl ServedPort {
             × HasFoundPort s (A.device adapter.old) book.old self.old.slots port self.old.mode self.old.found }
         ensures issues { (s : ServerState)
             → HasFoundPort s (A.device adapter.old) book.old self.old.slots port self.old.mode self.old.found
-            → IssuesAll port s (with_part s (A.device adapter.new) book.new self.new.slots port) }
+            → IssuesAll port s (with_port_slots s (A.device adapter.new) book.new self.new.slots port) }
         ensures rest { self.new ≡ record self.old { slots = self.new.slots } }
         ensures as_many { length book.new ≡ length book.old }
         ensures none { due_of self.old.mode port (asks_of book.old) ≡ [] → adapter.new ≡ adapter.old }

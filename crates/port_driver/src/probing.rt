@@ -16,7 +16,7 @@ ghost use Rattle.host_boot.specs.Costs.{BOOT_AGAIN_ACCESSES};
 ghost use Rattle.port_control.specs.Costs.{STOP_ACCESSES};
 ghost use Rattle.port_control.specs.LookCosts.{FIND_ACCESSES};
 
-use super::modes::{PLAIN, mode_of};
+use super::modes::{PLAIN, mode_found};
 use adapter::Adapter;
 use ata_types::{Port, PortState};
 use block_machine::QueueMode;
@@ -68,7 +68,7 @@ pub(crate) fn probe_anew<A: Adapter>(
     match recovered.next {
         Next::Restart(stopped) => {
             let booted = reboot_port(adapter, stopped, wanted);
-            let mode = mode_of(booted.slots, booted.queued, &booted.found);
+            let mode = mode_found(booted.slots, booted.queued, &booted.found);
             (booted.found, mode)
         }
         _ => (ProbeResult::Unready(PortState::Dead), PLAIN),

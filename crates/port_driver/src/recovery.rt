@@ -21,7 +21,7 @@ ghost use Rattle.commands.specs.Costs.{DONE_ACCESSES};
 ghost use Rattle.port_driver.specs.Costs.{booting_accesses, handling_accesses};
 
 use super::answering::answer_done;
-use super::modes::{PLAIN, mode_of};
+use super::modes::{PLAIN, mode_found};
 use super::served_port::{ServedPort, Shared};
 use adapter::Adapter;
 use ata_types::{MOST_READINGS, MOST_UNANSWERED, Port, PortState, Replies};
@@ -207,7 +207,7 @@ pub(crate) fn resume_or_reboot<A: Adapter>(
         Next::Running(_) => (ProbeResult::Ready(*was), mode),
         Next::Restart(stopped) => {
             let booted = boot_after(adapter, port_error, stopped, wanted);
-            let mode = mode_of(booted.slots, booted.queued, &booted.found);
+            let mode = mode_found(booted.slots, booted.queued, &booted.found);
             (booted.found, mode)
         }
         Next::Dead => (ProbeResult::Unready(PortState::Dead), PLAIN),

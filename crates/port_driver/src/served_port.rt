@@ -23,7 +23,7 @@ pub struct ServedPort {
     /// What the port was found to be.
     pub found: ProbeResult,
     /// The disk that it was last ready with, once it isn't ready, or its error was handled, or its adapter was reset.
-    pub last_disk: Option<DiskInfo>,
+    pub remembered: Option<DiskInfo>,
     /// How it takes commands.
     pub mode: QueueMode,
     /// Which request each of its command slots serves.
@@ -50,7 +50,7 @@ impl ServedPort {
         ServedPort {
             wanted,
             found: ProbeResult::Unserved,
-            last_disk: None,
+            remembered: None,
             mode: PLAIN,
             slots: Slots::new(PLAIN.usable),
             kept,
@@ -58,12 +58,12 @@ impl ServedPort {
     }
 
     /// The disk that it is ready with, or was last ready with, if it ever was.
-    pub fn disk(&self) -> Option<DiskInfo>
-        ensures { result ≡ last_disk_of self.now.found self.now.last_disk }
+    pub fn last_disk(&self) -> Option<DiskInfo>
+        ensures { result ≡ last_disk_of self.now.found self.now.remembered }
     {
         match &self.found {
             ProbeResult::Ready(info) => Some(*info),
-            _ => self.last_disk,
+            _ => self.remembered,
         }
     }
 
@@ -83,7 +83,7 @@ impl ServedPort {
         requires { mode.usable ≤ 32 }
         ensures { BeginsAnew found mode self.old self.new }
     {
-        self.last_disk = self.disk();
+        self.remembered = self.last_disk();
         self.found = found;
         self.mode = mode;
         self.slots = Slots::new(mode.usable);
@@ -91,7 +91,7 @@ impl ServedPort {
 
     /// Notes that a reset of its adapter got stuck: it is dead, if it is served, its disk is remembered, it takes
     /// plain commands, and no slot of it is used.
-    pub fn get_stuck(&mut self)
+    pub fn note_stuck_reset(&mut self)
         ensures { BeginsAnew (stuck_found self.old.found) plain_mode self.old self.new }
     {
         let found = match self.found {
@@ -108,7 +108,7 @@ impl ServedPort {
         let ServedPort {
             wanted: _,
             found: _,
-            last_disk: _,
+            remembered: _,
             mode: _,
             slots: _,
             kept,

@@ -3,7 +3,7 @@ ghost use Rattle.std.specs.Prelude.{ℕ, ◌≡◌, ◌<◌, ◌≤◌, ◌+◌,
 ghost use Rattle.adapter.specs.Counted.{MakesAtMost};
 ghost use Rattle.ata_types.specs.declared.PortState.TheVariants.{Ready};
 ghost use Rattle.port_driver.specs.Costs.{ISSUES_ACCESSES, TURN_ACCESSES, port_error_accesses};
-ghost use Rattle.port_driver.specs.Parts.{IsSettledWith, TakesTurn, TurnInService, TurnInTick, with_parts};
+ghost use Rattle.port_driver.specs.Parts.{IsSettledWith, TakesTurn, TurnInService, TurnInTick, with_served_port};
 ghost use Rattle.port_driver.specs.Recovery.{HandlesPortErrorOf, IsInError};
 ghost use Rattle.hba_regs.specs.Bits.{bit};
 ghost use Rattle.refinement.specs.Slots.{IsOver};
@@ -44,7 +44,7 @@ impl ServedPort {
         requires room { length replies.old.items + length shared.old.book ≤ MOST_UNANSWERED }
         ensures finishes { (s : ServerState) → IsSettledWith s (A.device adapter.old) shared.old port self.old
             → TakesTurn (AnswersDone port finished) replies.old.items replies.new.items s
-            (with_parts s (A.device adapter.new) shared.new port self.new) }
+            (with_served_port s (A.device adapter.new) shared.new port self.new) }
         ensures room { length replies.new.items + length shared.new.book ≤ MOST_UNANSWERED }
         ensures cost { MakesAtMost ISSUES_ACCESSES (A.access_count adapter.old) (A.access_count adapter.new) }
     {
@@ -78,7 +78,7 @@ impl ServedPort {
         requires room { length replies.old.items + length shared.old.book ≤ MOST_UNANSWERED }
         ensures handles { (s : ServerState) → IsInError s (A.device adapter.old) shared.old port self.old port_error
             → TakesTurn (HandlesPortErrorOf port port_error) replies.old.items replies.new.items s
-            (with_parts s (A.device adapter.new) shared.new port self.new) }
+            (with_served_port s (A.device adapter.new) shared.new port self.new) }
         ensures room { length replies.new.items + length shared.new.book ≤ MOST_UNANSWERED }
         ensures cost { MakesAtMost (port_error_accesses port_error)
             (A.access_count adapter.old) (A.access_count adapter.new) }
@@ -120,7 +120,7 @@ impl ServedPort {
         requires room { length replies.old.items + length shared.old.book ≤ MOST_UNANSWERED }
         ensures serves { (s : ServerState) → IsSettledWith s (A.device adapter.old) shared.old port self.old
             → TakesTurn (ServesPort port) replies.old.items replies.new.items s
-            (with_parts s (A.device adapter.new) shared.new port self.new) }
+            (with_served_port s (A.device adapter.new) shared.new port self.new) }
         ensures room { length replies.new.items + length shared.new.book ≤ MOST_UNANSWERED }
         ensures cost { MakesAtMost TURN_ACCESSES (A.access_count adapter.old) (A.access_count adapter.new) }
     {
@@ -149,8 +149,8 @@ impl ServedPort {
             × IsSettledWith s (A.device adapter.old) shared port self.old }
         ensures probes { (s : ServerState) (shared : Shared)
             → IsSettledWith s (A.device adapter.old) shared port self.old
-            → ProbesUnready port s (with_parts s (A.device adapter.new) shared port self.new)
-            × SettledInvariant (with_parts s (A.device adapter.new) shared port self.new) }
+            → ProbesUnready port s (with_served_port s (A.device adapter.new) shared port self.new)
+            × SettledInvariant (with_served_port s (A.device adapter.new) shared port self.new) }
         ensures cost { MakesAtMost TURN_ACCESSES (A.access_count adapter.old) (A.access_count adapter.new) }
     {
         law_an_unready_port_is_probed();
@@ -173,7 +173,7 @@ impl ServedPort {
         requires room { length replies.old.items + length shared.old.book ≤ MOST_UNANSWERED }
         ensures turn { (s : ServerState) → IsSettledWith s (A.device adapter.old) shared.old port self.old
             → TakesTurn (TurnInService self.old.found port) replies.old.items replies.new.items s
-            (with_parts s (A.device adapter.new) shared.new port self.new) }
+            (with_served_port s (A.device adapter.new) shared.new port self.new) }
         ensures room { length replies.new.items + length shared.new.book ≤ MOST_UNANSWERED }
         ensures cost { MakesAtMost TURN_ACCESSES (A.access_count adapter.old) (A.access_count adapter.new) }
     {
@@ -199,7 +199,7 @@ impl ServedPort {
         ensures turn { (s : ServerState) (book : List Held) → IsTrue is_overdue ↔ IsOverdue port book
             → IsSettledWith s (A.device adapter.old) shared.old port self.old
             → TakesTurn (TurnInTick self.old.found book port) replies.old.items replies.new.items s
-            (with_parts s (A.device adapter.new) shared.new port self.new) }
+            (with_served_port s (A.device adapter.new) shared.new port self.new) }
         ensures room { length replies.new.items + length shared.new.book ≤ MOST_UNANSWERED }
         ensures cost { MakesAtMost (port_error_accesses PortError.TimedOut)
             (A.access_count adapter.old) (A.access_count adapter.new) }

@@ -4,7 +4,7 @@ use Rattle.hba_regs.specs.declared.reg.Reg.TheVariants.{Px}
 use Rattle.hba_regs.specs.declared.reg.PortReg.TheVariants.{Is, Cmd, Tfd, Ssts, Sctl, Serr}
 use Rattle.adapter.specs.Access.{Reads, Writes}
 use Rattle.adapter.specs.Device.{DevicePort, Device}
-use Rattle.adapter.specs.FirstRead.{first_read, quiet_port, reading_port}
+use Rattle.adapter.specs.FirstRead.{first_read_device, empty_port, reading_port}
 use Rattle.adapter.specs.Memory.{changed}
 use Rattle.adapter.specs.Rules.{MayStart, MayWrite, IsStable}
 use Rattle.refinement.specs.Relation.{port_at}
@@ -23,7 +23,7 @@ waking_port = record reading_port {
 }
 
 abbrev pub waking : Device
-waking = record first_read { port = changed (λ _. quiet_port) 0 waking_port }
+waking = record first_read_device { port = changed (λ _. empty_port) 0 waking_port }
 
 -- There such accesses may give these values: COMRESET is sent and ended, PxSSTS is read with a device, PxSERR and PxIS
 -- are cleared, PxTFD is read idle, so that ST may be set, and is, and PxIS is read with no cause. Each write is

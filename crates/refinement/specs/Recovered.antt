@@ -5,7 +5,7 @@ use Rattle.hba_regs.specs.declared.reg.PortReg.TheVariants.{Is, Cmd, Tfd, Ssts, 
 use Rattle.adapter.specs.Access.{Reads, Writes}
 use Rattle.adapter.specs.Device.{Halt, Device}
 use Rattle.adapter.specs.Device.Halt.{HaltedPlain}
-use Rattle.adapter.specs.FirstRead.{first_read}
+use Rattle.adapter.specs.FirstRead.{first_read_device}
 use Rattle.adapter.specs.Rules.{MayWrite, IsStable}
 use Rattle.adapter.specs.Steps.{Steps}
 use Rattle.adapter.specs.declared.tape.Entry.TheVariants as entry
@@ -18,10 +18,10 @@ use Rattle.refinement.specs.Recovering.{IsLinked, WorksPlainly}
 -- PxSERR and PxIS are cleared, PxTFD and PxSSTS are read, and ST is set and PxIS read with no cause. Each write is
 -- permitted when it is made. The port worked on plain commands alone, with its link up; and it runs well then.
 pub record RecoveryIsFound : Type 0 where
-  pub plain : WorksPlainly (first_read.port 0)
-  pub linked : IsLinked (first_read.port 0)
+  pub plain : WorksPlainly (first_read_device.port 0)
+  pub linked : IsLinked (first_read_device.port 0)
   pub failed : Device
-  pub fails : Steps first_read failed
+  pub fails : Steps first_read_device failed
   pub halted : (failed.port 0).halt ≡ HaltedPlain
   pub may_stop : IsStable (MayWrite (Px (port_at 0) Cmd) 0x10) failed
   pub stopping : Device

@@ -6,7 +6,7 @@ use Rattle.hba_regs.specs.declared.reg.Reg.TheVariants.{Px}
 use Rattle.hba_regs.specs.declared.reg.PortReg.TheVariants.{Cmd, Ci}
 use Rattle.adapter.specs.Access.{Reads, Writes, written}
 use Rattle.adapter.specs.Device.{DevicePort, Device}
-use Rattle.adapter.specs.FirstRead.{first_memory, quiet_port, reading_port, first_read}
+use Rattle.adapter.specs.FirstRead.{first_memory, empty_port, reading_port, first_read_device}
 use Rattle.adapter.specs.Memory.{patched, changed}
 use Rattle.adapter.specs.Rules.{MayWrite, IsStable}
 use Rattle.adapter.specs.Steps.{Steps, device_after}
@@ -32,7 +32,7 @@ abbrev pub ready_port : DevicePort
 ready_port = record reading_port { ci = λ _. false }
 
 abbrev pub ready_with : (ℕ → ℕ) → Device
-ready_with memory = record first_read { memory = memory; port = changed (λ _. quiet_port) 0 ready_port }
+ready_with memory = record first_read_device { memory = memory; port = changed (λ _. empty_port) 0 ready_port }
 
 -- the device of the first read before its bit of PxCI was written
 abbrev pub prepared_read : Device
@@ -49,14 +49,14 @@ pub record PreparedIsKnown : Type 0 where
   pub id_is : request.request.id ≡ first_id
   pub prepared : IsPrepared (idle prepared_read).uses machine prepared_read 0 0 mode request 1
   pub permitted : IsStable (MayWrite (Px (port_at 0) Ci) 1) prepared_read
-  pub writes : Writes (Px (port_at 0) Ci) 1 prepared_read first_read
+  pub writes : Writes (Px (port_at 0) Ci) 1 prepared_read first_read_device
 
 -- slot 0 of port 0 serves request 1, and no other slot is used
 abbrev pub first_uses : SlotStates
 first_uses = put (λ port slot. Free) 0 0 (Serves first_id)
 
 abbrev pub first_known : DriverState
-first_known = record { uses = first_uses; parked = λ port. []; device = first_read }
+first_known = record { uses = first_uses; parked = λ port. []; device = first_read_device }
 
 -- A machine is reached that has issued request 1, and agrees with the driver of the first read.
 pub record FirstIsKnown : Type 0 where
@@ -69,7 +69,7 @@ pub record FirstIsKnown : Type 0 where
 
 -- the first read's device when PxCMD was written with ST 0 and FRE 1, and when CR has fallen then
 abbrev pub stopping_read : Device
-stopping_read = written (Px (port_at 0) Cmd) 0x10 first_read
+stopping_read = written (Px (port_at 0) Cmd) 0x10 first_read_device
 
 abbrev pub stopped_read : Device
 stopped_read = device_after (Fall 0) stopping_read
@@ -81,8 +81,8 @@ parked_known = parking (record first_known { device = stopped_read }) 0 0 first_
 -- PxCMD may be written so, CR may fall then, and the port has halted. A machine is reached that agrees with the driver,
 -- who has taken request 1 from its slot; and the request may wait again.
 pub record ParkedIsKnown : Type 0 where
-  pub permitted : IsStable (MayWrite (Px (port_at 0) Cmd) 0x10) first_read
-  pub writes : Writes (Px (port_at 0) Cmd) 0x10 first_read stopping_read
+  pub permitted : IsStable (MayWrite (Px (port_at 0) Cmd) 0x10) first_read_device
+  pub writes : Writes (Px (port_at 0) Cmd) 0x10 first_read_device stopping_read
   pub falls : Steps stopping_read stopped_read
   pub halted : IsHalted (stopped_read.port 0)
   pub machine : Machine

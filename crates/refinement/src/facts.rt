@@ -14,7 +14,7 @@ ghost use Rattle.adapter.specs.Access.{Reads, Writes, Loads, Stores, Access, Doe
 ghost use Rattle.adapter.specs.Access.Access.{Writing};
 ghost use Rattle.adapter.specs.Device.{Device, DevicePort};
 ghost use Rattle.adapter.specs.Device.Halt.{HaltedPlain};
-ghost use Rattle.adapter.specs.FirstRead.{first_read};
+ghost use Rattle.adapter.specs.FirstRead.{first_read_device};
 ghost use Rattle.adapter.specs.Idle.{IsIdle, IsIdlePort};
 ghost use Rattle.adapter.specs.Rules.{IsUnowned, IsOn, MayWrite, IsStable};
 ghost use Rattle.adapter.specs.Steps.{Steps};
@@ -193,7 +193,7 @@ pub fn law_healthy_stays()
     ensures writes { (port : Port) (r : Reg) (v : ℕ) (old new : Device) → old.hr ≡ false
         → (r ≡ Px port Cmd → bit v 0 ≡ true) → r ≢ Px port Sctl → Writes r v old new → Undisturbed port.0 old new
         → RunsWell (old.port port.0) → RunsWell (new.port port.0) }
-    ensures exists { RunsWell (first_read.port 0) }
+    ensures exists { RunsWell (first_read_device.port 0) }
 {
     law_below();
 }
@@ -488,8 +488,8 @@ pub fn law_faults_are_recorded()
         → IsRecorded new.tape (new.port port.0) port.0 }
     ensures asked { (r : Reg) (v : ℕ) (d : Device) → d.hr ≡ false → KeepsRecord r v d → IsStable (KeepsRecord r v) d }
     ensures idle { (tape : List Entry) (p : DevicePort) (port : ℕ) → p.st ≡ false → IsRecorded tape p port }
-    ensures runs { HasFaults first_read.tape (first_read.port 0) 0 }
-    ensures failed { (new : Device) × Steps first_read new × ((new.port 0).halt ≡ HaltedPlain)
+    ensures runs { HasFaults first_read_device.tape (first_read_device.port 0) 0 }
+    ensures failed { (new : Device) × Steps first_read_device new × ((new.port 0).halt ≡ HaltedPlain)
         × HasFaults new.tape (new.port 0) 0 }
 {}
 
@@ -512,7 +512,7 @@ pub fn law_link_is_awaited()
     ensures reset { (v : ℕ) (old new : Device) → old.hr ≡ true → Reads Ghc v old new → bit v 0 ≡ false
         → (port : ℕ) → IsAwaited (new.port port) }
     ensures undue { (p : DevicePort) → p.link_due ≡ false → p.sctl_det ≢ 1 → IsAwaited p }
-    ensures runs { IsAwaited (first_read.port 0) }
+    ensures runs { IsAwaited (first_read_device.port 0) }
 {
     law_below();
 }
@@ -536,7 +536,7 @@ pub fn law_quiet_is_found()
         → IsQuiet (new.port port) }
     ensures stays_written { (port : Port) (r : Reg) (v : ℕ) (old new : Device) → (r ≡ Px port Cmd → bit v 0 ≡ false)
         → (r ≡ Px port Sctl → v % 16 ≢ 1) → Writes r v old new → IsQuiet (old.port port.0) → IsQuiet (new.port port.0) }
-    ensures exists { IsQuiet (first_read.port 1) }
+    ensures exists { IsQuiet (first_read_device.port 1) }
 {
     law_below();
 }

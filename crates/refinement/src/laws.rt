@@ -15,7 +15,7 @@ ghost use Rattle.hba_regs.specs.declared.reg.Reg.{Reg};
 ghost use Rattle.adapter.specs.Access.{Reads, Writes, Loads, Stores, written, Access, Does};
 ghost use Rattle.adapter.specs.Commands.{Meaning};
 ghost use Rattle.adapter.specs.Device.{DevicePort, Device};
-ghost use Rattle.adapter.specs.FirstRead.{first_read};
+ghost use Rattle.adapter.specs.FirstRead.{first_read_device};
 ghost use Rattle.adapter.specs.Idle.{IsIdle};
 ghost use Rattle.adapter.specs.Memory.{patched};
 ghost use Rattle.adapter.specs.Rules.{IsUnowned, IsOn, HasPort, MayStart, MaySetFre, MayStopReceiving, MayWrite, IsStable};

@@ -4,7 +4,7 @@ ghost use Rattle.std.specs.Prelude.{ℕ, true, false, ◌≡◌, Some};
 ghost use Rattle.adapter.specs.Commands.{is_queued};
 ghost use Rattle.adapter.specs.Device.{FetchedCommand, Device};
 ghost use Rattle.adapter.specs.Device.Halt.{NotHalted, HaltedPlain, HaltedQueued};
-ghost use Rattle.adapter.specs.FirstRead.{first_read};
+ghost use Rattle.adapter.specs.FirstRead.{first_read_device};
 ghost use Rattle.adapter.specs.Steps.{Steps, restarted};
 ghost use Rattle.block_machine.specs.Histories.{IsReachable};
 ghost use Rattle.block_machine.specs.State.{Machine};
@@ -27,7 +27,7 @@ pub fn law_a_fault_is_recovered()
 /// There are ports that fail, as their driver looks at them: they are there for a recovery to be asked for. On the one
 /// a plain read has failed, and on the other a queued one, in slot 1, while another waits.
 pub fn law_a_fault_is_seen()
-    ensures plain { FaultIsSeen first_read 0 HaltedPlain }
+    ensures plain { FaultIsSeen first_read_device 0 HaltedPlain }
     ensures queued { FaultIsSeen two_issued 1 HaltedQueued }
 {}
 

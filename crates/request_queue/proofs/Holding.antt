@@ -10,7 +10,7 @@ use Rattle.std.proofs.lemmas.List.Elements.{Contains-append_left, Contains-appen
 use Rattle.std.proofs.lemmas.Option.{slice_get_within, slice_get-map, get_or_from_slice_get}
 use Rattle.ata_types.specs.declared.request.RequestId.{RequestId}
 use Rattle.block_machine.specs.declared.due.Unanswered.{Unanswered}
-use Rattle.block_machine.specs.Due.{IsInOrder, must_keep_order, is_earlier_on_port, is_flush, is_writer, overlap}
+use Rattle.block_machine.specs.Due.{IsInOrder, conflict, is_earlier_on_port, is_flush, changes_sectors, overlap}
 use Rattle.request_queue.specs.declared.ranges.Item.{Item}
 use Rattle.request_queue.specs.Items.{is_earlier_conflict}
 use Rattle.request_queue.specs.Entries.{Held, asks, asks_of, issue, requeued_entry}
@@ -42,8 +42,8 @@ module _ (book : List Unanswered) (lists : List (List Item)) (is : AreIndexed bo
       let parts = and_parts (is_earlier_on_port o.0 r) _ o.2 in
       by o.0 o.1 parts.0 parts.1 (is_flush o.0.op) refl)
     where
-      by_sectors : (o : Unanswered) → is_flush o.op ≡ false → ((is_flush o.op || is_flush r.op) || ((is_writer o.op || is_writer r.op) && overlap o.range r.range)) ≡ true
-          → ((is_writer o.op || is_writer r.op) && overlap o.range r.range) ≡ true
+      by_sectors : (o : Unanswered) → is_flush o.op ≡ false → ((is_flush o.op || is_flush r.op) || ((changes_sectors o.op || changes_sectors r.op) && overlap o.range r.range)) ≡ true
+          → ((changes_sectors o.op || changes_sectors r.op) && overlap o.range r.range) ≡ true
       by_sectors o other meets = ⊎_elim
           (λ (flush : (is_flush o.op || is_flush r.op) ≡ true). absurd (⊎_elim
           (λ (f : is_flush o.op ≡ true). both_ways _ other f)
@@ -52,7 +52,7 @@ module _ (book : List Unanswered) (lists : List (List Item)) (is : AreIndexed bo
           (λ both. both)
           (or_cases (is_flush o.op || is_flush r.op) _ meets)
 
-      by : (o : Unanswered) → Contains book o → is_earlier_on_port o r ≡ true → must_keep_order o r ≡ true → (b : Bool) → is_flush o.op ≡ b → ⊥
+      by : (o : Unanswered) → Contains book o → is_earlier_on_port o r ≡ true → conflict o r ≡ true → (b : Bool) → is_flush o.op ≡ b → ⊥
       by o there earlier meets true flush = both_ways _ no_flushes (found (is_earlier_flush r) flushes (listed_flush o)
           (subst (λ (fs : List Flush). Contains fs (listed_flush o)) (sym are_flushes) (in_flushes book o there flush)) earlier)
       by o there earlier meets false other =

@@ -6,7 +6,7 @@ use Rattle.ata_types.specs.declared.Port.{Port}
 use Rattle.ata_types.specs.declared.request.Op.{Op}
 use Rattle.ata_types.specs.declared.request.Op.TheVariants.{Read, Write, Trim, Flush}
 use Rattle.ata_types.specs.declared.request.RequestId.{RequestId}
-use Rattle.block_machine.specs.Due.{must_keep_order, is_earlier_on_port}
+use Rattle.block_machine.specs.Due.{conflict, is_earlier_on_port}
 use Rattle.block_machine.specs.declared.due.Unanswered.{Unanswered}
 
 -- the operation is a read or a write
@@ -23,7 +23,7 @@ may_have_holder r = not r.issued && is_read_or_write r.op
 
 -- the other was accepted before the request, and conflicts with it
 abbrev pub may_hold : Unanswered → Unanswered → Bool
-may_hold r other = is_earlier_on_port other r && must_keep_order other r
+may_hold r other = is_earlier_on_port other r && conflict other r
 
 -- the request is a waiting read or write, and one of the book may hold it
 abbrev pub has_holder : List Unanswered → Unanswered → Bool

@@ -2,12 +2,12 @@
 use Rattle.std.specs.Prelude.{ℕ, ◌≡◌, ◌≢◌, ◌↔◌, ◌<◌, ◌%◌, ◌==◌, Bool, false, not, ◌&&◌, List, [], length, count_by, AllPairs, Contains, slice_index_or}
 use Rattle.ata_types.specs.declared.Port.{Port}
 use Rattle.block_machine.specs.declared.due.Unanswered.{Unanswered}
-use Rattle.block_machine.specs.Due.{is_flush, is_writer}
+use Rattle.block_machine.specs.Due.{is_flush, changes_sectors}
 use Rattle.request_queue.specs.declared.ranges.Item.{Item}
 
 -- the request as it is indexed
 abbrev pub item_of : Unanswered → Item
-item_of r = record { id = r.id; port = r.port; range = r.range; writes = is_writer r.op }
+item_of r = record { id = r.id; port = r.port; range = r.range; writes = changes_sectors r.op }
 
 -- The list that a port's requests are in. Each of the four ports has its own.
 abbrev pub index_of_port : Port → ℕ

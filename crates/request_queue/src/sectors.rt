@@ -7,7 +7,7 @@ ghost use Rattle.request_queue.specs.Sectors.{AreIndexed, item_of, index_of_port
 use crate::ranges::{Item, Ranges};
 use crate::store::RequestSlab;
 use ata_types::{MOST_UNANSWERED, Op, PORTS, Port};
-use block_machine::{Unanswered, is_writer};
+use block_machine::{Unanswered, changes_sectors};
 use std::alloc::{AllocError, Global};
 
 /// Lists of no sectors. No other call takes memory.
@@ -66,7 +66,7 @@ pub fn item_of(request: &Unanswered) -> Item
         id: request.id,
         port: request.port,
         range: request.range,
-        writes: is_writer(request.op),
+        writes: changes_sectors(request.op),
     }
 }
 

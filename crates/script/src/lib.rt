@@ -5,12 +5,12 @@
 #![tactic(auto)]
 
 mod answer;
+mod call_buffer;
 mod fields;
 mod line;
-mod place;
 mod script;
 
 pub use answer::Answer;
+pub use call_buffer::CallBuffer;
 pub use line::parse_line;
-pub use place::CallPlace;
 pub use script::{BadLine, Misspelled, check_script, first_line, read_asked};

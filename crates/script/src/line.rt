@@ -8,9 +8,9 @@ ghost use Rattle.ata_types.specs.declared.request.Op.{Op};
 ghost use Rattle.ata_types.specs.declared.request.Request.{Request};
 ghost use Rattle.adapter.specs.declared.access.DeviceStep.{DeviceStep};
 
+use crate::call_buffer::CallBuffer;
 use crate::fields;
 use crate::fields::is;
-use crate::place::CallPlace;
 use adapter::DeviceStep;
 use arrayvec::ArrayVec;
 use ata_types::{Call, ClientId, Op, Request, Sector};
@@ -514,7 +514,7 @@ fn asked_else(name: &[u8], words: &[&[u8]], call: &mut Call<DeviceStep>) -> Opti
 
 /// Reads what a line's first word and those after it ask. Each kind of line has a function of its own, so that what one
 /// kind has room for is cleared for that kind alone.
-fn asked(name: &[u8], words: &[&[u8]], call: &mut CallPlace) -> Option<()>
+fn asked(name: &[u8], words: &[&[u8]], call: &mut CallBuffer) -> Option<()>
     ensures found { ReadsAsLine (name.now ∷ map (λ w. w.now) words.now) result call.new }
     ensures only { ReadsEachLine (name.now ∷ map (λ w. w.now) words.now) result call.new }
 {
@@ -536,7 +536,7 @@ fn asked(name: &[u8], words: &[&[u8]], call: &mut CallPlace) -> Option<()>
 /// Reads the call that a line asks for, without its line feed. `None` says that no line is spelled so; what stands in
 /// the place then is any call.
 #[inline(never)]
-pub fn parse_line_into(text: &[u8], call: &mut CallPlace) -> Option<()>
+pub fn parse_line_into(text: &[u8], call: &mut CallBuffer) -> Option<()>
     ensures found { OnSome result (IsLine call.new × (line_text call.new ≡ text.now)) }
     ensures only { (c : Call DeviceStep) → IsLine c → line_text c ≡ text.now → (result ≡ Some tt) × (call.new ≡ c) }
 {
@@ -551,7 +551,7 @@ pub fn parse_line(text: &[u8]) -> Option<Call<DeviceStep>>
     ensures found { IfSome result (λ call. IsLine call × (line_text call ≡ text.now)) }
     ensures only { (c : Call DeviceStep) → IsLine c → line_text c ≡ text.now → result ≡ Some c }
 {
-    let mut call = CallPlace::new();
+    let mut call = CallBuffer::new();
     parse_line_into(text, &mut call)?;
     Some(call.into_call())
 }

@@ -5,8 +5,8 @@ ghost use Rattle.script.specs.Script.{Asks, asked_of, AsksNothing, IsBad, IsFirs
 ghost use Rattle.adapter.specs.declared.access.DeviceStep.{DeviceStep};
 ghost use Rattle.ata_types.specs.declared.call.Call.{Call};
 
+use crate::call_buffer::CallBuffer;
 use crate::line::parse_line_into;
-use crate::place::CallPlace;
 use thiserror::Error;
 
 /// A line is spelled as none.
@@ -29,7 +29,7 @@ fn asks_nothing(text: &[u8]) -> bool
 /// Reads the call that a line of a script asks for, without its line feed, and says whether it asks for any: an empty
 /// line does not, nor one that begins with `#`. What stands in the place is any call then, and so it is where the line
 /// is bad.
-pub fn read_asked(text: &[u8], call: &mut CallPlace) -> Result<bool, Misspelled>
+pub fn read_asked(text: &[u8], call: &mut CallBuffer) -> Result<bool, Misspelled>
     ensures ok { IfOk result (λ some. Asks text.now (asked_of some call.new)) }
     ensures bad { OnErr result (IsBad text.now) }
 {
@@ -50,7 +50,7 @@ pub fn check_script(text: &[u8]) -> Result<(), BadLine>
     ensures bad { IfErr result (λ bad. IsFirstBad text.now bad.0) }
 {
     let mut number = 0;
-    let mut asked = CallPlace::new();
+    let mut asked = CallBuffer::new();
     let mut rest = Some(text);
     while let Some(left) = rest {
         let (line, after) = first_line(left);

@@ -38,7 +38,7 @@ use Rattle.machine_runs.specs.Told.{AsksFor, CameFrom, WasAsked, waits_again}
 use Rattle.server_history.specs.Histories.{HasBegun, LeadsToServer}
 use Rattle.server_history.specs.Server.{ServerState}
 use Rattle.block_server.specs.Promise.{RunsAsPromised}
-use Rattle.block_server.specs.Running.{ask_of, said_of}
+use Rattle.block_server.specs.Running.{ask_of, machine_result_of}
 use Rattle.block_server.specs.View.{ServerView, server_of}
 use Rattle.ata_types.specs.declared.call.Call.TheVariants.{Submit, ClientStore, Service, Reset, State, Device as Tell}
 use Rattle.arrayvec.specs.ArrayVec.{ArrayVec}
@@ -67,7 +67,7 @@ has_run device old new events before after promised empty begun telling =
 
 -- what calls asked and said
 abbrev asks_of : List (Call DeviceStep) → List (CallResult (ArrayVec Reply)) → List (Ask DeviceStep × machine.CallResult)
-asks_of (event ∷ events) (one ∷ more) = (ask_of event, said_of one) ∷ asks_of events more
+asks_of (event ∷ events) (one ∷ more) = (ask_of event, machine_result_of one) ∷ asks_of events more
 asks_of _ _ = []
 
 -- a history has grown by calls that asked and said this
@@ -77,7 +77,7 @@ Grows past (one ∷ more) later = (h : Happening Device DeviceStep) × (h.event.
 
 -- so it has by calls that stand in their order
 grows : (calls past : List (Happening Device DeviceStep)) (events : List (Call DeviceStep)) (some : List (CallResult (ArrayVec Reply))) → map (λ h. h.event.ask) calls ≡ map ask_of events
-    → map (λ h. h.event.said) calls ≡ map said_of some → Grows past (asks_of events some) (reverse calls ++ past)
+    → map (λ h. h.event.said) calls ≡ map machine_result_of some → Grows past (asks_of events some) (reverse calls ++ past)
 grows [] past [] [] asks says = refl
 grows [] past [] (one ∷ more) asks says = cc
 grows [] past (event ∷ events) some asks says = cc
@@ -85,9 +85,9 @@ grows (h ∷ calls) past [] some asks says = cc
 grows (h ∷ calls) past (event ∷ events) [] asks says = cc
 grows (h ∷ calls) past (event ∷ events) (one ∷ more) asks says =
     let asked : h.event.ask ≡ ask_of event = cc in
-    let told : h.event.said ≡ said_of one = cc in
+    let told : h.event.said ≡ machine_result_of one = cc in
     let asks_on : map (λ h. h.event.ask) calls ≡ map ask_of events = cc in
-    let says_on : map (λ h. h.event.said) calls ≡ map said_of more = cc in
+    let says_on : map (λ h. h.event.said) calls ≡ map machine_result_of more = cc in
     let turned = ap (λ (l : List (Happening Device DeviceStep)). l ++ past) (reverse-append (h ∷ []) calls) ∙ append_assoc (reverse calls) (h ∷ []) past in
     (h, asked, told, subst (Grows (h ∷ past) (asks_of events more)) (sym turned) (grows calls (h ∷ past) events more asks_on says_on))
 

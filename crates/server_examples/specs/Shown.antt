@@ -25,7 +25,7 @@ use Rattle.identify.specs.declared.wanted.Wanted.{Wanted}
 use Rattle.machine_runs.specs.Told.{AsksFor, CameFrom, CallAnswersOk, WasAsked, waits_again}
 use Rattle.server_history.specs.Histories.{LeadsToServer}
 use Rattle.server_history.specs.Server.{ServerState}
-use Rattle.block_server.specs.Running.{ask_of, said_of}
+use Rattle.block_server.specs.Running.{ask_of, machine_result_of}
 use Rattle.block_server.specs.View.{ServerView, server_of}
 use Rattle.arrayvec.specs.ArrayVec.{ArrayVec}
 use Rattle.ata_types.specs.declared.call.Call.{Call}
@@ -40,7 +40,7 @@ pub record HasRun {A : Type 0} (device : A → Device) (old new : ServerView A) 
   pub begun : LeadsToServer first [] (server_of device old)
   pub past : List (Happening Device DeviceStep)
   pub asks : map (λ h. h.event.ask) (reverse past) ≡ map ask_of asked
-  pub says : map (λ h. h.event.said) (reverse past) ≡ map said_of said
+  pub says : map (λ h. h.event.said) (reverse past) ≡ map machine_result_of said
   pub leads : LeadsToServer first past (server_of device new)
   pub run : IsRun first.abstract (events_of past)
   pub reads : EveryReadHolds first.abstract (events_of past)

@@ -22,8 +22,8 @@ use Rattle.driver_history.specs.Histories.{IsDriverHistory, PortCorresponds}
 use Rattle.witnesses.specs.Allowed.{AreAllowed}
 
 -- the turn of port 0: the masks are read
-abbrev pub finding_turn : List Access
-finding_turn = Reading (Px (port_at 0) Ci) 0 ∷ Reading (Px (port_at 0) Sact) 0 ∷ []
+abbrev pub completing_turn : List Access
+completing_turn = Reading (Px (port_at 0) Ci) 0 ∷ Reading (Px (port_at 0) Sact) 0 ∷ []
 
 -- that of port 1: PxSSTS shows no device; the port is stopped, PxSERR is cleared, and PxSSTS is read again
 abbrev pub losing_turn : List Access
@@ -59,8 +59,8 @@ pub record LossIsAHistory : Type 0 where
   pub serves : (service.event.ask ≡ Service)
       × (service.event.said ≡ Served (record { id = first_id; client = asked.client; outcome = outcome.Ok } ∷ []))
   pub between : Device
-  pub finding : DoesAll finding_turn submit.device between
-  pub finding_allowed : AreAllowed finding_turn submit.device between finding
+  pub finding : DoesAll completing_turn submit.device between
+  pub finding_allowed : AreAllowed completing_turn submit.device between finding
   pub in_then : (between.port 1).present ≡ true
   pub losing : DoesAll losing_turn between service.device
   pub losing_allowed : AreAllowed losing_turn between service.device losing
@@ -68,6 +68,6 @@ pub record LossIsAHistory : Type 0 where
   pub still : service.event.ports.state (port_at 0) ≡ Ready
   pub absent : service.event.ports.state (port_at 1) ≡ Absent
   pub history : IsDriverHistory (Any ∷ Any ∷ []) first (service ∷ submit ∷ [])
-  pub turns : history.2.accesses ≡ finding_turn ++ losing_turn
+  pub turns : history.2.accesses ≡ completing_turn ++ losing_turn
   pub submit_parts : (port : Port) → PortCorresponds first submit history.0.2.accesses port
   pub service_parts : (port : Port) → PortCorresponds (now first (submit ∷ [])) service history.2.accesses port

@@ -5,7 +5,7 @@ use Rattle.adapter.specs.Access.Access.{Reading, Writing, Loading, Storing}
 use Rattle.adapter.specs.Commands.{is_queued}
 use Rattle.adapter.specs.Device.{FetchedCommand, DevicePort, Device}
 use Rattle.adapter.specs.Device.Halt.{HaltedQueued, NotHalted}
-use Rattle.adapter.specs.FirstRead.{no_notes, quiet_port}
+use Rattle.adapter.specs.FirstRead.{no_notes, empty_port}
 use Rattle.adapter.specs.Guarded.{IsGuarded, Passing}
 use Rattle.adapter.specs.Idle.{IsIdle, IsSane}
 use Rattle.adapter.specs.Memory.{patched, bytes_at}
@@ -52,7 +52,7 @@ MayAllCome (event ∷ events) d = MayCome event d × MayAllCome events (after_ev
 -- A port as a reset of the adapter leaves it, with a disk in it or without: no link is due, nothing halts it, and
 -- nothing was programmed, set or read yet (AHCI 1.3.1, 10.4.3).
 pub record IsAsReset (p : DevicePort) : Type 0 where
-  pub bases : p.bases ≡ quiet_port.bases
+  pub bases : p.bases ≡ empty_port.bases
   pub control : p.sctl_det ≡ 0
   pub link : p.ssts_det ≡ 0
   pub due : p.link_due ≡ false

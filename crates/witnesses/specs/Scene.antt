@@ -5,7 +5,7 @@ use Rattle.ata_types.specs.declared.PortState.TheVariants.{Absent}
 use Rattle.ata_types.specs.declared.limits.TheConstants.{MOST_READINGS}
 use Rattle.adapter.specs.Access.{named_causes}
 use Rattle.adapter.specs.Device.{DevicePort, Device}
-use Rattle.adapter.specs.FirstRead.{first_read, no_notes, quiet_port, reading_port}
+use Rattle.adapter.specs.FirstRead.{first_read_device, no_notes, empty_port, reading_port}
 use Rattle.adapter.specs.Steps.{noted_bytes}
 use Rattle.adapter.specs.declared.command.Direction.TheVariants.{ToMemory}
 use Rattle.adapter.specs.declared.command.Operation.TheVariants.{Identify}
@@ -65,7 +65,7 @@ running_port port = record reading_port {
 
 -- these are the first ports, and the others are as after a reset
 abbrev pub having : List DevicePort → ℕ → DevicePort
-having ports port = slice_index_or ports port quiet_port
+having ports port = slice_index_or ports port empty_port
 
 -- its adapter has 32 slots, and supports native command queuing (CAP: AHCI 1.3.1, 3.1.1)
 abbrev pub queueing_cap : ℕ
@@ -74,7 +74,7 @@ queueing_cap = 0x40001f03
 -- the adapter of the first read, but for that, which tells of its causes, with this tape, this memory, and these ports
 abbrev pub device_with : List Entry → (ℕ → ℕ) → List DevicePort → Device
 device_with tape memory ports =
-    record first_read { cap = queueing_cap; ie = true; tape = tape; memory = memory; port = having ports }
+    record first_read_device { cap = queueing_cap; ie = true; tape = tape; memory = memory; port = having ports }
 
 -- ---- what clients see
 

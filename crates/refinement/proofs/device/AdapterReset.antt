@@ -5,7 +5,7 @@ use Rattle.hba_regs.specs.Bits.{bit}
 use Rattle.hba_regs.specs.declared.reg.Reg.TheVariants.{Ghc}
 use Rattle.adapter.specs.Access.{Reads, Writes}
 use Rattle.adapter.specs.Device.{DevicePort, Device}
-use Rattle.adapter.specs.FirstRead.{first_read}
+use Rattle.adapter.specs.FirstRead.{first_read_device}
 use Rattle.adapter.specs.Kept.{KeepsOn}
 use Rattle.adapter.specs.Memory.{changed}
 use Rattle.adapter.specs.Rules.{IsOn}
@@ -93,6 +93,6 @@ reset_awaits v old new on call clear port =
 pub undue_awaited : (p : DevicePort) → p.link_due ≡ false → p.sctl_det ≢ 1 → IsAwaited p
 undue_awaited p undue other = λ due. ⊎_elim (λ (e : p.link_due ≡ true). absurd (both_ways _ undue e)) (λ (e : p.sctl_det ≡ 1). absurd (other e)) due
 
-pub first_awaited : IsAwaited (first_read.port 0)
+pub first_awaited : IsAwaited (first_read_device.port 0)
 unfolding changed
-first_awaited = undue_awaited (first_read.port 0) refl (λ (e : 0 ≡ 1). omega (arith, e))
+first_awaited = undue_awaited (first_read_device.port 0) refl (λ (e : 0 ≡ 1). omega (arith, e))

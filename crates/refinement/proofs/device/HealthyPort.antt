@@ -5,7 +5,7 @@ use Rattle.hba_regs.specs.declared.reg.Reg.TheVariants.{Cap, Ghc, Pi, Vs, Cap2, 
 use Rattle.hba_regs.specs.declared.reg.Reg.TheVariants as adapter
 use Rattle.adapter.specs.Access.{written}
 use Rattle.adapter.specs.Device.{DevicePort, Device}
-use Rattle.adapter.specs.FirstRead.{first_read, reading_port, quiet_port}
+use Rattle.adapter.specs.FirstRead.{first_read_device, reading_port, empty_port}
 use Rattle.adapter.specs.Memory.{changed}
 use Rattle.adapter.specs.declared.tape.Entry.{Entry}
 use Rattle.adapter.proofs.Changed.{changed_same}
@@ -52,8 +52,8 @@ written_tape Bohc v d = refl
 
 -- ---- one that runs
 
-pub first_healthy : RunsWell (first_read.port 0)
-first_healthy = subst RunsWell (sym (changed_same (λ _. quiet_port) 0 reading_port)) (record {
+pub first_healthy : RunsWell (first_read_device.port 0)
+first_healthy = subst RunsWell (sym (changed_same (λ _. empty_port) 0 reading_port)) (record {
   st = refl;
   cr = refl;
   det = refl;

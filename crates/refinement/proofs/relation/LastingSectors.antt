@@ -17,7 +17,7 @@ use Rattle.adapter.specs.declared.tape.Entry.{Entry}
 use Rattle.adapter.specs.declared.tape.Entry.TheVariants as entry
 use Rattle.block_machine.specs.State as state
 use Rattle.block_machine.specs.State.{Block, Pending, Machine, sector_of, written_by}
-use Rattle.block_machine.specs.Due.{is_flush, is_writer}
+use Rattle.block_machine.specs.Due.{is_flush, changes_sectors}
 use Rattle.block_machine.specs.Left as left
 use Rattle.block_machine.specs.Steps.{Touch, End, Replace, SameBytes, HasHeld, after_step, put_sector}
 use Rattle.refinement.specs.Slots.{op_of}
@@ -37,7 +37,7 @@ put_aside was now b aside h = ⊎_elim
     h
 
 held_touched : (m : Machine) (e : Pending) (i : ℕ) (block : Block) (port : Port) (k : ℕ) (b : Block) → HasHeld m port k b → HasHeld (after_step m (Touch e i block)) port k b
-held_touched m e i block port k b h = by_op (is_writer e.request.asked.op)
+held_touched m e i block port k b h = by_op (changes_sectors e.request.asked.op)
   where
     written : Block
     written = written_by e.request.asked.op e.request.held i

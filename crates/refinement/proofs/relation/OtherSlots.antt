@@ -67,9 +67,9 @@ pub record QuietPort (p new : DevicePort) : Type 0 where
   pub disk : disk_of new ≡ disk_of p
 
 module _ (uses : SlotStates) (m : Machine) (d : Device) (a : StateRelation uses m d) where
-  pub quiet_port : (port : ℕ) (new : DevicePort) (later : List Entry) → SameFixed NoPort uses d.memory d.memory d.tape later → ((q : ℕ) → Gains d.tape later m q) → QuietPort (d.port port) new →
+  pub empty_port : (port : ℕ) (new : DevicePort) (later : List Entry) → SameFixed NoPort uses d.memory d.memory d.tape later → ((q : ℕ) → Gains d.tape later m q) → QuietPort (d.port port) new →
       StateRelation uses m (record d { port = changed d.port port new; tape = later })
-  quiet_port port new later fixed gains q = record {
+  empty_port port new later fixed gains q = record {
     slot = slots_quiet uses m m d a d.memory later fixed port new q.slots (λ id e _ r. r);
     apart = a.apart;
     received = changed_at d.port port new (λ k p. p.fre ≡ true → IsReceiving p k)
@@ -112,7 +112,7 @@ module _ (uses : SlotStates) (m : Machine) (d : Device) (a : StateRelation uses 
     tape = refl;
     tells = ([], [], refl, refl, refl);
     plugged = plugged_kept d port _ [] refl (λ _. refl);
-    agrees = quiet_port port _ _ (fixed_more uses d.memory d.tape _ (λ q o u x. x)) (λ q. gains_quiet d.tape _ m q (λ _ _. refl))
+    agrees = empty_port port _ _ (fixed_more uses d.memory d.tape _ (λ q o u x. x)) (λ q. gains_quiet d.tape _ m q (λ _ _. refl))
         (record { slots = λ k. record { issued = refl; sact = refl; taken = refl; st = refl; cr = refl; since = refl; list = refl }; fre = refl; received_at = refl; present = refl; disk = refl });
   }
 
@@ -126,18 +126,18 @@ module _ (uses : SlotStates) (m : Machine) (d : Device) (a : StateRelation uses 
     tape = refl;
     tells = ([], [], refl, refl, refl);
     plugged = plugged_kept d port _ [] refl (λ _. refl);
-    agrees = quiet_port port _ _ (fixed_more uses d.memory d.tape _ (λ q o u x. x)) (λ q. gains_quiet d.tape _ m q (λ _ _. refl))
+    agrees = empty_port port _ _ (fixed_more uses d.memory d.tape _ (λ q o u x. x)) (λ q. gains_quiet d.tape _ m q (λ _ _. refl))
         (record { slots = λ k. record { issued = refl; sact = refl; taken = refl; st = refl; cr = refl; since = refl; list = refl }; fre = refl; received_at = refl; present = refl; disk = refl });
   }
 
   pub fr_fall_follows : (port : ℕ) → SimulatesSteps uses m d (device_after (FrFall port) d)
   fr_fall_follows port =
-      silent _ refl refl (same_plugged d port _ refl) (quiet_port port _ d.tape (SameFixed-refl uses d.memory d.tape) (gains_none d.tape m)
+      silent _ refl refl (same_plugged d port _ refl) (empty_port port _ d.tape (SameFixed-refl uses d.memory d.tape) (gains_none d.tape m)
       (record { slots = λ k. record { issued = refl; sact = refl; taken = refl; st = refl; cr = refl; since = refl; list = refl }; fre = refl; received_at = refl; present = refl; disk = refl }))
 
   pub link_up_follows : (port sig : ℕ) (n : Bool) → SimulatesSteps uses m d (device_after (LinkUp port sig n) d)
   link_up_follows port sig n =
-      silent _ refl refl (same_plugged d port _ refl) (quiet_port port _ d.tape (SameFixed-refl uses d.memory d.tape) (gains_none d.tape m)
+      silent _ refl refl (same_plugged d port _ refl) (empty_port port _ d.tape (SameFixed-refl uses d.memory d.tape) (gains_none d.tape m)
       (record { slots = λ k. record { issued = refl; sact = refl; taken = refl; st = refl; cr = refl; since = refl; list = refl }; fre = refl; received_at = refl; present = refl; disk = refl }))
 
   -- ---- bytes outside everything

@@ -17,7 +17,7 @@ use Rattle.refinement.specs.Follows.{SimulatesSteps}
 use Rattle.refinement.proofs.relation.SlotRelation.{SameSlot-refl, SameFixed-refl, NoPort, slot_on}
 use Rattle.refinement.proofs.relation.OneSlot.{memory_low}
 use Rattle.refinement.proofs.relation.LastingSectors.{gains_none}
-use Rattle.refinement.proofs.relation.OtherSlots.{quiet_port, same_plugged}
+use Rattle.refinement.proofs.relation.OtherSlots.{empty_port, same_plugged}
 use Rattle.refinement.proofs.relation.WrittenBytes.{stored_fixed, stored_low}
 use Rattle.refinement.proofs.steps.FollowedSteps.{steps_follow}
 
@@ -55,7 +55,7 @@ note_times px.Ci v p = (refl, refl)
 
 noted_agrees : (uses : SlotStates) (m : Machine) (r : Reg) (v : ℕ) (d : Device) → StateRelation uses m d → StateRelation uses m (noted r v d)
 noted_agrees uses m (Px port r) v d a =
-    quiet_port uses m d a port.0 _ d.tape (SameFixed-refl uses d.memory d.tape) (gains_none d.tape m)
+    empty_port uses m d a port.0 _ d.tape (SameFixed-refl uses d.memory d.tape) (gains_none d.tape m)
     (record { slots = λ k. record { issued = refl; sact = refl; taken = refl; st = refl; cr = refl; since = (note_times r v (d.port port.0)).0; list = refl }; fre = refl; received_at = refl; present = refl; disk = refl })
 noted_agrees uses m Cap v d a = a
 noted_agrees uses m Ghc v d a = a

@@ -4,7 +4,7 @@ use Rattle.std.specs.List.{Contains}
 use Rattle.std.proofs.lemmas.List.Elements.{All-contains, All-nil}
 use Rattle.ata_types.specs.declared.request.RequestId.{RequestId}
 use Rattle.adapter.specs.Device.{Device}
-use Rattle.adapter.specs.FirstRead.{first_read, first_read_sector}
+use Rattle.adapter.specs.FirstRead.{first_read_device, first_disk_sector}
 use Rattle.adapter.specs.Memory.{changed}
 use Rattle.adapter.specs.ReadDone.{IsReadDone}
 use Rattle.adapter.specs.Decoding.{piece_addresses}
@@ -55,11 +55,11 @@ module _ (laws : StepLaws) (k : DriverState) (m : Machine) (reached : IsReachabl
 
 -- ---- the first read
 
-running : ((first_read.port 0).st ≡ true) × ((first_read.port 0).sact 0 ≡ false)
+running : ((first_read_device.port 0).st ≡ true) × ((first_read_device.port 0).sact 0 ≡ false)
 unfolding changed
 running = (refl, refl)
 
-read_is_known : StepLaws → (new : Device) (done : IsReadDone first_read new 0 0 100 8 (piece_addresses 0x64000 8) first_read_sector) → EndedIsKnown
+read_is_known : StepLaws → (new : Device) (done : IsReadDone first_read_device new 0 0 100 8 (piece_addresses 0x64000 8) first_disk_sector) → EndedIsKnown
 read_is_known laws new done =
     (done_is_known laws) first_known issued (reached laws) first_knows first_id (put_same (λ port slot. Free) 0 0 (Serves first_id)) refl new done.steps refl running.0 done.free.ci
     (((laws.keeps _ _ done.steps).port 0).sact 0 running.1)

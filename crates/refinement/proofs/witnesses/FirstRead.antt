@@ -12,7 +12,7 @@ use Rattle.byteorder.specs.Endian.{little_from}
 use Rattle.adapter.specs.Access.{written}
 use Rattle.adapter.specs.Commands.{Meaning}
 use Rattle.adapter.specs.Device.{DevicePort, Device}
-use Rattle.adapter.specs.FirstRead.{first_memory, first_read, quiet_port, reading_port, first_read_sector}
+use Rattle.adapter.specs.FirstRead.{first_memory, first_read_device, empty_port, reading_port, first_disk_sector}
 use Rattle.adapter.specs.Memory.{bytes_at, changed, patched}
 use Rattle.adapter.specs.ReadDone.{read_of}
 use Rattle.adapter.specs.Decoding.{DecodesTo, piece_addresses}
@@ -107,29 +107,29 @@ told = record {
   few = (let h : little_from 0 4 (bytes_at first_memory 0 32) ≡ 5 + 0 + 65536 * length first_says.prds = first_says.header.first in let n = entries in omega (arith, h, n));
 }
 
-pub tells : (k b : ℕ) → b < 512 → slice_index (first_read_sector k) b ≡ k
-unfolding first_read_sector
+pub tells : (k b : ℕ) → b < 512 → slice_index (first_disk_sector k) b ≡ k
+unfolding first_disk_sector
 tells k b bl = get_or-replicate 512 b k 0 bl
 
 -- nothing is on the tape: the disk may come back as it was first in
-lasts : (memory : ℕ → ℕ) (k : ℕ) (bytes : List ℕ) → WereHeld [] (record { sectors = Some first_read_sector; since = 0 }) 0 k bytes → HasHeld (start_with memory) (port_at 0) k (slice_index bytes)
-lasts memory k bytes (inl is) = inl (λ b bl. ap (λ (l : List ℕ). slice_index l b) (sym (same_Some (first_read_sector k) bytes is)) ∙ tells k b bl)
+lasts : (memory : ℕ → ℕ) (k : ℕ) (bytes : List ℕ) → WereHeld [] (record { sectors = Some first_disk_sector; since = 0 }) 0 k bytes → HasHeld (start_with memory) (port_at 0) k (slice_index bytes)
+lasts memory k bytes (inl is) = inl (λ b bl. ap (λ (l : List ℕ). slice_index l b) (sym (same_Some (first_disk_sector k) bytes is)) ∙ tells k b bl)
 lasts memory k bytes (inr (entry, here, is)) = let lt = here.1 in absurd (omega (arith, lt))
 
 -- a device with no command in a slot agrees with a machine to begin with
 pub ready_knows : (memory : ℕ → ℕ) → DriverRelation (start_with memory) (idle (ready_with memory))
 ready_knows memory = record {
   agrees = record {
-    slot = λ q k. changed_at (λ _. quiet_port) 0 ready_port (λ n p. IsEmptySlot p k) (record { issued = refl; free = refl; unarmed = refl }) (λ n ne. record { issued = refl; free = refl; unarmed = refl }) q;
+    slot = λ q k. changed_at (λ _. empty_port) 0 ready_port (λ n p. IsEmptySlot p k) (record { issued = refl; free = refl; unarmed = refl }) (λ n ne. record { issued = refl; free = refl; unarmed = refl }) q;
     apart = λ q k q' k' id u v. absurd (let z : Free ≡ Serves id = u in cc);
-    received = changed_at (λ _. quiet_port) 0 ready_port (λ n p. p.fre ≡ true → IsReceiving p n) (λ _. record { below = omega arith; area = refl }) (λ n ne f. true_false f refl);
-    disk = changed_at (λ _. quiet_port) 0 ready_port (λ n p. IsDiskOf (start_with memory) p n) (record { present = refl; id = refl; size = refl })
+    received = changed_at (λ _. empty_port) 0 ready_port (λ n p. p.fre ≡ true → IsReceiving p n) (λ _. record { below = omega arith; area = refl }) (λ n ne f. true_false f refl);
+    disk = changed_at (λ _. empty_port) 0 ready_port (λ n p. IsDiskOf (start_with memory) p n) (record { present = refl; id = refl; size = refl })
         (λ n ne. record { present = ne_eqb n 0 ne; id = refl; size = cond-false (n == 0) 256 0 (ne_eqb n 0 ne) });
     memory = λ f b from small. refl;
-    sectors = λ _. changed_at (λ _. quiet_port) 0 ready_port (λ n p. SameSectors (start_with memory) p.disk n)
-        (record { told = first_read_sector; tells = refl; same = λ k b kl bl. tells k b bl })
+    sectors = λ _. changed_at (λ _. empty_port) 0 ready_port (λ n p. SameSectors (start_with memory) p.disk n)
+        (record { told = first_disk_sector; tells = refl; same = λ k b kl bl. tells k b bl })
         (λ n ne. record { told = λ k. []; tells = refl; same = λ k b kl bl. absurd (omega (arith, kl)) });
-    lasting = λ _. changed_at (λ _. quiet_port) 0 ready_port (λ n p. HasLasting (start_with memory) [] p n) (λ k inside bytes w. lasts memory k bytes w) (λ n ne k inside bytes w. absurd (omega (arith, inside)));
+    lasting = λ _. changed_at (λ _. empty_port) 0 ready_port (λ n p. HasLasting (start_with memory) [] p n) (λ k inside bytes w. lasts memory k bytes w) (λ n ne k inside bytes w. absurd (omega (arith, inside)));
   };
   have = λ q e may at_port. ⊎_elim (λ z. absurd (All-contains (λ _. ⊥) [] e (All-nil (λ _. ⊥)) z.0)) (λ z. absurd (All-contains (λ _. ⊥) [] e (All-nil (λ _. ⊥)) z)) may;
 }
@@ -181,15 +181,15 @@ issued_port_is : issued_port ready_port 1 ≡ reading_port
 issued_port_is = ap (λ (ci : ℕ → Bool). record reading_port { ci = ci })
     (fun_ext (changed_at (λ _. false) 0 true (λ k b. bit 1 k ≡ b) refl bit_one_other))
 
-pub issued_ports : changed (changed (λ _. quiet_port) 0 ready_port) 0 (issued_port ready_port 1) ≡ changed (λ _. quiet_port) 0 reading_port
-issued_ports = fun_ext (λ q. changed_at (changed (λ _. quiet_port) 0 ready_port) 0 (issued_port ready_port 1) (λ n p. p ≡ changed (λ _. quiet_port) 0 reading_port n)
-    (issued_port_is ∙ sym (changed_same (λ _. quiet_port) 0 reading_port))
-    (λ n ne. changed_other (λ _. quiet_port) 0 ready_port n ne ∙ sym (changed_other (λ _. quiet_port) 0 reading_port n ne)) q)
+pub issued_ports : changed (changed (λ _. empty_port) 0 ready_port) 0 (issued_port ready_port 1) ≡ changed (λ _. empty_port) 0 reading_port
+issued_ports = fun_ext (λ q. changed_at (changed (λ _. empty_port) 0 ready_port) 0 (issued_port ready_port 1) (λ n p. p ≡ changed (λ _. empty_port) 0 reading_port n)
+    (issued_port_is ∙ sym (changed_same (λ _. empty_port) 0 reading_port))
+    (λ n ne. changed_other (λ _. empty_port) 0 ready_port n ne ∙ sym (changed_other (λ _. empty_port) 0 reading_port n ne)) q)
 
-issues : first_read ≡ written (Px (port_at 0) Ci) 1 prepared_read
+issues : first_read_device ≡ written (Px (port_at 0) Ci) 1 prepared_read
 issues =
-    ap (λ (ports : ℕ → DevicePort). record first_read { port = ports })
-    (sym issued_ports ∙ ap (λ (p : DevicePort). changed (changed (λ _. quiet_port) 0 ready_port) 0 (issued_port p 1)) (sym (changed_same (λ _. quiet_port) 0 ready_port)))
+    ap (λ (ports : ℕ → DevicePort). record first_read_device { port = ports })
+    (sym issued_ports ∙ ap (λ (p : DevicePort). changed (changed (λ _. empty_port) 0 ready_port) 0 (issued_port p 1)) (sym (changed_same (λ _. empty_port) 0 ready_port)))
 
 pub prepared_is_known : StepLaws → PreparedIsKnown
 prepared_is_known laws = record {

@@ -7,7 +7,7 @@ use Rattle.hba_regs.specs.declared.reg.PortReg.TheVariants.{Ci}
 use Rattle.adapter.specs.Access.{Reads, noted}
 use Rattle.adapter.specs.Commands.{Meaning}
 use Rattle.adapter.specs.Device.{IsSector, FetchedCommand, Device}
-use Rattle.adapter.specs.FirstRead.{first_memory, first_read_sector}
+use Rattle.adapter.specs.FirstRead.{first_memory, first_disk_sector}
 use Rattle.adapter.specs.Memory.{patched, bytes_at, changed}
 use Rattle.adapter.specs.Steps.{Can, Steps, device_after, begun}
 use Rattle.adapter.specs.Steps.DeviceTransition.{Fetch, Move, Done}
@@ -81,19 +81,19 @@ abbrev fetched : Device
 fetched = device_after (Fetch 0 0 identify (scratch_of 0 ∷ [])) issued_identify
 
 abbrev moved : Device
-moved = device_after (Move 0 0 taken (first_read_sector 0)) fetched
+moved = device_after (Move 0 0 taken (first_disk_sector 0)) fetched
 
 abbrev ended : Device
 ended = device_after (Done 0 0 0 brought) moved
 
-page_is_sector : IsSector (first_read_sector 0)
+page_is_sector : IsSector (first_disk_sector 0)
 unfolding changed
-page_is_sector = first_sane.disk 0 first_read_sector refl 0 (omega arith)
+page_is_sector = first_sane.disk 0 first_disk_sector refl 0 (omega arith)
 
 can_fetch : Can (Fetch 0 0 identify (scratch_of 0 ∷ [])) issued_identify
 can_fetch = can_take identify_memory identify (scratch_of 0 ∷ []) told.says
 
-can_move : Can (Move 0 0 taken (first_read_sector 0)) fetched
+can_move : Can (Move 0 0 taken (first_disk_sector 0)) fetched
 unfolding changed
 can_move = record {
   works = record { taken = refl; working = record { running = refl; present = refl; fresh = refl; admitted = refl; whole = refl } };
@@ -112,7 +112,7 @@ can_end = record {
 
 comes : Steps issued_identify ended
 comes = record {
-  steps = Fetch 0 0 identify (scratch_of 0 ∷ []) ∷ Move 0 0 taken (first_read_sector 0) ∷ Done 0 0 0 brought ∷ [];
+  steps = Fetch 0 0 identify (scratch_of 0 ∷ []) ∷ Move 0 0 taken (first_disk_sector 0) ∷ Done 0 0 0 brought ∷ [];
   lead = (can_fetch, (can_move, (can_end, refl)));
 }
 

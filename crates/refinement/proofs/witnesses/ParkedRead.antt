@@ -8,7 +8,7 @@ use Rattle.hba_regs.specs.Bits.{bit}
 use Rattle.hba_regs.specs.declared.reg.Reg.TheVariants.{Px}
 use Rattle.hba_regs.specs.declared.reg.PortReg.TheVariants.{Cmd}
 use Rattle.adapter.specs.Device.{Notes}
-use Rattle.adapter.specs.FirstRead.{first_read}
+use Rattle.adapter.specs.FirstRead.{first_read_device}
 use Rattle.adapter.specs.Kept.{Keeps, KeepsOn}
 use Rattle.adapter.specs.Memory.{changed}
 use Rattle.adapter.specs.Rules.{MayWrite, IsStable}
@@ -38,11 +38,11 @@ booked = contains_here (newly_issued waits) [] (newly_issued waits) refl
 -- ---- taken from its slot
 
 -- the write keeps FRE as it is, and the bits that it doesn't change were read 0
-permitted : StepLaws → IsStable (MayWrite (Px (port_at 0) Cmd) 0x10) first_read
+permitted : StepLaws → IsStable (MayWrite (Px (port_at 0) Cmd) 0x10) first_read_device
 unfolding changed
 permitted laws mid s =
-    let k : Keeps first_read mid = laws.keeps _ _ s in
-    let on : KeepsOn first_read mid = k.on refl in (
+    let k : Keeps first_read_device mid = laws.keeps _ _ s in
+    let on : KeepsOn first_read_device mid = k.on refl in (
       record { ae = on.ae; no_reset = on.no_reset },
       (omega arith, ap (λ (v : ℕ). bit v 0) k.pi),
       record {
@@ -54,12 +54,12 @@ permitted laws mid s =
       },
     )
 
-leaves : LeavesUses first_uses (Px (port_at 0) Cmd) 0x10 first_read
+leaves : LeavesUses first_uses (Px (port_at 0) Cmd) 0x10 first_read_device
 unfolding changed
 leaves = record { start = λ b. true_false b refl; receive = λ _. (omega arith, refl) }
 
 stopping_agrees : StepLaws → StateRelation first_uses issued stopping_read
-stopping_agrees laws = written_agrees first_uses issued first_read first_knows.agrees (Px (port_at 0) Cmd) 0x10 (permitted laws first_read (record { steps = []; lead = refl })) leaves
+stopping_agrees laws = written_agrees first_uses issued first_read_device first_knows.agrees (Px (port_at 0) Cmd) 0x10 (permitted laws first_read_device (record { steps = []; lead = refl })) leaves
 
 can_fall : Can (Fall 0) stopping_read
 unfolding changed
@@ -97,7 +97,7 @@ parked_knows laws =
 pub parked_is_known : StepLaws → ParkedIsKnown
 parked_is_known laws = record {
   permitted = (permitted laws);
-  writes = record { mid = first_read; steps = record { steps = []; lead = refl }; effect = refl };
+  writes = record { mid = first_read_device; steps = record { steps = []; lead = refl }; effect = refl };
   falls = record { steps = (Fall 0) ∷ []; lead = (can_fall, refl) };
   halted = stopped_halted;
   machine = issued;

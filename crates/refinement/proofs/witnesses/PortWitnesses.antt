@@ -4,7 +4,7 @@ use Rattle.std.proofs.lemmas.Bool.{false≢true}
 use Rattle.std.proofs.lemmas.Option.{none-some}
 use Rattle.adapter.specs.Device.{FetchedCommand, Device}
 use Rattle.adapter.specs.Device.Halt.{HaltedPlain}
-use Rattle.adapter.specs.FirstRead.{first_read}
+use Rattle.adapter.specs.FirstRead.{first_read_device}
 use Rattle.adapter.specs.Memory.{changed}
 use Rattle.adapter.specs.ReadDone.{read_of}
 use Rattle.adapter.specs.Decoding.{piece_addresses}
@@ -14,7 +14,7 @@ use Rattle.adapter.proofs.FirstRead.{first_says}
 use Rattle.refinement.specs.Facts.{HasFaults, IsQuiet}
 use Rattle.refinement.proofs.device.RecordedFaults.{running_faulted, steps_recorded}
 
-pub first_recorded : HasFaults first_read.tape (first_read.port 0) 0
+pub first_recorded : HasFaults first_read_device.tape (first_read_device.port 0) 0
 unfolding changed
 first_recorded = record {
   known = omega arith;
@@ -24,7 +24,7 @@ first_recorded = record {
 }
 
 -- the port beside it has no device
-pub second_quiet : IsQuiet (first_read.port 1)
+pub second_quiet : IsQuiet (first_read_device.port 1)
 unfolding changed
 second_quiet = record { unflagged = (refl, refl); linked = refl; no_comreset = λ (e : 0 ≡ 1). omega (arith, e) }
 
@@ -33,12 +33,12 @@ abbrev taken_read : FetchedCommand
 taken_read = begun (read_of 100 8) (piece_addresses 0x64000 8)
 
 abbrev fetched : Device
-fetched = device_after (Fetch 0 0 (read_of 100 8) (piece_addresses 0x64000 8)) first_read
+fetched = device_after (Fetch 0 0 (read_of 100 8) (piece_addresses 0x64000 8)) first_read_device
 
 abbrev failed : Device
 failed = device_after (Fault 0 0 0x40 0 taken_read) fetched
 
-first_fetch : Can (Fetch 0 0 (read_of 100 8) (piece_addresses 0x64000 8)) first_read
+first_fetch : Can (Fetch 0 0 (read_of 100 8) (piece_addresses 0x64000 8)) first_read_device
 unfolding changed
 first_fetch = record {
   fetchable = record { st = refl; issued = refl; free = refl };
@@ -51,12 +51,12 @@ first_fault : Can (Fault 0 0 0x40 0 taken_read) fetched
 unfolding changed
 first_fault = record { taken = refl; running = refl; is_byte = omega arith; kept = refl }
 
-failing : Steps first_read failed
+failing : Steps first_read_device failed
 failing = record { steps = Fetch 0 0 (read_of 100 8) (piece_addresses 0x64000 8) ∷ Fault 0 0 0x40 0 taken_read ∷ []; lead = (first_fetch, (first_fault, refl)) }
 
 failed_halted : ((failed.port 0).halt ≡ HaltedPlain) × ((failed.port 0).st ≡ true)
 unfolding changed
 failed_halted = (refl, refl)
 
-pub first_failed : (new : Device) × Steps first_read new × ((new.port 0).halt ≡ HaltedPlain) × HasFaults new.tape (new.port 0) 0
-first_failed = (failed, failing, failed_halted.0, steps_recorded 0 first_read failed failing (λ st. first_recorded) failed_halted.1)
+pub first_failed : (new : Device) × Steps first_read_device new × ((new.port 0).halt ≡ HaltedPlain) × HasFaults new.tape (new.port 0) 0
+first_failed = (failed, failing, failed_halted.0, steps_recorded 0 first_read_device failed failing (λ st. first_recorded) failed_halted.1)

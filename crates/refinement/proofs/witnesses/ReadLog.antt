@@ -11,7 +11,7 @@ use Rattle.adapter.specs.Access.{Reads, Writes, noted, written, shown_interrupt}
 use Rattle.adapter.specs.Commands.{Meaning}
 use Rattle.adapter.specs.Device.{IsSector, FetchedCommand, DevicePort, Device}
 use Rattle.adapter.specs.Device.Halt.{LogOnly}
-use Rattle.adapter.specs.FirstRead.{first_memory, first_read_sector}
+use Rattle.adapter.specs.FirstRead.{first_memory, first_disk_sector}
 use Rattle.adapter.specs.Memory.{patched, bytes_at, changed}
 use Rattle.adapter.specs.Steps.{Can, Steps, device_after, begun}
 use Rattle.adapter.specs.Steps.DeviceTransition.{Fetch, Move, Done}
@@ -31,7 +31,7 @@ use Rattle.refinement.proofs.relation.OneSlot.{changed_at}
 use Rattle.refinement.proofs.driver.PermittedAccesses.{own_is_permitted}
 use Rattle.refinement.proofs.driver.PutSlot.{put_other, own_agrees}
 use Rattle.refinement.proofs.relation.LastingSectors.{gains_none}
-use Rattle.refinement.proofs.relation.OtherSlots.{quiet_port}
+use Rattle.refinement.proofs.relation.OtherSlots.{empty_port}
 use Rattle.refinement.proofs.relation.SlotRelation.{SameFixed-refl}
 use Rattle.refinement.proofs.witnesses.SpeltSlot.{page_told, zeros_from}
 use Rattle.refinement.proofs.witnesses.FirstRead.{start_with, starts_with, ready_knows, bit_one_other}
@@ -63,7 +63,7 @@ ready = ready_knows log_memory
 halt_agrees : StateRelation (idle logging).uses machine logging
 unfolding changed
 halt_agrees =
-    quiet_port (idle (ready_with log_memory)).uses machine (ready_with log_memory) ready.agrees 0 log_port [] (SameFixed-refl (idle (ready_with log_memory)).uses log_memory []) (gains_none [] machine)
+    empty_port (idle (ready_with log_memory)).uses machine (ready_with log_memory) ready.agrees 0 log_port [] (SameFixed-refl (idle (ready_with log_memory)).uses log_memory []) (gains_none [] machine)
     (record { slots = λ k. record { issued = refl; sact = refl; taken = refl; st = refl; cr = refl; since = refl; list = refl }; fre = refl; received_at = refl; present = refl; disk = refl })
 
 knows : DriverRelation machine (idle logging)
@@ -122,14 +122,14 @@ abbrev fetched : Device
 fetched = device_after (Fetch 0 0 read_log (scratch_of 0 ∷ [])) issued
 
 abbrev moved : Device
-moved = device_after (Move 0 0 taken (first_read_sector 0)) fetched
+moved = device_after (Move 0 0 taken (first_disk_sector 0)) fetched
 
 abbrev ended : Device
 ended = device_after (Done 0 0 0 brought) moved
 
-page_is_sector : IsSector (first_read_sector 0)
+page_is_sector : IsSector (first_disk_sector 0)
 unfolding changed
-page_is_sector = first_sane.disk 0 first_read_sector refl 0 (omega arith)
+page_is_sector = first_sane.disk 0 first_disk_sector refl 0 (omega arith)
 
 can_fetch : Can (Fetch 0 0 read_log (scratch_of 0 ∷ [])) issued
 unfolding changed
@@ -140,7 +140,7 @@ can_fetch = record {
   says = told.says;
 }
 
-can_move : Can (Move 0 0 taken (first_read_sector 0)) fetched
+can_move : Can (Move 0 0 taken (first_disk_sector 0)) fetched
 unfolding changed
 can_move = record {
   works = record { taken = refl; working = record { running = refl; present = refl; fresh = refl; admitted = refl; whole = refl } };
@@ -159,7 +159,7 @@ can_end = record {
 
 comes : Steps issued ended
 comes = record {
-  steps = Fetch 0 0 read_log (scratch_of 0 ∷ []) ∷ Move 0 0 taken (first_read_sector 0) ∷ Done 0 0 0 brought ∷ [];
+  steps = Fetch 0 0 read_log (scratch_of 0 ∷ []) ∷ Move 0 0 taken (first_disk_sector 0) ∷ Done 0 0 0 brought ∷ [];
   lead = (can_fetch, (can_move, (can_end, refl)));
 }
 

@@ -14,7 +14,7 @@ use Rattle.hba_regs.specs.declared.reg.PortReg.TheVariants.{Is, Cmd, Tfd, Ssts, 
 use Rattle.adapter.specs.Access.{Reads, Writes, noted, written, shown_interrupt}
 use Rattle.adapter.specs.Device.{FetchedCommand, DevicePort, Device}
 use Rattle.adapter.specs.Device.Halt.{HaltedPlain, HaltedQueued}
-use Rattle.adapter.specs.FirstRead.{first_read}
+use Rattle.adapter.specs.FirstRead.{first_read_device}
 use Rattle.adapter.specs.Memory.{changed}
 use Rattle.adapter.specs.ReadDone.{read_of}
 use Rattle.adapter.specs.Rules.{MayStart, MayWrite, MayWritePort, IsStable}
@@ -42,7 +42,7 @@ abbrev taken_read : FetchedCommand
 taken_read = begun (read_of 100 8) (piece_addresses 0x64000 8)
 
 abbrev fetched : Device
-fetched = device_after (Fetch 0 0 (read_of 100 8) (piece_addresses 0x64000 8)) first_read
+fetched = device_after (Fetch 0 0 (read_of 100 8) (piece_addresses 0x64000 8)) first_read_device
 
 abbrev failed : Device
 failed = device_after (Fault 0 0 0x40 0 taken_read) fetched
@@ -73,7 +73,7 @@ found = noted (port_reg Is) 0 started
 
 -- ---- the device's steps
 
-first_fetch : Can (Fetch 0 0 (read_of 100 8) (piece_addresses 0x64000 8)) first_read
+first_fetch : Can (Fetch 0 0 (read_of 100 8) (piece_addresses 0x64000 8)) first_read_device
 unfolding changed
 first_fetch = record {
   fetchable = record { st = refl; issued = refl; free = refl };
@@ -86,7 +86,7 @@ first_fault : Can (Fault 0 0 0x40 0 taken_read) fetched
 unfolding changed
 first_fault = record { taken = refl; running = refl; is_byte = omega arith; kept = refl }
 
-fails : Steps first_read failed
+fails : Steps first_read_device failed
 fails = record { steps = Fetch 0 0 (read_of 100 8) (piece_addresses 0x64000 8) ∷ Fault 0 0 0x40 0 taken_read ∷ []; lead = (first_fetch, (first_fault, refl)) }
 
 can_fall : Can (Fall 0) stopping
@@ -175,11 +175,11 @@ may_start = permitted Cmd 0x11 ready (λ p e. cc) refl refl refl (record {
 
 -- ---- what is known of it
 
-first_plain : WorksPlainly (first_read.port 0)
+first_plain : WorksPlainly (first_read_device.port 0)
 unfolding changed
 first_plain = record { restarts = refl; unarmed = λ slot. refl; plain = λ slot t is. absurd (none-some _ is) }
 
-first_linked : IsLinked (first_read.port 0)
+first_linked : IsLinked (first_read_device.port 0)
 unfolding changed
 first_linked = record { det = refl; present = refl; fresh = refl; linked = refl; released = λ (e : 0 ≡ 1). omega (arith, e) }
 
@@ -235,7 +235,7 @@ recovery_is_found laws = record {
 
 -- ---- the fault is seen
 
-pub fault_is_seen : FaultIsSeen first_read 0 HaltedPlain
+pub fault_is_seen : FaultIsSeen first_read_device 0 HaltedPlain
 unfolding changed
 fault_is_seen = record {
   seen = noted (port_reg Ssts) 3 failed;

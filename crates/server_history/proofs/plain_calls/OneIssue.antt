@@ -14,7 +14,7 @@ use Rattle.adapter.specs.Access.Access.{Reading, Writing, Loading, Storing}
 use Rattle.adapter.specs.Device.{Device}
 use Rattle.adapter.specs.declared.command.Operation.{Operation}
 use Rattle.adapter.specs.declared.command.Operation.TheVariants.{Identify}
-use Rattle.block_machine.specs.Due.{IsDue, must_keep_order, waits_for, is_plain}
+use Rattle.block_machine.specs.Due.{IsDue, conflict, waits_for, is_plain}
 use Rattle.block_machine.specs.Events.{AllDevices, AllMay}
 use Rattle.block_machine.specs.Histories.{IsReachable}
 use Rattle.block_machine.specs.Left.{after}
@@ -329,15 +329,15 @@ module _ (laws : LawsBelow) (s new : ServerState) (port : Port) (id : RequestId)
       ap (λ (b : Bool). b && kept) (eq-eqb other.port.0 e.entry.port.0 (own ∙ sym port_same)) ∙ by (is_plain mode e.entry.op) plain
     where
       kept : Bool
-      kept = if is_plain mode e.entry.op then other.issued || nat_lt other.id.0 e.entry.id.0 else (is_plain mode other.op && other.issued) || (nat_lt other.id.0 e.entry.id.0 && (is_plain mode other.op || must_keep_order other (asks e.entry)))
+      kept = if is_plain mode e.entry.op then other.issued || nat_lt other.id.0 e.entry.id.0 else (is_plain mode other.op && other.issued) || (nat_lt other.id.0 e.entry.id.0 && (is_plain mode other.op || conflict other (asks e.entry)))
 
       by : (b : Bool) → (b ≡ true) ⊎ (is_plain mode other.op ≡ true) →
-          (if b then other.issued || nat_lt other.id.0 e.entry.id.0 else (is_plain mode other.op && other.issued) || (nat_lt other.id.0 e.entry.id.0 && (is_plain mode other.op || must_keep_order other (asks e.entry)))) ≡ true
+          (if b then other.issued || nat_lt other.id.0 e.entry.id.0 else (is_plain mode other.op && other.issued) || (nat_lt other.id.0 e.entry.id.0 && (is_plain mode other.op || conflict other (asks e.entry)))) ≡ true
       by true it = ap (λ (x : Bool). x || nat_lt other.id.0 e.entry.id.0) issued
       by false (inl queued) = absurd (false≢true queued)
       by false (inr its) =
-          ap (λ (x : Bool). (x && other.issued) || (nat_lt other.id.0 e.entry.id.0 && (x || must_keep_order other (asks e.entry)))) its
-          ∙ ap (λ (x : Bool). x || (nat_lt other.id.0 e.entry.id.0 && (true || must_keep_order other (asks e.entry)))) issued
+          ap (λ (x : Bool). (x && other.issued) || (nat_lt other.id.0 e.entry.id.0 && (x || conflict other (asks e.entry)))) its
+          ∙ ap (λ (x : Bool). x || (nat_lt other.id.0 e.entry.id.0 && (true || conflict other (asks e.entry)))) issued
 
   -- so no slot of the port is used where a plain request is due, and none for a plain one where any is
   none_beside : (n : ℕ) (u : SlotUse) → used_for s.slots port.0 n ≡ Some u → (is_plain mode e.entry.op ≡ true) ⊎ (u.queued ≡ false) → ⊥

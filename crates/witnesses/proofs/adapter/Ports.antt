@@ -13,7 +13,7 @@ use Rattle.adapter.specs.Steps.DeviceTransition.{Fall, LinkUp, Unplug}
 use Rattle.witnesses.specs.Runs.AccessOrStep.{Made, Came}
 use Rattle.adapter.specs.Commands.{Meaning, is_queued}
 use Rattle.adapter.specs.Device.{Disk, IsDisk, IsSector, TellsItsSectors, DevicePort, Device}
-use Rattle.adapter.specs.FirstRead.{first_disk, no_disk, quiet_port, first_read_sector}
+use Rattle.adapter.specs.FirstRead.{first_disk, no_disk, empty_port, first_disk_sector}
 use Rattle.adapter.specs.Guarded.{IsGuardedSlot, IsGuardedPort, Passing}
 use Rattle.adapter.specs.Idle.{IsIdle, IsIdlePort, IsSane}
 use Rattle.adapter.specs.Memory.{changed}
@@ -27,7 +27,7 @@ use Rattle.witnesses.proofs.adapter.Sets.{Range, is_in, covers, spares, spares_a
 
 -- a port with a disk, as after a reset
 abbrev pub disk_port : DevicePort
-disk_port = record quiet_port { disk = first_disk; plugged = first_disk ∷ []; present = true }
+disk_port = record empty_port { disk = first_disk; plugged = first_disk ∷ []; present = true }
 
 -- Ports 0 and 1 have a disk; the memory has the commands.
 abbrev pub first : Device
@@ -40,11 +40,11 @@ first = record {
   hr = false;
   ae = false;
   ie = false;
-  port = changed (changed (λ _. quiet_port) 0 disk_port) 1 disk_port;
+  port = changed (changed (λ _. empty_port) 0 disk_port) 1 disk_port;
   tape = [];
 }
 
-pub at_each : (P : DevicePort → Type 0) → P disk_port → P quiet_port → (q : ℕ) → P (first.port q)
+pub at_each : (P : DevicePort → Type 0) → P disk_port → P empty_port → (q : ℕ) → P (first.port q)
 unfolding changed
 at_each P with_disk without q =
     elim (eqb_tells q 1) [
@@ -186,8 +186,8 @@ issue_allowed d p k running usable free none m places says armed = record {
 
 -- ---- sectors and bytes
 
-pub told_bytes : (k : ℕ) → k < 256 → IsSector (first_read_sector k)
-unfolding first_read_sector
+pub told_bytes : (k : ℕ) → k < 256 → IsSector (first_disk_sector k)
+unfolding first_disk_sector
 told_bytes k small = (length-replicate 512 k, All-replicate (λ b. b < 256) 512 k small)
 
 is_disk : (disk : Disk) (told : ℕ → List ℕ) → disk.sectors ≡ Some told → ((k : ℕ) → k < disk.size → IsSector (told k)) → IsDisk disk
@@ -197,7 +197,7 @@ is_disk disk told is each = λ other other_is k small.
     subst P (let e : told ≡ other = (cc) in e) (each k small)
 
 pub disk_is : IsDisk first_disk
-disk_is = is_disk first_disk first_read_sector refl (λ k small. told_bytes k small)
+disk_is = is_disk first_disk first_disk_sector refl (λ k small. told_bytes k small)
 
 none_is : IsDisk no_disk
 none_is = is_disk no_disk (λ k. []) refl (λ k small. absurd (omega (arith, small)))
@@ -206,7 +206,7 @@ pub first_sane : IsSane first
 first_sane = record {
   bytes = memory_bytes;
   disk = at_each (λ p. IsDisk p.disk) disk_is none_is;
-  told = λ _. at_each (λ p. TellsItsSectors p.disk) (first_read_sector, refl) (λ k. [], refl);
+  told = λ _. at_each (λ p. TellsItsSectors p.disk) (first_disk_sector, refl) (λ k. [], refl);
 }
 
 first_reset : (q : ℕ) → IsAsReset (first.port q)
@@ -259,7 +259,7 @@ pub untouched : (rs : List Range) (mem : ℕ → ℕ) (q : ℕ) → IsGuardedPor
 untouched rs mem =
     at_each (IsGuardedPort (Passing (is_in rs)) (Passing (is_in rs)) mem)
     (unused_port rs mem disk_port (λ k. refl) (λ k. refl) (λ on. absurd (true-false on refl)))
-    (unused_port rs mem quiet_port (λ k. refl) (λ k. refl) (λ on. absurd (true-false on refl)))
+    (unused_port rs mem empty_port (λ k. refl) (λ k. refl) (λ on. absurd (true-false on refl)))
 
 -- An adapter is safe on which nothing was issued, where port 0 alone was touched.
 pub unused_safe : (d : Device) → ((k : ℕ) → (d.port 0).ci k ≡ false) → ((k : ℕ) → (d.port 0).taken k ≡ None)

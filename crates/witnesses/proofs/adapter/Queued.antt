@@ -7,7 +7,7 @@ use Rattle.hba_regs.specs.declared.reg.PortReg.TheVariants.{Ci, Sact}
 use Rattle.adapter.specs.Access.Access.{Writing}
 use Rattle.adapter.specs.Commands.{is_queued}
 use Rattle.adapter.specs.Device.{FetchedCommand, DevicePort, Device}
-use Rattle.adapter.specs.FirstRead.{first_read_sector}
+use Rattle.adapter.specs.FirstRead.{first_disk_sector}
 use Rattle.adapter.specs.Guarded.{IsGuarded, IsGuardedPort, IsGuardedSlot, Passing}
 use Rattle.adapter.specs.Memory.{changed}
 use Rattle.adapter.specs.Steps.{Steps, Can, begun, device_after}
@@ -172,7 +172,7 @@ taken_reached = reached_more issued_reached fetches (may_fetch, (may_fetch_other
 pub taken_steps : Steps issued taken
 taken_steps = record { steps = Fetch 0 0 queued_read (0x28000 ∷ []) ∷ Fetch 0 1 queued_read (0x29000 ∷ []) ∷ []; lead = (may_fetch, (may_fetch_other, refl)) }
 
-pub may_move : Can (Move 0 1 other (first_read_sector 100)) taken
+pub may_move : Can (Move 0 1 other (first_disk_sector 100)) taken
 unfolding changed
 may_move = record {
   works = record { taken = refl; working = record { running = refl; present = refl; fresh = refl; admitted = refl; whole = refl } };
@@ -182,14 +182,14 @@ may_move = record {
 }
 
 abbrev pub moved : Device
-moved = device_after (Move 0 1 other (first_read_sector 100)) taken
+moved = device_after (Move 0 1 other (first_disk_sector 100)) taken
 
 pub moved_reached : IsReachableByRun moved
-moved_reached = reached_more taken_reached (Came (Move 0 1 other (first_read_sector 100)) ∷ []) (may_move, tt)
+moved_reached = reached_more taken_reached (Came (Move 0 1 other (first_disk_sector 100)) ∷ []) (may_move, tt)
 
 pub moved_steps : Steps issued moved
 moved_steps = record {
-  steps = Fetch 0 0 queued_read (0x28000 ∷ []) ∷ Fetch 0 1 queued_read (0x29000 ∷ []) ∷ Move 0 1 other (first_read_sector 100) ∷ [];
+  steps = Fetch 0 0 queued_read (0x28000 ∷ []) ∷ Fetch 0 1 queued_read (0x29000 ∷ []) ∷ Move 0 1 other (first_disk_sector 100) ∷ [];
   lead = (may_fetch, (may_fetch_other, (may_move, refl)));
 }
 

@@ -5,7 +5,7 @@ use Rattle.hba_regs.specs.declared.reg.Reg.TheVariants.{Px}
 use Rattle.hba_regs.specs.declared.reg.PortReg.TheVariants.{Cmd}
 use Rattle.adapter.specs.Access.Access.{Writing}
 use Rattle.adapter.specs.Device.{Device}
-use Rattle.adapter.specs.FirstRead.{first_disk, first_read_sector}
+use Rattle.adapter.specs.FirstRead.{first_disk, first_disk_sector}
 use Rattle.adapter.specs.Memory.{changed}
 use Rattle.adapter.specs.Steps.{Can}
 use Rattle.adapter.specs.Steps.DeviceTransition.{Fall, Fatal, FrFall, LinkUp, Plug, Scribble, Unplug}
@@ -70,7 +70,7 @@ unplugged_safe = unused_safe unplugged (λ k. refl) (λ k. refl)
 
 pub may_plug : Can (Plug 0 first_disk) unplugged
 unfolding changed
-may_plug = (refl, disk_is, λ _. (first_read_sector, refl), λ _. record { size = refl; holds = λ last told is_last is_told k lt. inl (ap (λ (f : ℕ → List ℕ). f k) (sym (same_Some first_read_sector told is_told) ∙ same_Some first_read_sector last is_last)) })
+may_plug = (refl, disk_is, λ _. (first_disk_sector, refl), λ _. record { size = refl; holds = λ last told is_last is_told k lt. inl (ap (λ (f : ℕ → List ℕ). f k) (sym (same_Some first_disk_sector told is_told) ∙ same_Some first_disk_sector last is_last)) })
 
 -- ---- it is stopped
 

@@ -1,6 +1,6 @@
 -- The service that answers the read and loses the other disk meets all that is asked of it.
 use Rattle.adapter.specs.declared.command.Operation.TheVariants as operation
-use Rattle.adapter.specs.FirstRead.{first_read_sector}
+use Rattle.adapter.specs.FirstRead.{first_disk_sector}
 use Rattle.adapter.specs.Steps.{move_of, done_entry}
 use Rattle.std.proofs.Common.{ℕ, zero, suc, ◌≡◌, ◌≢◌, ◌∙◌, true, false, List, [], ◌∷◌, inl, inr, ⊎_elim, refl, sym, ap, arith, ◌⊎◌, ◌++◌}
 use Rattle.std.proofs.lemmas.Bool.{true≢false}
@@ -36,7 +36,7 @@ use Rattle.driver_history.specs.Evidence.{Gains, IsEvidencedOf, ShowsLoss, Shows
 use Rattle.driver_history.specs.Histories.{FindsDone, IsIssuedOn, CallCorresponds, PortCorresponds, BootsAnew, LosesNoPortError, RunsWellAnew, IsPortAlive}
 use Rattle.driver_history.specs.Trace.{LeavesCommand}
 use Rattle.port_control.specs.Engines.{Stops}
-use Rattle.witnesses.specs.Loss.{finding_turn, losing_turn, loss_evidence, LossIsAHistory}
+use Rattle.witnesses.specs.Loss.{completing_turn, losing_turn, loss_evidence, LossIsAHistory}
 use Rattle.witnesses.proofs.history.Holding.{IsUnnamed, named, named_is, no_slots, tries_ready, unnamed_evidenced, IsCalm, no_trouble}
 use Rattle.witnesses.proofs.history.Command.{read_memory}
 use Rattle.witnesses.proofs.history.Devices.{does_append, IsOf, leaves, no_bit, serving, WritesOf, AreServing}
@@ -86,7 +86,7 @@ service = record {
 }
 
 abbrev turns : List Access
-turns = finding_turn ++ losing_turn
+turns = completing_turn ++ losing_turn
 
 answer_here : Contains service_steps (Answer ended outcome.Ok)
 answer_here = (1, omega arith, refl)
@@ -177,7 +177,7 @@ service_backed = record {
 
 stops : Stops (port_at 1) turns
 stops = record {
-  before = finding_turn ++ Reading (Px (port_at 1) Ssts) 0 ∷ Reading (Px (port_at 1) Cmd) 0xc011 ∷ [];
+  before = completing_turn ++ Reading (Px (port_at 1) Ssts) 0 ∷ Reading (Px (port_at 1) Cmd) 0xc011 ∷ [];
   cleared = 0xc010;
   between = [];
   fallen = 0x4010;
@@ -297,7 +297,7 @@ service_boots (suc (suc n)) = (λ is f. absurd (not_shown (suc (suc n)) is f), i
 -- what the tape has gained is no trouble of another port than the second
 gained_calm : (n : ℕ) → n ≢ 1 → All (IsCalm n) gained
 gained_calm n ne =
-    All-cons (IsCalm n) (entry.Move (move_of 0 0 command (first_read_sector 100))) (done_entry 0 0 operation.Read ∷ entry.Unplug (port_at 1) ∷ []) (λ x. x, λ x. x, λ x. x)
+    All-cons (IsCalm n) (entry.Move (move_of 0 0 command (first_disk_sector 100))) (done_entry 0 0 operation.Read ∷ entry.Unplug (port_at 1) ∷ []) (λ x. x, λ x. x, λ x. x)
     (All-cons (IsCalm n) (done_entry 0 0 operation.Read) (entry.Unplug (port_at 1) ∷ []) (λ x. x, λ x. x, λ x. x)
     (All-cons (IsCalm n) (entry.Unplug (port_at 1)) [] (λ x. x, λ x. x, λ (is : 1 ≡ n). ne (sym is)) (All-nil (IsCalm n))))
 
@@ -361,7 +361,7 @@ service_part n = record {
 service_ties : CallCorresponds (Any ∷ Any ∷ []) submitted_at service
 service_ties = record {
   accesses = turns;
-  came = (does_append finding_turn losing_turn submitted between lost finds loses, serving (IsPortAlive both) turns of_served);
+  came = (does_append completing_turn losing_turn submitted between lost finds loses, serving (IsPortAlive both) turns of_served);
   backed = service_backed;
   evidenced = record { faults = λ f here. absurd (nowhere f here); port = λ port. service_evidenced port.0 };
   grounded = tt;

@@ -17,7 +17,7 @@ use Rattle.hba_regs.specs.declared.reg.PortReg.TheVariants.{Sact, Ci}
 use Rattle.adapter.specs.Access.{Access, DoesAll}
 use Rattle.adapter.specs.Access.Access.{Reading}
 use Rattle.adapter.specs.Device.{DevicePort, Device, FetchedCommand}
-use Rattle.adapter.specs.FirstRead.{first_read_sector}
+use Rattle.adapter.specs.FirstRead.{first_disk_sector}
 use Rattle.adapter.specs.Memory.{patched}
 use Rattle.adapter.specs.Decoding.{piece_addresses}
 use Rattle.adapter.specs.Steps.{begun, done_entry, move_of}
@@ -92,7 +92,7 @@ module _ (c : Discovery) where
   outstanding = outstanding_as c.id c.sector c.frame_number c.held
 
   abbrev pub touching : Step
-  touching = Touch outstanding 0 (slice_index (first_read_sector c.sector))
+  touching = Touch outstanding 0 (slice_index (first_disk_sector c.sector))
 
   abbrev pub ended : Pending
   ended = mark_ended (touch 0 outstanding)
@@ -108,10 +108,10 @@ module _ (c : Discovery) where
 
   -- the sector was moved, and the command ended
   abbrev pub gained : List Entry
-  gained = entry.Move (move_of 0 c.slot command (first_read_sector c.sector)) ∷ done_entry 0 c.slot ReadQueued ∷ []
+  gained = entry.Move (move_of 0 c.slot command (first_disk_sector c.sector)) ∷ done_entry 0 c.slot ReadQueued ∷ []
 
   abbrev pub memory_then : ℕ → ℕ
-  memory_then = patched c.memory (4096 * c.frame_number) (first_read_sector c.sector)
+  memory_then = patched c.memory (4096 * c.frame_number) (first_disk_sector c.sector)
 
   abbrev pub masks : List Access
   masks = Reading (Px (port_at 0) Ci) c.ci ∷ Reading (Px (port_at 0) Sact) c.sact ∷ []
@@ -202,7 +202,7 @@ module _ (c : Discovery) where
       plugged = λ port. ([], unplugged c.port c.port_then is.agreed.stands is.agreeing.stands port, refl);
     }
       where
-        brought : (b : ℕ) → b < 512 → slice_index (first_read_sector c.sector) b ≡ c.machine.disks (port_at 0) (c.sector + 0) b
+        brought : (b : ℕ) → b < 512 → slice_index (first_disk_sector c.sector) b ≡ c.machine.disks (port_at 0) (c.sector + 0) b
         brought b low = tells c.sector b low ∙ (let same : c.sector ≡ c.sector + 0 = omega arith in same) ∙ sym (ap (λ (f : Port → ℕ → ℕ → ℕ). f (port_at 0) (c.sector + 0) b) is.agreed.disks.3)
 
     quiet : (n : ℕ) → two_states (port_at n) ≡ Ready → (ShowsLoss (port_at n) before.device served_at.device → ⊥) × (ShowsFailure (before.device.port n) → ⊥)

@@ -13,7 +13,7 @@ use Rattle.ata_types.specs.declared.limits.TheConstants.{MOST_READINGS}
 use Rattle.adapter.specs.Access.{Access, named_causes}
 use Rattle.adapter.specs.Device.{DevicePort, Device}
 use Rattle.adapter.specs.Device.Halt.{NotHalted, HaltedPlain, HaltedQueued}
-use Rattle.adapter.specs.FirstRead.{quiet_port}
+use Rattle.adapter.specs.FirstRead.{empty_port}
 use Rattle.adapter.specs.Idle.{IsIdlePort}
 use Rattle.adapter.specs.declared.access.DeviceStep.{DeviceStep}
 use Rattle.adapter.specs.declared.command.Operation.TheVariants.{Identify}
@@ -63,7 +63,7 @@ serves_first (suc port) slot id is = absurd (let x : Free ≡ Serves id = is in 
 
 -- ---- ports
 
-pub unserved_at : (s : InSlots) (i : JointState Device) (port : ℕ) → i.abstract.ports.state (port_at port) ≡ Absent → i.device.port port ≡ quiet_port → HasNothing s port → NoneWaits i.abstract.machine (port_at port)
+pub unserved_at : (s : InSlots) (i : JointState Device) (port : ℕ) → i.abstract.ports.state (port_at port) ≡ Absent → i.device.port port ≡ empty_port → HasNothing s port → NoneWaits i.abstract.machine (port_at port)
     → NoneKept i.abstract.machine (port_at port) → IsUnservedAt s i (port_at port)
 unserved_at s i port absent quiet slots waits kept = record {
   absent = absent;

@@ -7,7 +7,7 @@ use Rattle.hba_regs.specs.declared.reg.PortReg.{PortReg}
 use Rattle.hba_regs.specs.declared.reg.PortReg.TheVariants.{Cmd, Ssts, Serr, Sact, Ci}
 use Rattle.adapter.specs.Access.{DoesAll, PortShows, Reads, Writes, note, port_written}
 use Rattle.adapter.specs.Device.{IsSector, DevicePort, Device}
-use Rattle.adapter.specs.FirstRead.{first_read_sector}
+use Rattle.adapter.specs.FirstRead.{first_disk_sector}
 use Rattle.adapter.specs.Memory.{changed, patched}
 use Rattle.witnesses.specs.Allowed.{AreAllowed}
 use Rattle.adapter.specs.Steps.{Steps, done_entry, move_of, with_done, with_move}
@@ -17,7 +17,7 @@ use Rattle.adapter.specs.declared.tape.Entry.{Entry}
 use Rattle.adapter.specs.declared.tape.Entry.TheVariants as entry
 use Rattle.refinement.specs.Relation.{port_at}
 use Rattle.refinement.specs.Slots.{IsEmptySlot}
-use Rattle.witnesses.specs.Loss.{finding_turn, losing_turn}
+use Rattle.witnesses.specs.Loss.{completing_turn, losing_turn}
 use Rattle.witnesses.specs.Scene.{device_with}
 use Rattle.witnesses.proofs.history.Command.{read_memory}
 use Rattle.witnesses.proofs.history.Submitting.{command, fetches, issued, others_clear, pages, second, submitted, taken}
@@ -26,27 +26,27 @@ use Rattle.witnesses.proofs.history.Devices.{may_stop, but_first, but_second, fa
 -- ---- the read is done
 
 abbrev moved : DevicePort
-moved = with_move taken 0 command (first_read_sector 100)
+moved = with_move taken 0 command (first_disk_sector 100)
 
 abbrev done : DevicePort
 done = with_done moved 0 0 Read
 
 abbrev pub tape_moved : List Entry
-tape_moved = pages ++ entry.Move (move_of 0 0 command (first_read_sector 100)) ∷ []
+tape_moved = pages ++ entry.Move (move_of 0 0 command (first_disk_sector 100)) ∷ []
 
 abbrev pub tape_done : List Entry
 tape_done = tape_moved ++ done_entry 0 0 Read ∷ []
 
 unfoldable pub memory_done : ℕ → ℕ
-memory_done = patched read_memory 0x64000 (first_read_sector 100)
+memory_done = patched read_memory 0x64000 (first_disk_sector 100)
 
-pub is_sector : (k : ℕ) → k < 256 → IsSector (first_read_sector k)
-unfolding first_read_sector
+pub is_sector : (k : ℕ) → k < 256 → IsSector (first_disk_sector k)
+unfolding first_disk_sector
 is_sector k low = (length-replicate {A = ℕ} 512 k, All-replicate (λ b. b < 256) 512 k low)
 
 moves : (new : Device) → Steps (device_with tape_moved memory_done (moved ∷ second ∷ [])) new → Steps (device_with pages read_memory (taken ∷ second ∷ [])) new
 unfolding changed memory_done
-moves new = step_first (Move 0 0 command (first_read_sector 100)) (device_with pages read_memory (taken ∷ second ∷ [])) (device_with tape_moved memory_done (moved ∷ second ∷ [])) new
+moves new = step_first (Move 0 0 command (first_disk_sector 100)) (device_with pages read_memory (taken ∷ second ∷ [])) (device_with tape_moved memory_done (moved ∷ second ∷ [])) new
     (record {
       works = record { taken = refl; working = record { running = refl; present = refl; fresh = refl; admitted = refl; whole = refl } };
       left = omega arith;
@@ -84,7 +84,7 @@ found = record seen { notes = note Sact 0 seen }
 abbrev pub between : Device
 between = device_with tape_done memory_done (found ∷ second ∷ [])
 
-pub finds : DoesAll finding_turn submitted between
+pub finds : DoesAll completing_turn submitted between
 finds = (
   device_with tape_done memory_done (seen ∷ second ∷ []),
   record {
@@ -180,7 +180,7 @@ loses = (
 
 -- ---- by the rules
 
-pub finding_allowed : AreAllowed finding_turn submitted between finds
+pub finding_allowed : AreAllowed completing_turn submitted between finds
 unfolding finds reads
 finding_allowed = (
   (record { ae = refl; no_reset = refl }, (omega arith, refl)),

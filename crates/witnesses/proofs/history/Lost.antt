@@ -6,7 +6,7 @@ use Rattle.std.proofs.lemmas.List.Elements.{All-nil, All-cons}
 use Rattle.ata_types.specs.declared.PortState.TheVariants.{Absent, Ready}
 use Rattle.ata_types.specs.declared.request.Outcome.TheVariants as outcome
 use Rattle.adapter.specs.Device.{Device}
-use Rattle.adapter.specs.FirstRead.{first_read_sector}
+use Rattle.adapter.specs.FirstRead.{first_disk_sector}
 use Rattle.adapter.specs.Memory.{changed}
 use Rattle.adapter.specs.Steps.{done_entry, move_of}
 use Rattle.adapter.specs.declared.command.Operation.TheVariants as operation
@@ -47,7 +47,7 @@ abbrev pub ended : Pending
 ended = mark_ended touched
 
 abbrev pub touching : Step
-touching = Touch waiting 0 (slice_index (first_read_sector 100))
+touching = Touch waiting 0 (slice_index (first_disk_sector 100))
 
 abbrev pub service_steps : List Step
 service_steps = Unplug (port_at 1) ∷ Answer ended outcome.Ok ∷ End touched ∷ touching ∷ []
@@ -82,12 +82,12 @@ knows_lost = agreeing served no_slots tape_lost memory_done found gone
 
 -- what the tape gains in the service
 abbrev pub gained : List Entry
-gained = entry.Move (move_of 0 0 command (first_read_sector 100)) ∷ done_entry 0 0 operation.Read ∷ entry.Unplug (port_at 1) ∷ []
+gained = entry.Move (move_of 0 0 command (first_disk_sector 100)) ∷ done_entry 0 0 operation.Read ∷ entry.Unplug (port_at 1) ∷ []
 
 -- no page came after those of the two ports
 unpaged : (port : ℕ) → All (λ e. IsMove port Identify e → ⊥) gained
 unpaged port =
-    All-cons (λ e. IsMove port Identify e → ⊥) (entry.Move (move_of 0 0 command (first_read_sector 100))) (done_entry 0 0 operation.Read ∷ entry.Unplug (port_at 1) ∷ [])
+    All-cons (λ e. IsMove port Identify e → ⊥) (entry.Move (move_of 0 0 command (first_disk_sector 100))) (done_entry 0 0 operation.Read ∷ entry.Unplug (port_at 1) ∷ [])
     (λ (x : _ × _). let same : operation.Read ≡ Identify = x.1 in cc)
     (All-cons (λ e. IsMove port Identify e → ⊥) (done_entry 0 0 operation.Read) (entry.Unplug (port_at 1) ∷ []) (λ x. x)
     (All-cons (λ e. IsMove port Identify e → ⊥) (entry.Unplug (port_at 1)) [] (λ x. x) (All-nil (λ e. IsMove port Identify e → ⊥))))

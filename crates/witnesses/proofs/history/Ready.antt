@@ -7,7 +7,7 @@ use Rattle.ata_types.specs.declared.Port.{Port}
 use Rattle.ata_types.specs.declared.PortState as shown
 use Rattle.ata_types.specs.declared.PortState.TheVariants.{Absent, Ready, Unfit, Dead}
 use Rattle.adapter.specs.Device.{Bases, Disk, DevicePort, Device}
-use Rattle.adapter.specs.FirstRead.{first_disk, first_read_sector}
+use Rattle.adapter.specs.FirstRead.{first_disk, first_disk_sector}
 use Rattle.adapter.specs.declared.command.Operation.TheVariants.{Identify}
 use Rattle.adapter.specs.declared.tape.Entry.{Entry}
 use Rattle.refinement.specs.Acts.{InSlots, at_slots}
@@ -82,8 +82,8 @@ module _ (m : Machine) (s : InSlots) (tape : List Entry) (memory : ℕ → ℕ) 
   size_of (suc (suc n)) = refl
 
   sectors_of : (n : ℕ) → SameSectors start (having (p ∷ q ∷ []) n).disk n
-  sectors_of zero = record { told = first_read_sector; tells = ap (λ (d : Disk). d.sectors) are.disks.0; same = λ k b kl bl. tells k b bl }
-  sectors_of (suc zero) = record { told = first_read_sector; tells = ap (λ (d : Disk). d.sectors) are.disks.1; same = λ k b kl bl. tells k b bl }
+  sectors_of zero = record { told = first_disk_sector; tells = ap (λ (d : Disk). d.sectors) are.disks.0; same = λ k b kl bl. tells k b bl }
+  sectors_of (suc zero) = record { told = first_disk_sector; tells = ap (λ (d : Disk). d.sectors) are.disks.1; same = λ k b kl bl. tells k b bl }
   sectors_of (suc (suc n)) = record { told = λ k. []; tells = refl; same = λ k b kl bl. absurd (omega (arith, kl)) }
 
   lasts : (n : ℕ) → HasLasting m tape (having (p ∷ q ∷ []) n) n

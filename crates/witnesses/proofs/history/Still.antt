@@ -5,7 +5,7 @@ use Rattle.std.proofs.lemmas.Bool.{and_parts, cond-false, true≢false}
 use Rattle.std.proofs.lemmas.Option.{same_Some}
 use Rattle.adapter.specs.Commands.{is_ranged, reads_memory}
 use Rattle.adapter.specs.Device.{Lasting}
-use Rattle.adapter.specs.FirstRead.{first_disk, first_read_sector}
+use Rattle.adapter.specs.FirstRead.{first_disk, first_disk_sector}
 use Rattle.adapter.specs.Steps.{WereHeld, put_into}
 use Rattle.adapter.specs.declared.tape.Entry.{Entry}
 use Rattle.adapter.specs.declared.tape.Entry.TheVariants as entry
@@ -55,5 +55,5 @@ pub still_bytes : (tape : List Entry) (lasting : Lasting) (port k : ℕ) (bytes 
 still_bytes tape lasting port k bytes is still w b bl = by (subst (λ (l : Lasting). WereHeld tape l port k bytes) is w)
   where
     by : WereHeld tape first_lasting port k bytes → slice_index bytes b ≡ k
-    by (inl now) = ap (λ (l : List ℕ). slice_index l b) (sym (same_Some (first_read_sector k) bytes now)) ∙ tells k b bl
+    by (inl now) = ap (λ (l : List ℕ). slice_index l b) (sym (same_Some (first_disk_sector k) bytes now)) ∙ tells k b bl
     by (inr (e, here, put)) = absurd (let z : None ≡ Some bytes = sym (puts_none e port k (still_of tape e still here)) ∙ put in cc)

@@ -8,7 +8,7 @@ use Rattle.adapter.specs.Access.{Access, DoesAll, PortShows, note}
 use Rattle.adapter.specs.Access.Access.{Reading}
 use Rattle.adapter.specs.Commands.{is_queued}
 use Rattle.adapter.specs.Device.{Disk, DevicePort, FetchedCommand, Device}
-use Rattle.adapter.specs.FirstRead.{first_read_sector}
+use Rattle.adapter.specs.FirstRead.{first_disk_sector}
 use Rattle.adapter.specs.Memory.{changed, patched}
 use Rattle.adapter.specs.Decoding.{DecodesTo, piece_addresses}
 use Rattle.adapter.specs.Steps.{admits, Brings, IsAlone, IsWorking, Steps, begun, done_entry, move_of, with_done, with_fetch, with_move}
@@ -35,7 +35,7 @@ reads_into k n = begun (queued_read k) (piece_addresses (4096 * n) 1)
 
 -- the sector is moved, and the command ends with a Set Device Bits FIS
 abbrev pub finished : ℕ → ℕ → ℕ → DevicePort → DevicePort
-finished slot k n p = with_done (with_move p slot (reads_into k n) (first_read_sector k)) slot 3 ReadQueued
+finished slot k n p = with_done (with_move p slot (reads_into k n) (first_disk_sector k)) slot 3 ReadQueued
 
 works : (p : DevicePort) → Stands p → IsWorking p ReadQueued
 works p stands = record {
@@ -64,15 +64,15 @@ module _ (tape : List Entry) (memory : ℕ → ℕ) (p : DevicePort) (stands : S
 
   -- so it is once the sector was moved, and the command has ended
   finishes : p.taken slot ≡ Some (reads_into k n) → k < 256 → (new : Device)
-      → Steps (device_with ((tape ++ entry.Move (move_of 0 slot (reads_into k n) (first_read_sector k)) ∷ []) ++ done_entry 0 slot ReadQueued ∷ []) (patched memory (4096 * n) (first_read_sector k)) (finished slot k n p ∷ second ∷ [])) new
+      → Steps (device_with ((tape ++ entry.Move (move_of 0 slot (reads_into k n) (first_disk_sector k)) ∷ []) ++ done_entry 0 slot ReadQueued ∷ []) (patched memory (4096 * n) (first_disk_sector k)) (finished slot k n p ∷ second ∷ [])) new
       → Steps (device_with tape memory (p ∷ second ∷ [])) new
   finishes taken low new rest =
-      step_first (Move 0 slot (reads_into k n) (first_read_sector k)) (device_with tape memory (p ∷ second ∷ [])) (device_with tape_moved memory_moved (moved ∷ second ∷ [])) new
+      step_first (Move 0 slot (reads_into k n) (first_disk_sector k)) (device_with tape memory (p ∷ second ∷ [])) (device_with tape_moved memory_moved (moved ∷ second ∷ [])) new
       (record {
         works = record { taken = taken; working = works p stands };
         left = omega arith;
         sector = is_sector k low;
-        brings = subst (λ (disk : Disk). Brings disk memory (reads_into k n) ReadQueued (first_read_sector k)) (sym (ap (λ (q : DevicePort). q.disk) stands.same)) (omega (arith, low), ap first_read_sector (let same : k ≡ k + 0 = omega arith in same));
+        brings = subst (λ (disk : Disk). Brings disk memory (reads_into k n) ReadQueued (first_disk_sector k)) (sym (ap (λ (q : DevicePort). q.disk) stands.same)) (omega (arith, low), ap first_disk_sector (let same : k ≡ k + 0 = omega arith in same));
       })
       (put_device tape_moved memory_moved 0 (p ∷ second ∷ []) (moved ∷ second ∷ []) moved refl (but_first p moved (second ∷ [])))
       (step_first (Done 0 slot 3 (record (reads_into k n) { moved = 1 })) (device_with tape_moved memory_moved (moved ∷ second ∷ [])) (device_with tape_done memory_moved (finished slot k n p ∷ second ∷ [])) new
@@ -84,16 +84,16 @@ module _ (tape : List Entry) (memory : ℕ → ℕ) (p : DevicePort) (stands : S
       (put_device tape_done memory_moved 0 (moved ∷ second ∷ []) (finished slot k n p ∷ second ∷ []) (finished slot k n p) refl (but_first moved (finished slot k n p) (second ∷ []))) rest)
     where
       moved : DevicePort
-      moved = with_move p slot (reads_into k n) (first_read_sector k)
+      moved = with_move p slot (reads_into k n) (first_disk_sector k)
 
       tape_moved : List Entry
-      tape_moved = tape ++ entry.Move (move_of 0 slot (reads_into k n) (first_read_sector k)) ∷ []
+      tape_moved = tape ++ entry.Move (move_of 0 slot (reads_into k n) (first_disk_sector k)) ∷ []
 
       tape_done : List Entry
       tape_done = tape_moved ++ done_entry 0 slot ReadQueued ∷ []
 
       memory_moved : ℕ → ℕ
-      memory_moved = patched memory (4096 * n) (first_read_sector k)
+      memory_moved = patched memory (4096 * n) (first_disk_sector k)
 
       works_moved : IsWorking moved ReadQueued
       works_moved = let w = works p stands in record { running = w.running; present = w.present; fresh = w.fresh; admitted = w.admitted; whole = w.whole }
@@ -220,19 +220,19 @@ again_stands = record { same = refl; quiet = undisturbed found.is found_stands.q
 -- ---- what the services do
 
 abbrev pub ends : ℕ → ℕ → ℕ → List Entry
-ends slot k n = entry.Move (move_of 0 slot (reads_into k n) (first_read_sector k)) ∷ done_entry 0 slot ReadQueued ∷ []
+ends slot k n = entry.Move (move_of 0 slot (reads_into k n) (first_disk_sector k)) ∷ done_entry 0 slot ReadQueued ∷ []
 
 abbrev pub pages : List Entry
 pages = sent queueing_page
 
 abbrev pub swapped_memory : ℕ → ℕ
-swapped_memory = patched two_memory (4096 * 101) (first_read_sector 101)
+swapped_memory = patched two_memory (4096 * 101) (first_disk_sector 101)
 
 abbrev pub swapped : Device
 swapped = device_with (pages ++ ends 1 101 101) swapped_memory (found ∷ second ∷ [])
 
 abbrev pub ended : Device
-ended = device_with (pages ++ (ends 1 101 101 ++ ends 0 100 100)) (patched swapped_memory (4096 * 100) (first_read_sector 100)) (found_again ∷ second ∷ [])
+ended = device_with (pages ++ (ends 1 101 101 ++ ends 0 100 100)) (patched swapped_memory (4096 * 100) (first_disk_sector 100)) (found_again ∷ second ∷ [])
 
 abbrev issued_device : Device
 issued_device = device_with pages two_memory (two_issued ∷ second ∷ [])
@@ -241,7 +241,7 @@ abbrev second_ended : Device
 second_ended = device_with (pages ++ ends 1 101 101) swapped_memory (second_done ∷ second ∷ [])
 
 abbrev first_ended : Device
-first_ended = device_with (pages ++ (ends 1 101 101 ++ ends 0 100 100)) (patched swapped_memory (4096 * 100) (first_read_sector 100)) (first_done ∷ second ∷ [])
+first_ended = device_with (pages ++ (ends 1 101 101 ++ ends 0 100 100)) (patched swapped_memory (4096 * 100) (first_disk_sector 100)) (first_done ∷ second ∷ [])
 
 stays : (d : Device) → Steps d d
 stays d = record { steps = []; lead = refl }
@@ -262,5 +262,5 @@ pub finds_second : (does : DoesAll second_found issued_device swapped) × AreAll
 finds_second = finds issued_device (pages ++ ends 1 101 101) swapped_memory second_done 0 1 second_ends (λ k low. no_bit k ∙ sym (none_waits k)) (λ k low. sym (one_active k))
 
 pub finds_first : (does : DoesAll first_found swapped ended) × AreAllowed first_found swapped ended does
-finds_first = finds swapped (pages ++ (ends 1 101 101 ++ ends 0 100 100)) (patched swapped_memory (4096 * 100) (first_read_sector 100)) first_done 0 0 first_ends
+finds_first = finds swapped (pages ++ (ends 1 101 101 ++ ends 0 100 100)) (patched swapped_memory (4096 * 100) (first_disk_sector 100)) first_done 0 0 first_ends
     (λ k low. no_bit k ∙ sym (none_waits k)) (λ k low. no_bit k ∙ sym (none_active k))

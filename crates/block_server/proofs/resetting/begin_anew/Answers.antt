@@ -30,7 +30,7 @@ loop-number-preserved c =
     let low = c.loop-number-test.true in
     let default = c.index-ports-number.result in
     one_more (BeginsAsHostFound c.args.host.now) c.args.ports.now c.loop-number.ports number so_far low default c.begin_anew.new.self
-    (taken c.args.host.now number (get_or c.loop-number.ports number default) c.begin_anew.new.self c.mode_of-mode.result c.begin_anew.ensures c.mode_of-mode.ensures.found)
+    (taken c.args.host.now number (get_or c.loop-number.ports number default) c.begin_anew.new.self c.mode_found-mode.result c.begin_anew.ensures c.mode_found-mode.ensures.found)
 
 pub returns : goal.returns
 returns c = all_become (BeginsAsHostFound c.args.host.now) c.args.ports.now c.loop-number.ports c.loop-number.number c.loop-number.invariant (let past = c.loop-number-test.false in omega (arith, past))

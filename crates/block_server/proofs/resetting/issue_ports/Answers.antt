@@ -7,7 +7,7 @@ use Rattle.host_boot.specs.Taken.{probe_result_of}
 use Rattle.host_boot.specs.declared.ProbeResult.{ProbeResult}
 use Rattle.port_driver.specs.Parts.{HasPortAndShared, no_port}
 use Rattle.block_server.specs.FourPorts.{found_by_port, with_ports}
-use Rattle.port_driver.specs.Ports.{with_part}
+use Rattle.port_driver.specs.Ports.{with_port_slots}
 use Rattle.port_driver.specs.declared.served_port.ServedPort.{ServedPort}
 use Rattle.port_driver.specs.declared.served_port.Shared.{Shared}
 use Rattle.server_history.specs.Served.{IssuesAll}
@@ -69,7 +69,7 @@ loop-number-preserved g c =
           placing.has_parts s (device c.loop-number.adapter) c.loop-number.shared ports number w.index-ports-number.result low in
           let there : probe_result_of found number ≡ p.found = ap (λ (list : List ProbeResult). probe_result_of list number) (sym so_far.found) ∙ get_or-map (λ (q : ServedPort). q.found) ports number no_port
           ∙ ap (λ (q : ServedPort). q.found) (get_or_default ports number no_port w.index-ports-number.result low) in
-          let back : (s : ServerState) → with_part (now s) new w.issue_due.new.book u (port_at number) ≡ later s = λ s.
+          let back : (s : ServerState) → with_port_slots (now s) new w.issue_due.new.book u (port_at number) ≡ later s = λ s.
           sym (placing.slots_placed s ports number w.index-ports-number.result new shared w.issue_due.new.self w.issue_due.ensures.rest) in
           let all : (s : ServerState) → InCallInvariant (now s) → IssuesAll (port_at number) (now s) (later s) = λ s kept.
           subst (IssuesAll (port_at number) (now s)) (back s)

@@ -14,7 +14,7 @@ returns-in-Some c = λ other m places sends s.
     let t = transfer_of m.operation in
     let header = rw c.header_place.ensures at c.header_bytes-header.ensures in
     let points : little_from 8 4 c.header_bytes-header.result ≡ s.table = rw (← header) at s.header.points in
-    let fis = rw points at c.fis_bytes-fis.ensures in
+    let fis = rw points at c.command_fis_bytes-fis.ensures in
     let code = rw (← fis) at s.fis.code in
     let its = c.transfer_coded.ensures t.0 c.args.slot m.first m.count (ap (λ (o : Operation). (command_of o c.args.slot m.first m.count).code) (sym t.1) ∙ sym code) in
     let same : t.0 ≡ c.in-Some.transfer = let z : Some t.0 ≡ Some c.in-Some.transfer = sym its ∙ c.in-Some.is in cc in
@@ -25,7 +25,7 @@ returns-in-None c = λ other m places sends s.
     let t = transfer_of m.operation in
     let header = rw c.header_place.ensures at c.header_bytes-header.ensures in
     let points : little_from 8 4 c.header_bytes-header.result ≡ s.table = rw (← header) at s.header.points in
-    let fis = rw points at c.fis_bytes-fis.ensures in
+    let fis = rw points at c.command_fis_bytes-fis.ensures in
     let code = rw (← fis) at s.fis.code in
     let its = c.transfer_coded.ensures t.0 c.args.slot m.first m.count (ap (λ (o : Operation). (command_of o c.args.slot m.first m.count).code) (sym t.1) ∙ sym code) in
     some-none its c.in-None.is

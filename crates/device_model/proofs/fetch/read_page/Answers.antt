@@ -14,7 +14,7 @@ returns-in_err-transfer-clause-only c = λ none m places sends s.
     let t = transfer_of m.operation in
     let header = rw c.header_place.ensures at c.header_bytes-header.ensures in
     let points : little_from 8 4 c.header_bytes-header.result ≡ s.table = rw (← header) at s.header.points in
-    let fis = rw points at c.fis_bytes-fis.ensures in
+    let fis = rw points at c.command_fis_bytes-fis.ensures in
     let code = rw (← fis) at s.fis.code in
     let its = c.transfer_coded.ensures t.0 c.args.slot m.first m.count (ap (λ (o : Operation). (command_of o c.args.slot m.first m.count).code) (sym t.1) ∙ sym code) in
     some-none its c.in_err-transfer.was
@@ -24,7 +24,7 @@ returns-then-not-sends_page-clause-only c = λ none m places sends s.
     let t = transfer_of m.operation in
     let header = rw c.header_place.ensures at c.header_bytes-header.ensures in
     let points : little_from 8 4 c.header_bytes-header.result ≡ s.table = rw (← header) at s.header.points in
-    let fis = rw points at c.fis_bytes-fis.ensures in
+    let fis = rw points at c.command_fis_bytes-fis.ensures in
     let code = rw (← fis) at s.fis.code in
     let its = c.transfer_coded.ensures t.0 c.args.slot m.first m.count (ap (λ (o : Operation). (command_of o c.args.slot m.first m.count).code) (sym t.1) ∙ sym code) in
     let same : t.0 ≡ c.in_ok-transfer.transfer = let z : Some t.0 ≡ Some c.in_ok-transfer.transfer = sym its ∙ c.in_ok-transfer.was in cc in
@@ -35,7 +35,7 @@ returns-else-decode_command-clause-only c = λ none m places sends s.
     let t = transfer_of m.operation in
     let header = rw c.header_place.ensures at c.header_bytes-header.ensures in
     let points : little_from 8 4 c.header_bytes-header.result ≡ s.table = rw (← header) at s.header.points in
-    let fis = rw points at c.fis_bytes-fis.ensures in
+    let fis = rw points at c.command_fis_bytes-fis.ensures in
     let code = rw (← fis) at s.fis.code in
     let its = c.transfer_coded.ensures t.0 c.args.slot m.first m.count (ap (λ (o : Operation). (command_of o c.args.slot m.first m.count).code) (sym t.1) ∙ sym code) in
     let same : t.0 ≡ c.in_ok-transfer.transfer = let z : Some t.0 ≡ Some c.in_ok-transfer.transfer = sym its ∙ c.in_ok-transfer.was in cc in

@@ -10,6 +10,6 @@ boot_after-booted-requires-clause-bootable g c = (c.requires.bootable c.in-Resta
 pub returns-in-Restart-clause-mode : goal.returns-in-Restart-clause-mode
 returns-in-Restart-clause-mode g c =
     let device = g.A.Adapter.device in ⊎_elim
-    (λ boots. c.mode_of-mode.ensures.found _ boots.slots boots.queued)
-    (λ absent. c.mode_of-mode.ensures.plain _ (λ info is. let z : Unready Absent ≡ Ready info = sym absent ∙ is in cc))
+    (λ boots. c.mode_found-mode.ensures.found _ boots.slots boots.queued)
+    (λ absent. c.mode_found-mode.ensures.plain _ (λ info is. let z : Unready Absent ≡ Ready info = sym absent ∙ is in cc))
     (boots_or_absent c.args.port_error c.args.wanted.now c.in-Restart.stopped.port c.boot_after-booted.result (device c.args.adapter.now) (device c.boot_after-booted.new.adapter) c.boot_after-booted.ensures.boots)

@@ -1,6 +1,6 @@
 use Rattle.std.proofs.Common.{◌≡◌, ◌≢◌, ℕ, Bool, true, [], ◌∷◌, refl}
 use Rattle.adapter.specs.Device.{Device}
-use Rattle.adapter.specs.FirstRead.{first_disk, first_read_sector}
+use Rattle.adapter.specs.FirstRead.{first_disk, first_disk_sector}
 use Rattle.adapter.specs.Guarded.{IsGuarded, Passing}
 use Rattle.adapter.specs.Steps.{DeviceTransition, Steps, Can}
 use Rattle.adapter.specs.Steps.DeviceTransition.{Fetch as Fetching, FetchFault as SenselessFetching, Move as Moving, Clear as Clearing, Done as Ending, Fault as Failing, Fatal as FailingFatally, Fall as Falling, FrFall as FallingSilent, LinkUp as Linking, Unplug as Unplugging, Plug as Plugging, ResetEnds as EndingReset, Scribble as Scribbling}
@@ -45,7 +45,7 @@ by_kind stay alone Fetch other =
     safely Fetch queued.issued queued.issued_reached (reads_safe stay queued.issued queued.no_steps) (Fetching 0 0 queued_read (0x28000 ∷ [])) refl queued.may_fetch
 by_kind stay alone FetchFault other = absurd (other refl)
 by_kind stay alone Move other =
-    safely Move queued.taken queued.taken_reached (reads_safe stay queued.taken queued.taken_steps) (Moving 0 1 queued.other (first_read_sector 100)) refl queued.may_move
+    safely Move queued.taken queued.taken_reached (reads_safe stay queued.taken queued.taken_steps) (Moving 0 1 queued.other (first_disk_sector 100)) refl queued.may_move
 by_kind stay alone Clear other =
     safely Clear trimming.moved (trimming.moved_reached alone) (trim_safe stay) (Clearing 0 2 trimming.block_moved 100 8) refl trimming.may_clear
 by_kind stay alone Done other =

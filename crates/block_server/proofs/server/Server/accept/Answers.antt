@@ -11,8 +11,8 @@ use Rattle.dma_frames.specs.Table.{owner_of, lent_to}
 use Rattle.block_server.specs.Calls.{AcceptsRequest, IsFor}
 use Rattle.std.specs.Box.{with_value}
 use Rattle.port_driver.specs.Parts.{HasPortAt}
-use Rattle.block_server.specs.FourPorts.{found_by_port, kept_by_port, last_disk_by_port, mode_by_port, slots_by_port, wanted_by_port}
-use Rattle.port_driver.specs.Ports.{HasReadyPort, with_part}
+use Rattle.block_server.specs.FourPorts.{found_by_port, kept_by_port, remembered_by_port, mode_by_port, slots_by_port, wanted_by_port}
+use Rattle.port_driver.specs.Ports.{HasReadyPort, with_port_slots}
 use Rattle.port_driver.specs.declared.served_port.ServedPort.{ServedPort}
 use Rattle.port_driver.specs.declared.served_port.Shared.{Shared}
 use Rattle.block_server.proofs.Placing as placing
@@ -82,7 +82,7 @@ after g c =
       table = c.lend-loan.new.self;
       wanted = wanted_by_port ports;
       ports = found_by_port ports;
-      remembered = last_disk_by_port ports;
+      remembered = remembered_by_port ports;
       modes = mode_by_port ports;
       slots = slots_by_port ports;
       kept = kept_by_port ports;
@@ -107,7 +107,7 @@ sent g c =
     let shared : Shared = record { table = with_value v.shared.table c.lend-loan.new.self; book = c.issue_due.new.book } in
     subst (Accepts c.args.port c.args.r.now id s) (sym (placing.slots_placed (record s { last = v.last + 1 }) v.ports c.from.result c.index-self-from.result new shared c.issue_due.new.self c.issue_due.ensures.rest))
     (subst (λ (n : ℕ). Accepts c.args.port c.args.r.now id s (record more { device = new; slots = slice_set (slots_by_port v.ports) n u; book = c.issue_due.new.book })) (sym c.from.ensures)
-    (accepts (with_part more new c.issue_due.new.book u c.args.port) (c.issue_due.ensures.issues more (lends g (at_issuing g c)))))
+    (accepts (with_port_slots more new c.issue_due.new.book u c.args.port) (c.issue_due.ensures.issues more (lends g (at_issuing g c)))))
 
 pub invariant_of-self : goal.invariant_of-self
 invariant_of-self g c = of_on c.self.view_is c.requires.on (

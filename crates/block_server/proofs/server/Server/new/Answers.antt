@@ -9,7 +9,7 @@ use Rattle.host_boot.specs.declared.ProbeResult.{ProbeResult}
 use Rattle.identify.specs.declared.wanted.Wanted.{Wanted}
 use Rattle.server_history.specs.Histories.{HasBegun}
 use Rattle.server_history.specs.Server.{ServerState, SettledInvariant, mode_found}
-use Rattle.block_server.specs.FourPorts.{found_by_port, kept_by_port, last_disk_by_port, mode_by_port, slots_by_port, wanted_by_port}
+use Rattle.block_server.specs.FourPorts.{found_by_port, kept_by_port, remembered_by_port, mode_by_port, slots_by_port, wanted_by_port}
 use Rattle.block_server.proofs.Making.{NewPorts, new_fits, new_ports}
 use Rattle.block_server.proofs.server.Server.new.Given.{Over}
 use Rattle.block_server.proofs.server.Server.new.Goals as goal
@@ -32,7 +32,7 @@ new_server g c =
       table = c.in-Ok-boxed.table.value;
       wanted = wanted_by_port ports;
       ports = found_by_port ports;
-      remembered = last_disk_by_port ports;
+      remembered = remembered_by_port ports;
       modes = mode_by_port ports;
       slots = slots_by_port ports;
       kept = kept_by_port ports;

@@ -22,41 +22,41 @@ use Rattle.block_server.proofs.Reviving as reviving
 use Rattle.block_server.proofs.Standing.{holds_either}
 use Rattle.block_server.proofs.server.Server.reset_into.Given.{Over}
 use Rattle.block_server.proofs.server.Server.reset_into.Goals as goal
-use Rattle.block_server.proofs.server.Server.reset_into.Goals.{After-get_stuck, After-issue_ports, After-issue_ports-arg-3-1, After-resolve_ports-arg-3-1}
+use Rattle.block_server.proofs.server.Server.reset_into.Goals.{After-note_stuck_reset, After-issue_ports, After-issue_ports-arg-3-1, After-resolve_ports-arg-3-1}
 
 -- ---- the adapter didn't end its reset
 
 -- the server then
-abbrev stuck_server : (g : Over) (c : After-get_stuck g) → ServerState
-stuck_server g c = with_ports (server_of g.A.Adapter.device (seen c.self.inside)) (g.A.Adapter.device c.reset.new.adapter) c.self.inside.shared c.get_stuck.new.ports
+abbrev stuck_server : (g : Over) (c : After-note_stuck_reset g) → ServerState
+stuck_server g c = with_ports (server_of g.A.Adapter.device (seen c.self.inside)) (g.A.Adapter.device c.reset.new.adapter) c.self.inside.shared c.note_stuck_reset.new.ports
 
-stuck_books : (g : Over) (c : After-get_stuck g) → BookInvariant (server_of g.A.Adapter.device (seen c.self.inside))
+stuck_books : (g : Over) (c : After-note_stuck_reset g) → BookInvariant (server_of g.A.Adapter.device (seen c.self.inside))
 stuck_books g c =
     holds_either c.self.inside.stuck c.self.invariant (λ _ settled. c.law_a_server_is_booked.ensures.kept (server_of g.A.Adapter.device (seen c.self.inside)) settled.kept) (λ _ stalled. stalled.booked)
 
-got_stuck : (g : Over) (c : After-get_stuck g) → ResetGetsStuck (server_of g.A.Adapter.device (seen c.self.inside)) (stuck_server g c)
+got_stuck : (g : Over) (c : After-note_stuck_reset g) → ResetGetsStuck (server_of g.A.Adapter.device (seen c.self.inside)) (stuck_server g c)
 got_stuck g c =
     let device = g.A.Adapter.device in
     let v = c.self.inside in
-    becoming.gets_stuck (server_of device (seen v)) (device v.adapter) (device c.reset.new.adapter) v.shared v.ports c.get_stuck.new.ports (placing.four_ports v.ports (stuck_books g c).four) c.get_stuck.ensures c.in-Err.ensures.stuck
+    becoming.gets_stuck (server_of device (seen v)) (device v.adapter) (device c.reset.new.adapter) v.shared v.ports c.note_stuck_reset.new.ports (placing.four_ports v.ports (stuck_books g c).four) c.note_stuck_reset.ensures c.in-Err.ensures.stuck
 
-stuck_then : (g : Over) (c : After-get_stuck g) → ExtendsStuck (server_of g.A.Adapter.device (seen c.self.inside)) (stuck_server g c) Reset (WasReset None)
+stuck_then : (g : Over) (c : After-note_stuck_reset g) → ExtendsStuck (server_of g.A.Adapter.device (seen c.self.inside)) (stuck_server g c) Reset (WasReset None)
 stuck_then g c = c.law_stuck_resets_add.ensures (server_of g.A.Adapter.device (seen c.self.inside)) (stuck_server g c) (stuck_books g c) (got_stuck g c)
 
 pub invariant_of-self : goal.invariant_of-self
-invariant_of-self g c = (stuck_then g (goal.at.invariant_of-self g c).After-get_stuck).stalled
+invariant_of-self g c = (stuck_then g (goal.at.invariant_of-self g c).After-note_stuck_reset).stalled
 
 pub returns-in-Err-clause-adds : goal.returns-in-Err-clause-adds
 returns-in-Err-clause-adds g c =
     let device = g.A.Adapter.device in
-    let at = (goal.at.returns-in-Err-clause-adds g c).After-get_stuck in
+    let at = (goal.at.returns-in-Err-clause-adds g c).After-note_stuck_reset in
     let P : ServerView g.row.A.Denot → Type 0 = λ v. ExtendsHistory (server_of device v) (stuck_server g at) Reset (WasReset None) in
     subst P c.self.view_is (stuck_then g at).adds
 
 pub returns-in-Err-clause-resets : goal.returns-in-Err-clause-resets
 returns-in-Err-clause-resets g c =
     let device = g.A.Adapter.device in
-    let at = (goal.at.returns-in-Err-clause-resets g c).After-get_stuck in
+    let at = (goal.at.returns-in-Err-clause-resets g c).After-note_stuck_reset in
     let P : ServerView g.row.A.Denot → Type 0 = λ v. ResetGetsStuck (server_of device v) (stuck_server g at) in
     (c.clear.ensures, subst P c.self.view_is (got_stuck g at), refl)
 

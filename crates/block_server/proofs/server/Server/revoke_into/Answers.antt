@@ -8,7 +8,7 @@ use Rattle.server_history.specs.Histories.{ExtendsSettled, ExtendsHistory, Exten
 use Rattle.server_history.specs.Revoked.{RevokesGrant}
 use Rattle.server_history.specs.Served.{IssuesAll}
 use Rattle.server_history.specs.Server.{InCallInvariant, SettledInvariant, ServerState}
-use Rattle.block_server.specs.FourPorts.{found_by_port, kept_by_port, last_disk_by_port, mode_by_port, slots_by_port, wanted_by_port}
+use Rattle.block_server.specs.FourPorts.{found_by_port, kept_by_port, remembered_by_port, mode_by_port, slots_by_port, wanted_by_port}
 use Rattle.port_driver.specs.Ports.{HasFoundPort}
 use Rattle.port_driver.specs.declared.served_port.ServedPort.{ServedPort}
 use Rattle.port_driver.specs.declared.served_port.Shared.{Shared}
@@ -134,7 +134,7 @@ after_on g c =
       table = c.answer_waiting.new.self.table.value;
       wanted = wanted_by_port ports;
       ports = found_by_port ports;
-      remembered = last_disk_by_port ports;
+      remembered = remembered_by_port ports;
       modes = mode_by_port ports;
       slots = slots_by_port ports;
       kept = kept_by_port ports;

@@ -2,7 +2,7 @@ use Rattle.std.proofs.Common.{ℕ, ◌≡◌, ◌<◌, true, map, refl, set, sym
 use Rattle.std.specs.Box.{with_value}
 use Rattle.adapter.specs.Device.{Device}
 use Rattle.port_driver.specs.declared.served_port.Shared.{Shared}
-use Rattle.port_driver.specs.Parts.{IsSettledWith, TakesTurn, with_parts}
+use Rattle.port_driver.specs.Parts.{IsSettledWith, TakesTurn, with_served_port}
 use Rattle.port_driver.specs.Ports.{HasDonePort, HasReadyPort, with_answers}
 use Rattle.server_history.specs.Served.{AnswersDone, done_reply}
 use Rattle.server_history.specs.Server.{ServerState, state_of}
@@ -45,7 +45,7 @@ module _ (g : Over) (c : After-issue_due g) (s : ServerState) (h : IsSettledWith
       (c.answer_done.ensures.answers s c.args.port lent) (c.answer_done.ensures.lends s c.args.port lent) c.args.self.now.mode h.parts.port_is.mode_is)
 
   finished : TakesTurn (AnswersDone c.args.port c.args.finished) c.args.replies.now.items c.answer_done.new.replies.items s
-      (with_parts s (g.A.Adapter.device c.issue_due.new.adapter) (record { table = with_value c.args.shared.now.table c.answer_done.new.table; book = c.issue_due.new.book }) c.args.port c.issue_due.new.self)
+      (with_served_port s (g.A.Adapter.device c.issue_due.new.adapter) (record { table = with_value c.args.shared.now.table c.answer_done.new.table; book = c.issue_due.new.book }) c.args.port c.issue_due.new.self)
   finished =
       let then = c.answer_done.new in
       let new = g.A.Adapter.device c.issue_due.new.adapter in
@@ -57,7 +57,7 @@ module _ (g : Over) (c : After-issue_due g) (s : ServerState) (h : IsSettledWith
       let settled = c.law_a_finished_port_settles.ensures s after c.args.port c.args.finished (map done_reply answers.requests) h.settled its_ready over done in
       let shared : Shared = record { table = with_value c.args.shared.now.table then.table; book = c.issue_due.new.book } in
       subst (TakesTurn (AnswersDone c.args.port c.args.finished) c.args.replies.now.items then.replies.items s)
-      (sym (ap (with_parts s new shared c.args.port) c.issue_due.ensures.rest ∙ placing.with_slots s c.args.port c.args.self.now h.parts.port_is new shared u))
+      (sym (ap (with_served_port s new shared c.args.port) c.issue_due.ensures.rest ∙ placing.with_slots s c.args.port c.args.self.now h.parts.port_is new shared u))
       (record { its = map done_reply answers.requests; told = answers.told; does = done; settled = settled })
 
 pub returns-clause-finishes : goal.returns-clause-finishes

@@ -1,10 +1,10 @@
 use Rattle.std.proofs.Common.{Option, Some, ℕ, ◌≡◌, ◌≤◌, ◌++◌, List, [], map, take, drop, length, refl, set, sym, ap, ◌∙◌, subst, arith}
 use Rattle.std.specs.List.Sorted.{IsPermutation}
 use Rattle.std.proofs.lemmas.List.{length-append, set-set}
-use Rattle.port_driver.specs.Parts.{TakesTurn, with_parts}
+use Rattle.port_driver.specs.Parts.{TakesTurn, with_served_port}
 use Rattle.port_driver.specs.Recovery.{HasPortInError, HandlesPortErrorOf, IsInError}
 use Rattle.port_driver.specs.Dispositions.{HavePlaces, holding}
-use Rattle.port_driver.specs.Ports.{HasFoundPort, with_part}
+use Rattle.port_driver.specs.Ports.{HasFoundPort, with_port_slots}
 use Rattle.block_machine.specs.declared.due.QueueMode.{QueueMode}
 use Rattle.host_boot.specs.declared.ProbeResult.{ProbeResult}
 use Rattle.identify.specs.declared.DiskInfo.{DiskInfo}
@@ -68,7 +68,7 @@ recovered g c s h =
 abbrev found_so : (g : Over) (c : After-order_from-arg-1 g) → Option DiskInfo → ServedPort
 found_so g c disk = record c.complete_and_recover-failed.new.self {
   found = c.resume_or_reboot-found.result.0;
-  last_disk = disk;
+  remembered = disk;
   mode = c.resume_or_reboot-found.result.1;
   slots = c.begin_anew.new.self.slots;
 }
@@ -78,7 +78,7 @@ is_anew : (g : Over) (c : After-order_from-arg-1 g) → c.begin_anew.new.self �
 is_anew g c =
     let then = c.complete_and_recover-failed.new.self in
     c.begin_anew.ensures.fields
-    ∙ ap (λ (f : ProbeResult). found_so g c (last_disk_of f then.last_disk)) (ap (λ (p : ServedPort). p.found) c.complete_and_recover-failed.ensures.rest ∙ c.in-Ready.is)
+    ∙ ap (λ (f : ProbeResult). found_so g c (last_disk_of f then.remembered)) (ap (λ (p : ServedPort). p.found) c.complete_and_recover-failed.ensures.rest ∙ c.in-Ready.is)
 
 -- what the server kept of the port is kept still
 same_kept : (g : Over) (c : After-complete_and_recover-failed g) (s : ServerState) → Has g c s → c.complete_and_recover-failed.new.self.kept ≡ kept_at s.kept c.args.port.0
@@ -199,8 +199,8 @@ module _ (g : Over) (c : After-issue_where_ready g) (s : ServerState) (h : IsInE
   shared = record c.resolve.new.self { book = c.issue_where_ready.new.book }
 
   -- so it is with the port in its place
-  placed : with_parts s (g.A.Adapter.device c.issue_where_ready.new.adapter) shared c.args.port c.issue_where_ready.new.self
-      ≡ with_part (restoring.then x y) (g.A.Adapter.device c.issue_where_ready.new.adapter) c.issue_where_ready.new.book c.issue_where_ready.new.self.slots c.args.port
+  placed : with_served_port s (g.A.Adapter.device c.issue_where_ready.new.adapter) shared c.args.port c.issue_where_ready.new.self
+      ≡ with_port_slots (restoring.then x y) (g.A.Adapter.device c.issue_where_ready.new.adapter) c.issue_where_ready.new.book c.issue_where_ready.new.self.slots c.args.port
   placed =
       let three = g.A.Adapter.device c.issue_where_ready.new.adapter in
       let wanted_is = ap (λ (p : ServedPort). p.wanted) c.issue_where_ready.ensures.rest ∙ ap (λ (p : ServedPort). p.wanted) (is_anew g (at_order g c)) ∙ ap (λ (p : ServedPort). p.wanted) c.complete_and_recover-failed.ensures.rest in
@@ -208,7 +208,7 @@ module _ (g : Over) (c : After-issue_where_ready g) (s : ServerState) (h : IsInE
         device = three;
         table = c.resolve.new.self.table.value;
         ports = set s.ports c.args.port.0 p.found;
-        remembered = set s.remembered c.args.port.0 p.last_disk;
+        remembered = set s.remembered c.args.port.0 p.remembered;
         modes = set s.modes c.args.port.0 p.mode;
         slots = set s.slots c.args.port.0 slots;
         kept = set s.kept c.args.port.0 kept;
@@ -221,7 +221,7 @@ module _ (g : Over) (c : After-issue_where_ready g) (s : ServerState) (h : IsInE
       (sym (set-set s.slots c.args.port.0 c.begin_anew.new.self.slots c.issue_where_ready.new.self.slots))
 
   handled : TakesTurn (HandlesPortErrorOf c.args.port c.args.port_error) c.args.replies.now.items c.order_from.new.replies.items s
-      (with_parts s (g.A.Adapter.device c.issue_where_ready.new.adapter) shared c.args.port c.issue_where_ready.new.self)
+      (with_served_port s (g.A.Adapter.device c.issue_where_ready.new.adapter) shared c.args.port c.issue_where_ready.new.self)
   unfolding o
   handled =
       let done = restoring.error_handled x y o in

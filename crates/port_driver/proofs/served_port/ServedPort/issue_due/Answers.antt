@@ -4,7 +4,7 @@ use Rattle.ata_types.specs.declared.request.RequestId.{RequestId}
 use Rattle.block_machine.specs.Due.{AreAllDueInOrder, due_of}
 use Rattle.block_machine.specs.declared.due.QueueMode.{QueueMode}
 use Rattle.block_machine.specs.declared.due.Unanswered.{Unanswered}
-use Rattle.port_driver.specs.Ports.{HasReadyPort, with_part}
+use Rattle.port_driver.specs.Ports.{HasReadyPort, with_port_slots}
 use Rattle.request_queue.specs.Entries.{Held, BookIsInOrder, asks_of, at_entry, due_ids, issue}
 use Rattle.server_history.specs.Served.{IssuesEach, IssuesOne}
 use Rattle.server_history.specs.Server.{ServerState, InCallInvariant}
@@ -38,7 +38,7 @@ loop-place-init g c =
 pub issue_one-requires-clause-lends : goal.issue_one-requires-clause-lends
 issue_one-requires-clause-lends g c =
     let s = c.requires.lends.0 in
-    let now = with_part s (g.A.Adapter.device c.loop-place.adapter) c.loop-place.book c.loop-place.self.slots c.args.port in (
+    let now = with_port_slots s (g.A.Adapter.device c.loop-place.adapter) c.loop-place.book c.loop-place.self.slots c.args.port in (
       now,
       subst (HasReadyPort now (g.A.Adapter.device c.loop-place.adapter) c.loop-place.book c.loop-place.self.slots c.args.port) (sym (its_mode c.args.self.now c.loop-place.self c.loop-place.invariant.port))
           (c.loop-place.invariant.lends s c.requires.lends.1),
@@ -66,8 +66,8 @@ loop-place-preserved g c =
     let ids = c.issuable.new.due.items in
     let place = c.loop-place.place in
     let so_far = c.loop-place.invariant in
-    let D : List RequestId → Type 0 = λ xs. (s : ServerState) → HasReadyPort s now book slots port c.args.self.now.mode → IssuesOne port (get_or xs place (record { 0 = 0 })) s (with_part s then later used port) in
-    let one : (s : ServerState) → HasReadyPort s now book slots port c.args.self.now.mode → IssuesOne port (get_or ids place (record { 0 = 0 })) s (with_part s then later used port) =
+    let D : List RequestId → Type 0 = λ xs. (s : ServerState) → HasReadyPort s now book slots port c.args.self.now.mode → IssuesOne port (get_or xs place (record { 0 = 0 })) s (with_port_slots s then later used port) in
+    let one : (s : ServerState) → HasReadyPort s now book slots port c.args.self.now.mode → IssuesOne port (get_or ids place (record { 0 = 0 })) s (with_port_slots s then later used port) =
     subst D c.deref.ensures.0 (λ s k. c.issue_one.ensures.issues s (subst (HasReadyPort s now book slots port) (sym (its_mode c.args.self.now c.loop-place.self so_far.port)) k)) in
     let low : suc place ≤ length ids = (let l = c.loop-place-test.true in let e = c.len-place-end.ensures.value in omega (arith, l, e)) in
     let next = drop_more ids place (record { 0 = 0 }) low in
@@ -75,25 +75,25 @@ loop-place-preserved g c =
     let l0 = c.requires.lends.1 in
     record {
       rest = λ s new k e.
-          let p : ServerState = with_part s now book slots port in
-          let mid : ServerState = with_part p then later used port in
+          let p : ServerState = with_port_slots s now book slots port in
+          let mid : ServerState = with_port_slots p then later used port in
           so_far.rest s new k
           (subst (λ (xs : List RequestId). IssuesEach port xs p new) (sym next)
           (mid, one p (so_far.lends s k), subst (λ (x : ServerState). IssuesEach port (drop (place + 1) ids) x new) (sym (sending.lent_again s (g.A.Adapter.device c.args.adapter.now) c.args.book.now c.args.self.now.slots port c.args.self.now.mode k now book slots then later used)) e));
       lends = λ s k.
-          let p : ServerState = with_part s now book slots port in
-          let mid : ServerState = with_part p then later used port in
+          let p : ServerState = with_port_slots s now book slots port in
+          let mid : ServerState = with_port_slots p then later used port in
           let kept : InCallInvariant mid = c.law_requests_keep.ensures.issued p mid port (get_or ids place (record { 0 = 0 })) (so_far.lends s k).kept (one p (so_far.lends s k)) in
           sending.lent_on_from s (g.A.Adapter.device c.args.adapter.now) c.args.book.now c.args.self.now.slots port c.args.self.now.mode k then later used
           (subst InCallInvariant (sending.lent_again s (g.A.Adapter.device c.args.adapter.now) c.args.book.now c.args.self.now.slots port c.args.self.now.mode k now book slots then later used) kept);
       turns =
-          let p : ServerState = with_part s0 now book slots port in
+          let p : ServerState = with_port_slots s0 now book slots port in
           let is = ap (λ (x : ServerState). asks_of x.book) (one p (so_far.lends s0 l0)).server ∙ c.law_operations_change_what_is_due.ensures.issue book (get_or ids place (record { 0 = 0 })) in
           let T : List RequestId → Type 0 = λ xs. AreAllDueInOrder c.args.self.now.mode port xs (asks_of book) in
           let turn : AreAllDueInOrder c.args.self.now.mode port (get_or ids place (record { 0 = 0 }) ∷ drop (place + 1) ids) (asks_of book) = subst T next so_far.turns in
           subst (λ (us : List Unanswered). AreAllDueInOrder c.args.self.now.mode port (drop (place + 1) ids) us) (sym is) turn.1;
       many =
-          let p : ServerState = with_part s0 now book slots port in
+          let p : ServerState = with_port_slots s0 now book slots port in
           ap (λ (x : ServerState). length x.book) (one p (so_far.lends s0 l0)).server ∙ length-map book (at_entry (get_or ids place (record { 0 = 0 })) issue) ∙ so_far.many;
       port = c.issue_one.ensures.rest ∙ ap (λ (p : ServedPort). record p { slots = used }) so_far.port;
       same = λ zero_is. absurd (omega (arith, zero_is));
@@ -105,7 +105,7 @@ returns-clause-issues g c = λ s l.
     let now = g.A.Adapter.device c.loop-place.adapter in
     let port = c.args.port in
     let ids = c.issuable.new.due.items in
-    let p : ServerState = with_part s now c.loop-place.book c.loop-place.self.slots port in
+    let p : ServerState = with_port_slots s now c.loop-place.book c.loop-place.self.slots port in
     let none : drop c.loop-place.place ids ≡ [] = drop_all c.loop-place.place ids (let h = c.loop-place-test.false in let e = c.len-place-end.ensures.value in omega (arith, h, e)) in
     let M : QueueMode → Type 0 = λ mode. IssuesEach port (due_ids mode port (asks_of s.book)) s p in
     subst M (sym l.mode_is) (subst (λ (xs : List RequestId). IssuesEach port xs s p) (c.issuable.ensures ∙ ap (λ (b : List Held). due_ids c.args.self.now.mode port (asks_of b)) (sym l.book_is))

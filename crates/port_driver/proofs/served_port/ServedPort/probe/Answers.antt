@@ -10,7 +10,7 @@ use Rattle.port_control.specs.Looks.{IsLooking}
 use Rattle.server_history.specs.Probing.{IsLookedAt, ProbesAnew}
 use Rattle.server_history.specs.Server.{ServerState, SettledInvariant, last_disk_of}
 use Rattle.server_history.specs.Turns.{ProbesUnready}
-use Rattle.port_driver.specs.Parts.{IsSettledWith, with_parts}
+use Rattle.port_driver.specs.Parts.{IsSettledWith, with_served_port}
 use Rattle.port_driver.specs.declared.served_port.Shared.{Shared}
 use Rattle.port_driver.proofs.Anew as anew
 use Rattle.port_driver.proofs.Placing as placing
@@ -70,10 +70,10 @@ returns-clause-probes g c = λ s shared h.
     let slots = c.begin_anew.new.self.slots in
     let old = c.args.self.now in
     let anew_is : c.begin_anew.new.self ≡ record old { found = found; mode = mode; slots = slots } =
-    c.begin_anew.ensures.fields ∙ ap (λ (f : ProbeResult). record old { found = found; last_disk = last_disk_of f old.last_disk; mode = mode; slots = slots }) c.requires.unready in
+    c.begin_anew.ensures.fields ∙ ap (λ (f : ProbeResult). record old { found = found; remembered = last_disk_of f old.remembered; mode = mode; slots = slots }) c.requires.unready in
     let F : Wanted → Type 0 = λ wanted. ProbesAnew wanted c.args.port found mode (seen g a s shared h) new in
-    let back : with_parts s new shared c.args.port c.begin_anew.new.self ≡ anew.found_anew s new found mode slots c.args.port.0 =
-    ap (with_parts s new shared c.args.port) anew_is ∙ placing.with_found s c.args.port c.args.self.now h.parts.port_is new shared found mode slots
+    let back : with_served_port s new shared c.args.port c.begin_anew.new.self ≡ anew.found_anew s new found mode slots c.args.port.0 =
+    ap (with_served_port s new shared c.args.port) anew_is ∙ placing.with_found s c.args.port c.args.self.now h.parts.port_is new shared found mode slots
     ∙ (λ i. record (anew.found_anew s new found mode slots c.args.port.0) { table = sym h.parts.table_is i; book = sym h.parts.book_is i }) in
     subst (λ (x : ServerState). ProbesUnready c.args.port s x × SettledInvariant x) (sym back)
     (anew.booted_settles c.law_an_unready_port_is_probed.ensures.tried s c.args.port c.args.state (unready g a s shared h) h.settled (seen g a s shared h)

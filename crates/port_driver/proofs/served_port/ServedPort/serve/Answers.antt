@@ -12,7 +12,7 @@ use Rattle.port_control.specs.Looks.{IsLooking, LooksAt}
 use Rattle.port_control.specs.declared.events.PortError.{PortError}
 use Rattle.port_control.specs.declared.events.PortError.TheVariants.{TimedOut}
 use Rattle.port_control.specs.declared.events.PortEvent.TheVariants.{NoEvent}
-use Rattle.port_driver.specs.Parts.{IsSettledWith, TakesTurn, with_parts}
+use Rattle.port_driver.specs.Parts.{IsSettledWith, TakesTurn, with_served_port}
 use Rattle.port_driver.specs.Recovery.{IsInError, error_of}
 use Rattle.port_driver.proofs.Placing as placing
 use Rattle.port_driver.proofs.Serving as serving
@@ -49,7 +49,7 @@ module _ (g : Over) (c : After-take_event-look g) (s : ServerState) (h : Has g c
   }
 
   -- the port is as it was; only the device is another
-  same : (device : Device) → with_parts s device c.args.shared.now c.args.port c.args.self.now ≡ record s { device = device }
+  same : (device : Device) → with_served_port s device c.args.shared.now c.args.port c.args.self.now ≡ record s { device = device }
   same device =
       placing.with_same s c.args.port c.args.self.now h.parts.port_is device c.args.shared.now
       ∙ (λ i. record s { device = device; table = sym h.parts.table_is i; book = sym h.parts.book_is i })

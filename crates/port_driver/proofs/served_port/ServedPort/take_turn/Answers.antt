@@ -1,20 +1,20 @@
 use Rattle.std.proofs.Common.{[], append-nil, refl, sym, ◌∙◌, subst}
 use Rattle.host_boot.specs.declared.ProbeResult.{ProbeResult}
 use Rattle.server_history.specs.Server.{ServerState}
-use Rattle.port_driver.specs.Parts.{TakesTurn, TurnInService, with_parts}
+use Rattle.port_driver.specs.Parts.{TakesTurn, TurnInService, with_served_port}
 use Rattle.port_driver.proofs.Placing as placing
 use Rattle.port_driver.proofs.served_port.ServedPort.take_turn.Goals as goal
 
 pub returns-in-Ready-clause-turn : goal.returns-in-Ready-clause-turn
 returns-in-Ready-clause-turn g c = λ s h.
     let turn = c.serve.ensures.serves s h in
-    subst (λ (found : ProbeResult). TakesTurn (TurnInService found c.args.port) c.args.replies.now.items c.serve.new.replies.items s (with_parts s (g.A.Adapter.device c.serve.new.adapter) c.serve.new.shared c.args.port c.serve.new.self)) (sym c.in-Ready.is)
+    subst (λ (found : ProbeResult). TakesTurn (TurnInService found c.args.port) c.args.replies.now.items c.serve.new.replies.items s (with_served_port s (g.A.Adapter.device c.serve.new.adapter) c.serve.new.shared c.args.port c.serve.new.self)) (sym c.in-Ready.is)
     (record { its = turn.its; told = turn.told; does = turn.does; settled = turn.settled })
 
 pub returns-in-Unready-clause-turn : goal.returns-in-Unready-clause-turn
 returns-in-Unready-clause-turn g c = λ s h.
     let probed = c.probe.ensures.probes s c.args.shared.now h in
-    subst (λ (found : ProbeResult). TakesTurn (TurnInService found c.args.port) c.args.replies.now.items c.args.replies.now.items s (with_parts s (g.A.Adapter.device c.probe.new.adapter) c.args.shared.now c.args.port c.probe.new.self)) (sym c.in-Unready.is)
+    subst (λ (found : ProbeResult). TakesTurn (TurnInService found c.args.port) c.args.replies.now.items c.args.replies.now.items s (with_served_port s (g.A.Adapter.device c.probe.new.adapter) c.args.shared.now c.args.port c.probe.new.self)) (sym c.in-Unready.is)
     (record { its = []; told = sym (append-nil c.args.replies.now.items); does = (refl, probed.0); settled = probed.1 })
 
 pub returns-in-Unserved-clause-turn : goal.returns-in-Unserved-clause-turn

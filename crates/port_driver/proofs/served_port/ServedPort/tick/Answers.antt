@@ -10,7 +10,7 @@ use Rattle.host_boot.specs.declared.ProbeResult.TheVariants.{Ready, Unready, Uns
 use Rattle.request_queue.specs.Entries.{Held}
 use Rattle.port_control.specs.declared.events.PortError.TheVariants.{TimedOut}
 use Rattle.server_history.specs.Server.{ServerState, state_of}
-use Rattle.port_driver.specs.Parts.{IsSettledWith, TakesTurn, TurnInTick, with_parts}
+use Rattle.port_driver.specs.Parts.{IsSettledWith, TakesTurn, TurnInTick, with_served_port}
 use Rattle.port_driver.specs.Recovery.{IsInError}
 use Rattle.port_driver.specs.declared.served_port.ServedPort.{ServedPort}
 use Rattle.port_driver.specs.declared.served_port.Shared.{Shared}
@@ -20,7 +20,7 @@ use Rattle.port_driver.proofs.served_port.ServedPort.tick.Goals as goal
 use Rattle.port_driver.proofs.served_port.ServedPort.tick.Goals.{In-Ready}
 
 -- nothing was done
-same : (s : ServerState) (device : Device) (shared : Shared) (port : Port) (p : ServedPort) → IsSettledWith s device shared port p → with_parts s device shared port p ≡ s
+same : (s : ServerState) (device : Device) (shared : Shared) (port : Port) (p : ServedPort) → IsSettledWith s device shared port p → with_served_port s device shared port p ≡ s
 same s device shared port p h =
     placing.with_same s port p h.parts.port_is device shared ∙ (λ i. record s { device = sym h.parts.device_is i; table = sym h.parts.table_is i; book = sym h.parts.book_is i })
 
@@ -60,7 +60,7 @@ returns-then-is_overdue-clause-turn g c = λ s book exact h.
     let turn = c.handle_error.ensures.handles s (in_error g (goal.at.returns-then-is_overdue-clause-turn g c).In-Ready s h) in
     let r = turn.does in
     let part = c.law_a_timed_out_port_is_restarted.ensures s _ c.args.port turn.its h.settled (ap state_of (h.parts.port_is.found_is ∙ c.in-Ready.is)) r.handling r.trouble_is in
-    subst (λ (found : ProbeResult). TakesTurn (TurnInTick found book c.args.port) c.args.replies.now.items c.handle_error.new.replies.items s (with_parts s (g.A.Adapter.device c.handle_error.new.adapter) c.handle_error.new.shared c.args.port c.handle_error.new.self)) (sym c.in-Ready.is)
+    subst (λ (found : ProbeResult). TakesTurn (TurnInTick found book c.args.port) c.args.replies.now.items c.handle_error.new.replies.items s (with_served_port s (g.A.Adapter.device c.handle_error.new.adapter) c.handle_error.new.shared c.args.port c.handle_error.new.self)) (sym c.in-Ready.is)
     (record { its = turn.its; told = turn.told; does = inl (exact.0 c.if-is_overdue.true, r.handling, r.trouble_is, part.0); settled = turn.settled })
 
 pub returns-else-is_overdue-clause-turn : goal.returns-else-is_overdue-clause-turn

@@ -4,7 +4,7 @@ use Rattle.server_history.specs.Stalled.{stuck_found}
 use Rattle.port_driver.specs.Parts.{BeginsAnew}
 use Rattle.port_driver.specs.declared.served_port.ServedPort.{ServedPort}
 use Rattle.block_server.proofs.Becoming.{all_become, none_yet, one_more}
-use Rattle.block_server.proofs.resetting.get_stuck.Goals as goal
+use Rattle.block_server.proofs.resetting.note_stuck_reset.Goals as goal
 
 abbrev GetsStuck : ServedPort → ServedPort → Type 0
 GetsStuck old new = BeginsAnew (stuck_found old.found) plain_mode old new
@@ -14,7 +14,7 @@ loop-number-init c = none_yet (λ number old new. GetsStuck old new) c.args.port
 
 pub loop-number-preserved : goal.loop-number-preserved
 loop-number-preserved c =
-    one_more (λ number old new. GetsStuck old new) c.args.ports.now c.loop-number.ports c.loop-number.number c.loop-number.invariant c.loop-number-test.true c.index-ports-number.result c.get_stuck.new.self c.get_stuck.ensures
+    one_more (λ number old new. GetsStuck old new) c.args.ports.now c.loop-number.ports c.loop-number.number c.loop-number.invariant c.loop-number-test.true c.index-ports-number.result c.note_stuck_reset.new.self c.note_stuck_reset.ensures
 
 pub returns : goal.returns
 returns c = all_become (λ number old new. GetsStuck old new) c.args.ports.now c.loop-number.ports c.loop-number.number c.loop-number.invariant (let past = c.loop-number-test.false in omega (arith, past))

@@ -1,5 +1,5 @@
 use Rattle.durability.proofs.Volatile.{run_finds}
-use Rattle.durability.proofs.laws.law_every_plug_finds.Goals as goal
+use Rattle.durability.proofs.laws.law_flushed_writes_survive_replug.Goals as goal
 
 pub returns : goal.returns
 returns g c = run_finds

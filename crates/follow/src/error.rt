@@ -18,7 +18,7 @@ pub enum FollowError {
     /// The files of the peer can't be opened.
     Peer,
     /// Model and peer strayed.
-    Strayed,
+    Diverged,
     /// Memory was refused.
     NoMemory,
     /// Standard output can't be written.
@@ -70,7 +70,7 @@ impl fmt::Display for FollowError {
             FollowError::Config(kind) => write!(f, "config {kind}"),
             FollowError::Line(number) => write!(f, "line {number}: bad"),
             FollowError::Peer => write!(f, "the peer can't be reached"),
-            FollowError::Strayed => write!(f, "model and peer don't agree"),
+            FollowError::Diverged => write!(f, "model and peer don't agree"),
             FollowError::NoMemory => write!(f, "no memory"),
             FollowError::Unwritten => write!(f, "output"),
         }

@@ -6,10 +6,10 @@ use adapter::DeviceStep;
 use ata_types::Call;
 use std::marker::Model;
 
-/// The place of a call, which is any one until one was read into it. Reads and writes have a part of their own, so that
+/// Has the call that was read last, and any one until one was. Reads and writes have a part of their own, so that
 /// their room for frames is kept from line to line: to clear it for each costs more than to read the line.
 #[derive(Debug, Drop)]
-pub struct CallPlace {
+pub struct CallBuffer {
     /// The last read or write, or any other call.
     pub(crate) transfer: Call<DeviceStep>,
     /// The last call of another kind.
@@ -18,7 +18,7 @@ pub struct CallPlace {
     pub(crate) is_transfer: bool,
 }
 
-impl Model for CallPlace {
+impl Model for CallBuffer {
     ghost use Rattle.std.specs.Prelude.{if◌then◌else◌};
     ghost use Rattle.adapter.specs.declared.access.DeviceStep.{DeviceStep};
     ghost use Rattle.ata_types.specs.declared.call.Call.{Call};
@@ -28,12 +28,12 @@ impl Model for CallPlace {
     ghost view = { λ p. if p.is_transfer then p.transfer else p.other };
 }
 
-impl CallPlace {
-    /// A place with a service.
-    pub fn new() -> CallPlace
+impl CallBuffer {
+    /// A buffer with a service.
+    pub fn new() -> CallBuffer
         ensures { result ≡ Service }
     {
-        CallPlace {
+        CallBuffer {
             transfer: Call::Service,
             other: Call::Service,
             is_transfer: false,
