@@ -1,8 +1,9 @@
-/* Put before a program (LD_PRELOAD), it has each call on a file fail in turn. At each read or write of the file that
-   the variable IMAGE names the program is forked: the call fails in the child, which is played to its end, and then the
-   program goes on. Of SHARES the calls are forked whose number, counted from 0, is SHARE behind a multiple. Of each
-   child the file that RECORDS names is written: the call's number, its place in the file, whether it is a write, the
-   child's status, whether the sector was changed, how many bytes the child printed, and these. */
+/* Put before a program (LD_PRELOAD), it has each sector of each call on a file fail in turn. At each read or write of
+   the file that the variable IMAGE names the program is forked for each sector: in the child each such call that has
+   this sector fails, and it is played to its end; then the program goes on. Of SHARES it is forked for the sectors
+   whose number, counted from 0, is SHARE behind a multiple. Of each child the file that RECORDS names is written: the
+   sector's number, its place in the file, whether it is written, the child's status, whether the sector was changed,
+   how many bytes the child printed, and these. */
 #define _GNU_SOURCE
 #include <errno.h>
 #include <fcntl.h>
@@ -22,6 +23,8 @@ struct record {
 };
 
 static struct stat image;
+/* What fails in a child. */
+static struct record failing;
 static long number, share, shares;
 static int records = -1, printed = -1, is_child;
 
@@ -56,10 +59,9 @@ static void tell(struct record *told) {
     if (write(records, text, length) != length) abort();
 }
 
-/* Whether a call fails: in a child alone. */
-static int fails(int file, off_t place, int is_write) {
-    struct stat it;
-    if (is_child || fstat(file, &it) || it.st_ino != image.st_ino || it.st_dev != image.st_dev) return 0;
+/* Whether a call on a sector fails: in a child alone. */
+static int sector_fails(int file, off_t place, int is_write) {
+    if (is_child) return place == failing.place && is_write == failing.is_write;
     struct record told = {.number = number++, .place = place, .is_write = is_write};
     if (told.number % shares != share) return 0;
     char before[SECTOR] = {0}, after[SECTOR] = {0};
@@ -69,6 +71,7 @@ static int fails(int file, off_t place, int is_write) {
     if (child < 0) abort();
     if (!child) {
         is_child = 1;
+        failing = told;
         if (lseek(printed, 0, SEEK_SET) < 0 || dup2(printed, STDOUT_FILENO) < 0) abort();
         errno = EIO;
         return 1;
@@ -82,10 +85,19 @@ static int fails(int file, off_t place, int is_write) {
     return 0;
 }
 
+/* Whether a call fails, since it does on one of its sectors. */
+static int fails(int file, size_t count, off_t place, int is_write) {
+    struct stat it;
+    if (fstat(file, &it) || it.st_ino != image.st_ino || it.st_dev != image.st_dev) return 0;
+    for (off_t end = place + (off_t)count; place < end; place += SECTOR)
+        if (sector_fails(file, place, is_write)) return 1;
+    return 0;
+}
+
 ssize_t pread(int file, void *bytes, size_t count, off_t place) {
-    return fails(file, place, 0) ? -1 : read_at(file, bytes, count, place);
+    return fails(file, count, place, 0) ? -1 : read_at(file, bytes, count, place);
 }
 
 ssize_t pwrite(int file, const void *bytes, size_t count, off_t place) {
-    return fails(file, place, 1) ? -1 : write_at(file, bytes, count, place);
+    return fails(file, count, place, 1) ? -1 : write_at(file, bytes, count, place);
 }

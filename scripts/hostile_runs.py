@@ -6,7 +6,8 @@ and where a call on its image fails. `hostile_runs.py PROGRAM`: in four sweeps o
   sweep is left out where there is no compiler);
 - each script and each configuration is cut at each byte;
 - words, configurations and scripts are changed by a seed;
-- each of the 65,538 calls of the longest trim, and of a read behind it, fails in turn (scripts/fail_calls.c, likewise).
+- each of the 65,538 sectors of the longest trim, and of a read behind it, fails in turn (scripts/fail_calls.c,
+  likewise).
 
 A run ends with a status that docs/FORMATS.md has and what is told with it, it prints a beginning of whole lines of what
 the whole script is answered, and the image is as the answered lines leave it. The last line is 'N passed, M failed', of
@@ -306,7 +307,7 @@ def children_of(told):
 
 
 def failing_calls(room, case, share):
-    """Of a trim of many sectors, and a read of the last one and the next, each call on the image fails in turn. Its
+    """Of a trim of many sectors, and a read of the last one and the next, each sector of the image fails in turn. Its
     request is told so, the port is ready, and the sector is as it was; the other one is told what it would be."""
     _, _, trimmed, _, _, read, _ = case.answers
     case = dataclasses.replace(case, script=case.script.replace(b"load", b"state 0\nload"))

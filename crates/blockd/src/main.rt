@@ -98,7 +98,7 @@ impl<R: AllocGlobal + Files<File = File>> FileSource for System<'_, R> {
     }
 
     fn open(&mut self, name: &str) -> Result<FileStore, Unread> {
-        Ok(FileStore::open(self.rt, name)?)
+        Ok(FileStore::open(self.rt.alloc(), self.rt, name)?)
     }
 }
 

@@ -17,6 +17,7 @@ pub mod GoingOn
 pub mod Fetches
 pub mod SlotLemmas
 pub mod Blocks
+pub mod Rooms
 pub mod Stepping
 pub mod Exchanging
 pub mod NewModel

@@ -1,9 +1,10 @@
 -- What the commands that the model takes have in common.
-use Rattle.std.proofs.Common.{ℕ, Bool, true, false, ◌≡◌, ◌&&◌, List, Option, None, Some, refl, ap}
-use Rattle.std.specs.Prelude.{is_some, option_map}
+use Rattle.std.proofs.Common.{ℕ, Bool, true, false, ◌≡◌, ◌<◌, ◌&&◌, List, Option, None, Some, refl, ap}
+use Rattle.std.proofs.lemmas.Grind.{get_or_default_zero}
+use Rattle.std.specs.Prelude.{is_some, length, option_map, slice_index}
 use Rattle.sector_store.specs.Stores.{replaced}
 use Rattle.adapter.specs.Commands.{is_queued, is_ranged}
-use Rattle.adapter.specs.Device.{Disk, FetchedCommand, DevicePort}
+use Rattle.adapter.specs.Device.{Disk, FetchedCommand, DevicePort, IsSector}
 use Rattle.adapter.specs.Memory.{changed}
 use Rattle.adapter.specs.Steps.{IsAlone, block_after, disk_after}
 use Rattle.adapter.specs.declared.command.Operation.{Operation}
@@ -14,6 +15,10 @@ use Rattle.device_model.specs.Trims.{changes_ahead, written_ahead}
 use Rattle.device_model.specs.View.{transfer_operation}
 use Rattle.device_model.specs.declared.port.Transfer.{Transfer}
 use Rattle.device_model.specs.declared.port.Transfer.TheVariants as transfer
+
+-- so many bytes are a sector
+pub fits_sector : (bytes : List ℕ) → length bytes ≡ 512 → ((k : ℕ) → slice_index bytes k < 256) → IsSector bytes
+fits_sector bytes long small = (long, λ k d less. rw (get_or_default_zero bytes k d less) (small k))
 
 -- no command but a trim keeps what it moves
 pub no_block : (k : Transfer) (bytes old : List ℕ) → (k ≡ transfer.Trim → ⊥) → block_after (transfer_operation k) bytes old ≡ old

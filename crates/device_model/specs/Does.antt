@@ -1,6 +1,6 @@
 -- What a model makes of a step that it is told: when the step is possible, what it changes where it is done, and what
 -- stays where it is left (this project's own).
-use Rattle.std.specs.Prelude.{ℕ, Bool, true, false, ◌≡◌, ◌≢◌, ◌+◌, ◌-◌, min, ◌^◌, ◌<◌, ◌≤◌, ◌⊎◌, List, [], ◌∷◌, ◌++◌, Option, None, Some, if◌then◌else◌, nat_eq, option_map}
+use Rattle.std.specs.Prelude.{ℕ, Bool, true, false, ◌≡◌, ◌≢◌, ◌+◌, ◌-◌, min, ◌^◌, ◌<◌, ◌≤◌, ◌⊎◌, List, [], ◌∷◌, ◌++◌, Option, None, Some, if◌then◌else◌, nat_eq, option_map, IfSome}
 use Rattle.adapter.specs.Asked.{DoesClear, DoneOf, SlotGoesOn, busy, fatal_bit}
 use Rattle.adapter.specs.Commands.{Meaning, is_queued, is_ranged, reads_memory}
 use Rattle.adapter.specs.Device.{Device, FetchedCommand}
@@ -14,12 +14,13 @@ use Rattle.ata_types.specs.declared.Port.{Port}
 use Rattle.ata_types.specs.declared.Slot.{Slot}
 use Rattle.sector_store.specs.declared.store.Failures.{Failures}
 use Rattle.device_model.specs.Cached.{CallFails}
-use Rattle.device_model.specs.Disks.{HasOldRoomOf, LosesCache, bay_of, caches, disk_number, numbered_disk, disk_failures, identity, says_of, which_of}
+use Rattle.device_model.specs.Disks.{HasOldRoomAt, HasOldRoomOf, LosesCache, bay_of, caches, disk_number, numbered_disk, disk_failures, identity, says_of, which_of}
 use Rattle.device_model.specs.Finishing.{HasMove, TapeHasRoom, MayFinish}
 use Rattle.device_model.specs.Held.{held_after}
 use Rattle.device_model.specs.Modelled.{device_at}
 use Rattle.device_model.specs.Paged.{GainsPages, lying, naming, truthful}
 use Rattle.device_model.specs.Sent.{Sends, SendsEnd, SendsFault}
+use Rattle.device_model.specs.Slots.{IsNext}
 use Rattle.device_model.specs.Trims.{HasClear, changes_ahead, next_uncleared, span, written_ahead}
 use Rattle.device_model.specs.declared.disks.DiskIndex.{DiskIndex}
 use Rattle.device_model.specs.declared.disks.DiskIndex.TheVariants.{Disk0, Disk1}
@@ -30,6 +31,8 @@ use Rattle.device_model.specs.declared.bay.PageContents.{PageContents}
 use Rattle.device_model.specs.declared.model.Model.{Model}
 use Rattle.device_model.specs.declared.model.StepOutcome.{StepOutcome}
 use Rattle.device_model.specs.declared.model.StepOutcome.TheVariants.{Left}
+use Rattle.device_model.specs.declared.port.TakenCommand.{TakenCommand}
+use Rattle.device_model.specs.declared.steps.NextMove.{NextMove}
 
 -- ---- when a step is possible
 
@@ -366,3 +369,12 @@ pub record GoesOnSo {S : Type 0} (size : S → ℕ) (old new : Model S) : Type 0
   pub pages : GainsPages size old new
   pub keeps : StepKeeps size old new
   pub starved_on : old.hardware.starved ≡ true → new.hardware.starved ≡ true
+
+-- A piece of the slot's command was moved: the memory that was found for what comes behind it is left, of the tape and
+-- for old bytes; and the move that is known now, if one is, is the next one.
+pub record ReadiesNext {S : Type 0} (size : S → ℕ) (told : S → Option (ℕ → List ℕ)) (port slot : ℕ)
+    (known : Option NextMove) (old new : Model S) : Type 0 where
+  pub tape : (n : ℕ) → TapeHasRoom old.hardware (n + 1) → TapeHasRoom new.hardware n
+  pub old_room : (t : FetchedCommand) → ((device_at size told old).port port).taken slot ≡ Some t → (n : ℕ)
+      → HasOldRoomAt old port (written_ahead t.meaning.operation 1 + n) → HasOldRoomAt new port n
+  pub next : IfSome known (λ n. (t : TakenCommand) × IsNext new.hardware port slot n t)

@@ -1,10 +1,11 @@
 -- What a model with its disks stands for.
 use Rattle.std.specs.Prelude.{ℕ, Bool, true, false, ◌≡◌, ◌+◌, ◌-◌, ◌*◌, ◌^◌, ◌<◌, ◌&&◌, List, [], ◌∷◌, Option, None, Some, if◌then◌else◌, count_ones, is_some, slice_index_or}
 use Rattle.ata_types.specs.declared.memory.TheConstants.{FRAME_BYTES}
-use Rattle.adapter.specs.Device.{DevicePort, Device}
+use Rattle.adapter.specs.Device.{Device, DevicePort, Disk}
 use Rattle.adapter.specs.Device.Halt.{NotHalted}
 use Rattle.adapter.specs.FirstRead.{no_notes}
 use Rattle.adapter.specs.Idle.{IsIdle, IsSane}
+use Rattle.sector_store.specs.declared.pages.Abilities.{Abilities}
 use Rattle.device_model.specs.Disks.{bay_of, disk_over, given_for, lasting_of, plugged_as}
 use Rattle.device_model.specs.Held.{none_held}
 use Rattle.device_model.specs.Paged.{no_lies}
@@ -15,6 +16,7 @@ use Rattle.device_model.specs.declared.bay.PageContents.{PageContents}
 use Rattle.device_model.specs.declared.config.ModelConfig.{ModelConfig}
 use Rattle.device_model.specs.declared.disks.Disks.{Disks}
 use Rattle.device_model.specs.declared.disks.PortDisks.{PortDisks}
+use Rattle.device_model.specs.declared.disks.DiskIndex.{DiskIndex}
 use Rattle.device_model.specs.declared.disks.DiskIndex.TheVariants.{Disk0}
 use Rattle.device_model.specs.declared.model.Model.{Model}
 
@@ -125,6 +127,20 @@ new_says config =
       lies = no_lies;
       log_lies = no_lies;
     }
+
+-- The disks of a port are new: the first one is in, as it was given, and all of it is lasting; none was put in for it.
+-- They have these abilities and tell no lies, the log names no command, and there is a cache or none, which keeps none.
+pub record AreNewDisks {S : Type 0} (disks : PortDisks S) (abilities : Abilities) (cached : Bool) (b : Bay S) : Type 0
+  where
+    pub which : b.which ≡ Disk0
+    pub disk : b.disk ≡ disks.first
+    pub other : b.other ≡ disks.spare
+    pub says : b.says ≡ record { abilities = abilities; log = None; lies = no_lies; log_lies = no_lies }
+    pub first : b.first.value ≡ disks.first.store
+    pub lasting : b.lasting.value ≡ disks.first.store
+    pub later : (disk : DiskIndex → S → Disk) → plugged_as disk b.later ≡ []
+    pub is_on : b.cache.is_on ≡ cached
+    pub kept : b.cache.kept.sectors.items ≡ []
 
 -- The disks of a port are new: disk 0 is in, and the other one is disk 1, with a cache or without, as the configuration
 -- says. A port for which none are given has none.

@@ -1,5 +1,5 @@
 -- What a model does by itself before a register is read (this project's own).
-use Rattle.std.specs.Prelude.{ℕ, Bool, true, false, ◌≡◌, ◌≢◌, ◌+◌, ◌<◌, ◌⊎◌, List, [], ◌∷◌, All}
+use Rattle.std.specs.Prelude.{ℕ, Bool, true, false, ◌≡◌, ◌≢◌, ◌+◌, ◌<◌, ◌⊎◌, List, [], ◌∷◌, All, length}
 use Rattle.adapter.specs.Device.{DevicePort, Device}
 use Rattle.adapter.specs.Steps.{DeviceTransition, Can, MayLinkUp, device_after, with_port}
 use Rattle.adapter.specs.Steps.DeviceTransition.{Fetch, Move, Done, Fall, FrFall, LinkUp, ResetEnds}
@@ -100,3 +100,10 @@ pub record NoneIsLeft (held : List Bool) (starved : Bool) (d : Device) : Type 0 
 abbrev pub LeavesOne : Hardware → Device → Type 0
 LeavesOne h d = (port slot : ℕ) × (port < 4) × (slot < 32) × HasDisks d port × (has : HasPageCommand d port slot)
     × (TapeHasRoom h (has.left + 1) → ⊥)
+
+-- What a port does by itself leaves the number of ports, a pending reset, the tape, and what is told of it.
+pub record SparesAdapter (old new : Hardware) : Type 0 where
+  pub number : length new.ports ≡ length old.ports
+  pub reset : new.hr ≡ old.hr
+  pub tape : new.tape ≡ old.tape
+  pub starved : new.starved ≡ old.starved

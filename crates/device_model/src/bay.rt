@@ -7,7 +7,8 @@ ghost use Rattle.device_model.specs.Cached.{CallFails, HasOldRoom, KeepsTheSame,
 ghost use Rattle.device_model.specs.Disks.{EndsOnly, EndsCommand, LosesCache, SaysOnly, disk_in_bay, disk_over, identity, is_same, lasting_of, plugged_as};
 ghost use Rattle.device_model.specs.Exchanged.{Exchanges, IsExchanged, piece_of};
 ghost use Rattle.device_model.specs.Finishing.{HasRoomAhead, IsBegun, IsUnbegun};
-ghost use Rattle.device_model.specs.Paged.{IsItsLog, IsItsPage, IsTurned, lying, naming, no_lies, truthful};
+ghost use Rattle.device_model.specs.Modelled.{AreNewDisks};
+ghost use Rattle.device_model.specs.Paged.{IsItsLog, IsItsPage, IsTurned, lying, naming, truthful};
 ghost use Rattle.device_model.specs.Trims.{written_ahead};
 ghost use Rattle.device_model.specs.View.{transfer_operation};
 ghost use Rattle.device_model.specs.Whole.{Outside, device_of};
@@ -102,15 +103,7 @@ impl<S: SectorStore> Bay<S> {
     /// A port with disks, of which the first one is in. They have these abilities, and a volatile write cache or none,
     /// and tell no lies.
     pub fn new(alloc: Global, disks: PortDisks<S>, abilities: Abilities, cached: bool) -> Bay<S>
-        ensures which { result.which ≡ DiskIndex.Disk0 }
-        ensures disk { result.disk ≡ disks.first }
-        ensures other { result.other ≡ disks.spare }
-        ensures says { result.says ≡ record { abilities = abilities; log = None; lies = no_lies; log_lies = no_lies } }
-        ensures first { result.first.value ≡ disks.first.store }
-        ensures lasting { result.lasting.value ≡ disks.first.store }
-        ensures later { (disk : DiskIndex → S → Disk) → plugged_as disk result.later ≡ [] }
-        ensures cached { result.cache.is_on ≡ cached }
-        ensures kept { result.cache.kept.sectors.items ≡ [] }
+        ensures { AreNewDisks disks abilities cached result }
     {
         let first = Snapshot::of(&disks.first.store);
         let lasting = Snapshot::of(&disks.first.store);
@@ -155,14 +148,17 @@ impl<S: SectorStore> Bay<S> {
 
     /// Has the disk that is in give these bytes of memory, the sector of a read or its page, or take them as a write's
     /// sector; a trim's block stands there already. `false` says that the store failed: it tells what it told, and the
-    /// bytes are as they were.
+    /// bytes are as they were. A read is told how many pieces of its command come right behind this one.
     #[inline(always)]
-    fn transfer_bytes(&mut self, next: NextMove, bytes: &mut [u8; 512]) -> bool
+    #[tactic(auto, using(crate::proofs::Transfers::fits_sector))]
+    fn transfer_bytes(&mut self, next: NextMove, ahead: u32, bytes: &mut [u8; 512]) -> bool
         requires { HasOldRoom self.old.cache (written_ahead (transfer_operation next.transfer) 1) }
         ensures { Exchanges S.size S.told S.failures self.old self.new next bytes.old bytes.new result }
     {
         match next.transfer {
-            Transfer::Read | Transfer::ReadQueued => self.disk.store.read(next.sector, bytes),
+            Transfer::Read | Transfer::ReadQueued => {
+                self.disk.store.read_ahead(next.sector, ahead, bytes)
+            }
             Transfer::Write | Transfer::WriteQueued => {
                 put_sector(&mut self.disk.store, &mut self.cache, next.sector, bytes)
             }
@@ -181,7 +177,7 @@ impl<S: SectorStore> Bay<S> {
 
     /// The same with so many bytes of memory.
     #[inline(always)]
-    fn transfer_within(&mut self, next: NextMove, piece: &mut [u8]) -> bool
+    fn transfer_within(&mut self, next: NextMove, ahead: u32, piece: &mut [u8]) -> bool
         requires long { length piece.old ≡ 512 }
         requires room { HasOldRoom self.old.cache (written_ahead (transfer_operation next.transfer) 1) }
         ensures { Exchanges S.size S.told S.failures self.old self.new next piece.old piece.new result }
@@ -189,12 +185,13 @@ impl<S: SectorStore> Bay<S> {
         let Some(bytes) = piece.as_mut_array() else {
             unreachable!()
         };
-        self.transfer_bytes(next, bytes)
+        self.transfer_bytes(next, ahead, bytes)
     }
 
-    /// Has the disk that is in and the memory exchange the next piece of a command, where it stands.
+    /// Has the disk that is in and the memory exchange the next piece of a command, where it stands. So many pieces of
+    /// the command come right behind it.
     #[inline(always)]
-    pub fn transfer_piece(&mut self, hardware: &mut Hardware, next: NextMove) -> bool
+    pub fn transfer_piece(&mut self, hardware: &mut Hardware, next: NextMove, ahead: u32) -> bool
         requires inside { next.address + 512 ≤ length hardware.old.memory.items }
         requires room { HasOldRoom self.old.cache (written_ahead (transfer_operation next.transfer) 1) }
         ensures exchanges { Exchanges S.size S.told S.failures self.old self.new next
@@ -203,7 +200,7 @@ impl<S: SectorStore> Bay<S> {
         ensures stays { result ≡ false → (o : Outside) → device_of hardware.new o ≡ device_of hardware.old o }
     {
         let at = next.address as usize;
-        self.transfer_within(next, &mut hardware.memory[at..at + PAGE_BYTES])
+        self.transfer_within(next, ahead, &mut hardware.memory[at..at + PAGE_BYTES])
     }
 
     /// Makes these sectors of the disk that is in zero, as `clear_sectors` does.

@@ -2,7 +2,7 @@
 // FLUSH CACHE EXT). What is written goes to the store at once; what the store held before is kept until the next flush.
 ghost use Rattle.std.specs.Prelude.{◌≡◌, ◌<◌, ◌≤◌, ◌+◌, ◌⊎◌, ℕ, List, Option, true, false, option_map, length, is_some, []};
 ghost use Rattle.std.specs.Vec.{vec_len, vec_capacity};
-ghost use Rattle.sector_store.specs.Stores.{FailsOn, replaced};
+ghost use Rattle.sector_store.specs.Stores.{FailsOn, WritesSector};
 ghost use Rattle.device_model.specs.Cached.{CallFails, HasOldRoom, KeepsNone, KeepsTheSame, TurnsBack, lasting_in};
 ghost use Rattle.device_model.specs.OldSectors.{with_old};
 
@@ -63,14 +63,8 @@ fn put_over_old<S: SectorStore>(
     bytes: &[u8; 512],
 ) -> bool
     requires { vec_len kept.old.sectors < vec_capacity kept.old.sectors }
-    ensures inside { result ≡ true → sector < S.size store.old }
-    ensures puts { result ≡ true → S.told store.new ≡ option_map (λ told. replaced told sector bytes.now)
-        (S.told store.old) }
-    ensures held { result ≡ false → S.told store.new ≡ S.told store.old }
-    ensures serves { (result ≡ true) ⊎ (S.size store.old ≤ sector) → S.failures store.new ≡ S.failures store.old }
-    ensures fails { result ≡ false → sector < S.size store.old
-        → CallFails true true sector (S.failures store.old) (S.failures store.new) }
-    ensures size { S.size store.new ≡ S.size store.old }
+    ensures writes { WritesSector S.size S.told S.failures (CallFails true true sector) sector bytes.now store.old
+        store.new result }
     ensures lasting { option_map (with_old kept.new.sectors.items) (S.told store.new)
         ≡ option_map (with_old kept.old.sectors.items) (S.told store.old) }
     ensures left { (n : ℕ) → vec_len kept.old.sectors + (n + 1) ≤ vec_capacity kept.old.sectors
@@ -95,14 +89,8 @@ pub fn put_sector<S: SectorStore>(
     bytes: &[u8; 512],
 ) -> bool
     requires { HasOldRoom cache.old 1 }
-    ensures inside { result ≡ true → sector < S.size store.old }
-    ensures puts { result ≡ true → S.told store.new ≡ option_map (λ told. replaced told sector bytes.now)
-        (S.told store.old) }
-    ensures kept { result ≡ false → S.told store.new ≡ S.told store.old }
-    ensures serves { (result ≡ true) ⊎ (S.size store.old ≤ sector) → S.failures store.new ≡ S.failures store.old }
-    ensures fails { result ≡ false → sector < S.size store.old
-        → CallFails cache.old.is_on true sector (S.failures store.old) (S.failures store.new) }
-    ensures size { S.size store.new ≡ S.size store.old }
+    ensures writes { WritesSector S.size S.told S.failures (CallFails cache.old.is_on true sector) sector bytes.now
+        store.old store.new result }
     ensures lasting { (noted : Option (ℕ → List ℕ)) → lasting_in cache.new (S.told store.new) noted
         ≡ lasting_in cache.old (S.told store.old) noted }
     ensures is_on { cache.new.is_on ≡ cache.old.is_on }

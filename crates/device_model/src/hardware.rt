@@ -7,7 +7,7 @@ ghost use Rattle.adapter.specs.Steps.{device_after, with_reset};
 ghost use Rattle.adapter.specs.Steps.DeviceTransition.{ResetEnds};
 ghost use Rattle.hba_regs.specs.Bits.{bit};
 ghost use Rattle.device_model.specs.Held.{IsPortLoose, all_held};
-ghost use Rattle.device_model.specs.Settled.{EndsReset, IsSettled, IsSettledPort, LeadsOwn, Settles};
+ghost use Rattle.device_model.specs.Settled.{EndsReset, IsSettled, IsSettledPort, LeadsOwn, Settles, SparesAdapter};
 ghost use Rattle.device_model.specs.View.{Media, port_of, blank_port};
 ghost use Rattle.device_model.specs.Whole.{Outside, device_of, HasRegister};
 
@@ -211,10 +211,7 @@ impl Hardware {
         ensures settled { (o : Outside) → IsSettledPort ((device_of self.new o).port port) }
         ensures others { (o : Outside) (q : ℕ) → q ≢ port → (device_of self.new o).port q ≡ (device_of self.old o).port
             q }
-        ensures number { length self.new.ports ≡ length self.old.ports }
-        ensures reset { self.new.hr ≡ self.old.hr }
-        ensures tape { self.new.tape ≡ self.old.tape }
-        ensures starved { self.new.starved ≡ self.old.starved }
+        ensures spares { SparesAdapter self.old self.new }
     {
         self.ports[port].settle_links();
         if self.ports[port].link() {

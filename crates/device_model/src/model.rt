@@ -17,7 +17,7 @@ ghost use Rattle.device_model.specs.Finishing.{LooksForPage, HasPageCommand, Has
 ghost use Rattle.device_model.specs.Held.{IsPortLoose};
 ghost use Rattle.device_model.specs.Paged.{lying, naming, truthful};
 ghost use Rattle.device_model.specs.Pending.{TakesPage};
-ghost use Rattle.device_model.specs.Does.{AnswersStep, Completes, GoesOnSo, HasCleared, CommandFails, answer_of, asked_fault};
+ghost use Rattle.device_model.specs.Does.{AnswersStep, Completes, GoesOnSo, HasCleared, CommandFails, ReadiesNext, answer_of, asked_fault};
 ghost use Rattle.device_model.specs.Tells.{disks_told};
 ghost use Rattle.device_model.specs.Queue.{BeginsAccess, DoesRead, DoesThen};
 ghost use Rattle.device_model.specs.Modelled.{IsNewBay, IsNewMedia, IsNewModel, all_given_tell, all_tell, cap_of, device_at, given_tell, media_of, tells};
@@ -362,9 +362,15 @@ impl<S: SectorStore> Model<S> {
     /// Moves the next piece of a slot's command, or fails it, if that is a sector on which the store fails, or one past
     /// the disk. Where a sector is written, what it holds is kept before, if the disks have a cache. The memory is
     /// taken to end at 4 GiB. The move may be known; the one after it is told then. It is entered for each sector, so
-    /// it stands in its callers' code, with what it calls for each.
+    /// it stands in its callers' code, with what it calls for each. So many moves of the command come right behind it.
     #[inline(always)]
-    fn move_piece(&mut self, port: Port, slot: Slot, known: &mut Option<NextMove>) -> StepOutcome
+    fn move_piece(
+        &mut self,
+        port: Port,
+        slot: Slot,
+        known: &mut Option<NextMove>,
+        ahead: u32,
+    ) -> StepOutcome
         requires small { slot.0 < 32 }
         requires known { IfSome known.old (λ n. (t : TakenCommand) × IsNext self.old.hardware port.0 slot.0 n t) }
         ensures answers { AnswersStep S.size S.told S.failures (DeviceStep.Move port slot) (answer_of result) self.old
@@ -374,18 +380,13 @@ impl<S: SectorStore> Model<S> {
             self.new }
         ensures failed { result ≡ StepOutcome.Failed → CommandFails S.size S.told S.failures (DeviceStep.Move port slot)
             self.old self.new }
-        ensures left { result ≡ StepOutcome.Done → (n : ℕ) → TapeHasRoom self.old.hardware (n + 1)
-            → TapeHasRoom self.new.hardware n }
-        ensures old_room { result ≡ StepOutcome.Done → (t : FetchedCommand)
-            → ((device_at S.size S.told self.old).port port.0).taken slot.0 ≡ Some t → (n : ℕ)
-            → HasOldRoomAt self.old port.0 (written_ahead t.meaning.operation 1 + n) → HasOldRoomAt self.new port.0 n }
+        ensures readies { result ≡ StepOutcome.Done → ReadiesNext S.size S.told port.0 slot.0 known.new self.old
+            self.new }
         ensures page { (t : FetchedCommand) → ((device_at S.size S.told self.old).port port.0).taken slot.0 ≡ Some t
             → sends_page t.meaning.operation ≡ true →
             result ≡ StepOutcome.Left → HasMove (device_at S.size S.told self.old) port.0 slot.0 t
             → next_place t < 2 ^ 32
             → TapeHasRoom self.old.hardware 1 → ⊥ }
-        ensures known { result ≡ StepOutcome.Done
-            → IfSome known.new (λ n. (t : TakenCommand) × IsNext self.new.hardware port.0 slot.0 n t) }
     {
         let place = usize::from(port.0);
         if place >= PORTS || place >= self.bays.len() {
@@ -411,7 +412,7 @@ impl<S: SectorStore> Model<S> {
             self.hardware.starved = true;
             return StepOutcome::Left;
         }
-        if !bay.transfer_piece(&mut self.hardware, next) {
+        if !bay.transfer_piece(&mut self.hardware, next, ahead) {
             let _failed = self.fail(port, slot, STORE_FAILED, false);
             return StepOutcome::Failed;
         }
@@ -425,7 +426,7 @@ impl<S: SectorStore> Model<S> {
         requires { slot.0 < 32 }
         ensures { AnswersStep S.size S.told S.failures (DeviceStep.Move port slot) result self.old self.new }
     {
-        self.move_piece(port, slot, &mut None).is_told()
+        self.move_piece(port, slot, &mut None, 0).is_told()
     }
 
     /// Clears the next sectors of a slot's trim, so many at the most: those that follow one another. It fails on the
@@ -512,8 +513,8 @@ impl<S: SectorStore> Model<S> {
         };
         let mut did = was_taken;
         let mut known = None;
-        for _piece in 0..rest.left {
-            match self.move_piece(port, slot, &mut known) {
+        for piece in 0..rest.left {
+            match self.move_piece(port, slot, &mut known, rest.left - piece - 1) {
                 StepOutcome::Left => return did,
                 StepOutcome::Failed => return true,
                 StepOutcome::Done => did = true,

@@ -303,8 +303,7 @@ impl Hardware {
     /// model takes. It is entered only then, since its frame has room for a command.
     #[inline(never)]
     fn fetch_said(&mut self, port: u8, slot: u8) -> bool
-        requires port { port < 4 }
-        requires slot { slot < 32 }
+        requires there { (port < 4) × (slot < 32) }
         requires may { HasUntaken (slice_index_or self.old.ports port blank_port) slot }
         ensures did { result ≡ true → (o : Outside)
             → DoesFetch port slot (device_of self.old o) (device_of self.new o) }
@@ -446,8 +445,7 @@ impl Hardware {
     /// of the command. It gives the move after it, if that needs no look.
     #[inline(always)]
     pub fn note_move(&mut self, port: u8, slot: u8, next: NextMove) -> Option<NextMove>
-        requires port { port < 4 }
-        requires slot { slot < 32 }
+        requires there { (port < 4) × (slot < 32) }
         requires next { (t : TakenCommand) × IsNext self.old port slot next t }
         requires room { TapeHasRoom self.old 1 }
         ensures moved { (old : Hardware) (o : Outside) (t : TakenCommand) → IsExchanged old self.old next →

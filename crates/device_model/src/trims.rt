@@ -164,8 +164,7 @@ impl Hardware {
 
     /// Sectors of a slot's trim were cleared: that is noted on the tape. Where there are none, nothing is.
     pub fn clear(&mut self, port: u8, slot: u8, run: SectorExtent)
-        requires port { port < 4 }
-        requires slot { slot < 32 }
+        requires there { (port < 4) × (slot < 32) }
         requires held { (t : TakenCommand) × WorksOnIn (slice_index_or self.old.ports port blank_port) slot t
             × (t.cleared + run.count < 2 ^ 32) }
         requires room { TapeHasRoom self.old 1 }

@@ -47,7 +47,7 @@ fn disks_of(
     let Some(path) = words.images.get(port) else {
         return Ok(None);
     };
-    let image = FileStore::open(rt, path.as_str()).map_err(|error| unless_memory(
+    let image = FileStore::open(rt.alloc(), rt, path.as_str()).map_err(|error| unless_memory(
         &error,
         FollowError::Unread,
     ))?;

@@ -1,5 +1,5 @@
 -- What stores hold.
-use Rattle.std.specs.Prelude.{ℕ, Bool, ◌≡◌, ◌+◌, ◌%◌, ◌^◌, ◌<◌, List, [], Option, Some, IfSome, All, if◌then◌else◌, length, nat_eq, slice_index_or}
+use Rattle.std.specs.Prelude.{ℕ, Bool, true, false, ◌≡◌, ◌+◌, ◌-◌, ◌%◌, ◌^◌, ◌<◌, ◌≤◌, ◌⊎◌, List, [], Option, Some, IfSome, All, if◌then◌else◌, length, nat_eq, option_map, slice_index_or}
 use Rattle.sector_store.specs.declared.store.Failures.{Failures}
 
 -- the bytes of a sector
@@ -18,8 +18,37 @@ AreSectors size told = IfSome told (λ f. (k : ℕ) → k < size → IsStoredSec
 abbrev pub HoldSectors : List (List ℕ) → Type 0
 HoldSectors items = (k : ℕ) → k < length items → IsStoredSector (slice_index_or items k [])
 
+-- the first of so many sectors that stand at the end of a room
+abbrev pub first_left : (room : List (List ℕ)) → ℕ → List ℕ
+first_left room left = slice_index_or room (length room - left) []
+
 -- One more call has failed: a write, or else a read, of this sector.
 abbrev pub FailsOn : Bool → ℕ → (was now : Option Failures) → Type 0
 FailsOn is_write sector was now =
     (f : Failures) × (was ≡ Some f)
     × (now ≡ Some (record { calls = (f.calls + 1) % 2 ^ 64; sector = sector; is_write = is_write }))
+
+-- A sector of a store was to be copied. It was, and nothing of the store is another; or there is none, or a call has
+-- failed, and the place that it was to come to is as it was.
+pub record ReadsSector {S : Type 0} (size : S → ℕ) (told : S → Option (ℕ → List ℕ)) (failures : S → Option Failures)
+    (sector : ℕ) (old new : S) (before after : List ℕ) (done : Bool) : Type 0 where
+  pub inside : done ≡ true → sector < size old
+  pub gives : done ≡ true → IfSome (told old) (λ told. after ≡ told sector)
+  pub bytes : done ≡ true → IsStoredSector after
+  pub kept : done ≡ false → after ≡ before
+  pub serves : (done ≡ true) ⊎ (size old ≤ sector) → failures new ≡ failures old
+  pub fails : done ≡ false → sector < size old → FailsOn false sector (failures old) (failures new)
+  pub same : told new ≡ told old
+  pub sized : size new ≡ size old
+
+-- A sector of a store was to have these bytes. It has, and no other one has others; or there is none, or a call has
+-- failed in this way, and what the store tells is as it was.
+pub record WritesSector {S : Type 0} (size : S → ℕ) (told : S → Option (ℕ → List ℕ)) (failures : S → Option Failures)
+    (Fails : (was now : Option Failures) → Type 0) (sector : ℕ) (bytes : List ℕ) (old new : S) (done : Bool) : Type 0
+  where
+    pub inside : done ≡ true → sector < size old
+    pub puts : done ≡ true → told new ≡ option_map (λ told. replaced told sector bytes) (told old)
+    pub kept : done ≡ false → told new ≡ told old
+    pub serves : (done ≡ true) ⊎ (size old ≤ sector) → failures new ≡ failures old
+    pub fails : done ≡ false → sector < size old → Fails (failures old) (failures new)
+    pub sized : size new ≡ size old

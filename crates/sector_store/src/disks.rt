@@ -37,6 +37,13 @@ impl SectorStore for DiskStore {
         }
     }
 
+    fn read_ahead(&mut self, sector: u64, ahead: u32, out: &mut [u8; 512]) -> bool {
+        match self {
+            DiskStore::File(file) => file.read_ahead(sector, ahead, out),
+            DiskStore::Memory(memory) => memory.read_ahead(sector, ahead, out),
+        }
+    }
+
     fn write(&mut self, sector: u64, bytes: &[u8; 512]) -> bool {
         match self {
             DiskStore::File(file) => file.write(sector, bytes),

@@ -1,11 +1,12 @@
 // A disk over an open file.
-ghost use Rattle.std.specs.Prelude.{◌≡◌, ◌<◌, ◌≤◌, ◌*◌, ◌/◌, ◌^◌, Some, None, true, false};
+ghost use Rattle.std.specs.Prelude.{◌≡◌, ◌↔◌, ◌<◌, ◌≤◌, ◌*◌, ◌/◌, ◌^◌, Some, None, IsTrue, true, false};
 ghost use Rattle.sector_store.specs.Stores.{FailsOn, IsStoredSector};
 
+use crate::sector_file::SectorFile;
 use crate::{Failures, SectorStore};
+use std::alloc::Global;
 use std::fs::{File, Files, OpenOptions, TryLockError};
 use std::io::{self, Seek, SeekFrom};
-use std::os::unix::fs::FileExt;
 
 const SECTOR_BYTES: u64 = 512;
 
@@ -15,12 +16,13 @@ const SECTOR_BYTES: u64 = 512;
 /// the sectors that are gone fail, and a write to one makes the file longer again.
 #[derive(Drop)]
 pub struct FileStore {
-    file: File,
+    file: SectorFile,
     sectors: u64,
     /// For contracts alone.
     failures: Failures,
     ghost few: { sectors < 2 ^ 64 },
     ghost within_offsets: { sectors * 512 < 2 ^ 64 },
+    ghost inside: { file.end ≤ sectors },
 }
 
 impl FileStore {
@@ -28,7 +30,11 @@ impl FileStore {
     /// where another holds its lock, the error is `WouldBlock`. The lock binds those who ask for it. Where the file
     /// system says that it knows none (`Unsupported`), the file is opened without. The end of a file that isn't a whole
     /// sector is left alone. Another error, of the lock's too, is the system's own.
-    pub fn open(files: &impl Files<File = File>, path: &str) -> io::Result<FileStore> {
+    pub fn open(
+        alloc: Global,
+        files: &impl Files<File = File>,
+        path: &str,
+    ) -> io::Result<FileStore> {
         let mut file = OpenOptions::new().read(true).write(true).open(files, path)?;
         match file.try_lock() {
             Err(TryLockError::WouldBlock) => {
@@ -41,11 +47,12 @@ impl FileStore {
         }
         // A block device's own length is told as 0; its end is where the sectors end.
         let bytes = file.seek(SeekFrom::End(0))?;
-        Ok(FileStore::over(file, bytes))
+        Ok(FileStore::over(SectorFile::new(alloc, file)?, bytes))
     }
 
     /// The whole sectors of a file of so many bytes.
-    fn over(file: File, bytes: u64) -> FileStore
+    fn over(file: SectorFile, bytes: u64) -> FileStore
+        requires { file.end ≡ 0 }
         ensures { result.sectors ≡ bytes / 512 }
     {
         FileStore {
@@ -59,16 +66,11 @@ impl FileStore {
         }
     }
 
-    /// The byte of the file at which a sector begins, if the sector is there.
-    fn place_of(&self, sector: u64) -> Option<u64>
-        ensures there { sector < self.now.sectors → result ≡ Some (512 * sector) }
-        ensures past { self.now.sectors ≤ sector → result ≡ None }
+    /// Whether the sector is there.
+    fn has(&self, sector: u64) -> bool
+        ensures { IsTrue result ↔ sector < self.now.sectors }
     {
-        if sector < self.sectors {
-            Some(SECTOR_BYTES * sector)
-        } else {
-            None
-        }
+        sector < self.sectors
     }
 
     /// Notes a read or a write of a sector that is there, if it failed.
@@ -87,13 +89,6 @@ impl FileStore {
     }
 }
 
-/// Copies the bytes of a sector.
-fn copy(bytes: &[u8; 512], out: &mut [u8; 512])
-    ensures { IsStoredSector out.new }
-{
-    out.copy_from_slice(bytes);
-}
-
 impl SectorStore for FileStore {
     ghost size = { λ s. s.sectors };
 
@@ -110,26 +105,35 @@ impl SectorStore for FileStore {
     }
 
     fn read(&mut self, sector: u64, out: &mut [u8; 512]) -> bool {
-        let Some(place) = self.place_of(sector) else {
+        if !self.has(sector) {
             return false;
-        };
-        let mut bytes = [0; 512];
-        let done = self.file.read_exact_at(&mut bytes, place).is_ok();
-        self.note(false, sector, done);
-        if done {
-            copy(&bytes, out);
         }
+        let done = self.file.read(sector, out);
+        self.note(false, sector, done);
+        done
+    }
+
+    /// Where it isn't the next one of those that were fetched, it and those behind it are fetched by one call of the
+    /// system.
+    fn read_ahead(&mut self, sector: u64, ahead: u32, out: &mut [u8; 512]) -> bool {
+        if self.file.take(sector, out) {
+            return true;
+        }
+        if !self.has(sector) {
+            return false;
+        }
+        let behind = self.sectors - sector - 1;
+        let done = self.file.fetch(sector, behind.min(u64::from(ahead)), out);
+        self.note(false, sector, done);
         done
     }
 
     fn write(&mut self, sector: u64, bytes: &[u8; 512]) -> bool {
-        match self.place_of(sector) {
-            Some(place) => {
-                let done = self.file.write_all_at(bytes, place).is_ok();
-                self.note(true, sector, done);
-                done
-            }
-            None => false,
+        if !self.has(sector) {
+            return false;
         }
+        let done = self.file.write(sector, bytes);
+        self.note(true, sector, done);
+        done
     }
 }

@@ -8,6 +8,7 @@
 mod disks;
 mod file;
 pub mod pages;
+mod sector_file;
 mod store;
 
 pub use disks::DiskStore;

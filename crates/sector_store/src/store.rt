@@ -1,6 +1,6 @@
 // Stores of sectors of 512 bytes.
-ghost use Rattle.std.specs.Prelude.{◌≡◌, ◌<◌, ◌≤◌, ◌⊎◌, ◌^◌, ℕ, List, Option, None, Some, IfSome, IfOk, option_map, replicate, true, false, length, slice_index_or, []};
-ghost use Rattle.sector_store.specs.Stores.{AreSectors, FailsOn, HoldSectors, IsStoredSector, replaced};
+ghost use Rattle.std.specs.Prelude.{◌≡◌, ◌<◌, ◌^◌, ℕ, List, Option, None, Some, IfOk, replicate, true, length, slice_index_or, []};
+ghost use Rattle.sector_store.specs.Stores.{AreSectors, FailsOn, HoldSectors, ReadsSector, WritesSector};
 ghost use Rattle.sector_store.specs.declared.store.Failures.{Failures};
 
 use std::alloc::{AllocError, Global};
@@ -35,26 +35,19 @@ pub trait SectorStore: Drop {
 
     /// Copies a sector.
     fn read(&mut self, sector: u64, out: &mut [u8; 512]) -> bool
-        ensures inside { result ≡ true → sector < size self.old }
-        ensures gives { result ≡ true → IfSome (told self.old) (λ told. out.new ≡ told sector) }
-        ensures bytes { result ≡ true → IsStoredSector out.new }
-        ensures kept { result ≡ false → out.new ≡ out.old }
-        ensures serves { (result ≡ true) ⊎ (size self.old ≤ sector) → failures self.new ≡ failures self.old }
-        ensures fails { result ≡ false → sector < size self.old
-            → FailsOn false sector (failures self.old) (failures self.new) }
-        ensures told { told self.new ≡ told self.old }
-        ensures size { size self.new ≡ size self.old };
+        ensures { ReadsSector size told failures sector self.old self.new out.old out.new result };
+
+    /// Copies a sector, as `read` does. So many behind it are to be read next, one after another, and by nothing but
+    /// this: a store may fetch them by the same call.
+    fn read_ahead(&mut self, sector: u64, _ahead: u32, out: &mut [u8; 512]) -> bool
+        ensures { ReadsSector size told failures sector self.old self.new out.old out.new result }
+    {
+        self.read(sector, out)
+    }
 
     /// Replaces a sector.
     fn write(&mut self, sector: u64, bytes: &[u8; 512]) -> bool
-        ensures inside { result ≡ true → sector < size self.old }
-        ensures puts { result ≡ true → told self.new ≡ option_map (λ told. replaced told sector bytes.now)
-            (told self.old) }
-        ensures kept { result ≡ false → told self.new ≡ told self.old }
-        ensures serves { (result ≡ true) ⊎ (size self.old ≤ sector) → failures self.new ≡ failures self.old }
-        ensures fails { result ≡ false → sector < size self.old
-            → FailsOn true sector (failures self.old) (failures self.new) }
-        ensures size { size self.new ≡ size self.old };
+        ensures { WritesSector size told failures (FailsOn true sector) sector bytes.now self.old self.new result };
 
     /// What it tells are sectors.
     ghost tells_sectors: { (s : Self) → AreSectors (size s) (told s) };

@@ -27,13 +27,13 @@ pub loop-place-preserved : goal.loop-place-preserved
 loop-place-preserved g c =
     let disk : Disk = disk_over c.args.which (g.S.SectorStore.size c.args.disk.now) (g.S.SectorStore.told c.args.disk.now) in
     let put = c.put_sector.ensures in
-    let size = put.size ∙ c.loop-place.invariant.size in
+    let size = put.writes.sized ∙ c.loop-place.invariant.size in
     let told = clears_more disk c.args.run.first c.loop-place.place (g.S.SectorStore.told c.loop-place.disk) (g.S.SectorStore.told c.put_sector.new.store)
-    (ap (λ (d : Disk). d.sectors) c.loop-place.invariant.disk) (rw c.from.ensures at (put.puts c.if-not-put_sector.false)) in
+    (ap (λ (d : Disk). d.sectors) c.loop-place.invariant.disk) (rw c.from.ensures at (put.writes.puts c.if-not-put_sector.false)) in
     record {
       disk = λ i. disk_over c.args.which (size i) (told i);
       size = size;
-      fine = put.serves (inl c.if-not-put_sector.false) ∙ c.loop-place.invariant.fine;
+      fine = put.writes.serves (inl c.if-not-put_sector.false) ∙ c.loop-place.invariant.fine;
       lasting = λ noted. put.lasting noted ∙ c.loop-place.invariant.lasting noted;
       cached = put.is_on ∙ c.loop-place.invariant.cached;
       old_room = λ n room. put.left n (c.loop-place.invariant.old_room (n + 1) (less_room c.args.cache.now (c.loop-place.place + 1 + n) (c.loop-place.place + (n + 1)) (omega arith) room));
@@ -45,11 +45,11 @@ returns-then-not-put_sector g c =
     let put = c.put_sector.ensures in
     let is = c.loop-place.invariant in
     let below = c.loop-place-test.true in
-    let kept = put.kept c.if-not-put_sector.true in
+    let kept = put.writes.kept c.if-not-put_sector.true in
     record {
       few = omega (arith, below);
-      disk = (λ i. disk_over c.args.which (put.size i) (kept i)) ∙ is.disk;
-      sized = put.size ∙ is.size;
+      disk = (λ i. disk_over c.args.which (put.writes.sized i) (kept i)) ∙ is.disk;
+      sized = put.writes.sized ∙ is.size;
       none = λ none.
           kept
           ∙ (ap (λ (d : Disk). d.sectors) is.disk
@@ -59,7 +59,7 @@ returns-then-not-put_sector g c =
           let inside = c.requires.inside in
           let size = is.size in
           let at : c.args.run.first + c.from.result ≡ c.args.run.first + c.loop-place.place = ap (λ (k : ℕ). c.args.run.first + k) c.from.ensures in
-          let failed = put.fails c.if-not-put_sector.true (omega (arith, at, below, inside, size)) in
+          let failed = put.writes.fails c.if-not-put_sector.true (omega (arith, at, below, inside, size)) in
           let P : Bool → Type 0 = λ on. CallFails on true (c.args.run.first + c.loop-place.place) (g.S.SectorStore.failures c.args.disk.now) (g.S.SectorStore.failures c.put_sector.new.store) in
           let Q : Option Failures → Type 0 = λ was. CallFails c.loop-place.cache.is_on true (c.args.run.first + c.loop-place.place) was (g.S.SectorStore.failures c.put_sector.new.store) in
           let R : ℕ → Type 0 = λ k. CallFails c.loop-place.cache.is_on true k (g.S.SectorStore.failures c.loop-place.disk) (g.S.SectorStore.failures c.put_sector.new.store) in

@@ -18,7 +18,7 @@ returns-clause-lasting g c =
     let bytes = c.args.bytes.now in
     elim c.match-gap_for.branch [
       | in-Some+else-not-read w ↦
-          let same : g.S.SectorStore.told c.match-gap_for.store ≡ told = ap g.S.SectorStore.told w.store-is ∙ w.read.ensures.told in
+          let same : g.S.SectorStore.told c.match-gap_for.store ≡ told = ap g.S.SectorStore.told w.store-is ∙ w.read.ensures.same in
           let none = gap_none olds sector w.in-Some.place w.in-Some.ensures.gap in
           let keeps = w.keep.ensures.keeps in
           let gives = w.read.ensures.gives w.if-not-read.false in

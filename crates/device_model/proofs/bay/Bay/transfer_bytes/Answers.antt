@@ -1,18 +1,17 @@
 use Rattle.std.proofs.Common.{rules, ℕ, ◌≡◌, ◌+◌, ◌∙◌, inl, inr, subst, arith, ap}
-use Rattle.std.proofs.lemmas.Grind.{get_or_default_zero}
 use Rattle.device_model.specs.Cached.{HasOldRoom}
 use Rattle.device_model.specs.Disks.{disk_over}
 use Rattle.device_model.specs.Trims.{written_ahead}
 use Rattle.device_model.specs.View.{transfer_operation}
 use Rattle.device_model.specs.declared.port.Transfer.{Transfer}
-use Rattle.device_model.proofs.Transfers.{replaced_is}
+use Rattle.device_model.proofs.Transfers.{fits_sector, replaced_is}
 use Rattle.device_model.proofs.bay.Bay.transfer_bytes.Goals as goal
 
 pub returns-in-Write : goal.returns-in-Write
 returns-in-Write g c =
     record {
       inside = search rules;
-      sector = (c.told-bytes, λ k d less. rw (get_or_default_zero c.args.bytes.now k d less) (c.fits-bytes k));
+      sector = fits_sector c.args.bytes.now c.told-bytes c.fits-bytes;
       gives = search rules;
       takes = search rules;
       left = search rules;
@@ -20,10 +19,10 @@ returns-in-Write g c =
       log = search rules;
       same = search rules;
       disk = λ done.
-          let told = c.put_sector.ensures.puts done ∙ replaced_is (g.S.SectorStore.told c.args.self.now.disk.store) c.args.next.sector c.args.bytes.now in
+          let told = c.put_sector.ensures.writes.puts done ∙ replaced_is (g.S.SectorStore.told c.args.self.now.disk.store) c.args.next.sector c.args.bytes.now in
           elim c.in-Write.is [
-            | inl plain ↦ rw plain (λ i. disk_over c.args.self.now.which (c.put_sector.ensures.size i) (told i))
-            | inr queued ↦ rw queued (λ i. disk_over c.args.self.now.which (c.put_sector.ensures.size i) (told i))
+            | inl plain ↦ rw plain (λ i. disk_over c.args.self.now.which (c.put_sector.ensures.writes.sized i) (told i))
+            | inr queued ↦ rw queued (λ i. disk_over c.args.self.now.which (c.put_sector.ensures.writes.sized i) (told i))
           ];
       kept = search rules;
       sized = search rules;
@@ -39,28 +38,5 @@ returns-in-Write g c =
           elim c.in-Write.is [ inl plain ↦ ap Q plain | inr queued ↦ ap Q queued ] in
           let more : written_ahead (transfer_operation c.args.next.transfer) 1 + n ≡ n + 1 = omega (arith, one) in
           c.put_sector.ensures.left n (subst P more room);
-      rest = search rules;
-    }
-
-pub returns-in-Trim : goal.returns-in-Trim
-returns-in-Trim g c =
-    record {
-      inside = search rules;
-      sector = (c.told-bytes, λ k d less. rw (get_or_default_zero c.args.bytes.now k d less) (c.fits-bytes k));
-      gives = search rules;
-      takes = search rules;
-      left = search rules;
-      page = search rules;
-      log = search rules;
-      same = search rules;
-      disk = search rules;
-      kept = search rules;
-      sized = search rules;
-      fine = search rules;
-      ranged = search rules;
-      fails = search rules;
-      lasting = search rules;
-      cached = search rules;
-      old_room = search rules;
       rest = search rules;
     }

@@ -42,10 +42,10 @@ loop-port-preserved c =
                       let ne = differ.1 in
                       subst P (sym (s.others o q ne)) (is.settled o q (let lt : q < c.loop-port.port = omega (arith, ne, small) in lt) free)
                 ];
-            number = s.number ∙ is.number;
-            left = λ on. is.left (sym s.reset ∙ on);
-            tape = s.tape ∙ is.tape;
-            starved = s.starved ∙ is.starved;
+            number = s.spares.number ∙ is.number;
+            left = λ on. is.left (sym s.spares.reset ∙ on);
+            tape = s.spares.tape ∙ is.tape;
+            starved = s.spares.starved ∙ is.starved;
           })
       | else-not-held-port w ↦
           rw w.self-is

@@ -125,16 +125,16 @@ loop-piece-preserved g c =
           step.disks (λ sector. none (moves sector)) which ∙ c.loop-piece.invariant.disks none which;
       untouched = λ never. absurd (let e : true ≡ false = never in cc);
       fine = λ q which. whole.fine refl q which ∙ c.loop-piece.invariant.fine q which;
-      room = c.move_piece.ensures.left c.in-Done.is _ (omega (arith, c.loop-piece.invariant.room, c.loop-piece-test.true));
+      room = (c.move_piece.ensures.readies c.in-Done.is).tape _ (omega (arith, c.loop-piece.invariant.room, c.loop-piece-test.true));
       going =
           let P : ℕ → Type 0 = λ n. IsGoing (device_at g.S.SectorStore.size g.S.SectorStore.told c.loop-piece.self) c.args.port.0 c.args.slot.0 n c.in-Some-begin.field-0.rest.clears in
-          let next : c.in-Some-begin.field-0.rest.left - c.loop-piece._piece ≡ suc (c.in-Some-begin.field-0.rest.left - (c.loop-piece._piece + 1)) = omega (arith, c.loop-piece-test.true) in
-          moved_goes c.args.port.0 c.args.slot.0 (c.in-Some-begin.field-0.rest.left - (c.loop-piece._piece + 1)) c.in-Some-begin.field-0.rest.clears _ _ (subst P next c.loop-piece.invariant.going) moved;
+          let next : c.in-Some-begin.field-0.rest.left - c.loop-piece.piece ≡ suc (c.in-Some-begin.field-0.rest.left - (c.loop-piece.piece + 1)) = omega (arith, c.loop-piece-test.true) in
+          moved_goes c.args.port.0 c.args.slot.0 (c.in-Some-begin.field-0.rest.left - (c.loop-piece.piece + 1)) c.in-Some-begin.field-0.rest.clears _ _ (subst P next c.loop-piece.invariant.going) moved;
       ahead =
-          let next : c.in-Some-begin.field-0.rest.left - c.loop-piece._piece ≡ suc (c.in-Some-begin.field-0.rest.left - (c.loop-piece._piece + 1)) = omega (arith, c.loop-piece-test.true) in
-          moved_room g.S.SectorStore.size g.S.SectorStore.told c.args.port.0 c.args.slot.0 c.loop-piece.self c.move_piece.new.self (c.in-Some-begin.field-0.rest.left - (c.loop-piece._piece + 1)) moved
-          (subst (RoomAhead g.S.SectorStore.size g.S.SectorStore.told c.loop-piece.self c.args.port.0 c.args.slot.0) next c.loop-piece.invariant.ahead) (c.move_piece.ensures.old_room c.in-Done.is);
-      next = c.move_piece.ensures.known c.in-Done.is;
+          let next : c.in-Some-begin.field-0.rest.left - c.loop-piece.piece ≡ suc (c.in-Some-begin.field-0.rest.left - (c.loop-piece.piece + 1)) = omega (arith, c.loop-piece-test.true) in
+          moved_room g.S.SectorStore.size g.S.SectorStore.told c.args.port.0 c.args.slot.0 c.loop-piece.self c.move_piece.new.self (c.in-Some-begin.field-0.rest.left - (c.loop-piece.piece + 1)) moved
+          (subst (RoomAhead g.S.SectorStore.size g.S.SectorStore.told c.loop-piece.self c.args.port.0 c.args.slot.0) next c.loop-piece.invariant.ahead) (c.move_piece.ensures.readies c.in-Done.is).old_room;
+      next = (c.move_piece.ensures.readies c.in-Done.is).next;
     }
 
 -- a move was left: no move that is possible is, where it is served
@@ -147,10 +147,10 @@ returns-in-Left-clause-answers g c =
     let d : Device = device_at g.S.SectorStore.size g.S.SectorStore.told m in
     let step = left_it g.S.SectorStore.size g.S.SectorStore.told g.S.SectorStore.failures (asked.Move c.args.port c.args.slot) _ _ (answer_of c.move_piece.result)
     c.move_piece.ensures.answers (ap answer_of c.in-Left.is) in
-    let left = c.in-Some-begin.field-0.rest.left - (c.loop-piece._piece + 1) in
+    let left = c.in-Some-begin.field-0.rest.left - (c.loop-piece.piece + 1) in
     let clears = c.in-Some-begin.field-0.rest.clears in
     let P : ℕ → Type 0 = λ n. IsGoing d c.args.port.0 c.args.slot.0 n clears in
-    let next : c.in-Some-begin.field-0.rest.left - c.loop-piece._piece ≡ suc left = omega (arith, c.loop-piece-test.true) in
+    let next : c.in-Some-begin.field-0.rest.left - c.loop-piece.piece ≡ suc left = omega (arith, c.loop-piece-test.true) in
     let disks : HasDisks (device_at g.S.SectorStore.size g.S.SectorStore.told first) c.args.port.0 = found_disks g.S.SectorStore.size g.S.SectorStore.told c.args.self.now c.from.result c.args.port.0 _ c.from.ensures c.as_slice.ensures.value (sym c.has_disks.ensures.disks ∙ c.if-not-has_disks.false) in
     let going = subst P next is.going in
     let move = going_has_move d c.args.port.0 c.args.slot.0 left clears (disks_kept g.S.SectorStore.size g.S.SectorStore.told first m c.args.port.0 is.meanwhile.which disks) going in
@@ -182,7 +182,7 @@ pub loop-run-init : goal.loop-run-init
 loop-run-init g c =
     let is = c.loop-piece.invariant in
     let d : Device = device_at g.S.SectorStore.size g.S.SectorStore.told c.loop-piece.self in
-    let none : c.in-Some-begin.field-0.rest.left - c.loop-piece._piece ≡ 0 = omega (arith, c.loop-piece-test.false) in
+    let none : c.in-Some-begin.field-0.rest.left - c.loop-piece.piece ≡ 0 = omega (arith, c.loop-piece-test.false) in
     let all : c.in-Some-begin.field-0.rest.clears ≡ c.in-Some-begin.field-0.rest.clears - 0 = omega arith in
     let P : ℕ → Type 0 = λ n. IsGoing d c.args.port.0 c.args.slot.0 n c.in-Some-begin.field-0.rest.clears in
     let Q : ℕ → Type 0 = λ n. IsGoing d c.args.port.0 c.args.slot.0 0 n in
@@ -394,10 +394,10 @@ returns-in-Left-clause-sends g c = λ disks has.
     let first = c.args.self.now in
     let is = c.loop-piece.invariant in
     let d : Device = device_at g.S.SectorStore.size g.S.SectorStore.told m in
-    let left = c.in-Some-begin.field-0.rest.left - (c.loop-piece._piece + 1) in
+    let left = c.in-Some-begin.field-0.rest.left - (c.loop-piece.piece + 1) in
     let clears = c.in-Some-begin.field-0.rest.clears in
     let P : ℕ → Type 0 = λ n. IsGoing d c.args.port.0 c.args.slot.0 n clears in
-    let next : c.in-Some-begin.field-0.rest.left - c.loop-piece._piece ≡ suc left = omega (arith, c.loop-piece-test.true) in
+    let next : c.in-Some-begin.field-0.rest.left - c.loop-piece.piece ≡ suc left = omega (arith, c.loop-piece-test.true) in
     let going = subst P next is.going in
     let move = going_has_move d c.args.port.0 c.args.slot.0 left clears (disks_kept g.S.SectorStore.size g.S.SectorStore.told first m c.args.port.0 is.meanwhile.which disks) going in
     let t : FetchedCommand = going.t in

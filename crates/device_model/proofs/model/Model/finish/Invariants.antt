@@ -20,9 +20,9 @@ invariant-loop-piece g l = record {
   refused : l.did ≡ false →
       device_at g.S.SectorStore.size g.S.SectorStore.told l.self ≡ device_at g.S.SectorStore.size g.S.SectorStore.told l.fn.self;
   size : (device_at g.S.SectorStore.size g.S.SectorStore.told l.self).size ≡ (device_at g.S.SectorStore.size g.S.SectorStore.told l.fn.self).size;
-  room : TapeHasRoom l.self.hardware (l.rest.left - l._piece + l.rest.clears + 1);
-  going : IsGoing (device_at g.S.SectorStore.size g.S.SectorStore.told l.self) l.port.0 l.slot.0 (l.rest.left - l._piece) l.rest.clears;
-  ahead : RoomAhead g.S.SectorStore.size g.S.SectorStore.told l.self l.port.0 l.slot.0 (l.rest.left - l._piece);
+  room : TapeHasRoom l.self.hardware (l.rest.left - l.piece + l.rest.clears + 1);
+  going : IsGoing (device_at g.S.SectorStore.size g.S.SectorStore.told l.self) l.port.0 l.slot.0 (l.rest.left - l.piece) l.rest.clears;
+  ahead : RoomAhead g.S.SectorStore.size g.S.SectorStore.told l.self l.port.0 l.slot.0 (l.rest.left - l.piece);
   disks : (AsksStore (asked.Finish l.port l.slot) (device_at g.S.SectorStore.size g.S.SectorStore.told l.fn.self) → ⊥) → (which : DiskIndex) →
       numbered_disk l.self l.port.0 which ≡ numbered_disk l.fn.self l.port.0 which;
   untouched : l.did ≡ false → (which : DiskIndex) → numbered_disk l.self l.port.0 which ≡ numbered_disk l.fn.self l.port.0 which;

@@ -448,11 +448,28 @@ returns-then-not-transfer_piece-clause-answers g c =
           (c.requires.small, taken_of next.0, store_fits g c, ranged),
     )
 
--- ---- memory that is left
+-- ---- what is found and known for the pieces behind
 
-pub returns-clause-left : goal.returns-clause-left
-returns-clause-left g c = λ _ n room. c.note_move.ensures.left n
-    (room_over (n + 1) c.transfer_piece.ensures.memory (c.reserve-room.ensures.kept (n + 1) room))
+pub returns-clause-readies : goal.returns-clause-readies
+returns-clause-readies g c = λ _.
+    record {
+      tape = λ n room.
+          c.note_move.ensures.left n (room_over (n + 1) c.transfer_piece.ensures.memory (c.reserve-room.ensures.kept (n + 1) room));
+      old_room = λ t taken n room.
+          let m = c.args.self.now in
+          let a = c.in-Some.bay in
+          let found = (grow c.args.port.0 c.args.slot.0 c.reserve-room.ensures.rest c.in-Some-next_move.ensures.found) in
+          let o : Outside = outside_at g.S.SectorStore.size g.S.SectorStore.told m in
+          let one : t ≡ taken_of found.0 = some_one (sym taken ∙ (fits g c).works.taken) in
+          let kind : written_ahead t.meaning.operation 1 ≡ written_ahead (transfer_operation c.in-Some-next_move.next.transfer) 1 =
+          ap (λ (x : FetchedCommand). written_ahead x.meaning.operation 1) one ∙ ap (λ (k : Transfer). written_ahead (transfer_operation k) 1) (sym found.1.transfer_is) in
+          let P : ℕ → Type 0 = λ k. HasOldRoom a.cache (k + n) in
+          room_there (moved_model g c) c.args.port.0 n c.transfer_piece.new.self (seated_here m (moved_model g c) c.args.port.0 a c.transfer_piece.new.self (was g c) (items g c))
+          ((exchanged g c).old_room n
+          (c.reserve.ensures.kept (written_ahead (transfer_operation c.in-Some-next_move.next.transfer) 1 + n)
+          (subst P kind (room_here m c.args.port.0 (written_ahead t.meaning.operation 1 + n) a (was g c) room))));
+      next = c.note_move.ensures.after;
+    }
 
 -- ---- a page, for which no store is asked
 
@@ -464,21 +481,6 @@ returns-in_default-next_move-clause-page g c = λ t taken sends _ move low _.
     let one : t ≡ taken_of found.r = some_one (sym move.works.taken ∙ (found.holds.works (o.media c.args.port.0)).taken) in
     let place : next_place t ≡ next_place (taken_of found.r) = ap next_place one in
     c.next_move.ensures.none c.in_default-next_move.is found.r found.holds found.left (omega (arith, place, low)) found.inside
-
-pub returns-clause-old_room : goal.returns-clause-old_room
-returns-clause-old_room g c = λ _ t taken n room.
-    let m = c.args.self.now in
-    let a = c.in-Some.bay in
-    let found = (grow c.args.port.0 c.args.slot.0 c.reserve-room.ensures.rest c.in-Some-next_move.ensures.found) in
-    let o : Outside = outside_at g.S.SectorStore.size g.S.SectorStore.told m in
-    let one : t ≡ taken_of found.0 = some_one (sym taken ∙ (fits g c).works.taken) in
-    let kind : written_ahead t.meaning.operation 1 ≡ written_ahead (transfer_operation c.in-Some-next_move.next.transfer) 1 =
-    ap (λ (x : FetchedCommand). written_ahead x.meaning.operation 1) one ∙ ap (λ (k : Transfer). written_ahead (transfer_operation k) 1) (sym found.1.transfer_is) in
-    let P : ℕ → Type 0 = λ k. HasOldRoom a.cache (k + n) in
-    room_there (moved_model g c) c.args.port.0 n c.transfer_piece.new.self (seated_here m (moved_model g c) c.args.port.0 a c.transfer_piece.new.self (was g c) (items g c))
-    ((exchanged g c).old_room n
-    (c.reserve.ensures.kept (written_ahead (transfer_operation c.in-Some-next_move.next.transfer) 1 + n)
-    (subst P kind (room_here m c.args.port.0 (written_ahead t.meaning.operation 1 + n) a (was g c) room))))
 
 -- ---- the cache had no memory for what the sector holds, and that is told
 

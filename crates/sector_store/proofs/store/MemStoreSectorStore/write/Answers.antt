@@ -2,7 +2,14 @@ use Rattle.std.proofs.Common.{rules, ap, Some, ℕ, List, ◌<◌, length}
 use Rattle.sector_store.proofs.Sectors.{sectors_set}
 use Rattle.sector_store.proofs.store.MemStoreSectorStore.write.Goals as goal
 
-pub returns-clause-puts : goal.returns-clause-puts
-returns-clause-puts c = λ _.
+pub returns : goal.returns
+returns c =
     let small : c.args.sector < length c.args.self.now.sectors.items = search rules in
-    ap (λ (f : ℕ → List ℕ). Some f) (sectors_set c.args.self.now.sectors.items c.args.sector c.args.bytes.now small)
+    record {
+      inside = search rules;
+      puts = λ _. ap (λ (f : ℕ → List ℕ). Some f) (sectors_set c.args.self.now.sectors.items c.args.sector c.args.bytes.now small);
+      kept = search rules;
+      serves = search rules;
+      fails = search rules;
+      sized = search rules;
+    }
