@@ -95,6 +95,20 @@ pub fn prds(frames: &[Frame], bytes: u32) -> ArrayVec<Prd, MOST_REQUEST_FRAMES>
     ensures whole { bytes % 512 ≡ 0 → All IsWholePieces result.items }
     ensures places { bytes % 512 ≡ 0 → pieces result.items ≡ places_of frames.now (bytes / 512) }
 {
+    prds_in(frames, bytes)
+}
+
+/// The same PRDs, in a list that has room for fewer: a list is cleared whole when it is made, and most requests have
+/// few frames.
+pub fn prds_in<const ROOM: usize>(frames: &[Frame], bytes: u32) -> ArrayVec<Prd, ROOM>
+    requires fill { FillFrames frames.now bytes }
+    requires room { length frames.now ≤ ROOM }
+    ensures joined { AreJoined frames.now bytes result.items }
+    ensures number { length result.items ≤ length frames.now }
+    ensures allowed { All IsAllowedPrd result.items }
+    ensures whole { bytes % 512 ≡ 0 → All IsWholePieces result.items }
+    ensures places { bytes % 512 ≡ 0 → pieces result.items ≡ places_of frames.now (bytes / 512) }
+{
     let mut entries = ArrayVec::new();
     let mut covered = 0;
     let mut left = bytes;

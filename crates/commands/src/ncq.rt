@@ -5,7 +5,7 @@
 //! as well. Clear bits tell that a request has ended only while ST is one, since clearing ST clears
 //! them, too. What issuing leaves of the port beside its slot follows from the kinds of its
 //! accesses, by laws of `refinement`. It knows no client and no book.
-ghost use Rattle.std.specs.Prelude.{◌≡◌, ◌≤◌, ◌<◌, ◌*◌, ◌/◌, ◌%◌, true, false};
+ghost use Rattle.std.specs.Prelude.{◌≡◌, ◌≤◌, ◌<◌, ◌*◌, ◌/◌, ◌%◌, length, true, false};
 ghost use Rattle.adapter.specs.Commands.{command_of};
 ghost use Rattle.adapter.specs.Rules.{IsOn, HasPort};
 ghost use Rattle.refinement.specs.Driven.{IsBitOf};
@@ -22,10 +22,10 @@ use crate::issuing::law_stores_leave_the_port;
 use crate::laws::law_writing_issues;
 use adapter::{Adapter, Command};
 use ata_types::{
-    DRIVER_BYTES, Frame, MOST_REQUEST_SECTORS, Op, Port, READ_DMA_EXT, READ_FPDMA_QUEUED, Range,
-    Slot, WRITE_DMA_EXT, WRITE_FPDMA_QUEUED,
+    DRIVER_BYTES, Frame, MOST_REQUEST_FRAMES, MOST_REQUEST_SECTORS, Op, Port, READ_DMA_EXT,
+    READ_FPDMA_QUEUED, Range, Slot, WRITE_DMA_EXT, WRITE_FPDMA_QUEUED,
 };
-use command_table::{prds, write_table};
+use command_table::{prds_in, write_table};
 use hba_regs::{PortReg, Reg, with_bit};
 use refinement::facts::law_adapter_stays;
 use refinement::laws::law_writing_is_permitted;
@@ -37,6 +37,9 @@ const TAG_FACTOR: u16 = 8;
 const LBA: u8 = 0x40;
 
 const SECTOR_BYTES: u32 = 512;
+
+/// Most requests have no more frames. A list of PRDs is cleared whole when it is made, so theirs has room for no more.
+const FEW_FRAMES: usize = 8;
 
 /// What the command of a slot is to do.
 #[derive(Clone, Copy, Debug, PartialEq, Eq)]
@@ -118,7 +121,32 @@ fn prepare<A: Adapter>(
         (A.device adapter.new) }
     ensures cost { MakesAtMost ARM_ACCESSES (A.access_count adapter.old) (A.access_count adapter.new) }
 {
-    let prds = prds(frames, SECTOR_BYTES * transfer.range.count);
+    if frames.len() <= FEW_FRAMES {
+        prepare_in::<A, FEW_FRAMES>(adapter, port, slot, transfer, frames)
+    } else {
+        prepare_in::<A, MOST_REQUEST_FRAMES>(adapter, port, slot, transfer, frames)
+    }
+}
+
+/// Does so with a list of PRDs that has room for so many frames.
+fn prepare_in<A: Adapter, const ROOM: usize>(
+    adapter: &mut A,
+    port: Port,
+    slot: Slot,
+    transfer: &Task,
+    frames: &[Frame],
+) -> u32
+    requires may { MayIssueTask port slot.0 (A.device adapter.old) }
+    requires slot { slot.0 < 32 }
+    requires usable { slot.0 ≤ (A.device adapter.old).cap / 256 % 32 }
+    requires fits { IsFitTransfer transfer.now frames.now }
+    requires room { length frames.now ≤ ROOM }
+    requires small { ROOM ≤ MOST_REQUEST_FRAMES }
+    ensures armed { IsArmedFor port slot.0 transfer.now frames.now result (A.device adapter.old)
+        (A.device adapter.new) }
+    ensures cost { MakesAtMost ARM_ACCESSES (A.access_count adapter.old) (A.access_count adapter.new) }
+{
+    let prds = prds_in::<ROOM>(frames, SECTOR_BYTES * transfer.range.count);
     write_table(
         adapter,
         port,

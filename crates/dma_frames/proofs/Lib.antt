@@ -4,3 +4,4 @@ mod FrameBits
 mod OwnerLemmas
 mod OwnerWords
 mod Seen
+mod Clear

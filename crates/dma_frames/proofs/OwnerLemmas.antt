@@ -56,7 +56,14 @@ lent_within t request frames lent k d h = elim (cases_lt (get_or frames k d).0 (
   | inr past ↦ absurd (none_is (get_or_past t.lent (get_or frames k d).0 None past) (lent k d h))
 ]
 
--- a frame that the client owns is in the memory
+-- a frame that a client owns is in the memory
+pub owner_within : (owners : List (Option ClientId)) (client : ClientId) (f : ℕ) → get_or owners f None ≡ Some client → f < length owners
+owner_within owners client f owned = elim (cases_lt f (length owners)) [
+  | inl low ↦ low
+  | inr past ↦ absurd (none_is (get_or_past owners f None past) owned)
+]
+
+-- and so are frames that the client owns
 pub owned_within : (t : Table) (client : ClientId) (frames : List Frame)
     → ((k : ℕ) → k < length frames → IsForeignAt (owner_of t) client frames k → ⊥) → All (λ f. f.0 < length t.owners) frames
 owned_within t client frames own k d h = elim (cases_lt (get_or frames k d).0 (length t.owners)) [

@@ -10,7 +10,7 @@ use Rattle.dma_frames.specs.Words.{bit_of}
 use Rattle.dma_frames.proofs.FrameBits.{no_bit}
 
 -- one of the first n frames is the one of this number
-abbrev StandsBefore : List Frame → ℕ → ℕ → Type 0
+abbrev pub StandsBefore : List Frame → ℕ → ℕ → Type 0
 StandsBefore frames n f = (j : ℕ) × (j < n) × (slice_get frames j ≡ Some (record { 0 = f }))
 
 -- the bits that are set are those of the first n frames
@@ -23,6 +23,20 @@ none_seen words frames zero f lt = (
   λ w. absurd (let h = w.1 in omega (arith, h)),
 )
 
+-- one of one frame more, and not that one, is one of those before
+pub earlier : (frames : List Frame) (n : ℕ) (frame : Frame) → slice_get frames n ≡ Some frame → (f : ℕ) → StandsBefore frames (n + 1) f → f ≢ frame.0 → StandsBefore frames n f
+earlier frames n frame here f w not = elim (cases_eq w.0 n) [
+  | inl e ↦ absurd (not (ap (λ (k : Frame). k.0) (same_Some _ _ (sym w.2 ∙ (ap (slice_get frames) e ∙ here)))))
+  | inr other ↦ let h = w.1 in (w.0, omega (arith, h), w.2)
+]
+
+-- a frame whose bit isn't set doesn't stand twice, where the bits of those before it are set
+pub once_by : (words : List ℕ) (frames : List Frame) (n : ℕ) (frame : Frame) → slice_get frames n ≡ Some frame → frame.0 < MOST_FRAMES
+    → ((f : ℕ) → f < MOST_FRAMES → StandsBefore frames n f → bit_of words f ≡ 1) → (bit_of words frame.0 ≡ 1 → ⊥) → IsTwiceAt frames n → ⊥
+once_by words frames n frame here within seen not twice =
+    let same : twice.0 ≡ frame = same_Some _ _ (sym twice.4 ∙ here) in
+    not (seen frame.0 within (twice.1, twice.2, twice.3 ∙ ap Some same))
+
 module _ (words : List ℕ) (frames : List Frame) (n : ℕ) (frame : Frame) (here : slice_get frames n ≡ Some frame) (within : frame.0 < MOST_FRAMES)
     (seen : AreSeen words frames n) where
   pub seen_more : (new : List ℕ) → bit_of new frame.0 ≡ 1 → ((k : ℕ) → k ≢ frame.0 → bit_of new k ≡ bit_of words k)
@@ -34,17 +48,9 @@ module _ (words : List ℕ) (frames : List Frame) (n : ℕ) (frame : Frame) (her
     )
     | inr not ↦ (
       λ one. let w = (seen f lt).0 (sym (others f not) ∙ one) in (w.0, (let h = w.1 in omega (arith, h)), w.2),
-      λ w. others f not ∙ (seen f lt).1 (earlier w not),
+      λ w. others f not ∙ (seen f lt).1 (earlier frames n frame here f w not),
     )
   ]
-    where
-      earlier : StandsBefore frames (n + 1) f → f ≢ frame.0 → StandsBefore frames n f
-      earlier w not = elim (cases_eq w.0 n) [
-        | inl e ↦ absurd (not (ap (λ (k : Frame). k.0) (same_Some _ _ (sym w.2 ∙ (ap (slice_get frames) e ∙ here)))))
-        | inr other ↦ let h = w.1 in (w.0, omega (arith, h), w.2)
-      ]
 
   pub once_here : (bit_of words frame.0 ≡ 1 → ⊥) → IsTwiceAt frames n → ⊥
-  once_here not twice =
-      let same : twice.0 ≡ frame = same_Some _ _ (sym twice.4 ∙ here) in
-      not ((seen frame.0 within).1 (twice.1, twice.2, twice.3 ∙ ap Some same))
+  once_here = once_by words frames n frame here within (λ f lt. (seen f lt).1)

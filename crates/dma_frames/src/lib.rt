@@ -7,6 +7,7 @@
 
 ghost use Rattle.std.specs.Prelude.{◌≡◌, ℕ, ◌<◌, ◌≤◌, length, All, AllPairs, Contains, None, Some, IsSome, IsTrue, ◌↔◌, OnOk, IfOk, IfErr, slice_index_or};
 ghost use Rattle.block_machine.specs.Rules.{IsForeignAt, IsTwiceAt, IsLentAt, HasNoFault, IsFirstFault};
+ghost use Rattle.dma_frames.specs.Loan.{Lending};
 ghost use Rattle.dma_frames.specs.Places.{IsLeastPlace};
 ghost use Rattle.dma_frames.specs.Table.{FrameExtent, owner_of, lent_to, LendsOnly, ExtentHasFrame, IsOwnerExtent, IsTableOf, ExtentsApart};
 ghost use Rattle.dma_frames.specs.Words.{AreMarked};
@@ -17,6 +18,7 @@ use arrayvec::ArrayVec;
 use ata_types::{ClientId, Frame, FrameFault, MOST_FRAMES, MOST_REQUEST_FRAMES, RequestId};
 use std::alloc::{AllocError, Global};
 use std::marker::Model;
+use std::mem;
 use words::{BIT_WORDS, OWNER_WORDS};
 
 /// The number of frames of the largest memory.
@@ -55,6 +57,79 @@ impl Loan {
         ensures { result ≡ self.now.request }
     {
         self.request
+    }
+}
+
+/// A place for a loan. A loan has room for many frames: it is moved into its place once, and ends where it stands. As a
+/// loan, its place can't be dropped.
+pub struct LoanPlace {
+    /// Where nothing is held, what is left of a loan that ended.
+    loan: Loan,
+    is_held: bool,
+}
+
+impl Model for LoanPlace {
+    ghost use Rattle.std.specs.Prelude.{Option, Some, None, if◌then◌else◌};
+    ghost use Rattle.dma_frames.specs.Loan.{Lending};
+
+    ghost Value = { Option Lending };
+
+    ghost view = { λ p. if p.is_held then Some p.loan else None };
+}
+
+impl LoanPlace {
+    /// A place that holds no loan.
+    pub fn empty() -> Self
+        ensures { result ≡ None }
+    {
+        LoanPlace {
+            loan: Loan {
+                frames: ArrayVec::new(),
+                request: RequestId(0),
+            },
+            is_held: false,
+        }
+    }
+
+    /// Puts a loan here.
+    pub fn put(&mut self, loan: Loan)
+        requires { self.old ≡ None }
+        ensures { self.new ≡ Some loan }
+    {
+        let Loan {
+            frames: _,
+            request: _,
+        } = mem::replace(&mut self.loan, loan);
+        self.is_held = true;
+    }
+
+    /// The loan that is held here.
+    pub fn loan(&self) -> &Loan
+        requires { IsSome self.now }
+        ensures { self.now ≡ Some result.now }
+    {
+        &self.loan
+    }
+
+    /// Takes the loan that is held here.
+    pub fn take(&mut self) -> Loan
+        requires { IsSome self.old }
+        ensures taken { self.old ≡ Some result }
+        ensures left { self.new ≡ None }
+    {
+        let LoanPlace { loan, is_held: _ } = mem::replace(self, LoanPlace::empty());
+        loan
+    }
+
+    /// Ends a place that holds no loan.
+    pub fn end(self)
+        requires { self ≡ None }
+    {
+        let LoanPlace { loan, is_held: _ } = self;
+        let Loan {
+            frames: _,
+            request: _,
+        } = loan;
     }
 }
 
@@ -143,6 +218,32 @@ impl FrameTable {
         ensures ok { OnOk result (HasNoFault (owner_of self.now) (lent_to self.now) client frames.now) }
         ensures err { IfErr result (IsFirstFault (owner_of self.now) (lent_to self.now) client frames.now) }
     {
+        // Three passes find which fault comes first; mostly there is none, and one pass shows it.
+        if self.are_clear(client, frames) {
+            return Ok(());
+        }
+        self.first_fault(client, frames)
+    }
+
+    /// Whether nothing is wrong with these frames. Each that is lent or was seen has its bit set.
+    fn are_clear(&self, client: ClientId, frames: &[Frame]) -> bool
+        ensures { IsTrue result → HasNoFault (owner_of self.now) (lent_to self.now) client frames.now }
+    {
+        let mut taken = self.lent;
+        for frame in frames {
+            if !words::is_owner(&self.owners, *frame, client) || words::is_set(&taken, *frame) {
+                return false;
+            }
+            words::set_bit(&mut taken, *frame, true);
+        }
+        true
+    }
+
+    /// What is wrong with these frames first, as `check` says.
+    fn first_fault(&self, client: ClientId, frames: &[Frame]) -> Result<(), FrameFault>
+        ensures ok { OnOk result (HasNoFault (owner_of self.now) (lent_to self.now) client frames.now) }
+        ensures err { IfErr result (IsFirstFault (owner_of self.now) (lent_to self.now) client frames.now) }
+    {
         if let Some(place) = self.first_foreign(client, frames) {
             return Err(FrameFault::FrameForeign(place));
         }
@@ -164,8 +265,9 @@ impl FrameTable {
         ensures lent { LendsOnly self.old self.new frames.now (Some request) }
     {
         let mut taken = ArrayVec::new();
-        for frame in frames {
-            taken.push(*frame);
+        match taken.try_extend_from_slice(frames) {
+            Ok(()) => {}
+            Err(_) => unreachable!(),
         }
         set_lent(&mut self.lent, &mut self.ids, frames, Some(request));
         Loan {
@@ -181,6 +283,17 @@ impl FrameTable {
     {
         let Loan { frames, request: _ } = loan;
         set_lent(&mut self.lent, &mut self.ids, frames.as_slice(), None);
+    }
+
+    /// Takes the frames of the loan that a place holds back: they are lent to none, and the place holds nothing.
+    pub fn give_back_at(&mut self, place: &mut LoanPlace)
+        requires { (loan : Lending) × (place.old ≡ Some loan)
+            × All (λ f. lent_to self.old f ≡ Some loan.request) loan.frames }
+        ensures lends { (loan : Lending) → place.old ≡ Some loan → LendsOnly self.old self.new loan.frames None }
+        ensures left { place.new ≡ None }
+    {
+        set_lent(&mut self.lent, &mut self.ids, place.loan.frames(), None);
+        place.is_held = false;
     }
 
     /// The client that owns a frame; nobody owns one past the memory.

@@ -27,6 +27,17 @@ pub fn owner_in(owners: &[u64], frame: Frame) -> Option<ClientId>
     }
 }
 
+/// Whether the client owns a frame.
+pub fn is_owner(owners: &[u64], frame: Frame, client: ClientId) -> bool
+    requires { length owners.now ≡ OWNER_WORDS }
+    ensures { IsTrue result → slice_index_or (owners_of owners.now) frame.0 None ≡ Some client }
+{
+    match owner_in(owners, frame) {
+        Some(owner) => owner.0 == client.0,
+        None => false,
+    }
+}
+
 /// The client of a number of four bits; 0 is nobody.
 fn client_of(number: u8) -> Option<ClientId>
     ensures { result ≡ client_of number }

@@ -22,5 +22,6 @@ pub mod Holding
 pub mod AnsweringAll
 pub mod Aging
 mod Editing
+mod Leading
 mod Ends
 mod Sorting

@@ -113,7 +113,7 @@ module _ (p : Unanswered → Bool) (es : List Held) (places : List ℕ) (i : ℕ
 
 -- and what is counted of those at the places
 module _ (es : List Held) (places : List ℕ) (i : ℕ) (r : Unanswered) (is : slice_get (asks_of es) i ≡ Some r) (p : Unanswered → Bool) where
-  asked_more : asks_at es (places ++ i ∷ []) ≡ asks_at es places ++ r ∷ []
+  pub asked_more : asks_at es (places ++ i ∷ []) ≡ asks_at es places ++ r ∷ []
   asked_more =
       map-append (λ (place : ℕ). get_or (asks_of es) place (asks blank_entry)) places (i ∷ [])
       ∙ ap (λ (x : Unanswered). asks_at es places ++ x ∷ []) (get_or_from_slice_get (asks_of es) i r (asks blank_entry) is)

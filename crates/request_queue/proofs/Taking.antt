@@ -8,7 +8,7 @@ use Rattle.ata_types.specs.declared.request.RequestId.{RequestId}
 use Rattle.dma_frames.specs.Loan.{Lending}
 use Rattle.dma_frames.specs.Table.{Table, lent_to}
 use Rattle.request_queue.specs.Entries.{Held, HasItsFrames}
-use Rattle.request_queue.specs.Store.{entries, held_at, SlabIsSound}
+use Rattle.request_queue.specs.Store.{entries, held_at, KeyHasLoan, SlabIsSound}
 use Rattle.request_queue.specs.declared.PendingRequest.{PendingRequest}
 use Rattle.request_queue.proofs.Changing.{there}
 use Rattle.request_queue.proofs.Keeping.{entries_less, sound_less, entry_there, loan_of_request, key_in_place}
@@ -28,6 +28,12 @@ module _ (s s' : Slab PendingRequest) (loans : List (Option Lending)) (order : L
 
   pub still_sound : slab_len s' + 1 ≡ slab_len s → s'.capacity ≡ s.capacity → SlabIsSound s' (set loans key None) (remove order place)
   still_sound = sound_less s s' loans order key sound place within is_key updates
+
+  -- a loan is held for it
+  pub its_place : (slot : Option Lending) → slot ≡ get_or loans key slot → (loan : Lending) × (slot ≡ Some loan)
+  its_place slot at =
+      let k = subst (KeyHasLoan s loans) (is_key 0) (sound.held place 0 within) in
+      (k.loan, at ∙ (get_or_default loans key slot None k.in_place ∙ k.has_loan))
 
   module _ (slot : Option Lending) (at : slot ≡ get_or loans key slot) (request : PendingRequest) (loan : Lending) (has_request : get s key ≡ Some request) (is : slot ≡ Some loan) where
     has_loan : get_or loans key None ≡ Some loan

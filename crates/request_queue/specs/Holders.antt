@@ -1,6 +1,6 @@
 -- An earlier request that each waiting read or write conflicts with: its holder, for which it waits (this project's
 -- own).
-use Rattle.std.specs.Prelude.{ℕ, ◌≡◌, ◌<◌, Bool, true, false, not, ◌&&◌, ◌==◌, List, filter, length, Option, Some, None, Contains, slice_index_or}
+use Rattle.std.specs.Prelude.{ℕ, ◌≡◌, ◌<◌, Bool, true, false, not, ◌&&◌, ◌==◌, if◌then◌else◌, List, filter, length, Option, Some, None, Contains, slice_index_or}
 use Rattle.std.specs.List.{list_any}
 use Rattle.ata_types.specs.declared.Port.{Port}
 use Rattle.ata_types.specs.declared.request.Op.{Op}
@@ -40,6 +40,10 @@ pub record AreHolders (book : List Unanswered) (holders : List (Option RequestId
   pub number : length holders ≡ length book
   pub each : (k : ℕ) (d : Unanswered) → k < length book
       → IsHolderOf book (slice_index_or book k d) (slice_index_or holders k None)
+
+-- A holder in one word: its id. The greatest id stands for none, since no holder has it.
+abbrev pub holder_in : ℕ → Option RequestId
+holder_in word = if word == 18446744073709551615 then None else Some (record { 0 = word })
 
 -- the holder is the request with this id
 abbrev pub is_held_by : RequestId → Option RequestId → Bool

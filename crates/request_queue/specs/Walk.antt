@@ -1,5 +1,5 @@
 -- What the walk knows of a request that it comes to (this project's own).
-use Rattle.std.specs.Prelude.{ℕ, ◌≡◌, ◌<◌, Bool, false, ◌&&◌, List, Some, All, count_by, slice_get, slice_index_or}
+use Rattle.std.specs.Prelude.{ℕ, ◌≡◌, ◌<◌, ◌≤◌, Bool, true, false, ◌&&◌, List, Some, All, count_by, length, slice_get, slice_index_or}
 use Rattle.std.specs.List.{list_any}
 use Rattle.block_machine.specs.Due.{IsInOrder, is_plain}
 use Rattle.block_machine.specs.declared.due.QueueMode.{QueueMode}
@@ -15,6 +15,12 @@ is_issued_plain mode r = is_plain mode r.op && r.issued
 abbrev pub TalliesIssued : QueueMode → List Unanswered → Issued → Type 0
 TalliesIssued mode requests issued = (issued.count ≡ count_by (λ r. r.issued) requests)
     × (issued.alone ≡ list_any (is_issued_plain mode) requests)
+
+-- So many requests stand at the head that are issued, and none of them alone: the walk begins behind them.
+pub record AreIssuedAhead (mode : QueueMode) (requests : List Unanswered) (leading : ℕ) : Type 0 where
+  pub within : leading ≤ length requests
+  pub issued : (k : ℕ) (d : Unanswered) → k < leading → (slice_index_or requests k d).issued ≡ true
+  pub queued : (k : ℕ) (d : Unanswered) → k < leading → is_plain mode (slice_index_or requests k d).op ≡ false
 
 -- The request has this number among those of its port without a holder, in order of acceptance. All before it are
 -- queued, since the walk ends at a plain one.

@@ -10,6 +10,7 @@ ghost use Rattle.request_queue.specs.Entries.{Held, GivesBack, IsEarlier, IsFres
 use crate::PendingRequest;
 use crate::due::{DueIds, list_due};
 use crate::flushes::{Flush, add_flush, no_flushes, take_flush};
+use crate::holder::Holder;
 use crate::holders::{holder_of, no_holders, search_anew};
 use crate::ranges::Ranges;
 use crate::sectors::{add_sectors, no_sectors, take_sectors};
@@ -40,7 +41,7 @@ pub struct Book {
     /// The flushes of all ports, in order of acceptance. A flush has no sectors, and conflicts all the same.
     flushes: Vec<Flush>,
     /// For each waiting read or write an earlier one that conflicts with it, if there is one: its holder.
-    holders: Vec<Option<RequestId>>,
+    holders: Vec<Holder>,
     /// How many of the requests each client has, by its number. None is of client 0.
     counts: [usize; COUNTS],
 }
@@ -181,7 +182,7 @@ impl Book {
                 ..old
             },
         );
-        self.holders[place] = None;
+        self.holders[place] = Holder::nobody();
     }
 
     /// Notes that a request which was issued fewer than four times waits again, in its old place and with its loan.
@@ -318,7 +319,7 @@ fn place_of(store: &RequestSlab, id: RequestId) -> usize
 fn take_beside(
     sectors: &mut [Ranges; PORTS],
     flushes: &mut Vec<Flush>,
-    holders: &mut Vec<Option<RequestId>>,
+    holders: &mut Vec<Holder>,
     counts: &mut [usize; COUNTS],
     store: &RequestSlab,
     place: usize,
@@ -392,7 +393,7 @@ fn is_under(request: PendingRequest, client: ClientId, grant: u8) -> bool
 
 /// Makes the issued requests of these ports a tick older, and tells whether one is overdue then. Those that have a
 /// holder wait, and aren't looked at.
-fn age(store: &mut RequestSlab, holders: &[Option<RequestId>], ports: &[bool]) -> bool
+fn age(store: &mut RequestSlab, holders: &[Holder], ports: &[bool]) -> bool
     requires holders { AreHolders (asks_of store.old) holders.now }
     ensures older_entry { store.new ≡ aged (is_among ports.now) store.old }
     ensures overdue { IsTrue result ↔ IsAnyOverdue store.new }

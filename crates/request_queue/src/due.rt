@@ -1,12 +1,13 @@
 // The walk that gives the due requests of a port.
-ghost use Rattle.std.specs.Prelude.{◌≡◌, ◌<◌, ◌≤◌, ◌-◌, ◌&&◌, ◌||◌, if◌then◌else◌, [], not, nat_lt, length, All, List, Some, slice_get};
+ghost use Rattle.std.specs.Prelude.{◌≡◌, ◌<◌, ◌≤◌, ◌-◌, ◌&&◌, ◌||◌, ◌==◌, suc, if◌then◌else◌, [], not, nat_lt, length, All, List, Some, slice_get};
 ghost use Rattle.block_machine.specs.Due as machine;
 ghost use Rattle.block_machine.specs.declared.due.Unanswered.{Unanswered};
 ghost use Rattle.request_queue.specs.Entries.{asks_of, due_ids};
 ghost use Rattle.request_queue.specs.Holders.{AreHolders, unheld};
-ghost use Rattle.request_queue.specs.Walk.{TalliesIssued, IsReachedInWalk, is_issued_plain};
+ghost use Rattle.request_queue.specs.Walk.{AreIssuedAhead, TalliesIssued, IsReachedInWalk, is_issued_plain};
 ghost use Rattle.request_queue.specs.Store.{asks_at};
 
+use crate::holder::Holder;
 use crate::store::RequestSlab;
 use arrayvec::ArrayVec;
 use ata_types::{MOST_UNANSWERED, Port, RequestId, SLOTS};
@@ -24,14 +25,16 @@ type Places = ArrayVec<u8, MOST_UNANSWERED>;
 struct Issued {
     count: usize,
     alone: bool,
+    /// How many are issued before the first that waits, or that is plain.
+    leading: usize,
 }
 
 /// Puts the ids of the port's due requests into the list, in order of acceptance: one pass that finds the port's
 /// requests without a holder, and one walk over these, which counts the slots that it gives away, and ends where no
-/// later request can be due.
+/// later request can be due. It begins behind the issued ones that lead: mostly all but the newest are issued.
 pub fn list_due(
     store: &RequestSlab,
-    holders: &[Option<RequestId>],
+    holders: &[Holder],
     mode: QueueMode,
     port: Port,
     due: &mut DueIds,
@@ -48,7 +51,7 @@ pub fn list_due(
     let mut places = ArrayVec::new();
     let issued = find_unheld(store, holders, mode, port, &mut places);
     let free = free_slots(mode, issued.count);
-    for number in 0..places.len() {
+    for number in issued.leading..places.len() {
         let asks = nth(store, &places, number);
         let clear = is_unblocked(mode, &asks, number, issued);
         if goes(mode, &asks, clear, due.len(), free) {
@@ -63,7 +66,7 @@ pub fn list_due(
 /// Lists the places of the port's requests without a holder, and tells what of these is issued.
 fn find_unheld(
     store: &RequestSlab,
-    holders: &[Option<RequestId>],
+    holders: &[Holder],
     mode: QueueMode,
     port: Port,
     places: &mut Places,
@@ -74,13 +77,16 @@ fn find_unheld(
     ensures unheld { asks_at store.now places.new.items ≡ unheld port (asks_of store.now) }
     ensures within { All (λ place. place < length store.now) places.new.items }
     ensures issued { TalliesIssued mode (asks_at store.now places.new.items) result }
+    ensures leading { AreIssuedAhead mode (asks_at store.now places.new.items) result.leading }
 {
     let mut count = 0usize;
     let mut alone = false;
+    let mut leading = 0usize;
     for place in 0..holders.len() {
         if holders[place].is_none() {
             let asks = store.asks(place);
             if asks.port.0 == port.0 {
+                leading = leading_with(mode, &asks, leading, places.len());
                 places.push(place as u8);
                 let slots = slots_of(&asks);
                 count += slots;
@@ -89,7 +95,24 @@ fn find_unheld(
             }
         }
     }
-    Issued { count, alone }
+    Issued {
+        count,
+        alone,
+        leading,
+    }
+}
+
+/// How many are issued before the first that waits, or that is plain, where the request comes behind so many.
+fn leading_with(mode: QueueMode, asks: &Unanswered, leading: usize, before: usize) -> usize
+    requires { before ≤ MOST_UNANSWERED }
+    ensures { result ≡ (if leading == before && (asks.now.issued && not (machine.is_plain mode asks.now.op))
+        then suc leading else leading) }
+{
+    if leading == before && asks.issued && !is_plain(mode, asks.op) {
+        leading + 1
+    } else {
+        leading
+    }
 }
 
 /// How many slots the request takes: one if it is issued.

@@ -1,12 +1,14 @@
 // An earlier request that each waiting read or write conflicts with, so that no walk has to search for it anew.
-ghost use Rattle.std.specs.Prelude.{◌≡◌, ◌<◌, ◌≤◌, ◌&&◌, [], length, List, IfOk, not, remove, vec_capacity};
+ghost use Rattle.std.specs.Prelude.{◌≡◌, ◌<◌, ◌≤◌, ◌&&◌, [], length, false, true, Contains, List, IfNone, IfOk, IfSome, not, remove, vec_capacity};
+ghost use Rattle.std.specs.List.{list_any};
 ghost use Rattle.block_machine.specs.declared.due.Unanswered.{Unanswered};
 ghost use Rattle.request_queue.specs.Entries.{asks_of};
-ghost use Rattle.request_queue.specs.Flushes.{flushes_of};
-ghost use Rattle.request_queue.specs.Holders.{AreHolders, AreHoldersBut, IsHolderOf, is_held_by, is_read_or_write, may_have_holder};
+ghost use Rattle.request_queue.specs.Flushes.{flushes_of, is_earlier_flush};
+ghost use Rattle.request_queue.specs.Holders.{AreHolders, AreHoldersBut, IsHolderOf, is_read_or_write, may_have_holder};
 ghost use Rattle.request_queue.specs.Sectors.{AreIndexed};
 
 use crate::flushes::{Flush, earlier_flush};
+use crate::holder::Holder;
 use crate::ranges::Ranges;
 use crate::sectors::{index_of_port, item_of};
 use crate::store::RequestSlab;
@@ -15,7 +17,7 @@ use block_machine::Unanswered;
 use std::alloc::{AllocError, Global};
 
 /// Holders of no requests, with room for 128. No other call takes memory.
-pub fn no_holders(alloc: Global) -> Result<Vec<Option<RequestId>>, AllocError>
+pub fn no_holders(alloc: Global) -> Result<Vec<Holder>, AllocError>
     ensures { IfOk result (λ holders. (holders.items ≡ []) × (MOST_UNANSWERED ≤ vec_capacity holders)) }
 {
     let holders = Vec::with_capacity(alloc, MOST_UNANSWERED)?;
@@ -24,27 +26,23 @@ pub fn no_holders(alloc: Global) -> Result<Vec<Option<RequestId>>, AllocError>
 
 /// The holder of a request: an earlier one that conflicts with it, if there is one, by its sectors or as a flush. None
 /// but a read or a write that waits has one.
-pub fn holder_of(
-    sectors: &[Ranges; PORTS],
-    flushes: &[Flush],
-    request: &Unanswered,
-) -> Option<RequestId>
+pub fn holder_of(sectors: &[Ranges; PORTS], flushes: &[Flush], request: &Unanswered) -> Holder
     ensures { (book : List Unanswered) → AreIndexed book sectors.now → flushes.now ≡ flushes_of book
         → IsHolderOf book request.now result }
 {
     if !may_have_holder(request) {
-        return None;
+        return Holder::nobody();
     }
     match sectors[index_of_port(request.port)].earlier_conflict(&item_of(request)) {
-        Some(holder) => Some(holder.id),
-        None => earlier_flush(flushes, request),
+        Some(holder) => Holder::of(request.id, holder.id),
+        None => held_by_flush(flushes, request),
     }
 }
 
 /// Searches anew for the holders of those that a request held which is answered. It stands at this place of the store
 /// still, and its sectors, its own holder, and itself as a flush were taken out.
 pub fn search_anew(
-    holders: &mut Vec<Option<RequestId>>,
+    holders: &mut Vec<Holder>,
     sectors: &[Ranges; PORTS],
     flushes: &[Flush],
     store: &RequestSlab,
@@ -59,20 +57,22 @@ pub fn search_anew(
     ensures room { vec_capacity holders.new ≡ vec_capacity holders.old }
 {
     for later in place..holders.len() {
-        if is_held_by(answered, holders[later]) {
+        if holders[later].is(answered) {
             let holder = holder_of(sectors, flushes, &store.asks(later + 1));
             holders[later] = holder;
         }
     }
 }
 
-/// Whether the holder is the request with this id.
-fn is_held_by(id: RequestId, holder: Option<RequestId>) -> bool
-    ensures { result ≡ is_held_by id holder }
+/// The flush that a request waits for, if there is one.
+fn held_by_flush(flushes: &[Flush], request: &Unanswered) -> Holder
+    ensures none { IfNone result (list_any (is_earlier_flush request.now) flushes.now ≡ false) }
+    ensures found { IfSome result (λ id. (flush : Flush) × Contains flushes.now flush × (flush.id ≡ id)
+        × (is_earlier_flush request.now flush ≡ true)) }
 {
-    match holder {
-        Some(held_by) => held_by.0 == id.0,
-        None => false,
+    match earlier_flush(flushes, request) {
+        Some(flush) => Holder::of(request.id, flush),
+        None => Holder::nobody(),
     }
 }
 

@@ -10,6 +10,7 @@ mod book;
 mod disposition;
 mod due;
 mod flushes;
+mod holder;
 mod holders;
 pub mod laws;
 mod ranges;

@@ -6,16 +6,15 @@ ghost use Rattle.request_queue.specs.Entries.{Held, HasItsFrames, asks, asks_of}
 use crate::PendingRequest;
 use ata_types::MOST_UNANSWERED;
 use block_machine::Unanswered;
-use dma_frames::{FrameTable, Loan};
+use dma_frames::{FrameTable, Loan, LoanPlace};
 use slab::Slab;
 use std::alloc::{AllocError, Global};
 use std::marker::Model;
-use std::mem;
 
 /// Requests with their loans, each at its place.
 pub struct RequestSlab {
     requests: Slab<PendingRequest>,
-    loans: Vec<Option<Loan>>,
+    loans: Vec<LoanPlace>,
     order: Vec<usize>,
 }
 
@@ -69,10 +68,7 @@ impl RequestSlab {
         ensures frames { slice_get (map (λ e. e.frames) self.now) place ≡ Some result.now.frames }
         ensures id { slice_get (map (λ e. e.entry.id) self.now) place ≡ Some result.now.request }
     {
-        match &self.loans[self.order[place]] {
-            Some(loan) => loan,
-            None => unreachable!(),
-        }
+        self.loans[self.order[place]].loan()
     }
 
     /// Puts a request last, with its loan. It stands in its caller's code, as `Book::accept` does.
@@ -83,10 +79,7 @@ impl RequestSlab {
         ensures { self.new ≡ self.old ++ record { entry = request; frames = loan.frames } ∷ [] }
     {
         let key = self.requests.insert_reserved(request);
-        match mem::replace(&mut self.loans[key], Some(loan)) {
-            None => {}
-            Some(_) => unreachable!(),
-        }
+        self.loans[key].put(loan);
         self.order.push_reserved(key);
     }
 
@@ -100,10 +93,7 @@ impl RequestSlab {
     {
         let key = self.order.remove(place);
         let request = self.requests.remove(key);
-        match self.loans[key].take() {
-            Some(loan) => (request, loan),
-            None => unreachable!(),
-        }
+        (request, self.loans[key].take())
     }
 
     /// Takes out the request at this place, and gives back what was lent to it.
@@ -116,10 +106,7 @@ impl RequestSlab {
     {
         let freed = self.order.remove(place);
         let request = self.requests.remove(freed);
-        match self.loans[freed].take() {
-            Some(loan) => table.give_back(loan),
-            None => unreachable!(),
-        }
+        table.give_back_at(&mut self.loans[freed]);
         request
     }
 
@@ -153,10 +140,7 @@ impl RequestSlab {
         } = self;
         let mut loans = loans;
         while let Some(slot) = loans.pop() {
-            match slot {
-                None => {}
-                Some(_) => unreachable!(),
-            }
+            slot.end();
         }
         loans.destroy_empty();
     }
@@ -175,12 +159,12 @@ pub fn asks_of(entry: PendingRequest) -> Unanswered
     }
 }
 
-fn no_loans(alloc: Global, count: usize) -> Result<Vec<Option<Loan>>, AllocError>
+fn no_loans(alloc: Global, count: usize) -> Result<Vec<LoanPlace>, AllocError>
     ensures { IfOk result (λ loans. loans.items ≡ replicate count None) }
 {
     let mut loans = Vec::with_capacity(alloc, count)?;
     for _ in 0..count {
-        loans.push_reserved(None);
+        loans.push_reserved(LoanPlace::empty());
     }
     Ok(loans)
 }

@@ -5,7 +5,7 @@
 #![tactic(auto)]
 
 ghost use Rattle.std.specs.Prelude.{◌≡◌, ◌↔◌, ℕ, ◌<◌, ◌≤◌, length, IfSome, IfNone, Some, None, IsSome, true, slice_index_or};
-ghost use Rattle.slots.specs.Uses.{HasLeastId, HasLeastIdOf, IsTaken, IsLowestFree, use_at, with_use};
+ghost use Rattle.slots.specs.Uses.{HasLeastId, HasLeastIdOf, IsTaken, IsLowestClear, IsLowestFree, use_at, with_use};
 ghost use Rattle.std.specs.Int.{bit_at};
 
 use ata_types::{RequestId, SLOTS, Slot};
@@ -62,7 +62,7 @@ impl Slots {
         ensures full { IfNone result ((slot : ℕ) → slot < self.old.usable → IsTaken self.old slot) }
         ensures none { IfNone result (self.new ≡ self.old) }
     {
-        let Some(place) = lowest_free(&self.places, self.usable) else {
+        let Some(place) = lowest_free(self.taken, self.usable) else {
             return None;
         };
         self.places[place as usize] = Some(SlotUse { id, queued });
@@ -124,17 +124,16 @@ fn no_uses() -> [Option<SlotUse>; SLOTS]
     [None; SLOTS]
 }
 
-/// The lowest free place below `usable`.
-fn lowest_free(places: &[Option<SlotUse>], usable: u8) -> Option<u8>
-    requires { usable ≤ length places.now }
-    ensures found { IfSome result (λ s. (s < usable) × (slice_index_or places.now s None ≡ None)
-        × ((k : ℕ) → k < s → IsSome (slice_index_or places.now k None))) }
-    ensures none { IfNone result ((k : ℕ) → k < usable → IsSome (slice_index_or places.now k None)) }
+/// The lowest place below `usable` whose bit isn't set: it is found by the lowest bit of the others, and not place by
+/// place.
+fn lowest_free(taken: u32, usable: u8) -> Option<u8>
+    requires { usable ≤ 32 }
+    ensures found { IfSome result (λ s. (s < usable) × IsLowestClear taken s) }
+    ensures none { IfNone result ((k : ℕ) → k < usable → bit_at taken k ≡ 1) }
 {
-    for place in 0..usable {
-        if places[place as usize].is_none() {
-            return Some(place);
-        }
+    let place = (!taken).trailing_zeros();
+    if place < u32::from(usable) {
+        return Some(place as u8);
     }
     None
 }

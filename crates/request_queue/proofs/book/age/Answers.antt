@@ -1,6 +1,6 @@
 use Rattle.std.proofs.Common.{ℕ, ◌≡◌, ◌<◌, ◌∙◌, Some, [], Bool, List, Option, None, not, false, is_some, get_or, length, sym, ap, arith}
 use Rattle.std.proofs.lemmas.Bool.{and_parts, not-true, false≢true}
-use Rattle.std.proofs.lemmas.List.{length-map, get_or-map}
+use Rattle.std.proofs.lemmas.List.{length-map, get_or-map, get_or_default}
 use Rattle.ata_types.specs.declared.request.RequestId.{RequestId}
 use Rattle.block_machine.specs.declared.due.Unanswered.{Unanswered}
 use Rattle.request_queue.specs.Entries.{Held, asks, asks_of, is_among, older_entry}
@@ -42,6 +42,7 @@ loop-place-preserved c =
     let more = c.loop-place-test.true in
     let inside : i < length (asks_of old) = omega (arith, end, more, n) in
     let lt : i < length old = omega (arith, end, more, n, long) in
+    let its = get_or_default c.args.holders.now i None c.index-holders-place.result (omega (arith, end, more)) ∙ sym c.index-holders-place.is in
     elim c.if-is_none.branch [
       | then-is_none+then-request w ↦
           let r = w.request-request.result in
@@ -60,7 +61,7 @@ loop-place-preserved c =
           record { changed = rw w.store-is both.0; overdue = w.overdue-is ∙ both.1 }
       | else-is_none w ↦
           let d : Held = record { entry = blank_entry; frames = [] } in
-          let waits = held_waits old i (get_or c.args.holders.now i None) lt (is_one _ c.is_none.result c.is_none.ensures w.if-is_none.false) (λ x. are.each i x inside) in
+          let waits = held_waits old i (get_or c.args.holders.now i None) lt (λ none. is_one _ c.is_none.result c.is_none.ensures w.if-is_none.false (sym its ∙ none)) (λ x. are.each i x inside) in
           let both = aging.waiting_more ports old now i c.loop-place.overdue lt v.changed v.overdue d (waits d) waits in
           record { changed = rw w.store-is both.0; overdue = w.overdue-is ∙ both.1 }
     ]

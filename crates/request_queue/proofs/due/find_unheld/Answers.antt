@@ -1,17 +1,19 @@
-use Rattle.std.proofs.Common.{◌∙◌, ◌≡◌, ◌≤◌, ◌<◌, ◌&&◌, ◌||◌, ◌==◌, ℕ, Bool, Option, None, Some, true, false, not, cond, is_some, get_or, length, refl, sym, ap, subst, arith, eq-eqb}
+use Rattle.std.proofs.Common.{◌∙◌, ◌≡◌, ◌≤◌, ◌<◌, ◌&&◌, ◌||◌, ◌==◌, ℕ, suc, Bool, Option, None, Some, true, false, not, cond, is_some, get_or, length, refl, sym, ap, subst, arith, eq-eqb}
 use Rattle.std.specs.List.{list_any}
 use Rattle.std.proofs.lemmas.Bool.{and_from, ne_eqb, false_from_ne_true, and_parts, both_ways, not-true, false≢true}
-use Rattle.std.proofs.lemmas.List.{length-map, length_push}
+use Rattle.std.proofs.lemmas.List.{get_or_default, length-map, length_push}
 use Rattle.std.proofs.lemmas.List.Elements.{All-push}
 use Rattle.std.proofs.lemmas.Option.{get_or_from_slice_get, slice_get-get_or}
 use Rattle.ata_types.specs.declared.request.RequestId.{RequestId}
 use Rattle.block_machine.specs.declared.due.Unanswered.{Unanswered}
+use Rattle.block_machine.specs.Due.{is_plain}
 use Rattle.request_queue.specs.Entries.{Held, asks, asks_of}
 use Rattle.request_queue.specs.Holders.{IsHolderOf, has_holder}
 use Rattle.request_queue.specs.Walk.{is_issued_plain}
 use Rattle.request_queue.specs.Store.{asks_at, blank_entry}
 use Rattle.request_queue.proofs.Holding.{a_holder, no_holder}
-use Rattle.request_queue.proofs.Own.{one_in, one_out, counted_more, any_more}
+use Rattle.request_queue.proofs.Leading.{leads_more}
+use Rattle.request_queue.proofs.Own.{one_in, one_out, counted_more, any_more, as_long}
 use Rattle.request_queue.proofs.due.find_unheld.Goals as goal
 use Rattle.request_queue.proofs.due.find_unheld.Goals.{then-is_none+then-asks-port, then-is_none+else-asks-port, else-is_none}
 
@@ -43,11 +45,12 @@ loop-place-preserved c =
     let more = c.loop-place-test.true in
     let inside : i < length book = omega (arith, end, more, n) in
     let lt : i < length es = omega (arith, end, more, n, long) in
+    let its = get_or_default c.args.holders.now i None c.index-holders-place.result (omega (arith, end, more)) ∙ sym c.index-holders-place.is in
     elim c.if-is_none.branch [
       | then-is_none+then-asks-port w ↦
           let r = w.asks-asks.result in
           let one = one_at_most r.issued in
-          let free = no_holder book r (get_or c.args.holders.now i None) (is_none _ c.is_none.result c.is_none.ensures w.if-is_none.true)
+          let free = no_holder book r (get_or c.args.holders.now i None) (its ∙ is_none _ c.is_none.result c.is_none.ensures w.if-is_none.true)
           (subst (λ (x : Unanswered). IsHolderOf book x (get_or c.args.holders.now i None)) (get_or_from_slice_get book i r r w.asks-asks.ensures) (are.each i r inside)) in
           let count = counted_more es places i r w.asks-asks.ensures (λ (u : Unanswered). u.issued) in
           rw (w.places-is, w.push.ensures.items) (record {
@@ -56,6 +59,9 @@ loop-place-preserved c =
             few = rw length_push (omega (arith, v.few));
             counted = omega (arith, w.count-is, v.counted, w.slots_of-slots.ensures, count);
             fits = omega (arith, w.count-is, v.fits, w.slots_of-slots.ensures, one);
+            leading = rw w.leading-is (leads_more c.args.mode es places i r w.asks-asks.ensures c.loop-place.leading w.leading_with-leading.result v.leading
+                (w.leading_with-leading.ensures ∙ ap (λ (before : ℕ). cond (c.loop-place.leading == before && (r.issued && not (is_plain c.args.mode r.op))) (suc c.loop-place.leading) c.loop-place.leading)
+                (w.len.ensures.value ∙ sym (as_long es places))));
             alone = w.alone-is
                 ∙ (ap (λ (b : Bool). b || w.is_issued_plain-issued_alone.result) v.alone
                 ∙ (ap (λ (b : Bool). list_any alone (asks_at es places) || b) w.is_issued_plain-issued_alone.ensures ∙ sym (any_more es places i r w.asks-asks.ensures alone)));
@@ -68,11 +74,12 @@ loop-place-preserved c =
             few = omega (arith, v.few);
             counted = w.count-is ∙ v.counted;
             fits = omega (arith, w.count-is, v.fits);
+            leading = rw w.leading-is v.leading;
             alone = w.alone-is ∙ v.alone;
           })
       | else-is_none w ↦
           let r = get_or book i (asks blank_entry) in
-          let held = a_holder book r (get_or c.args.holders.now i None) (is_one _ c.is_none.result c.is_none.ensures w.if-is_none.false) (are.each i (asks blank_entry) inside) in
+          let held = a_holder book r (get_or c.args.holders.now i None) (λ none. is_one _ c.is_none.result c.is_none.ensures w.if-is_none.false (sym its ∙ none)) (are.each i (asks blank_entry) inside) in
           rw w.places-is (record {
             unheld = one_out p es places i r (slice_get-get_or book i (asks blank_entry) inside) v.unheld
                 (false_from_ne_true _ (λ both. both_ways _ (not-true _ (and_parts (r.port.0 == c.args.port.0) _ both).1) held));
@@ -80,6 +87,7 @@ loop-place-preserved c =
             few = omega (arith, v.few);
             counted = w.count-is ∙ v.counted;
             fits = omega (arith, w.count-is, v.fits);
+            leading = rw w.leading-is v.leading;
             alone = w.alone-is ∙ v.alone;
           })
     ]

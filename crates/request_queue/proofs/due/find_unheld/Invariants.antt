@@ -2,7 +2,7 @@ use Rattle.std.proofs.Common.{◌≡◌, ◌<◌, ◌≤◌, ◌&&◌, ◌==◌,
 use Rattle.std.specs.List.{All, count_by, filter, list_any}
 use Rattle.request_queue.specs.Entries.{asks_of}
 use Rattle.request_queue.specs.Holders.{has_holder}
-use Rattle.request_queue.specs.Walk.{is_issued_plain}
+use Rattle.request_queue.specs.Walk.{AreIssuedAhead, is_issued_plain}
 use Rattle.request_queue.specs.Store.{asks_at}
 use Rattle.request_queue.proofs.due.find_unheld.Given as goal
 
@@ -13,5 +13,6 @@ invariant-loop-place l = record {
   few : length l.places.items ≤ l.place;
   counted : l.count ≡ count_by (λ r. r.issued) (asks_at l.store l.places.items);
   fits : l.count ≤ l.place;
+  leading : AreIssuedAhead l.mode (asks_at l.store l.places.items) l.leading;
   alone : l.alone ≡ list_any (is_issued_plain l.mode) (asks_at l.store l.places.items);
 }

@@ -9,6 +9,7 @@ use Rattle.std.proofs.lemmas.List.{take_all}
 use Rattle.block_machine.specs.declared.due.Unanswered.{Unanswered}
 use Rattle.request_queue.specs.Entries.{asks_of}
 use Rattle.request_queue.specs.Store.{asks_at}
+use Rattle.request_queue.proofs.Leading.{none_ahead}
 use Rattle.request_queue.proofs.Own.{unheld_in_order, reached, own_at, own_free, own_due, as_long}
 use Rattle.request_queue.proofs.Walk.{due_test, steps_on, has_all, has_room}
 use Rattle.request_queue.proofs.due.list_due.Goals as goal
@@ -42,6 +43,16 @@ returns-then-ends c =
     own_due c.args.port all book is c.args.mode c.if-goes.due.items
     (has_all c.law_earlier_ones_stand_before.ensures c.law_slots_by_due.ensures c.args.mode c.args.port book ordered c.loop-number.number c.nth-asks.result c.nth-asks.ensures mine
     c.if-goes.due.items so_far c.len-in-loop-number.result c.free_slots-free.result c.len-in-loop-number.ensures.value free (sym c.ends.ensures ∙ c.if-ends.true))
+
+pub loop-number-init : goal.loop-number-init
+loop-number-init c =
+    let book = asks_at c.args.store.now c.find_unheld-issued.new.places.items in
+    let ahead = c.find_unheld-issued.ensures.leading in
+    record {
+      so_far = c.requires.empty ∙ sym (none_ahead c.args.mode c.args.port book c.find_unheld-issued.result.leading ahead);
+      few = rw c.requires.empty (omega arith);
+      queued = ahead.queued;
+    }
 
 pub loop-number-preserved : goal.loop-number-preserved
 loop-number-preserved c =

@@ -7,7 +7,7 @@ use Rattle.request_queue.specs.Entries.{Held, asks, asks_of}
 use Rattle.request_queue.specs.Holders.{is_held_by}
 use Rattle.request_queue.proofs.Holding.{all_searched, one_anew, one_kept}
 use Rattle.request_queue.proofs.holders.search_anew.Goals as goal
-use Rattle.request_queue.proofs.holders.search_anew.Goals.{then-is_held_by, else-is_held_by}
+use Rattle.request_queue.proofs.holders.search_anew.Goals.{then-is, else-is}
 
 pub loop-later-preserved : goal.loop-later-preserved
 loop-later-preserved c =
@@ -19,8 +19,8 @@ loop-later-preserved c =
     let first = c.requires.but.number in
     let low = c.loop-later.auto.later in
     let its = get_or_default c.loop-later.holders.items c.loop-later.later None c.index.result.now (omega (arith, n, first, end, more)) ∙ sym c.index.ensures in
-    elim c.if-is_held_by.branch [
-      | then-is_held_by w ↦
+    elim c.if-is.branch [
+      | then-is w ↦
           let all = asks_of c.args.store.now in
           let long = length-map c.args.store.now (λ (e : Held). asks e.entry) in
           let place = c.requires.place in
@@ -33,8 +33,8 @@ loop-later-preserved c =
             but = one_anew c.args.answered c.loop-later.later book c.loop-later.holders.items but w.asks.result w.holder_of-holder.result at (w.holder_of-holder.ensures book c.requires.indexed c.requires.flushes);
             room = c.loop-later.invariant.room;
           })
-      | else-is_held_by w ↦ rw w.holders-is (record {
-        but = one_kept c.args.answered c.loop-later.later book c.loop-later.holders.items but (ap (is_held_by c.args.answered) its ∙ (sym c.is_held_by.ensures ∙ w.if-is_held_by.false));
+      | else-is w ↦ rw w.holders-is (record {
+        but = one_kept c.args.answered c.loop-later.later book c.loop-later.holders.items but (ap (is_held_by c.args.answered) its ∙ (sym c.is.ensures ∙ w.if-is.false));
         room = c.loop-later.invariant.room;
       })
     ]

@@ -1,4 +1,4 @@
-use Rattle.std.proofs.Common.{refl, ◌≡◌, ◌∙◌, ℕ, None, suc, ◌+◌, true, arith, List, sym, ap, subst, map, set}
+use Rattle.std.proofs.Common.{refl, ◌≡◌, ◌∙◌, ℕ, suc, ◌+◌, true, arith, List, sym, ap, subst, map, set}
 use Rattle.std.proofs.lemmas.Option.{same_Some}
 use Rattle.request_queue.specs.Flushes.{flushes_of}
 use Rattle.request_queue.specs.Holders.{AreHolders}
@@ -28,8 +28,8 @@ invariant_of-self c =
     let waits = subst (λ (es : List Held). IsWaiting c.args.id es) (sym c.self.view_is) c.requires in (
       subst (λ (es : List Held). BookIsInOrder es) (sym changed) (issued_in_order store c.args.id waits.0 c.self.invariant.0 waits.1 waits.2 waits.3),
       subst (λ (es : List Held). AreIndexed (asks_of es) c.self.inside.sectors) (sym changed) (issued_indexed store c.args.id c.self.inside.sectors c.self.invariant.1),
-      subst (λ (es : List Held). AreHolders (asks_of es) (set c.self.inside.holders.items c.place_of-place.result None)) (sym here)
-          (issued_holders store c.self.inside.holders.items c.place_of-place.result e.0 c.self.invariant.2 e.1),
+      subst (λ (es : List Held). AreHolders (asks_of es) (set c.self.inside.holders.items c.place_of-place.result c.nobody.result)) (sym here)
+          (rw c.nobody.ensures (issued_holders store c.self.inside.holders.items c.place_of-place.result e.0 c.self.invariant.2 e.1)),
       c.self.invariant.3,
       subst (λ (es : List Held). AreCounts es c.self.inside.counts) (sym changed) (counts_at store c.args.id issue c.self.inside.counts (λ r. refl) c.self.invariant.4),
       subst (λ (es : List Held). c.self.inside.flushes.items ≡ flushes_of (asks_of es)) (sym changed) (issued_flushes store c.args.id c.self.inside.flushes.items c.self.invariant.5),

@@ -1,10 +1,10 @@
 use Rattle.std.proofs.Common.{◌+◌, ◌-◌, ◌*◌, ◌<◌, ◌≤◌, List, ◌++◌, length, drop}
 use Rattle.adapter.specs.declared.command.Prd.{Prd}
 use Rattle.command_table.specs.Runs.{AreJoined}
-use Rattle.command_table.proofs.prds.Given as goal
+use Rattle.command_table.proofs.prds_in.Given as goal
 
 abbrev pub invariant-loop-covered : goal.invariant-loop-covered
-invariant-loop-covered l = record {
+invariant-loop-covered g l = record {
   number : length l.entries.items ≤ l.covered;
   room : l.covered ≤ length l.frames;
   within : l.left ≤ 4096 * (length l.frames - l.covered);
@@ -14,4 +14,4 @@ invariant-loop-covered l = record {
 }
 
 abbrev pub decreases-loop-covered : goal.decreases-loop-covered
-decreases-loop-covered l = length l.frames - l.covered
+decreases-loop-covered g l = length l.frames - l.covered

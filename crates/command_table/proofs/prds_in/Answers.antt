@@ -3,10 +3,10 @@ use Rattle.std.proofs.lemmas.List.{append-nil, length-append, length-drop, drop_
 use Rattle.adapter.specs.declared.command.Prd.{Prd}
 use Rattle.command_table.specs.Runs.{AreJoined}
 use Rattle.command_table.proofs.Cover.{Fits, joined_more, joined_cover, all_whole, all_allowed}
-use Rattle.command_table.proofs.prds.Goals as goal
+use Rattle.command_table.proofs.prds_in.Goals as goal
 
 pub loop-covered-init : goal.loop-covered-init
-loop-covered-init c = record {
+loop-covered-init g c = record {
   number = let e = ap length c.new-entries.ensures in omega (arith, e);
   room = omega arith;
   within = let w = c.requires.fill.within in omega (arith, w);
@@ -15,7 +15,7 @@ loop-covered-init c = record {
 }
 
 pub loop-covered-preserved : goal.loop-covered-preserved
-loop-covered-preserved c =
+loop-covered-preserved g c =
     let v = c.loop-covered.invariant in
     let frames = c.args.frames.now in
     let covered = c.loop-covered.covered in
@@ -41,7 +41,7 @@ loop-covered-preserved c =
     }
 
 pub returns : goal.returns
-returns c =
+returns g c =
     let v = c.loop-covered.invariant in
     let frames = c.args.frames.now in
     let within = v.within in

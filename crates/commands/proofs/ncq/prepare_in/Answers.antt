@@ -6,7 +6,28 @@ use Rattle.command_table.specs.Written.{IsTableFor}
 use Rattle.std.specs.Prelude.{List}
 use Rattle.commands.specs.Tasks.{addresses_of, meaning_of}
 use Rattle.commands.proofs.Telling.{kind_of, never_trim, no_block, stored_for, table_says}
-use Rattle.commands.proofs.ncq.prepare.Goals as goal
+use Rattle.commands.proofs.ncq.prepare_in.Goals as goal
+
+pub prds_in-prds-requires : goal.prds_in-prds-requires
+prds_in-prds-requires g c =
+    let small = c.requires.small in
+    let few = c.requires.fits.few in
+    let some = c.requires.fits.some in
+    let number = c.requires.fits.number in (
+      omega (arith, small),
+      (
+        record {
+          room = omega (arith, few, number);
+          even = omega arith;
+          within = omega (arith, number);
+          last = omega (arith, number, some);
+        },
+        c.requires.room,
+      ),
+    )
+
+pub as_slice-requires : goal.as_slice-requires
+as_slice-requires g c = let small = c.requires.small in omega (arith, small)
 
 pub arm-requires-clause-there : goal.arm-requires-clause-there
 arm-requires-clause-there g c = (c.law_stores_leave_the_port.ensures c.args.port c.args.slot.0 _ _ c.requires.may.on c.requires.may.there c.requires.may.may c.write_table.ensures.followed).0
@@ -18,14 +39,14 @@ pub returns-clause-armed : goal.returns-clause-armed
 returns-clause-armed g c =
     let q = c.requires in
     let few = q.fits.few in
-    let places : pieces c.prds-prds.result.items ≡ places_of c.args.frames.now c.args.transfer.now.range.count =
-    c.prds-prds.ensures.places (omega arith) ∙ ap (places_of c.args.frames.now) (omega arith) in
+    let places : pieces c.prds_in-prds.result.items ≡ places_of c.args.frames.now c.args.transfer.now.range.count =
+    c.prds_in-prds.ensures.places (omega arith) ∙ ap (places_of c.args.frames.now) (omega arith) in
     let transfer = c.args.transfer.now in
     let port = c.args.port.0 in
     let slot = c.args.slot.0 in
     let addresses = addresses_of port transfer.op transfer.range.count c.args.frames.now in
-    let table = table_says transfer c.args.frames.now port slot q.fits.transfers q.fits.some few q.fits.first c.command.result c.prds-prds.result.items c.command.ensures
-    (c.prds-prds.ensures.whole (omega arith)) places in
+    let table = table_says transfer c.args.frames.now port slot q.fits.transfers q.fits.some few q.fits.first c.command.result c.prds_in-prds.result.items c.command.ensures
+    (c.prds_in-prds.ensures.whole (omega arith)) places in
     record {
       on = q.may.on;
       there = q.may.there;

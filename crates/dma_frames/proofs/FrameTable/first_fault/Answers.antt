@@ -1,5 +1,5 @@
 use Rattle.dma_frames.proofs.FaultLemmas.{first_foreign_fault, first_twice_fault, first_lent_fault, no_fault}
-use Rattle.dma_frames.proofs.FrameTable.check.Goals as goal
+use Rattle.dma_frames.proofs.FrameTable.first_fault.Goals as goal
 
 pub returns-in-Some-clause-err : goal.returns-in-Some-clause-err
 returns-in-Some-clause-err c = first_foreign_fault _ _ _ _ _ c.in-Some.ensures.place

@@ -1,0 +1,74 @@
+-- The issued requests that stand at the head, behind which the walk begins.
+use Rattle.std.proofs.Common.{◌≡◌, ℕ, zero, suc, ◌<◌, ◌==◌, ◌&&◌, ◌||◌, Bool, true, false, not, cond, List, [], ◌∷◌, ◌++◌, length, map, take, get_or, Some, refl, sym, ap, ◌∙◌, subst, arith, eqb-true, inl, inr}
+use Rattle.std.specs.List.{filter, slice_get}
+use Rattle.std.proofs.lemmas.Bool.{and_parts, cases_lt, cond-false, not-true}
+use Rattle.std.proofs.lemmas.List.{length_push, get_or_push, get_or_append_left}
+use Rattle.ata_types.specs.declared.Port.{Port}
+use Rattle.block_machine.specs.declared.due.QueueMode.{QueueMode}
+use Rattle.block_machine.specs.declared.due.Unanswered.{Unanswered}
+use Rattle.std.specs.List.{list_any}
+use Rattle.std.specs.Prelude.{nat_lt}
+use Rattle.block_machine.specs.Due.{ahead, free_slots, is_plain, waits_for}
+use Rattle.request_queue.specs.Entries.{Held, asks_of}
+use Rattle.request_queue.specs.Store.{asks_at}
+use Rattle.request_queue.specs.Walk.{AreIssuedAhead}
+use Rattle.request_queue.proofs.Own.{asked_more}
+use Rattle.request_queue.proofs.Walk.{due_test, ids_so_far}
+
+-- ---- one more is looked at
+
+module _ (mode : QueueMode) (requests : List Unanswered) (r : Unanswered) where
+  stay_ahead : (n : ℕ) → AreIssuedAhead mode requests n → AreIssuedAhead mode (requests ++ r ∷ []) n
+  stay_ahead n is = record {
+    within = let long = length_push requests r in let w = is.within in omega (arith, long, w);
+    issued = λ k d lt. let w = is.within in ap (λ (u : Unanswered). u.issued) (get_or_append_left requests (r ∷ []) d k (omega (arith, lt, w))) ∙ is.issued k d lt;
+    queued = λ k d lt. let w = is.within in ap (λ (u : Unanswered). is_plain mode u.op) (get_or_append_left requests (r ∷ []) d k (omega (arith, lt, w))) ∙ is.queued k d lt;
+  }
+
+  one_ahead : (n : ℕ) → AreIssuedAhead mode requests n → n ≡ length requests → r.issued ≡ true → is_plain mode r.op ≡ false → AreIssuedAhead mode (requests ++ r ∷ []) (suc n)
+  one_ahead n is all issued queued = record {
+    within = let long = length_push requests r in omega (arith, long, all);
+    issued = λ k d lt. elim (cases_lt k n) [
+      | inl low ↦ (stay_ahead n is).issued k d low
+      | inr high ↦ ap (λ (u : Unanswered). u.issued) (get_or_push requests r d k (omega (arith, lt, high, all))) ∙ issued
+    ];
+    queued = λ k d lt. elim (cases_lt k n) [
+      | inl low ↦ (stay_ahead n is).queued k d low
+      | inr high ↦ ap (λ (u : Unanswered). is_plain mode u.op) (get_or_push requests r d k (omega (arith, lt, high, all))) ∙ queued
+    ];
+  }
+
+  ahead_with : (n next : ℕ) → AreIssuedAhead mode requests n → (b : Bool) → (n == length requests && (r.issued && not (is_plain mode r.op))) ≡ b → next ≡ cond b (suc n) n
+      → AreIssuedAhead mode (requests ++ r ∷ []) next
+  ahead_with n next is true leads more =
+      let all = and_parts (n == length requests) _ leads in
+      let its = and_parts r.issued _ all.1 in
+      rw more (one_ahead n is (eqb-true n (length requests) all.0) its.0 (not-true (is_plain mode r.op) its.1))
+  ahead_with n next is false leads more = rw more (stay_ahead n is)
+
+pub leads_more : (mode : QueueMode) (es : List Held) (places : List ℕ) (i : ℕ) (r : Unanswered) → slice_get (asks_of es) i ≡ Some r → (n next : ℕ) → AreIssuedAhead mode (asks_at es places) n
+    → next ≡ cond (n == length (asks_at es places) && (r.issued && not (is_plain mode r.op))) (suc n) n → AreIssuedAhead mode (asks_at es (places ++ i ∷ [])) next
+leads_more mode es places i r at n next is more =
+    subst (λ (xs : List Unanswered). AreIssuedAhead mode xs next) (sym (asked_more es places i r at (λ (u : Unanswered). u.issued))) (ahead_with mode (asks_at es places) r n next is _ refl more)
+
+-- ---- none of them is due
+
+none_passes : (p : Unanswered → Bool) (xs : List Unanswered) (n : ℕ) → ((k : ℕ) (d : Unanswered) → k < n → k < length xs → p (get_or xs k d) ≡ false) → filter p (take n xs) ≡ []
+none_passes p [] zero fails = refl
+none_passes p [] (suc n) fails = refl
+none_passes p (x ∷ xs) zero fails = refl
+none_passes p (x ∷ xs) (suc n) fails =
+    cond-false (p x) (x ∷ filter p (take n xs)) (filter p (take n xs)) (fails 0 x (omega arith) (omega arith))
+    ∙ none_passes p xs n (λ k d lt short. fails (suc k) d (omega (arith, lt)) (omega (arith, short)))
+
+-- so the walk has nothing yet where it begins
+pub none_ahead : (mode : QueueMode) (port : Port) (book : List Unanswered) (n : ℕ) → AreIssuedAhead mode book n → ids_so_far mode port book n ≡ []
+none_ahead mode port book n is =
+    ap (λ (xs : List Unanswered). map (λ (x : Unanswered). x.id) xs) (none_passes (due_test mode port book) book n (λ k d lt short. isnt_due (get_or book k d) (is.issued k d lt)))
+  where
+    and_false : (b : Bool) → (b && false) ≡ false
+    and_false true = refl
+    and_false false = refl
+
+    isnt_due : (x : Unanswered) → x.issued ≡ true → due_test mode port book x ≡ false
+    isnt_due x issued = ap (λ (b : Bool). (x.port.0 == port.0) && b) (ap (λ (b : Bool). (not b && not (list_any (waits_for mode x) book)) && (is_plain mode x.op || nat_lt (ahead mode book x) (free_slots mode book x.port))) issued) ∙ and_false (x.port.0 == port.0)
