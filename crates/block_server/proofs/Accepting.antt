@@ -16,13 +16,14 @@ use Rattle.block_machine.specs.declared.due.QueueMode.{QueueMode}
 use Rattle.block_machine.specs.Rules.{BreaksNone, HasNoFault, IsNamed}
 use Rattle.dma_frames.specs.Table.{LendsOnly, Table, owner_of, lent_to}
 use Rattle.host_boot.specs.Taken.{probe_result_of}
+use Rattle.host_boot.specs.declared.ProbeResult.{ProbeResult}
 use Rattle.request_queue.specs.Entries.{Held, unanswered_entries}
 use Rattle.server_history.specs.Served.{Accepts, IssuesAll, accepted_as, accepting}
 use Rattle.server_history.specs.Server.{ServerState, InCallInvariant, mode_in, no_slots, server_situation, state_of}
 use Rattle.server_history.proofs.plain_calls.AcceptableRequests.{has_room, on_ready}
 use Rattle.slots.specs.Uses.{PortSlots}
 use Rattle.block_server.specs.Calls.{IsFor}
-use Rattle.port_driver.specs.Ports.{HasReadyPort}
+use Rattle.port_driver.specs.Ports.{HasFoundPort}
 
 -- ---- what is asked of the calls
 
@@ -40,7 +41,7 @@ module _ (s : ServerState) (r : Request) (acc : IsAcceptable (server_situation s
     pub has_place : unanswered_entries s.book r.client.0 < 16
     has_place = has_room s r acc is.0 is.1 port is.2
 
-    ready : state_of (probe_result_of s.ports port.0) ≡ ReadyState
+    pub ready : state_of (probe_result_of s.ports port.0) ≡ ReadyState
     ready = on_ready s r acc is.0 is.1 port is.2
 
     pub low : port.0 < 4
@@ -60,10 +61,10 @@ module _ (s : ServerState) (r : Request) (acc : IsAcceptable (server_situation s
       pub its_book : s.book ++ accepted_as port r id ∷ [] ≡ book
       its_book = sym (book_is ∙ ap (λ (fs : List Frame). s.book ++ record { entry = (accepted_as port r id).entry; frames = fs } ∷ []) (loan_is ∙ frames_are))
 
-      pub lends : (slots : PortSlots) → slice_index_or s.slots port.0 no_slots ≡ slots → (mode : QueueMode) → mode_in s port ≡ mode → HasReadyPort (accepting port r id table s) s.device book slots port mode
-      lends slots are mode mode_is = record {
+      pub lends : (slots : PortSlots) → slice_index_or s.slots port.0 no_slots ≡ slots → (mode : QueueMode) → mode_in s port ≡ mode → (found : ProbeResult) → probe_result_of s.ports port.0 ≡ found → HasFoundPort (accepting port r id table s) s.device book slots port mode found
+      lends slots are mode mode_is found found_is = record {
         kept = keeps s port r is.0 id table k acc is.1 is.2 id_is its_lent;
-        ready = ready;
+        found_is = found_is;
         device_is = refl;
         book_is = its_book;
         slots_are = are;

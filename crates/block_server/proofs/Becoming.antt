@@ -18,7 +18,8 @@ use Rattle.server_history.specs.Kept.{IsKeptIn, TakesBack}
 use Rattle.server_history.specs.Resets.{IsReinitialized}
 use Rattle.server_history.specs.Server.{ServerState, kept_at, last_disk_of, mode_at, mode_found, plain_mode, remembered_at, slots_at, used_for}
 use Rattle.server_history.specs.Stalled.{ResetGetsStuck, stuck_found}
-use Rattle.block_server.specs.FourPorts.{EachBecomes, BeginsAsHostFound, found_by_port, kept_by_port, remembered_by_port, mode_by_port, port_in, slots_by_port, wanted_by_port, with_ports, without_loans}
+use Rattle.block_server.specs.FourPorts.{EachBecomes, BeginsAsHostFound, by_port, port_in, without_loans}
+use Rattle.block_server.specs.Seen.{with_ports}
 use Rattle.port_driver.specs.Parts.{BeginsAnew, no_port}
 use Rattle.port_driver.specs.declared.served_port.ServedPort.{ServedPort}
 use Rattle.port_driver.specs.declared.served_port.Shared.{Shared}
@@ -70,10 +71,10 @@ same_field field old new four_old four each =
 
 module _ (found : ℕ → ProbeResult) (mode : ℕ → QueueMode) (old new : List ServedPort) (four_old : length old ≡ 4) (four : length new ≡ 4)
     (each : (number : ℕ) → number < 4 → BeginsAnew (found number) (mode number) (port_in old number) (port_in new number)) where
-  pub its_found : (number : ℕ) → number < 4 → probe_result_of (found_by_port new) number ≡ found number
+  pub its_found : (number : ℕ) → number < 4 → probe_result_of (by_port (λ p. p.found) new) number ≡ found number
   its_found number low = get_or-map (λ (p : ServedPort). p.found) new number no_port ∙ ap (λ (p : ServedPort). p.found) (each number low).fields
 
-  pub its_last_disk : (number : ℕ) → remembered_at (remembered_by_port new) number ≡ last_disk_of (probe_result_of (found_by_port old) number) (remembered_at (remembered_by_port old) number)
+  pub its_last_disk : (number : ℕ) → remembered_at (by_port (λ p. p.remembered) new) number ≡ last_disk_of (probe_result_of (by_port (λ p. p.found) old) number) (remembered_at (by_port (λ p. p.remembered) old) number)
   its_last_disk number =
       get_or-map (λ (p : ServedPort). p.remembered) new number no_port
       ∙ ⊎_elim
@@ -82,18 +83,18 @@ module _ (found : ℕ → ProbeResult) (mode : ℕ → QueueMode) (old new : Lis
       (cases_lt number 4)
       ∙ (λ i. last_disk_of (sym (get_or-map (λ (p : ServedPort). p.found) old number no_port) i) (sym (get_or-map (λ (p : ServedPort). p.remembered) old number no_port) i))
 
-  pub its_mode : (number : ℕ) → number < 4 → mode_at (mode_by_port new) number ≡ mode number
+  pub its_mode : (number : ℕ) → number < 4 → mode_at (by_port (λ p. p.mode) new) number ≡ mode number
   its_mode number low = get_or-map (λ (p : ServedPort). p.mode) new number no_port ∙ ap (λ (p : ServedPort). p.mode) (each number low).fields
 
-  pub its_places : (number : ℕ) → number < 4 → length (slots_at (slots_by_port new) number).places ≡ 32
+  pub its_places : (number : ℕ) → number < 4 → length (slots_at (by_port (λ p. p.slots) new) number).places ≡ 32
   its_places number low = ap (λ (u : PortSlots). length u.places) (get_or-map (λ (p : ServedPort). p.slots) new number no_port) ∙ (each number low).unused.places
 
-  pub its_usable : (number : ℕ) → number < 4 → (slots_at (slots_by_port new) number).usable ≡ (mode_at (mode_by_port new) number).usable
+  pub its_usable : (number : ℕ) → number < 4 → (slots_at (by_port (λ p. p.slots) new) number).usable ≡ (mode_at (by_port (λ p. p.mode) new) number).usable
   its_usable number low =
       ap (λ (u : PortSlots). u.usable) (get_or-map (λ (p : ServedPort). p.slots) new number no_port) ∙ (each number low).unused.usable
       ∙ sym (ap (λ (m : QueueMode). m.usable) (its_mode number low))
 
-  pub none_used : (number slot : ℕ) → used_for (slots_by_port new) number slot ≡ None
+  pub none_used : (number slot : ℕ) → used_for (by_port (λ p. p.slots) new) number slot ≡ None
   none_used number slot =
       ap (λ (u : PortSlots). use_at u slot) (get_or-map (λ (p : ServedPort). p.slots) new number no_port)
       ∙ ⊎_elim
@@ -101,10 +102,10 @@ module _ (found : ℕ → ProbeResult) (mode : ℕ → QueueMode) (old new : Lis
       (λ (more : 4 ≤ number). ap (λ (p : ServedPort). use_at p.slots slot) (beyond new four number more))
       (cases_lt number 4)
 
-  pub same_wanted : wanted_by_port new ≡ wanted_by_port old
+  pub same_wanted : by_port (λ p. p.wanted) new ≡ by_port (λ p. p.wanted) old
   same_wanted = same_field (λ (p : ServedPort). p.wanted) old new four_old four (λ number low. ap (λ (p : ServedPort). p.wanted) (each number low).fields)
 
-  pub same_kept : kept_by_port new ≡ kept_by_port old
+  pub same_kept : by_port (λ p. p.kept) new ≡ by_port (λ p. p.kept) old
   same_kept = same_field (λ (p : ServedPort). p.kept) old new four_old four (λ number low. ap (λ (p : ServedPort). p.kept) (each number low).fields)
 
 -- ---- the adapter didn't end its reset
@@ -149,14 +150,14 @@ module _ (host : Host) (four_host : length host.ports ≡ 4) (old new : List Ser
   pub each : (number : ℕ) → number < 4 → BeginsAnew (found_by number) (mode_by number) (port_in old number) (port_in new number)
   each number low = (taken.each number low).anew
 
-  pub found_host : found_by_port new ≡ host.ports
+  pub found_host : by_port (λ p. p.found) new ≡ host.ports
   found_host =
       let long = length-map new (λ (p : ServedPort). p.found) in
       let four = taken.four in
-      ext_get_or Unserved (found_by_port new) host.ports (long ∙ taken.four ∙ sym four_host)
+      ext_get_or Unserved (by_port (λ p. p.found) new) host.ports (long ∙ taken.four ∙ sym four_host)
       (λ number low. its_found found_by mode_by old new four_old taken.four each number (omega (arith, low, long, four)))
 
-  pub modes_follow : (cap : ℕ) → host.slots ≡ cap / 256 % 32 + 1 → host.queued ≡ bit cap 30 → (number : ℕ) → number < 4 → mode_at (mode_by_port new) number ≡ mode_found cap (probe_result_of host.ports number)
+  pub modes_follow : (cap : ℕ) → host.slots ≡ cap / 256 % 32 + 1 → host.queued ≡ bit cap 30 → (number : ℕ) → number < 4 → mode_at (by_port (λ p. p.mode) new) number ≡ mode_found cap (probe_result_of host.ports number)
   modes_follow cap slots queued number low = its_mode found_by mode_by old new four_old taken.four each number low ∙ (taken.each number low).mode cap slots queued
 
 -- again, after a reset
@@ -172,13 +173,13 @@ module _ (s : ServerState) (before idle device : Device) (first later : Shared) 
   mid_is : (number : ℕ) → port_in mid number ≡ without_loans (port_in old number)
   mid_is number = get_or-map without_loans old number no_port
 
-  wanted_still : wanted_by_port mid ≡ wanted_by_port old
+  wanted_still : by_port (λ p. p.wanted) mid ≡ by_port (λ p. p.wanted) old
   wanted_still = same_field (λ (p : ServedPort). p.wanted) old mid four_old four_mid (λ number low. ap (λ (p : ServedPort). p.wanted) (mid_is number))
 
-  found_mid : (number : ℕ) → probe_result_of (found_by_port mid) number ≡ probe_result_of (found_by_port old) number
+  found_mid : (number : ℕ) → probe_result_of (by_port (λ p. p.found) mid) number ≡ probe_result_of (by_port (λ p. p.found) old) number
   found_mid number = get_or-map (λ (p : ServedPort). p.found) mid number no_port ∙ ap (λ (p : ServedPort). p.found) (mid_is number) ∙ sym (get_or-map (λ (p : ServedPort). p.found) old number no_port)
 
-  remembered_mid : (number : ℕ) → remembered_at (remembered_by_port mid) number ≡ remembered_at (remembered_by_port old) number
+  remembered_mid : (number : ℕ) → remembered_at (by_port (λ p. p.remembered) mid) number ≡ remembered_at (by_port (λ p. p.remembered) old) number
   remembered_mid number = get_or-map (λ (p : ServedPort). p.remembered) mid number no_port ∙ ap (λ (p : ServedPort). p.remembered) (mid_is number) ∙ sym (get_or-map (λ (p : ServedPort). p.remembered) old number no_port)
 
   abbrev f : ℕ → ProbeResult
@@ -190,7 +191,7 @@ module _ (s : ServerState) (before idle device : Device) (first later : Shared) 
   e : (number : ℕ) → number < 4 → BeginsAnew (f number) (m number) (port_in mid number) (port_in new number)
   e = each host four_host mid new four_mid taken
 
-  pub takes_again : Resets before idle → TakesBack first.table.value later.table.value (IsKeptIn (kept_by_port old)) → TakesOver (wanted_by_port mid) host idle device → later.book ≡ first.book
+  pub takes_again : Resets before idle → TakesBack first.table.value later.table.value (IsKeptIn (by_port (λ p. p.kept) old)) → TakesOver (by_port (λ p. p.wanted) mid) host idle device → later.book ≡ first.book
       → IsReinitialized (with_ports s before first old) (with_ports s device later new)
   takes_again resets back takes book = record {
     idle = idle;

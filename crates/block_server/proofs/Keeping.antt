@@ -7,18 +7,9 @@ use Rattle.std.proofs.lemmas.List.Elements.{All-contains, Contains-append_cases,
 use Rattle.ata_types.specs.declared.request.Frame.{Frame}
 use Rattle.dma_frames.specs.Loan.{Lending}
 use Rattle.dma_frames.specs.Table.{Table, lent_to}
-use Rattle.server_history.specs.Kept.{IsKeptIn, MayGoBack, TakesBack}
+use Rattle.server_history.specs.Kept.{IsKeptIn, LoansEndInTurn, MayGoBack, TakesBack}
 use Rattle.request_queue.specs.Entries.{GivesBack, Held, HasItsFrames}
 use Rattle.server_history.specs.Server.{AreOfTwo, IsLentOut, ServerState, kept_at}
-
--- a loan of another request is lent out still where some have ended
-abbrev pub StaysOut : Type 0
-StaysOut = (old new : Table) (ended : List Lending) (loan : Lending) → TakesBack old new (Contains ended) → ((other : Lending) → Contains ended other → IsLentOut old other × AreOfTwo other loan)
-    → IsLentOut old loan → IsLentOut new loan
-
--- where others end then, all of them have ended
-abbrev pub EndInTurn : Type 0
-EndInTurn = (old mid new : Table) (first later : List Lending) → TakesBack old mid (Contains first) → All (IsLentOut mid) later → TakesBack mid new (Contains later) → TakesBack old new (Contains (first ++ later))
 
 -- ---- port by port
 
@@ -47,14 +38,14 @@ is_below kept (suc count) loan below = ⊎_elim
     Contains-append_right (loans_below kept count) (kept_at kept count) loan (subst (λ (p : ℕ). Contains (kept_at kept p) loan) same below.2))
     (cases_lt below.0 count)
 
-module _ (stays : StaysOut) (first now : List (List Lending)) (table mid : Table) (count : ℕ) (may : MayGoBack table first) (back : TakesBack table mid (Contains (loans_below first count)))
+module _ (law : LoansEndInTurn) (first now : List (List Lending)) (table mid : Table) (count : ℕ) (may : MayGoBack table first) (back : TakesBack table mid (Contains (loans_below first count)))
     (here : kept_at now count ≡ kept_at first count) where
   -- the next port's loans are lent out still
   its_out : All (IsLentOut mid) (kept_at first count)
   its_out k d small =
       let b : Lending = get_or (kept_at first count) k d in
       let there : Contains (kept_at first count) b = (k, small, get_or_default (kept_at first count) k b d small) in
-      stays table mid (loans_below first count) b back
+      law.stays table mid (loans_below first count) b back
       (λ loan ended.
       let below = of_port first count loan ended in
       (All-contains (IsLentOut table) (kept_at first below.0) loan (may.lent below.0) below.2, may.apart below.0 count loan b (let low = below.1 in omega (arith, low)) below.2 there))
@@ -66,11 +57,11 @@ module _ (stays : StaysOut) (first now : List (List Lending)) (table mid : Table
   pub next_two : AllPairs AreOfTwo (kept_at now count)
   next_two = subst (AllPairs AreOfTwo) (sym here) (may.two count)
 
-  pub next_back : EndInTurn → (new : Table) → TakesBack mid new (Contains (kept_at now count)) → TakesBack table new (Contains (loans_below first (count + 1)))
-  next_back turn new given =
+  pub next_back : (new : Table) → TakesBack mid new (Contains (kept_at now count)) → TakesBack table new (Contains (loans_below first (count + 1)))
+  next_back new given =
       let above : suc count ≡ count + 1 = omega arith in
       subst (λ (n : ℕ). TakesBack table new (Contains (loans_below first n))) above
-      (turn table mid new (loans_below first count) (kept_at first count) back its_out (subst (λ (loans : List Lending). TakesBack mid new (Contains loans)) here given))
+      (law.both table mid new (loans_below first count) (kept_at first count) back its_out (subst (λ (loans : List Lending). TakesBack mid new (Contains loans)) here given))
 
 -- Ports below this number have no loans left, and the others have theirs.
 pub record BackSoFar (first now : List (List Lending)) (table mid : Table) (count : ℕ) : Type 0 where
@@ -87,16 +78,16 @@ none_so_far first table four = record {
   back = record { owners = refl; none = λ loan f ended here. absurd (let low = ended.1 in omega (arith, low)); others = λ f apart. refl };
 }
 
-pub next_so_far : StaysOut → EndInTurn → (first now : List (List Lending)) (table mid new : Table) (count : ℕ) → MayGoBack table first → BackSoFar first now table mid count → count < 4
+pub next_so_far : LoansEndInTurn → (first now : List (List Lending)) (table mid new : Table) (count : ℕ) → MayGoBack table first → BackSoFar first now table mid count → count < 4
     → TakesBack mid new (Contains (kept_at now count)) → BackSoFar first (set now count []) table new (count + 1)
-next_so_far stays turn first now table mid new count may so_far low given = record {
+next_so_far law first now table mid new count may so_far low given = record {
   four = length-set now count [] ∙ so_far.four;
   empty = λ port less. ⊎_elim
       (λ (same : port ≡ count). ap (λ (p : ℕ). kept_at (set now count []) p) same ∙ get_or-set_same now count [] [] (let four = so_far.four in omega (arith, four, low)))
       (λ (ne : port ≢ count). get_or-set_other now count port [] [] ne ∙ so_far.empty port (omega (arith, less, ne)))
       (cases_eq port count);
   left = λ port high. get_or-set_other now count port [] [] (omega (arith, high)) ∙ so_far.left port (omega (arith, high));
-  back = next_back stays first now table mid count may so_far.back (so_far.left count (omega arith)) turn new given;
+  back = next_back law first now table mid count may so_far.back (so_far.left count (omega arith)) new given;
 }
 
 module _ (first now : List (List Lending)) (table mid : Table) (count : ℕ) (so_far : BackSoFar first now table mid count) (four : length first ≡ 4) (all : 4 ≤ count) where

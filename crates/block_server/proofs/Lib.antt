@@ -13,5 +13,6 @@ pub mod Standing
 pub mod Reviving
 pub mod Revoking
 mod Counting
+mod Four
 mod Newest
 mod Becoming

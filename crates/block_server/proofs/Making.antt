@@ -22,7 +22,7 @@ use Rattle.host_boot.specs.declared.ProbeResult.TheVariants.{Unserved}
 use Rattle.identify.specs.declared.wanted.Wanted.{Wanted}
 use Rattle.configuration.specs.Plan.{HasClientFrames, IsClient, IsPlan, IsServedGrant, PlanView}
 use Rattle.server_history.specs.Server.{IsNewServer, ServerState, kept_at, last_disk_of, mode_at, mode_found, no_slots, remembered_at, used_for}
-use Rattle.block_server.specs.FourPorts.{EachBecomes, BeginsAsHostFound, found_by_port, kept_by_port, remembered_by_port, mode_by_port, port_in, slots_by_port, wanted_by_port}
+use Rattle.block_server.specs.FourPorts.{EachBecomes, BeginsAsHostFound, by_port, port_in}
 use Rattle.port_driver.specs.Parts.{BeginsAnew}
 use Rattle.port_driver.specs.declared.served_port.ServedPort.{ServedPort}
 use Rattle.block_server.proofs.Becoming as becoming
@@ -95,22 +95,22 @@ module _ (s : ServerState) (host : Host) (plan : PlanView) (is : IsPlan plan) (r
 
 -- What a new server has of its ports: what was found and wanted, with nothing kept, remembered or used.
 pub record NewPorts (host : Host) (wanted_disks : List Wanted) (ports : List ServedPort) : Type 0 where
-  pub wanted : wanted_by_port ports ≡ wanted_disks
-  pub found : found_by_port ports ≡ host.ports
-  pub four_remembered : length (remembered_by_port ports) ≡ 4
-  pub forgotten : (port : ℕ) → remembered_at (remembered_by_port ports) port ≡ None
-  pub four_kept : length (kept_by_port ports) ≡ 4
-  pub unkept : (port : ℕ) → kept_at (kept_by_port ports) port ≡ []
-  pub four_slots : length (slots_by_port ports) ≡ 4
-  pub four_modes : length (mode_by_port ports) ≡ 4
-  pub places : (port : ℕ) → port < 4 → length (get_or (slots_by_port ports) port no_slots).places ≡ 32
-  pub modes : (cap : ℕ) → host.slots ≡ cap / 256 % 32 + 1 → host.queued ≡ bit cap 30 → (port : ℕ) → port < 4 → mode_at (mode_by_port ports) port ≡ mode_found cap (probe_result_of host.ports port)
-  pub usable : (port : ℕ) → port < 4 → (get_or (slots_by_port ports) port no_slots).usable ≡ (mode_at (mode_by_port ports) port).usable
-  pub unused : (port slot : ℕ) → used_for (slots_by_port ports) port slot ≡ None
+  pub wanted : by_port (λ p. p.wanted) ports ≡ wanted_disks
+  pub found : by_port (λ p. p.found) ports ≡ host.ports
+  pub four_remembered : length (by_port (λ p. p.remembered) ports) ≡ 4
+  pub forgotten : (port : ℕ) → remembered_at (by_port (λ p. p.remembered) ports) port ≡ None
+  pub four_kept : length (by_port (λ p. p.kept) ports) ≡ 4
+  pub unkept : (port : ℕ) → kept_at (by_port (λ p. p.kept) ports) port ≡ []
+  pub four_slots : length (by_port (λ p. p.slots) ports) ≡ 4
+  pub four_modes : length (by_port (λ p. p.mode) ports) ≡ 4
+  pub places : (port : ℕ) → port < 4 → length (get_or (by_port (λ p. p.slots) ports) port no_slots).places ≡ 32
+  pub modes : (cap : ℕ) → host.slots ≡ cap / 256 % 32 + 1 → host.queued ≡ bit cap 30 → (port : ℕ) → port < 4 → mode_at (by_port (λ p. p.mode) ports) port ≡ mode_found cap (probe_result_of host.ports port)
+  pub usable : (port : ℕ) → port < 4 → (get_or (by_port (λ p. p.slots) ports) port no_slots).usable ≡ (mode_at (by_port (λ p. p.mode) ports) port).usable
+  pub unused : (port slot : ℕ) → used_for (by_port (λ p. p.slots) ports) port slot ≡ None
 
 -- so it is once its adapter was taken over, where none was served before
 module _ (host : Host) (four_host : length host.ports ≡ 4) (wanted_disks : List Wanted) (kept : List (List Lending)) (none : kept ≡ [] ∷ [] ∷ [] ∷ [] ∷ []) (first ports : List ServedPort)
-    (wanted : wanted_by_port first ≡ wanted_disks) (keeps : kept_by_port first ≡ kept) (found : found_by_port first ≡ replicate 4 Unserved) (forgotten : remembered_by_port first ≡ replicate 4 None)
+    (wanted : by_port (λ p. p.wanted) first ≡ wanted_disks) (keeps : by_port (λ p. p.kept) first ≡ kept) (found : by_port (λ p. p.found) first ≡ replicate 4 Unserved) (forgotten : by_port (λ p. p.remembered) first ≡ replicate 4 None)
     (taken : EachBecomes (BeginsAsHostFound host) first ports) where
   four_first : length first ≡ 4
   four_first = sym (length-map first (λ (p : ServedPort). p.found)) ∙ ap length found ∙ length-replicate 4 Unserved

@@ -10,12 +10,13 @@ use Rattle.host_boot.specs.declared.ProbeResult.{ProbeResult}
 use Rattle.host_boot.specs.declared.ProbeResult.TheVariants.{Unserved}
 use Rattle.server_history.specs.Server.{ServerState}
 use Rattle.port_driver.specs.Parts.{HasPortAndShared, HasPortAt, no_port, with_served_port}
-use Rattle.block_server.specs.FourPorts.{found_by_port, port_in, slots_by_port, with_ports}
+use Rattle.block_server.specs.FourPorts.{by_port, port_in}
+use Rattle.block_server.specs.Seen.{with_ports}
 use Rattle.port_driver.specs.declared.served_port.ServedPort.{ServedPort}
 use Rattle.port_driver.specs.declared.served_port.Shared.{Shared}
 
 -- there are as many as there are slots
-pub four_ports : (ports : List ServedPort) → length (slots_by_port ports) ≡ 4 → length ports ≡ 4
+pub four_ports : (ports : List ServedPort) → length (by_port (λ p. p.slots) ports) ≡ 4 → length ports ≡ 4
 four_ports ports four = sym (length-map ports (λ (p : ServedPort). p.slots)) ∙ four
 
 module _ (s : ServerState) (device : Device) (shared : Shared) (ports : List ServedPort) (number : ℕ) where
@@ -50,9 +51,9 @@ module _ (s : ServerState) (device : Device) (shared : Shared) (ports : List Ser
   }
 
 -- what the others were found to be stays
-pub other_found : (ports : List ServedPort) (number : ℕ) (p : ServedPort) (q : ℕ) → q ≢ number → probe_result_of (found_by_port (set ports number p)) q ≡ probe_result_of (found_by_port ports) q
+pub other_found : (ports : List ServedPort) (number : ℕ) (p : ServedPort) (q : ℕ) → q ≢ number → probe_result_of (by_port (λ p. p.found) (set ports number p)) q ≡ probe_result_of (by_port (λ p. p.found) ports) q
 other_found ports number p q other =
-    ap (λ (list : List ProbeResult). probe_result_of list q) (map-set (λ (x : ServedPort). x.found) ports number p) ∙ get_or-set_other (found_by_port ports) number q p.found Unserved other
+    ap (λ (list : List ProbeResult). probe_result_of list q) (map-set (λ (x : ServedPort). x.found) ports number p) ∙ get_or-set_other (by_port (λ p. p.found) ports) number q p.found Unserved other
 
 -- the port, wherever its place is told
 pub at_place : (ports : List ServedPort) (port place : ℕ) → place ≡ port → (default : ServedPort) → place < length ports → port_in ports port ≡ get_or ports place default
@@ -64,7 +65,7 @@ has_at_place s device shared ports port place is default low = subst (HasPortAt 
 
 -- the server, where only the slots of a port are others
 pub slots_placed : (s : ServerState) (ports : List ServedPort) (place : ℕ) (default : ServedPort) (device : Device) (shared : Shared) (p : ServedPort) → p ≡ record (get_or ports place default) { slots = p.slots }
-    → with_ports s device shared (set ports place p) ≡ record (with_ports s device shared ports) { slots = set (slots_by_port ports) place p.slots }
+    → with_ports s device shared (set ports place p) ≡ record (with_ports s device shared ports) { slots = set (by_port (λ p. p.slots) ports) place p.slots }
 slots_placed s ports place default device shared p is = λ i. record s {
   device = device;
   table = shared.table.value;

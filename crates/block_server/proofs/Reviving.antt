@@ -1,4 +1,4 @@
--- Where the adapter is reset: requests meet their fates, and what is due is issued, port by port.
+-- Where the adapter is reset: requests are resolved, and what is due is issued, port by port.
 use Rattle.std.proofs.Common.{ℕ, ◌≡◌, ◌+◌, ◌<◌, ◌≤◌, ◌++◌, List, [], ◌∷◌, drop, length, refl, sym, ap, ◌∙◌, subst}
 use Rattle.std.proofs.lemmas.List.{drop_all, drop_more}
 use Rattle.std.specs.List.{All, AllPairs, Contains}
@@ -15,16 +15,16 @@ use Rattle.identify.specs.declared.DiskInfo.{DiskInfo}
 use Rattle.server_history.specs.Kept.{MayGoBack}
 use Rattle.server_history.specs.Resets.{IssuePorts, SettlePorts, SettlesPort}
 use Rattle.server_history.specs.Served.{IssuesAll, IssuesEach, IssuesOne}
-use Rattle.server_history.specs.Server.{AreOfTwo, ServerState, InCallInvariant, IsLentOut, kept_at, state_of}
+use Rattle.server_history.specs.Server.{AreOfTwo, ServerState, InCallInvariant, IsLentOut, kept_at}
 use Rattle.server_history.specs.Stalled.{BookInvariant}
 use Rattle.port_driver.specs.Parts.{HasPortAndShared}
-use Rattle.port_driver.specs.Ports.{HasReadyPort}
+use Rattle.port_driver.specs.Ports.{HasFoundPort}
 use Rattle.port_driver.specs.declared.served_port.ServedPort.{ServedPort}
 use Rattle.port_driver.specs.declared.served_port.Shared.{Shared}
 
 -- ---- port by port
 
--- one port's requests met their fates, and then those of the ports after it
+-- one port's requests were resolved, and then those of the ports after it
 pub one_settled : (found : List ProbeResult) (number : ℕ) → number < length found → (s mid new : ServerState) (its later : List Reply) → SettlesPort (port_at number) its s mid
     → SettlePorts (number + 1) (drop (number + 1) found) later mid new → SettlePorts number (drop number found) (its ++ later) s new
 one_settled found number low s mid new its later one rest =
@@ -40,18 +40,18 @@ module _ (found : List ProbeResult) (number : ℕ) (low : number < length found)
   from_it : (one : ProbeResult) → probe_result_of found number ≡ one → one ∷ drop (number + 1) found ≡ drop number found
   from_it one is = sym (drop_more found number Unserved low ∙ ap (λ (f : ProbeResult). f ∷ drop (number + 1) found) is)
 
-  pub one_issued : (info : DiskInfo) → probe_result_of found number ≡ Ready info → (s mid new : ServerState) → IssuesAll (port_at number) s mid → IssuePorts (number + 1) (drop (number + 1) found) mid new
-      → IssuePorts number (drop number found) s new
-  one_issued info is s mid new all rest = subst (λ (left : List ProbeResult). IssuePorts number left s new) (from_it (Ready info) is) (mid, all, rest)
-
-  -- on one that isn't ready nothing is
-  pub none_issued : ((info : DiskInfo) → probe_result_of found number ≡ Ready info → ⊥) → (s new : ServerState) → IssuePorts (number + 1) (drop (number + 1) found) s new → IssuePorts number (drop number found) s new
-  none_issued unready s new rest = by (probe_result_of found number) refl
+  -- what is due was issued on the port of this number, if it is ready: on another nothing is due
+  pub one_issued : (s mid new : ServerState) → IssuesAll (port_at number) s mid → (((info : DiskInfo) → probe_result_of found number ≡ Ready info → ⊥) → mid ≡ s)
+      → IssuePorts (number + 1) (drop (number + 1) found) mid new → IssuePorts number (drop number found) s new
+  one_issued s mid new all none rest = by (probe_result_of found number) refl
     where
+      passed : ((info : DiskInfo) → probe_result_of found number ≡ Ready info → ⊥) → IssuePorts (number + 1) (drop (number + 1) found) s new
+      passed unready = subst (λ (from : ServerState). IssuePorts (number + 1) (drop (number + 1) found) from new) (none unready) rest
+
       by : (one : ProbeResult) → probe_result_of found number ≡ one → IssuePorts number (drop number found) s new
-      by (Ready info) is = absurd (unready info is)
-      by (Unready state) is = subst (λ (left : List ProbeResult). IssuePorts number left s new) (from_it (Unready state) is) rest
-      by Unserved is = subst (λ (left : List ProbeResult). IssuePorts number left s new) (from_it Unserved is) rest
+      by (Ready info) is = subst (λ (left : List ProbeResult). IssuePorts number left s new) (from_it (Ready info) is) (mid, all, rest)
+      by (Unready state) is = subst (λ (left : List ProbeResult). IssuePorts number left s new) (from_it (Unready state) is) (passed (λ info ready. let z : Unready state ≡ Ready info = sym is ∙ ready in absurd cc))
+      by Unserved is = subst (λ (left : List ProbeResult). IssuePorts number left s new) (from_it Unserved is) (passed (λ info ready. let z : Unserved ≡ Ready info = sym is ∙ ready in absurd cc))
 
 pub none_to_issue : (found : List ProbeResult) (number : ℕ) → length found ≤ number → (s : ServerState) → IssuePorts number (drop number found) s s
 none_to_issue found number all s = subst (λ (left : List ProbeResult). IssuePorts number left s s) (sym (drop_all number found all)) refl
@@ -61,12 +61,11 @@ pub issues_keep : ((s new : ServerState) (port : Port) (id : RequestId) → InCa
 issues_keep law port [] s new kept same = subst InCallInvariant (sym same) kept
 issues_keep law port (id ∷ ids) s new kept (mid, one, rest) = issues_keep law port ids mid new (law s mid port id kept one) rest
 
--- what the server has of one ready port
-pub ready_one : (s : ServerState) (device : Device) (shared : Shared) (port : Port) (p : ServedPort) → InCallInvariant s → HasPortAndShared s device shared port p → (info : DiskInfo) → p.found ≡ Ready info
-    → HasReadyPort s device shared.book p.slots port p.mode
-ready_one s device shared port p kept has info is = record {
+-- what the server has of one port
+pub found_one : (s : ServerState) (device : Device) (shared : Shared) (port : Port) (p : ServedPort) → InCallInvariant s → HasPortAndShared s device shared port p → HasFoundPort s device shared.book p.slots port p.mode p.found
+found_one s device shared port p kept has = record {
   kept = kept;
-  ready = ap state_of (has.port_is.found_is ∙ is);
+  found_is = has.port_is.found_is;
   device_is = has.device_is;
   book_is = has.book_is;
   slots_are = has.port_is.slots_are;

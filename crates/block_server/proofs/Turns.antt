@@ -13,7 +13,8 @@ use Rattle.server_history.specs.Turns.{EachPortTakesTurn}
 use Rattle.port_driver.specs.Parts.{IsSettledWith, TakesTurn, TurnBy, with_served_port}
 use Rattle.port_driver.specs.declared.served_port.ServedPort.{ServedPort}
 use Rattle.port_driver.specs.declared.served_port.Shared.{Shared}
-use Rattle.block_server.specs.FourPorts.{found_by_port, with_ports}
+use Rattle.block_server.specs.FourPorts.{by_port}
+use Rattle.block_server.specs.Seen.{with_ports}
 use Rattle.block_server.proofs.Placing as placing
 
 module _ (Such : Port → List Reply → ServerState → ServerState → Type 0) (Other : Port → ServerState → ServerState → Type 0) (found : List ProbeResult) (first : ServerState) where
@@ -21,12 +22,12 @@ module _ (Such : Port → List Reply → ServerState → ServerState → Type 0)
   -- the turns of those all have had theirs.
   pub record TurnsSoFar (ports : List ServedPort) (told : List Reply) (now : ServerState) (number : ℕ) : Type 0 where
     pub four : length ports ≡ 4
-    pub left : (q : ℕ) → number ≤ q → probe_result_of (found_by_port ports) q ≡ probe_result_of found q
+    pub left : (q : ℕ) → number ≤ q → probe_result_of (by_port (λ p. p.found) ports) q ≡ probe_result_of found q
     pub settled : SettledInvariant now
     pub rest : (later : List Reply) (last : ServerState) → EachPortTakesTurn Such Other number (drop number found) later now last → EachPortTakesTurn Such Other 0 found (told ++ later) first last
 
   -- at first none has had its turn
-  pub none_yet : (ports : List ServedPort) (now : ServerState) → length ports ≡ 4 → found_by_port ports ≡ found → SettledInvariant now → now ≡ first → TurnsSoFar ports [] now 0
+  pub none_yet : (ports : List ServedPort) (now : ServerState) → length ports ≡ 4 → by_port (λ p. p.found) ports ≡ found → SettledInvariant now → now ≡ first → TurnsSoFar ports [] now 0
   none_yet ports now four is settled same = record {
     four = four;
     left = λ q more. ap (λ (list : List ProbeResult). probe_result_of list q) is;

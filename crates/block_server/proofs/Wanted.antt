@@ -79,7 +79,7 @@ module _ {A : Type 0} (device : A → Device) (old new : ServerView A) where
   service_wants replies services = services_by old.stuck old.ports replies (server_of device old) (server_of device new) services.0
 
   pub tick_wants : (replies : List Reply) → TicksServer device old new replies → new.wanted ≡ old.wanted
-  tick_wants replies ticks = ticks_by old.stuck replies (server_of device old) (server_of device new) ticks.0
+  tick_wants replies ticks = ticks_by old.stuck replies (server_of device old) (server_of device new) ticks.ticks
 
   pub reset_wants : (replies : List Reply) (result : Result (Unit {0}) AdapterStuck) → DoesReset device old new replies result → new.wanted ≡ old.wanted
   reset_wants replies (Ok done) resets =

@@ -22,9 +22,9 @@ use Rattle.block_server.specs.View.{ServerView, server_of}
 use Rattle.dma_frames.specs.Table.{owner_of, lent_to}
 use Rattle.host_boot.specs.declared.ProbeResult.{ProbeResult}
 use Rattle.block_machine.specs.Due.{due_of}
-use Rattle.request_queue.specs.Entries.{asks_of}
+use Rattle.request_queue.specs.Entries.{IsAnyOverdue, asks_of}
 use Rattle.server_history.specs.Served.{Accepts, accepting}
-use Rattle.server_history.specs.Turns.{ServePorts, Ticks}
+use Rattle.server_history.specs.Turns.{ServePorts, Ticks, a_tick_older}
 use Rattle.server_history.specs.Resets.{SettlePorts}
 use Rattle.server_history.specs.Server.{ServerState, mode_in, server_situation}
 
@@ -71,10 +71,11 @@ abbrev pub TicksBy : Bool → List Reply → ServerState → ServerState → Typ
 TicksBy false replies old new = Ticks replies old new
 TicksBy true replies old new = (replies ≡ []) × (new ≡ old)
 
--- So a tick does; it doesn't end a reset either.
-abbrev pub TicksServer : {A : Type 0} → (A → Device) → ServerView A → ServerView A → List Reply → Type 0
-TicksServer device old new replies = TicksBy old.stuck replies (server_of device old) (server_of device new)
-    × (new.stuck ≡ old.stuck)
+-- So a tick does; it doesn't end a reset either. Where no request is overdue once they got older, no access was made.
+pub record TicksServer {A : Type 0} (device : A → Device) (old new : ServerView A) (replies : List Reply) : Type 0 where
+  pub ticks : TicksBy old.stuck replies (server_of device old) (server_of device new)
+  pub stuck : new.stuck ≡ old.stuck
+  pub rests : (IsAnyOverdue (a_tick_older (server_of device old)).book → ⊥) → new.adapter ≡ old.adapter
 
 -- A refused load is told the first cause that applies, and changes nothing, the buffer neither. Another brings the
 -- frame's bytes and changes nothing of the server but what the device does meanwhile.

@@ -1,20 +1,36 @@
 -- What contracts see of a server's fields.
-use Rattle.block_server.specs.FourPorts.{found_by_port, kept_by_port, remembered_by_port, mode_by_port, slots_by_port, wanted_by_port}
+use Rattle.std.specs.Prelude.{false, List}
+use Rattle.adapter.specs.Device.{Device}
+use Rattle.port_driver.specs.declared.served_port.ServedPort.{ServedPort}
+use Rattle.port_driver.specs.declared.served_port.Shared.{Shared}
+use Rattle.server_history.specs.Server.{ServerState}
+use Rattle.block_server.specs.FourPorts.{by_port}
 use Rattle.block_server.specs.declared.server.Server.TheInside.{Inside}
-use Rattle.block_server.specs.View.{ServerView}
+use Rattle.block_server.specs.View.{ServerView, server_of}
 
 abbrev pub seen : {A : Type 0} → Inside A → ServerView A
 seen s = record {
   adapter = s.adapter;
   grants = s.grants;
   table = s.shared.table.value;
-  wanted = wanted_by_port s.ports;
-  ports = found_by_port s.ports;
-  remembered = remembered_by_port s.ports;
-  modes = mode_by_port s.ports;
-  slots = slots_by_port s.ports;
-  kept = kept_by_port s.ports;
+  wanted = by_port (λ p. p.wanted) s.ports;
+  ports = by_port (λ p. p.found) s.ports;
+  remembered = by_port (λ p. p.remembered) s.ports;
+  modes = by_port (λ p. p.mode) s.ports;
+  slots = by_port (λ p. p.slots) s.ports;
+  kept = by_port (λ p. p.kept) s.ports;
   book = s.shared.book;
   last = s.last;
   stuck = s.stuck;
 }
+
+-- the server, with this device, these loans and requests, and these ports
+abbrev pub with_ports : ServerState → Device → Shared → List ServedPort → ServerState
+with_ports s device shared ports = server_of (λ d. d) (seen {A = Device} (record {
+  adapter = device;
+  grants = s.grants;
+  shared = shared;
+  ports = ports;
+  last = s.last;
+  stuck = false;
+}))

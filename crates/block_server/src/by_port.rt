@@ -1,11 +1,12 @@
 // What there is of each of four ports, by port.
 ghost use Rattle.std.specs.Prelude.{ℕ, ◌≡◌, ◌<◌, ◌↔◌, ◌∷◌, [], IfOk, IsTrue, None, false, replicate, slice_index_or};
 ghost use Rattle.ata_types.specs.declared.Port.{Port};
-ghost use Rattle.block_server.specs.FourPorts.{found_by_port, kept_by_port, remembered_by_port, port_in, wanted_by_port};
+ghost use Rattle.block_server.specs.FourPorts.{by_port, port_in};
 ghost use Rattle.host_boot.specs.declared.ProbeResult.TheVariants.{Unserved};
 ghost use Rattle.refinement.specs.Relation.{port_at};
 ghost use Rattle.request_queue.specs.Entries.{IsAnyOverdue, IsOverdue, is_among};
-ghost use Rattle.server_history.specs.Server.{kept_at};
+ghost use Rattle.server_history.specs.ErrorHandling.{AreUnused};
+ghost use Rattle.server_history.specs.Server.{kept_at, plain_mode};
 ghost use Rattle.server_history.specs.Turns.{is_ready};
 
 use ata_types::{PORTS, Port};
@@ -54,15 +55,18 @@ pub(crate) fn end_all(kept: [Quarantine; PORTS])
     fourth.end();
 }
 
-/// Ports of which these disks are wanted, and that keep these loans. None is served yet.
+/// Ports of which these disks are wanted, and that keep these loans. None is served yet: each takes plain commands, and
+/// uses no slot.
 pub(crate) fn unserved_ports(
     wanted: &[Wanted; PORTS],
     kept: [Quarantine; PORTS],
 ) -> [ServedPort; PORTS]
-    ensures wanted { wanted_by_port result ≡ wanted.now }
-    ensures kept { kept_by_port result ≡ kept }
-    ensures found { found_by_port result ≡ replicate 4 Unserved }
-    ensures forgotten { remembered_by_port result ≡ replicate 4 None }
+    ensures wanted { by_port (λ p. p.wanted) result ≡ wanted.now }
+    ensures kept { by_port (λ p. p.kept) result ≡ kept }
+    ensures found { by_port (λ p. p.found) result ≡ replicate 4 Unserved }
+    ensures forgotten { by_port (λ p. p.remembered) result ≡ replicate 4 None }
+    ensures modes { by_port (λ p. p.mode) result ≡ replicate 4 plain_mode }
+    ensures unused { (number : ℕ) → number < 4 → AreUnused plain_mode (port_in result number).slots }
 {
     let [first, second, third, fourth] = kept;
     [
@@ -75,7 +79,7 @@ pub(crate) fn unserved_ports(
 
 /// By port, which disk is wanted.
 pub(crate) fn wanted_disks(ports: &[ServedPort; PORTS]) -> [Wanted; PORTS]
-    ensures { result ≡ wanted_by_port ports.now }
+    ensures { result ≡ by_port (λ p. p.wanted) ports.now }
 {
     [
         ports[0].wanted,
@@ -87,7 +91,7 @@ pub(crate) fn wanted_disks(ports: &[ServedPort; PORTS]) -> [Wanted; PORTS]
 
 /// The loans of the ports, by port.
 pub(crate) fn into_loans(ports: [ServedPort; PORTS]) -> [Quarantine; PORTS]
-    ensures { result ≡ kept_by_port ports }
+    ensures { result ≡ by_port (λ p. p.kept) ports }
 {
     let [first, second, third, fourth] = ports;
     [

@@ -3,7 +3,8 @@ ghost use Rattle.std.specs.Prelude.{◌≡◌, ◌<◌, ◌≤◌, ◌+◌, ◌*
 ghost use Rattle.adapter.specs.Counted.{MakesAtMost};
 ghost use Rattle.ata_types.specs.declared.request.Reply.{Reply};
 ghost use Rattle.port_driver.specs.Costs.{ISSUES_ACCESSES};
-ghost use Rattle.block_server.specs.FourPorts.{EachBecomes, BeginsAsHostFound, found_by_port, kept_by_port, with_ports, without_loans};
+ghost use Rattle.block_server.specs.FourPorts.{EachBecomes, BeginsAsHostFound, by_port, without_loans};
+ghost use Rattle.block_server.specs.Seen.{with_ports};
 ghost use Rattle.port_driver.specs.Parts.{BeginsAnew};
 ghost use Rattle.server_history.specs.Kept.{IsKeptIn, MayGoBack, TakesBack};
 ghost use Rattle.server_history.specs.Resets.{IssuePorts, MaySettle, SettlePorts};
@@ -13,17 +14,18 @@ ghost use Rattle.server_history.specs.Stalled.{stuck_found};
 use adapter::Adapter;
 use ata_types::{MOST_UNANSWERED, PORTS, Port, Replies};
 use dma_frames::FrameTable;
-use host_boot::{Host, ProbeResult};
-use port_driver::laws::law_loans_end_in_turn;
+use host_boot::Host;
 use port_driver::{ServedPort, Shared, mode_found};
-use server_history::laws::law_requests_keep;
+use server_history::laws::{
+    law_a_port_goes_on_after_its_errors, law_loans_end_in_turn, law_requests_keep,
+};
 use server_history::stalled::law_settling_goes_on;
 
 /// Gives back the loans that are kept of all ports: their frames are lent to none.
 pub(crate) fn give_all_back(ports: &mut [ServedPort; PORTS], table: &mut FrameTable)
-    requires { MayGoBack table.old (kept_by_port ports.old) }
+    requires { MayGoBack table.old (by_port (λ p. p.kept) ports.old) }
     ensures ports { ports.new ≡ map without_loans ports.old }
-    ensures back { TakesBack table.old table.new (IsKeptIn (kept_by_port ports.old)) }
+    ensures back { TakesBack table.old table.new (IsKeptIn (by_port (λ p. p.kept) ports.old)) }
 {
     law_loans_end_in_turn();
     for number in 0..PORTS {
@@ -64,10 +66,10 @@ pub(crate) fn resolve_ports(
     requires room { length replies.old.items + length shared.old.book ≤ MOST_UNANSWERED }
     ensures settles { (s : ServerState) → MaySettle (with_ports s s.device shared.old ports.old)
         → (its : List Reply) × (replies.new.items ≡ replies.old.items ++ its)
-        × SettlePorts 0 (found_by_port ports.old) its
+        × SettlePorts 0 (by_port (λ p. p.found) ports.old) its
         (with_ports s s.device shared.old ports.old) (with_ports s s.device shared.new ports.new) }
-    ensures found { found_by_port ports.new
-        ≡ found_by_port ports.old }
+    ensures found { by_port (λ p. p.found) ports.new
+        ≡ by_port (λ p. p.found) ports.old }
 {
     law_settling_goes_on();
     for number in 0..PORTS {
@@ -83,15 +85,14 @@ pub(crate) fn issue_ports<A: Adapter>(
 )
     requires kept { (s : ServerState) × InCallInvariant (with_ports s (A.device adapter.old) shared.old ports.old) }
     ensures issues { (s : ServerState) → InCallInvariant (with_ports s (A.device adapter.old) shared.old ports.old)
-        → IssuePorts 0 (found_by_port ports.old)
+        → IssuePorts 0 (by_port (λ p. p.found) ports.old)
         (with_ports s (A.device adapter.old) shared.old ports.old)
         (with_ports s (A.device adapter.new) shared.new ports.new) }
     ensures cost { MakesAtMost (PORTS * ISSUES_ACCESSES) (A.access_count adapter.old) (A.access_count adapter.new) }
 {
+    law_a_port_goes_on_after_its_errors();
     law_requests_keep();
     for number in 0..PORTS {
-        if let ProbeResult::Ready(_) = ports[number].found {
-            ports[number].issue_due(adapter, &mut shared.book, Port(number as u8));
-        }
+        ports[number].issue_where_ready(adapter, &mut shared.book, Port(number as u8));
     }
 }

@@ -354,8 +354,8 @@ impl<A: Adapter> Server<A> {
     /// The server reads no clock: its caller calls this by one, at a pace of its choosing. A request has between two
     /// and three ticks from its issue until a `service` answers it: so `service` is called before each tick. A restart
     /// costs the port's other issued requests one of their four issues, and all ports wait meanwhile. Which ports are
-    /// overdue is found out before any is restarted. A tick that restarts none makes no access, though no clause says
-    /// more than that the device stays as it is. The replies stand as those of `service`.
+    /// overdue is found out before any is restarted. A tick that restarts none makes no access. The replies stand as
+    /// those of `service`.
     pub fn tick(&mut self) -> Replies
         ensures ticks { TicksServer A.device self.old self.new result.items }
         ensures adds { ExtendsHistory (server_of A.device self.old) (server_of A.device self.new) Tick

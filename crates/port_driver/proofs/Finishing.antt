@@ -14,18 +14,18 @@ use Rattle.ata_types.specs.declared.request.Reply.{Reply}
 use Rattle.ata_types.specs.declared.request.RequestId.{RequestId}
 use Rattle.hba_regs.specs.Bits.{bit}
 use Rattle.adapter.specs.Device.{Device}
-use Rattle.adapter.specs.Rules.{HasPort}
 use Rattle.block_machine.specs.declared.due.QueueMode.{QueueMode}
 use Rattle.refinement.specs.Slots.{IsOver}
-use Rattle.port_driver.specs.Ports.{AnswersDoneSlots, AnswersSlot, HasReadyPort, HasDonePort, with_answers, with_port_slots}
+use Rattle.port_driver.specs.Ports.{AnswersDoneSlots, AnswersSlot, HasFoundPort, HasDonePort, with_answers, with_port_slots}
 use Rattle.dma_frames.specs.Table.{LendsOnly, Table}
 use Rattle.host_boot.specs.Taken.{probe_result_of}
+use Rattle.host_boot.specs.declared.ProbeResult.{ProbeResult}
 use Rattle.request_queue.specs.Entries.{Held, IsEarlier, BookIsInOrder, has_id, without_entry}
 use Rattle.server_history.specs.Served.{AnswersDone, AnswersEach, AnswersOne, IssuesAll, done_reply}
 use Rattle.server_history.specs.Server.{ServerState, InCallInvariant, mode_in, no_slots, state_of, used_for}
 use Rattle.slots.specs.Uses.{PortSlots, HasLeastId, use_at, with_use}
 use Rattle.slots.specs.declared.SlotUse.{SlotUse}
-use Rattle.port_driver.proofs.Sending.{served_ready}
+use Rattle.port_driver.proofs.Sending.{ready_listed, ready_there}
 
 -- each slot that is used has a request
 abbrev pub HaveRequests : Type 0
@@ -75,12 +75,6 @@ shorter id book e here same =
 -- ---- one request
 
 module _ (s : ServerState) (table : Table) (book : List Held) (slots : PortSlots) (port : Port) (done : ℕ) (l : HasDonePort s table book slots port done) where
-  there : HasPort s.device port.0
-  there = l.kept.there port.0 (served_ready (probe_result_of s.ports port.0) l.ready)
-
-  in_list : port.0 < length s.slots
-  in_list = let f = l.kept.four in let p = there.0 in omega (arith, f, p)
-
   -- what is lent is where it was
   pub answers_same : with_answers s table book slots port ≡ s
   answers_same =
@@ -98,7 +92,7 @@ module _ (s : ServerState) (table : Table) (book : List Held) (slots : PortSlots
     ready = l.ready;
     table_is = refl;
     book_is = refl;
-    slots_are = get_or-set_same s.slots port.0 u no_slots in_list;
+    slots_are = get_or-set_same s.slots port.0 u no_slots (ready_listed s port l.kept l.ready);
     over = l.over;
   }
 
@@ -221,7 +215,7 @@ module _ (have : HaveRequests) (keep : AnswersKeep) (leaves : LeavesOthers) (por
         (cases_eq k slot)
       where
         places : length slots.places ≡ 32
-        places = ap (λ (x : PortSlots). length x.places) (sym some.lends.slots_are) ∙ (some.lends.kept.slots port.0 (there s table book slots port done some.lends).0).places
+        places = ap (λ (x : PortSlots). length x.places) (sym some.lends.slots_are) ∙ (some.lends.kept.slots port.0 (ready_there s port some.lends.kept some.lends.ready).0).places
 
         gone : k ≡ slot → use_at u k ≡ None
         gone same = ap (λ (n : ℕ). use_at u n) same ∙ ap (λ (x : PortSlots). use_at x slot) freed ∙ get_or-set_same slots.places slot None None (let p = places in let e = earliest.small in omega (arith, p, e))
@@ -259,8 +253,8 @@ module _ (have : HaveRequests) (keep : AnswersKeep) (leaves : LeavesOthers) (por
 -- it was answered, and what is due then is issued
 module _ (s : ServerState) (port : Port) (done : ℕ) (before after : List Reply) (table : Table) (book : List Held) (slots : PortSlots)
     (answers : AnswersDoneSlots port done before after s (with_answers s table book slots port)) (lent : HasDonePort (with_answers s table book slots port) table book slots port done) where
-  pub lends_on : (mode : QueueMode) → mode_in s port ≡ mode → HasReadyPort (with_answers s table book slots port) s.device book slots port mode
-  lends_on mode mode_is = record { kept = lent.kept; ready = lent.ready; device_is = refl; book_is = refl; slots_are = lent.slots_are; mode_is = mode_is }
+  pub lends_on : (mode : QueueMode) → mode_in s port ≡ mode → (found : ProbeResult) → probe_result_of s.ports port.0 ≡ found → HasFoundPort (with_answers s table book slots port) s.device book slots port mode found
+  lends_on mode mode_is found found_is = record { kept = lent.kept; found_is = found_is; device_is = refl; book_is = refl; slots_are = lent.slots_are; mode_is = mode_is }
 
   pub finishes : (device : Device) (later : List Held) (u : PortSlots) → IssuesAll port (with_answers s table book slots port) (with_port_slots (with_answers s table book slots port) device later u port)
       → (number : ℕ) → number ≡ port.0 → AnswersDone port done (map done_reply answers.requests) s (record s { device = device; table = table; slots = set s.slots number u; book = later })

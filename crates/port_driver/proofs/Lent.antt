@@ -29,8 +29,11 @@ use Rattle.port_control.specs.declared.events.PortError.TheVariants.{TaskFileErr
 use Rattle.slots.specs.Uses.{PortSlots, IsTaken, use_at}
 use Rattle.slots.specs.declared.SlotUse.{SlotUse}
 use Rattle.port_driver.specs.Ports.{AnswersDoneSlots, HasDonePort, with_answers}
-use Rattle.port_driver.specs.Recovery.{HasPortInError, CompletesAndRecovers}
-use Rattle.port_driver.proofs.Serving.{mask_of, ready_there}
+use Rattle.port_driver.specs.Recovery.{CompletesAndRecovers, IsInError}
+use Rattle.port_driver.specs.declared.served_port.ServedPort.{ServedPort}
+use Rattle.port_driver.specs.declared.served_port.Shared.{Shared}
+use Rattle.port_driver.proofs.Serving.{mask_of}
+use Rattle.port_driver.proofs.Sending.{ready_there}
 
 -- what laws say of a server of which a port failed
 pub record FailureLaws : Type 0 where
@@ -61,17 +64,16 @@ pub record Troubled : Type 0 where
   pub laws : FailureLaws
   pub s : ServerState
   pub device : Device
-  pub table : Table
-  pub book : List Held
-  pub slots : PortSlots
+  pub shared : Shared
   pub port : Port
+  pub p : ServedPort
   pub port_error : PortError
-  pub lends : HasPortInError s device table book slots port port_error
+  pub lends : IsInError s device shared port p port_error
 
 -- what was found done of it
 pub record FoundDone (x : Troubled) : Type 0 where
   pub mask : ℕ
-  pub exact : (slot : ℕ) → slot < 32 → (bit_at mask slot ≡ 1) ↔ IsTaken x.slots slot
+  pub exact : (slot : ℕ) → slot < 32 → (bit_at mask slot ≡ 1) ↔ IsTaken x.p.slots slot
   pub done : ℕ
   pub found : Device
   pub reads : ReadsDone x.port mask done x.device found
@@ -111,15 +113,15 @@ module _ (x : Troubled) where
 
   module _ (f : FoundDone x) where
     its_mask : IsMaskOf (slots_at x.s.slots x.port.0) f.mask
-    its_mask = subst (λ (u : PortSlots). IsMaskOf u f.mask) (sym x.lends.slots_are) (mask_of x.slots f.mask f.exact)
+    its_mask = subst (λ (u : PortSlots). IsMaskOf u f.mask) (sym x.lends.before.parts.port_is.slots_are) (mask_of x.p.slots f.mask f.exact)
 
-    pub lends_done : HasDonePort (from x f) x.table x.book x.slots x.port f.done
+    pub lends_done : HasDonePort (from x f) x.shared.table.value x.shared.book x.p.slots x.port f.done
     lends_done = record {
       kept = x.laws.finding seen f.found x.port f.mask f.done seen_kept x.lends.sees.ready f.reads;
       ready = x.lends.sees.ready;
-      table_is = x.lends.table_is;
-      book_is = x.lends.book_is;
-      slots_are = x.lends.slots_are;
+      table_is = x.lends.before.parts.table_is;
+      book_is = x.lends.before.parts.book_is;
+      slots_are = x.lends.before.parts.port_is.slots_are;
       over = λ slot small its. x.laws.over seen f.found x.port f.mask f.done slot seen_kept x.lends.sees.ready its_mask small f.reads its;
     }
 

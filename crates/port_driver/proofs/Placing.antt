@@ -1,5 +1,5 @@
 -- A port of a server: what the server has of it, and what the server is with another in its place.
-use Rattle.std.proofs.Common.{ℕ, ◌≡◌, List, [], get_or, set, None, sym, ap, ◌∙◌}
+use Rattle.std.proofs.Common.{ℕ, ◌≡◌, List, [], get_or, set, None, refl, sym, ap, ◌∙◌}
 use Rattle.std.proofs.lemmas.List.{set-get_or}
 use Rattle.ata_types.specs.declared.Port.{Port}
 use Rattle.adapter.specs.Device.{Device}
@@ -11,7 +11,7 @@ use Rattle.identify.specs.declared.wanted.Wanted.{Wanted}
 use Rattle.identify.specs.declared.wanted.Wanted.TheVariants.{Nothing}
 use Rattle.server_history.specs.Server.{ServerState, no_slots, plain_mode}
 use Rattle.slots.specs.Uses.{PortSlots}
-use Rattle.port_driver.specs.Parts.{HasPortAt, with_served_port}
+use Rattle.port_driver.specs.Parts.{HasPortAt, IsSettledWith, with_served_port}
 use Rattle.port_driver.specs.declared.served_port.ServedPort.{ServedPort}
 use Rattle.port_driver.specs.declared.served_port.Shared.{Shared}
 
@@ -95,4 +95,11 @@ on_device s device number p has = record {
   mode_is = has.mode_is;
   slots_are = has.slots_are;
   kept_is = has.kept_is;
+}
+
+-- a settled server has its parts on its own device
+pub on_its_device : (s : ServerState) (shared : Shared) (port : Port) (p : ServedPort) {device : Device} → IsSettledWith s device shared port p → IsSettledWith s s.device shared port p
+on_its_device s shared port p its = record {
+  settled = its.settled;
+  parts = record { device_is = refl; table_is = its.parts.table_is; book_is = its.parts.book_is; port_is = its.parts.port_is };
 }

@@ -1,4 +1,4 @@
--- A port was recovered, and its requests meet their fates: what is asked of the calls, and what the server then is.
+-- A port was recovered, and its requests are resolved: what is asked of the calls, and what the server then is.
 use Rattle.std.proofs.Common.{ℕ, ◌≡◌, ◌≢◌, ◌⊎◌, inl, inr, ◌<◌, ◌≤◌, ◌++◌, List, [], map, length, take, drop, filter, get_or, set, Option, Some, None, refl, sym, ap, ◌∙◌, subst, arith, append_assoc, ⊎_elim}
 use Rattle.std.specs.List.{AllPairs, count_by}
 use Rattle.std.specs.List.Sorted.{IsPermutation}
@@ -33,7 +33,7 @@ use Rattle.request_queue.specs.Entries.{Held, is_of}
 use Rattle.request_queue.specs.Dispositions.{Holdings, AreResolved, disposition_of}
 use Rattle.request_queue.specs.declared.disposition.FailedRequest.{FailedRequest}
 use Rattle.request_queue.specs.declared.disposition.Revalidation.{Revalidation}
-use Rattle.server_history.specs.ErrorHandling.{BootsAfter, IsFailed, IsRevalidated, IsRevalidation, IsErrorHandled, HasResolved, HandlesPortError, requests_of}
+use Rattle.server_history.specs.ErrorHandling.{BootsAfter, IsFailed, IsRevalidated, IsRevalidation, IsErrorHandled, HasResolved, HandlesPortError, requests_of, with_port_found}
 use Rattle.server_history.specs.Served.{IssuesAll, done_reply}
 use Rattle.server_history.specs.Server.{ServerState, InCallInvariant, SettledInvariant, kept_at, mode_at, mode_found, mode_in, no_slots, plain_mode, slots_at, state_of}
 use Rattle.server_history.specs.Turns.{IsPortTurn, InRestart, ServesPort}
@@ -43,7 +43,7 @@ use Rattle.slots.specs.Uses.{PortSlots, use_at}
 use Rattle.port_driver.specs.Dispositions.{HavePlaces, BookIsSound, holding}
 use Rattle.port_driver.specs.Ports.{HasFoundPort, with_port_slots}
 use Rattle.port_driver.specs.Recovery.{HandlesPortErrorOf, CompletesAndRecovers, SeesPortError}
-use Rattle.port_driver.proofs.Sending.{served_ready}
+use Rattle.port_driver.proofs.Sending.{ready_there}
 
 -- what laws say of what comes after a recovery
 pub record RestoringLaws : Type 0 where
@@ -74,19 +74,6 @@ boots_or_absent FatalError wanted port booted old new b = inl b
 boots_or_absent TaskFileError wanted port booted old new b = inl b
 boots_or_absent TimedOut wanted port booted old new b = inl b
 
--- the server once its port was recovered, and its requests met their fates
-abbrev pub restored : ServerState → Port → DiskInfo → Device → ProbeResult → QueueMode → PortSlots → Holdings → ServerState
-restored s port was device found mode slots now = record s {
-  device = device;
-  table = now.table;
-  ports = set s.ports port.0 found;
-  remembered = set s.remembered port.0 (Some was);
-  modes = set s.modes port.0 mode;
-  slots = set s.slots port.0 slots;
-  kept = set s.kept port.0 now.kept;
-  book = now.book;
-}
-
 -- a port that was recovered: what trouble was seen of it, and what recovery left
 pub record Recovery : Type 0 where
   pub laws : RestoringLaws
@@ -107,7 +94,7 @@ pub record Recovery : Type 0 where
   pub one : Device
   pub rest : CompletesAndRecovers port port_error before told failed next s t b u one
 
--- what it was found to be then, and how its requests met their fates
+-- what it was found to be then, and how its requests were resolved
 pub record Restoration (x : Recovery) : Type 0 where
   pub two : Device
   pub found : ProbeResult
@@ -126,7 +113,7 @@ pub record Restoration (x : Recovery) : Type 0 where
 
 -- the server then
 abbrev pub then : (x : Recovery) → Restoration x → ServerState
-then x y = restored x.s x.port x.was y.two y.found y.mode y.fresh y.now
+then x y = with_port_found x.port y.two y.found x.was y.mode y.fresh y.now x.s
 
 -- what is due was issued, and the replies stand in order
 pub record Ordered (x : Recovery) (y : Restoration x) : Type 0 where
@@ -145,7 +132,7 @@ pub record Ordered (x : Recovery) (y : Restoration x) : Type 0 where
 
 module _ (x : Recovery) where
   low : x.port.0 < 4
-  low = (x.sees.kept.there x.port.0 (served_ready (probe_result_of x.s.ports x.port.0) x.sees.ready)).0
+  low = (ready_there x.s x.port x.sees.kept x.sees.ready).0
 
   mid_ready : state_of (probe_result_of x.rest.mid.ports x.port.0) ≡ ReadyState
   mid_ready = ap (λ (n : ServerState). state_of (probe_result_of n.ports x.port.0)) x.rest.mid_is ∙ x.sees.ready

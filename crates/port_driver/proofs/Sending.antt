@@ -1,5 +1,5 @@
 -- A due request of a port is issued: what is asked of the calls, and what the server then is.
-use Rattle.std.proofs.Common.{ℕ, ◌≡◌, ◌≢◌, ◌+◌, ◌/◌, ◌%◌, ◌^◌, ◌<◌, ◌≤◌, Bool, not, true, inl, inr, List, [], ◌∷◌, drop, length, map, get_or, set, Some, refl, sym, ◌∙◌, ap, subst, arith}
+use Rattle.std.proofs.Common.{ℕ, ◌≡◌, ◌≢◌, ◌+◌, ◌/◌, ◌%◌, ◌^◌, ◌<◌, ◌≤◌, Bool, not, true, inl, inr, List, [], ◌∷◌, drop, length, map, get_or, set, Some, refl, sym, ◌∙◌, ap, subst, arith, ⊎_elim, false}
 use Rattle.std.specs.List.{Contains}
 use Rattle.std.proofs.lemmas.List.{drop_more, get_or-map, get_or_default, get_or-set_same, length-map, set-get_or, set-set}
 use Rattle.std.proofs.lemmas.List.Elements.{All-contains, Contains-get_or}
@@ -15,7 +15,7 @@ use Rattle.block_machine.specs.Due.{AreAllDueInOrder, IsDue, is_plain}
 use Rattle.block_machine.specs.Rules.{IsAllowedCount, frames_for}
 use Rattle.block_machine.specs.declared.due.QueueMode.{QueueMode}
 use Rattle.block_machine.specs.declared.due.Unanswered.{Unanswered}
-use Rattle.port_driver.specs.Ports.{HasReadyPort, HasFoundPort, MayGoIn, with_port_slots}
+use Rattle.port_driver.specs.Ports.{HasFoundPort, MayGoIn, with_port_slots}
 use Rattle.dma_frames.specs.Table.{Table}
 use Rattle.adapter.specs.Rules.{HasPort}
 use Rattle.refinement.specs.Driven.{RelatesWith}
@@ -31,7 +31,7 @@ use Rattle.server_history.specs.Served.{IssuesAll, IssuesEach, IssuesOne, task_o
 use Rattle.server_history.specs.Server.{ServerState, InCallInvariant, is_served, mode_in, no_slots, slots_at, state_of, with_slot}
 use Rattle.slots.specs.Uses.{PortSlots, IsLowestFree, IsTaken, with_use}
 use Rattle.commands.specs.Issuing.{MayIssueTask}
-use Rattle.commands.specs.Tasks.{HasBlockOf, IssuesTask, addresses_of, meaning_of}
+use Rattle.commands.specs.Tasks.{HasBlockOf, IsFitTransfer, IsTransfer, IssuesTask, addresses_of, meaning_of}
 
 -- ---- what a request of the book is
 
@@ -50,18 +50,26 @@ module _ (table : Table) (e : Held) (is : IsAccepted table e) (mode : QueueMode)
   first : e.entry.op ≢ Flush → 1 ≤ e.entry.range.count → e.entry.range.first.0 < 2 ^ 48
   first other some = let below = is.below other in omega (arith, some, below)
 
-  goes : (queued : Bool) → queued ≡ not (is_plain mode e.entry.op) → (op : Op) → e.entry.op ≡ op → MayGoIn op (record { op = e.entry.op; range = e.entry.range; queued = queued }) e.frames slot
-  goes queued kind Read same = record { transfers = inl same; some = (counted Read same).0; few = (counted Read same).1; first = first (not_flush Read (λ e. cc) same) (counted Read same).0; number = enough Read same }
-  goes queued kind Write same = record { transfers = inr same; some = (counted Write same).0; few = (counted Write same).1; first = first (not_flush Write (λ e. cc) same) (counted Write same).0; number = enough Write same }
-  goes queued kind Trim same = (head (ap (is_plain mode) same), kind ∙ ap (λ (o : Op). not (is_plain mode o)) same, (counted Trim same).0, (counted Trim same).1, is.below (not_flush Trim (λ e. cc) same))
-  goes queued kind Flush same = (head (ap (is_plain mode) same), kind ∙ ap (λ (o : Op). not (is_plain mode o)) same)
+  fits : (queued : Bool) → IsTransfer e.entry.op → IsFitTransfer (record { op = e.entry.op; range = e.entry.range; queued = queued }) e.frames
+  fits queued (inl same) = record { transfers = inl same; some = (counted Read same).0; few = (counted Read same).1; first = first (not_flush Read (λ e. cc) same) (counted Read same).0; number = enough Read same }
+  fits queued (inr same) = record { transfers = inr same; some = (counted Write same).0; few = (counted Write same).1; first = first (not_flush Write (λ e. cc) same) (counted Write same).0; number = enough Write same }
+
+  in_slot_0 : (queued : Bool) → queued ≡ not (is_plain mode e.entry.op) → (op : Op) → is_plain mode op ≡ true → e.entry.op ≡ op → (slot ≡ 0) × (queued ≡ false)
+  in_slot_0 queued kind op plain same = let is_so = ap (is_plain mode) same ∙ plain in (head is_so, kind ∙ ap not is_so)
+
+  goes : (queued : Bool) → queued ≡ not (is_plain mode e.entry.op) → MayGoIn (record { op = e.entry.op; range = e.entry.range; queued = queued }) e.frames slot
+  goes queued kind = record {
+    transfer = fits queued;
+    trim = λ same. ((counted Trim same).0, (counted Trim same).1, is.below (not_flush Trim (λ e. cc) same));
+    plain = λ which. ⊎_elim (in_slot_0 queued kind Trim refl) (in_slot_0 queued kind Flush refl) which;
+  }
 
   -- it may go in the slot, wherever its entry and its frames are told
   pub may_go : (queued : Bool) → queued ≡ not (is_plain mode e.entry.op) → (entry : PendingRequest) → entry ≡ e.entry → (frames : List Frame) → frames ≡ e.frames
-      → MayGoIn entry.op (record { op = entry.op; range = entry.range; queued = queued }) frames slot
+      → MayGoIn (record { op = entry.op; range = entry.range; queued = queued }) frames slot
   may_go queued kind entry entry_is frames frames_are =
-      subst (λ (x : PendingRequest). MayGoIn x.op (record { op = x.op; range = x.range; queued = queued }) frames slot) (sym entry_is)
-      (subst (λ (fs : List Frame). MayGoIn e.entry.op (record { op = e.entry.op; range = e.entry.range; queued = queued }) fs slot) (sym frames_are) (goes queued kind e.entry.op refl))
+      subst (λ (x : PendingRequest). MayGoIn (record { op = x.op; range = x.range; queued = queued }) frames slot) (sym entry_is)
+      (subst (λ (fs : List Frame). MayGoIn (record { op = e.entry.op; range = e.entry.range; queued = queued }) fs slot) (sym frames_are) (goes queued kind))
 
 -- ---- what is lent
 
@@ -76,17 +84,25 @@ slots_said s port k low number is default =
     get_or_default s.slots port no_slots default (omega (arith, f, low)) ∙ ap (λ (n : ℕ). get_or s.slots n default) (sym is)
 
 -- a port that is ready is served, so it is there
-pub served_ready : (f : ProbeResult) → state_of f ≡ Ready → is_served f ≡ true
+served_ready : (f : ProbeResult) → state_of f ≡ Ready → is_served f ≡ true
 served_ready Unserved ready = let z : Absent ≡ Ready = ready in absurd cc
 served_ready (FoundReady info) ready = refl
 served_ready (Unready state) ready = refl
 
-module _ (s : ServerState) (device : Device) (book : List Held) (slots : PortSlots) (port : Port) (mode : QueueMode) (l : HasReadyPort s device book slots port mode) where
-  there : HasPort s.device port.0
-  there = l.kept.there port.0 (served_ready (probe_result_of s.ports port.0) l.ready)
+pub ready_there : (s : ServerState) (port : Port) → InCallInvariant s → state_of (probe_result_of s.ports port.0) ≡ Ready → HasPort s.device port.0
+ready_there s port k ready = k.there port.0 (served_ready (probe_result_of s.ports port.0) ready)
 
-  in_list : port.0 < length s.slots
-  in_list = let f = l.kept.four in let p = there.0 in omega (arith, f, p)
+-- and the server has its slots
+pub ready_listed : (s : ServerState) (port : Port) → InCallInvariant s → state_of (probe_result_of s.ports port.0) ≡ Ready → port.0 < length s.slots
+ready_listed s port k ready = let f = k.four in let p = (ready_there s port k ready).0 in omega (arith, f, p)
+
+module _ (s : ServerState) (device : Device) (book : List Held) (slots : PortSlots) (port : Port) (mode : QueueMode) (found : ProbeResult) (ready : state_of found ≡ Ready)
+    (l : HasFoundPort s device book slots port mode found) where
+  its_ready : state_of (probe_result_of s.ports port.0) ≡ Ready
+  its_ready = ap state_of l.found_is ∙ ready
+
+  there : HasPort s.device port.0
+  there = ready_there s port l.kept its_ready
 
   -- what is lent is where it was
   pub lent_same : with_port_slots s device book slots port ≡ s
@@ -96,8 +112,8 @@ module _ (s : ServerState) (device : Device) (book : List Held) (slots : PortSlo
 
   -- other parts in its place
   module _ (new : Device) (later : List Held) (used : PortSlots) where
-    pub lent_on_from : InCallInvariant (with_port_slots s new later used port) → HasReadyPort (with_port_slots s new later used port) new later used port mode
-    lent_on_from kept = record { kept = kept; ready = l.ready; device_is = refl; book_is = refl; slots_are = get_or-set_same s.slots port.0 used no_slots in_list; mode_is = l.mode_is }
+    pub lent_on_from : InCallInvariant (with_port_slots s new later used port) → HasFoundPort (with_port_slots s new later used port) new later used port mode found
+    lent_on_from kept = record { kept = kept; found_is = l.found_is; device_is = refl; book_is = refl; slots_are = get_or-set_same s.slots port.0 used no_slots (ready_listed s port l.kept its_ready); mode_is = l.mode_is }
 
     pub lent_again : (d : Device) (b : List Held) (u : PortSlots) → with_port_slots (with_port_slots s new later used port) d b u port ≡ with_port_slots s d b u port
     lent_again d b u = ap (λ (list : List PortSlots). record s { device = d; slots = list; book = b }) (set-set s.slots port.0 used u)
@@ -158,7 +174,7 @@ module _ (s : ServerState) (device : Device) (book : List Held) (slots : PortSlo
         × (is_plain (mode_in s request.entry.port) request.entry.op ≡ true → slot ≡ 0) × RelatesWith (IsUnused request.entry.port.0 slot) s.device)
         → (slot : ℕ) → IsLowestFree slots slot → MayIssueTask port slot device
     may_issue_task may slot lowest =
-        let runs = (l.kept.behind port.0 there.0).runs l.ready in
+        let runs = (l.kept.behind port.0 there.0).runs its_ready in
         subst (MayIssueTask port slot) l.device_is (record {
           on = l.kept.on;
           there = there;
@@ -222,21 +238,9 @@ next_due book port mode ids place d low turns =
     let x = asked_of book r.0 r.3.here in
     (x.0, x.1, ap (λ (u : Unanswered). u.id) (sym x.2) ∙ r.1, ap (λ (u : Unanswered). u.port) (sym x.2) ∙ r.2, subst (IsDue mode (asks_of book)) x.2 r.3)
 
--- ---- a port that was found so
+-- ---- a port that isn't ready
 
-module _ (s : ServerState) (device : Device) (book : List Held) (slots : PortSlots) (port : Port) (mode : QueueMode) (found : ProbeResult) (l : HasFoundPort s device book slots port mode found) where
-  -- a ready one lends what issuing asks
-  pub lends_ready : (info : DiskInfo) → found ≡ FoundReady info → HasReadyPort s device book slots port mode
-  lends_ready info is = record {
-    kept = l.kept;
-    ready = ap state_of (l.found_is ∙ is);
-    device_is = l.device_is;
-    book_is = l.book_is;
-    slots_are = l.slots_are;
-    mode_is = l.mode_is;
-  }
-
--- on another nothing is due, and so nothing issued
+-- on it nothing is due, and so nothing issued
 pub none_issued : ((s : ServerState) (port : Port) → InCallInvariant s → ((info : DiskInfo) → probe_result_of s.ports port.0 ≡ FoundReady info → ⊥) → due_ids (mode_in s port) port (asks_of s.book) ≡ [])
     → (s : ServerState) (device : Device) (book : List Held) (slots : PortSlots) (port : Port) (mode : QueueMode) (found : ProbeResult) → HasFoundPort s device book slots port mode found → ((info : DiskInfo) → found ≡ FoundReady info → ⊥)
     → IssuesAll port s (with_port_slots s device book slots port)

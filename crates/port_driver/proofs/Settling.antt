@@ -1,4 +1,4 @@
--- Requests meet their fates.
+-- Requests are resolved.
 use Rattle.std.proofs.Common.{◌≡◌, ◌≢◌, ◌==◌, ◌+◌, ◌≤◌, ◌++◌, ◌<◌, arith, Option, Some, Bool, true, false, cond, List, [], ◌∷◌, length, filter, map, refl, sym, ap, ◌∙◌, subst, None, append_assoc, append-nil, suc, zero, ℕ, drop, get_or}
 use Rattle.std.proofs.lemmas.Bool.{eqb-false, false≢true}
 use Rattle.ata_types.specs.declared.request.Outcome.{Outcome}
@@ -12,7 +12,6 @@ use Rattle.ata_types.specs.declared.request.Reply.{Reply}
 use Rattle.dma_frames.specs.Loan.{Lending}
 use Rattle.dma_frames.specs.Table.{Table, LendsOnly}
 use Rattle.ata_types.specs.declared.request.RequestId.{RequestId}
-use Rattle.ata_types.specs.declared.limits.TheConstants.{MOST_UNANSWERED}
 use Rattle.std.specs.List.{All, AllPairs, Contains}
 use Rattle.port_driver.proofs.Finishing as finishing
 use Rattle.request_queue.specs.Entries.{HasFewIssues, Held, IsAccepted, IsEarlier, BookIsInOrder, at_entry, ids_where, requeued_entry, without_entry}
@@ -23,7 +22,7 @@ use Rattle.request_queue.specs.declared.disposition.Disposition.TheVariants.{Com
 use Rattle.request_queue.specs.declared.disposition.FailedRequest.{FailedRequest}
 use Rattle.request_queue.specs.declared.disposition.Revalidation.{Revalidation}
 use Rattle.request_queue.specs.declared.disposition.Revalidation.TheVariants.{Dead, DiskLost, SameDisk}
-use Rattle.port_driver.specs.Dispositions.{HasPlaces, HavePlaces, BookIsSound, holding}
+use Rattle.port_driver.specs.Dispositions.{HasPlaces, HavePlaces, BookIsSound, MayAnswerAll, holding}
 
 -- a loan is kept of an issued request alone
 pub kept_issued : (outcome : Outcome) (e : PendingRequest) → keeps_loan outcome e ≡ true → e.issued ≡ true
@@ -157,27 +156,25 @@ pub record SoFar (disposition : PendingRequest → Disposition) (all : List Held
   pub here : (e : Held) → Contains left e → Contains now.book e
   pub ordered : AllPairs IsEarlier left
   pub rest : (later : List Reply) (end : Holdings) → AreResolved disposition left later now end → (its : List Reply) × (replies ++ later ≡ before ++ its) × AreResolved disposition all its start end
-  pub sound : BookIsSound now.table now.book
-  pub room : length replies + length now.book ≤ MOST_UNANSWERED
+  pub may : MayAnswerAll now.table now.book replies
 
 module _ (disposition : PendingRequest → Disposition) (all : List Held) (start : Holdings) (before : List Reply) where
-  pub begins : ((e : Held) → Contains all e → Contains start.book e) → AllPairs IsEarlier all → BookIsSound start.table start.book → length before + length start.book ≤ MOST_UNANSWERED
+  pub begins : ((e : Held) → Contains all e → Contains start.book e) → AllPairs IsEarlier all → MayAnswerAll start.table start.book before
       → SoFar disposition all start before all start before
-  begins here ordered sound room = record { here = here; ordered = ordered; rest = λ later end meet. (later, refl, meet); sound = sound; room = room }
+  begins here ordered may = record { here = here; ordered = ordered; rest = λ later end meet. (later, refl, meet); may = may }
 
-  -- the next one met its fate
+  -- the next one was resolved
   pub goes_on : (request : Held) (left : List Held) (now new : Holdings) (replies more its : List Reply) → SoFar disposition all start before (request ∷ left) now replies
       → more ≡ replies ++ its → IsResolved request (disposition request.entry) its now new → ((e : Held) → Contains now.book e → e.entry.id ≢ request.entry.id → Contains new.book e)
-      → BookIsSound new.table new.book → length more + length new.book ≤ MOST_UNANSWERED → SoFar disposition all start before left new more
-  goes_on request left now new replies more its f same meets others sound room = record {
+      → MayAnswerAll new.table new.book more → SoFar disposition all start before left new more
+  goes_on request left now new replies more its f same meets others may = record {
     here = λ e there. others e (f.here e (Contains-append_right (request ∷ []) left e there))
         (λ is. let lt = All-contains (IsEarlier request) left e earlier there in let id = ap (λ (i : RequestId). i.0) is in omega (arith, lt, id));
     ordered = λ i j d lt below. f.ordered (suc i) (suc j) d (omega (arith, lt)) (omega (arith, below));
     rest = λ later end meet.
         let whole = f.rest (its ++ later) end (new, its, later, refl, meets, meet) in
         (whole.0, ap (λ (x : List Reply). x ++ later) same ∙ append_assoc replies its later ∙ whole.1, whole.2);
-    sound = sound;
-    room = room;
+    may = may;
   }
     where
       earlier : All (IsEarlier request) left

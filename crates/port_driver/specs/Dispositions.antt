@@ -1,5 +1,7 @@
 -- What a port's unanswered requests hold, and room for what is kept of it (this project's own).
 use Rattle.std.specs.Prelude.{◌≤◌, ◌<◌, ◌+◌, ◌≡◌, true, List, All, count_by, length}
+use Rattle.ata_types.specs.declared.limits.TheConstants.{MOST_UNANSWERED}
+use Rattle.ata_types.specs.declared.request.Reply.{Reply}
 use Rattle.dma_frames.specs.Loan.{Lending}
 use Rattle.dma_frames.specs.Table.{Table}
 use Rattle.request_queue.specs.Entries.{Held, IsAccepted, BookIsInOrder}
@@ -12,6 +14,11 @@ holding book table kept = record { book = book; table = table; kept = kept }
 pub record BookIsSound (table : Table) (book : List Held) : Type 0 where
   pub ordered : BookIsInOrder book
   pub accepted : All (IsAccepted table) book
+
+-- each request of a sound book may be answered: there is room for that many replies after these
+pub record MayAnswerAll (table : Table) (book : List Held) (replies : List Reply) : Type 0 where
+  pub sound : BookIsSound table book
+  pub room : length replies + length book ≤ MOST_UNANSWERED
 
 -- there is a place for the request's loan, if it is issued
 abbrev pub HasPlaces : Held → List Lending → Type 0

@@ -1,10 +1,9 @@
 -- A port's slots and the book, as they are lent to what issues and answers (this project's own).
-use Rattle.std.specs.Prelude.{ℕ, true, false, ◌≡◌, ◌+◌, ◌^◌, ◌<◌, ◌≤◌, ◌++◌, List, AllPairs, None, map, slice_set}
+use Rattle.std.specs.Prelude.{ℕ, true, false, ◌≡◌, ◌⊎◌, ◌+◌, ◌^◌, ◌<◌, ◌≤◌, ◌++◌, List, AllPairs, None, map, slice_set}
 use Rattle.ata_types.specs.declared.Port.{Port}
 use Rattle.ata_types.specs.declared.PortState.TheVariants.{Ready}
 use Rattle.ata_types.specs.declared.request.Frame.{Frame}
-use Rattle.ata_types.specs.declared.request.Op.{Op}
-use Rattle.ata_types.specs.declared.request.Op.TheVariants.{Read, Write, Trim, Flush}
+use Rattle.ata_types.specs.declared.request.Op.TheVariants.{Trim, Flush}
 use Rattle.ata_types.specs.declared.request.Reply.{Reply}
 use Rattle.hba_regs.specs.Bits.{bit}
 use Rattle.adapter.specs.Device.{Device}
@@ -13,25 +12,15 @@ use Rattle.block_machine.specs.declared.due.QueueMode.{QueueMode}
 use Rattle.dma_frames.specs.Table.{Table}
 use Rattle.host_boot.specs.Taken.{probe_result_of}
 use Rattle.host_boot.specs.declared.ProbeResult.{ProbeResult}
-use Rattle.commands.specs.Tasks.{IsFitTransfer}
+use Rattle.commands.specs.Tasks.{IsFitTransfer, IsTransfer}
 use Rattle.commands.specs.declared.ncq.Task.{Task}
 use Rattle.request_queue.specs.Entries.{Held, IsEarlier}
 use Rattle.server_history.specs.Served.{AnswersEach, AnswersOne, done_reply}
 use Rattle.server_history.specs.Server.{ServerState, InCallInvariant, mode_in, slots_at, state_of, used_for}
 use Rattle.slots.specs.Uses.{PortSlots}
 
--- the server keeps what it keeps, and has this device, this book, and these slots of a port that is ready and has this
--- mode
-pub record HasReadyPort (s : ServerState) (device : Device) (book : List Held) (slots : PortSlots) (port : Port)
-    (mode : QueueMode) : Type 0 where
-  pub kept : InCallInvariant s
-  pub ready : state_of (probe_result_of s.ports port.0) ≡ Ready
-  pub device_is : s.device ≡ device
-  pub book_is : s.book ≡ book
-  pub slots_are : slots_at s.slots port.0 ≡ slots
-  pub mode_is : mode_in s port ≡ mode
-
--- the same of a port that was found so
+-- the server keeps what it keeps, and has this device, this book, and these slots of a port that was found so and has
+-- this mode
 pub record HasFoundPort (s : ServerState) (device : Device) (book : List Held) (slots : PortSlots) (port : Port)
     (mode : QueueMode)
     (found : ProbeResult) : Type 0 where
@@ -80,11 +69,10 @@ pub record AnswersDoneSlots (port : Port) (done : ℕ) (before after : List Repl
 
 -- ---- tasks
 
--- A task of this operation may be issued in the slot: a transfer has its frames; a trim names 1 to 4,194,240 sectors,
--- each below 2^48 (64 entries of 65,535 in its block); and a trim and a flush aren't queued, and go in slot 0.
-abbrev pub MayGoIn : Op → Task → List Frame → ℕ → Type 0
-MayGoIn Read r frames slot = IsFitTransfer r frames
-MayGoIn Write r frames slot = IsFitTransfer r frames
-MayGoIn Trim r frames slot = (slot ≡ 0) × (r.queued ≡ false) × (1 ≤ r.range.count) × (r.range.count ≤ 4194240)
-    × (r.range.first.0 + r.range.count ≤ 2 ^ 48)
-MayGoIn Flush r frames slot = (slot ≡ 0) × (r.queued ≡ false)
+-- The task may be issued in the slot: a transfer has its frames; a trim names 1 to 4,194,240 sectors, each below 2^48
+-- (64 entries of 65,535 in its block); and a trim and a flush aren't queued, and go in slot 0.
+pub record MayGoIn (task : Task) (frames : List Frame) (slot : ℕ) : Type 0 where
+  pub transfer : IsTransfer task.op → IsFitTransfer task frames
+  pub trim : task.op ≡ Trim → (1 ≤ task.range.count) × (task.range.count ≤ 4194240)
+      × (task.range.first.0 + task.range.count ≤ 2 ^ 48)
+  pub plain : (task.op ≡ Trim) ⊎ (task.op ≡ Flush) → (slot ≡ 0) × (task.queued ≡ false)

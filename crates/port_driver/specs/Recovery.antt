@@ -15,11 +15,11 @@ use Rattle.request_queue.specs.Entries.{Held}
 use Rattle.request_queue.specs.declared.disposition.FailedRequest.{FailedRequest}
 use Rattle.server_history.specs.ErrorHandling.{IsFailed, ErrorIsFound, IsErrorHandled, HandlesPortError}
 use Rattle.server_history.specs.Served.{done_reply}
-use Rattle.server_history.specs.Server.{ServerState, InCallInvariant, SettledInvariant, slots_at, state_of}
+use Rattle.server_history.specs.Server.{ServerState, InCallInvariant, state_of}
 use Rattle.port_control.specs.declared.events.PortError.{PortError}
 use Rattle.port_control.specs.declared.events.PortError.TheVariants.{FatalError, TaskFileError, LinkChanged}
 use Rattle.slots.specs.Uses.{PortSlots}
-use Rattle.port_driver.specs.Parts.{HasPortAt}
+use Rattle.port_driver.specs.Parts.{IsSettledWith}
 use Rattle.port_driver.specs.Ports.{with_answers}
 use Rattle.port_driver.specs.declared.served_port.ServedPort.{ServedPort}
 use Rattle.port_driver.specs.declared.served_port.Shared.{Shared}
@@ -39,23 +39,12 @@ pub record SeesPortError (s : ServerState) (port : Port) (port_error : PortError
   pub finds : ErrorIsFound port port_error s.device device
   pub followed : IsSimulated (IsLooking port) AnyUse s.device device
 
--- so it was, and it has these loans, this book, and these slots of the port
-pub record HasPortInError (s : ServerState) (device : Device) (table : Table) (book : List Held) (slots : PortSlots)
-    (port : Port) (port_error : PortError) : Type 0 where
-  pub sees : SeesPortError s port port_error device
-  pub table_is : s.table ≡ table
-  pub book_is : s.book ≡ book
-  pub slots_are : slots_at s.slots port.0 ≡ slots
-
 -- The server was settled when this error of its port was found out, and has these loans and requests; its port is this
 -- one.
 pub record IsInError (s : ServerState) (device : Device) (shared : Shared) (port : Port) (p : ServedPort)
     (port_error : PortError) : Type 0 where
-  pub settled : SettledInvariant s
+  pub before : IsSettledWith s s.device shared port p
   pub sees : SeesPortError s port port_error device
-  pub table_is : s.table ≡ shared.table.value
-  pub book_is : s.book ≡ shared.book
-  pub port_is : HasPortAt s port.0 p
 
 -- What was done was answered by replies that came after others, and the port's error was handled; the server keeps what
 -- it keeps until then. So it came to these loans, this book and these slots, and to this device; to the request whose

@@ -1,9 +1,9 @@
 // What becomes of the unanswered requests of a port that was stopped, or is dead, and of those that wait under a grant
 // that is revoked.
-ghost use Rattle.std.specs.Prelude.{ℕ, ◌≡◌, ◌≢◌, ◌≤◌, ◌+◌, ◌++◌, ◌∷◌, Contains, List, filter, length};
+ghost use Rattle.std.specs.Prelude.{◌≡◌, ◌≢◌, ◌++◌, ◌∷◌, Contains, List, filter};
 ghost use Rattle.ata_types.specs.declared.request.Outcome.TheVariants.{Revoked};
 ghost use Rattle.ata_types.specs.declared.request.Reply.{Reply};
-ghost use Rattle.port_driver.specs.Dispositions.{HasPlaces, HavePlaces, BookIsSound, holding};
+ghost use Rattle.port_driver.specs.Dispositions.{HasPlaces, HavePlaces, MayAnswerAll, holding};
 ghost use Rattle.dma_frames.specs.Loan.{Lending};
 ghost use Rattle.request_queue.specs.Entries.{Held, IsUnanswered, is_of, waits_under};
 ghost use Rattle.request_queue.specs.Dispositions.{AnswersAlike, AreResolved, IsResolved, disposition_of};
@@ -11,7 +11,7 @@ ghost use Rattle.request_queue.specs.declared.disposition.Disposition.TheVariant
 
 use crate::kept::Quarantine;
 use crate::served_port::Shared;
-use ata_types::{ClientId, MOST_UNANSWERED, Outcome, Port, Replies, Reply, RequestId};
+use ata_types::{ClientId, Outcome, Port, Replies, Reply, RequestId};
 use request_queue::laws::{
     law_accepted_requests_stay, law_an_id_is_one_request,
     law_answers_of_one_outcome_are_one_change, law_operations_change_one_request,
@@ -29,11 +29,10 @@ impl Shared {
         revalidation: Revalidation,
         replies: &mut Replies,
     )
-        requires sound { BookIsSound self.old.table.value self.old.book }
+        requires may { MayAnswerAll self.old.table.value self.old.book replies.old.items }
         requires here { (request : Held) × Contains self.old.book request × (request.entry.id ≡ id)
             × HasPlaces request kept.old }
-        requires room { length replies.old.items + length self.old.book ≤ MOST_UNANSWERED }
-        ensures meets { (request : Held) → Contains self.old.book request → request.entry.id ≡ id
+        ensures resolves { (request : Held) → Contains self.old.book request → request.entry.id ≡ id
             → (its : List Reply) × (replies.new.items ≡ replies.old.items ++ its)
             × IsResolved request (disposition_of failed.now revalidation request.entry) its
             (holding self.old.book self.old.table.value kept.old)
@@ -41,8 +40,7 @@ impl Shared {
         ensures others { (e : Held) → Contains self.old.book e → e.entry.id ≢ id → Contains self.new.book e }
         ensures places { (request : Held) (rest : List Held) → Contains self.old.book request
             → request.entry.id ≡ id → HavePlaces (request ∷ rest) kept.old → HavePlaces rest kept.new }
-        ensures sound { BookIsSound self.new.table.value self.new.book }
-        ensures room { length replies.new.items + length self.new.book ≤ MOST_UNANSWERED }
+        ensures may { MayAnswerAll self.new.table.value self.new.book replies.new.items }
     {
         law_an_id_is_one_request();
         law_accepted_requests_stay();
@@ -70,16 +68,14 @@ impl Shared {
 
     /// Answers a request that waits under a grant that is revoked: it is told so, and its frames are given back.
     fn answer_revoked(&mut self, id: RequestId, replies: &mut Replies)
-        requires sound { BookIsSound self.old.table.value self.old.book }
+        requires may { MayAnswerAll self.old.table.value self.old.book replies.old.items }
         requires here { IsUnanswered id self.old.book }
-        requires room { length replies.old.items + length self.old.book ≤ MOST_UNANSWERED }
-        ensures meets { (request : Held) (kept : List Lending) → Contains self.old.book request
+        ensures resolves { (request : Held) (kept : List Lending) → Contains self.old.book request
             → request.entry.id ≡ id → (its : List Reply) × (replies.new.items ≡ replies.old.items ++ its)
             × IsResolved request (Complete Revoked) its (holding self.old.book self.old.table.value kept)
             (holding self.new.book self.new.table.value kept) }
         ensures others { (e : Held) → Contains self.old.book e → e.entry.id ≢ id → Contains self.new.book e }
-        ensures sound { BookIsSound self.new.table.value self.new.book }
-        ensures room { length replies.new.items + length self.new.book ≤ MOST_UNANSWERED }
+        ensures may { MayAnswerAll self.new.table.value self.new.book replies.new.items }
     {
         law_an_id_is_one_request();
         law_accepted_requests_stay();
@@ -99,8 +95,7 @@ impl Shared {
     /// its caller's frame would have room for their ids else.
     #[inline(never)]
     pub fn answer_waiting(&mut self, client: ClientId, number: u8, replies: &mut Replies)
-        requires sound { BookIsSound self.old.table.value self.old.book }
-        requires room { length replies.old.items + length self.old.book ≤ MOST_UNANSWERED }
+        requires { MayAnswerAll self.old.table.value self.old.book replies.old.items }
         ensures { (kept : List Lending) → (its : List Reply) × (replies.new.items ≡ replies.old.items ++ its)
             × AnswersAlike (waits_under client number) Revoked its (holding self.old.book self.old.table.value kept)
             (holding self.new.book self.new.table.value kept) }
@@ -122,16 +117,14 @@ impl Shared {
         revalidation: Revalidation,
         replies: &mut Replies,
     )
-        requires sound { BookIsSound self.old.table.value self.old.book }
+        requires may { MayAnswerAll self.old.table.value self.old.book replies.old.items }
         requires places { HavePlaces (filter (λ (e : Held). is_of port e.entry) self.old.book) kept.old }
-        requires room { length replies.old.items + length self.old.book ≤ MOST_UNANSWERED }
-        ensures meet { (its : List Reply) × (replies.new.items ≡ replies.old.items ++ its)
+        ensures resolves { (its : List Reply) × (replies.new.items ≡ replies.old.items ++ its)
             × AreResolved (disposition_of failed.now revalidation)
             (filter (λ (e : Held). is_of port e.entry) self.old.book) its
             (holding self.old.book self.old.table.value kept.old)
             (holding self.new.book self.new.table.value kept.new) }
-        ensures sound { BookIsSound self.new.table.value self.new.book }
-        ensures room { length replies.new.items + length self.new.book ≤ MOST_UNANSWERED }
+        ensures may { MayAnswerAll self.new.table.value self.new.book replies.new.items }
     {
         let ids = self.book.ids_of(port);
         for place in 0..ids.len() {

@@ -6,6 +6,7 @@ ghost use Rattle.server_history.specs.Server.{AreOfTwo, IsLentOut};
 
 use ata_types::SLOTS;
 use dma_frames::{FrameTable, Loan};
+use server_history::laws::law_loans_end_in_turn;
 use std::alloc::{AllocError, Global};
 use std::marker::Model;
 
@@ -50,6 +51,7 @@ impl Quarantine {
         ensures empty { self.new ≡ [] }
         ensures back { TakesBack table.old table.new (Contains self.old) }
     {
+        law_loans_end_in_turn();
         while let Some(loan) = self.loans.pop() {
             table.give_back(loan);
         }

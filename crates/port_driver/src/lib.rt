@@ -14,15 +14,13 @@
 //!
 //! `port` issues what is due, `answering` answers what is done, and `turn` has the turns. `recovery` handles an error,
 //! `probing` probes a port that isn't ready, and `dispositions` resolves requests, as `after_reset` does where the
-//! adapter was reset. `modes` tells how a port takes commands, and `kept` keeps loans of a dead one. A function that is
-//! a law is called for its clause, and does nothing.
+//! adapter was reset. `modes` tells how a port takes commands, and `kept` keeps loans of a dead one.
 #![tactic(auto)]
 
 mod after_reset;
 mod answering;
 mod dispositions;
 mod kept;
-pub mod laws;
 mod modes;
 mod port;
 mod probing;

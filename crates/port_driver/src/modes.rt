@@ -1,8 +1,7 @@
 // How a port takes commands.
-ghost use Rattle.std.specs.Prelude.{ℕ, ◌≡◌, ◌≤◌, ◌+◌, ◌/◌, ◌%◌, false};
+ghost use Rattle.std.specs.Prelude.{ℕ, ◌≡◌, ◌≤◌, ◌+◌, ◌/◌, ◌%◌};
 ghost use Rattle.hba_regs.specs.Bits.{bit};
-ghost use Rattle.host_boot.specs.declared.ProbeResult.TheVariants.{Ready};
-ghost use Rattle.identify.specs.declared.DiskInfo.{DiskInfo};
+ghost use Rattle.port_driver.specs.Modes.{mode_of_port};
 ghost use Rattle.server_history.specs.Server.{mode_found};
 
 use ata_types::SLOTS;
@@ -15,11 +14,11 @@ pub(crate) const PLAIN: QueueMode = QueueMode {
     usable: 1,
 };
 
-/// How a port that was found so takes commands, by an adapter with 1 to 32 slots a port, which queues or doesn't:
-/// queued where adapter and disk both can, in as many slots as both have; else one at a time.
+/// How a port that was found so takes commands, by an adapter with so many slots a port, which queues or doesn't:
+/// queued where adapter and disk both can, in as many slots as both have, 32 at most; else one at a time.
 pub fn mode_found(slots: u8, queued: bool, found: &ProbeResult) -> QueueMode
+    ensures mode { result ≡ mode_of_port slots queued found.now }
     ensures found { (cap : ℕ) → slots ≡ cap / 256 % 32 + 1 → queued ≡ bit cap 30 → result ≡ mode_found cap found.now }
-    ensures plain { (cap : ℕ) → ((info : DiskInfo) → found.now ≡ Ready info → ⊥) → result ≡ mode_found cap found.now }
     ensures few { result.usable ≤ 32 }
 {
     match found {

@@ -1,11 +1,12 @@
 // What is due on a port is issued.
 ghost use Rattle.std.specs.Prelude.{◌≡◌, ◌<◌, ◌≤◌, ◌*◌, ◌/◌, ◌%◌, [], length};
+ghost use Rattle.ata_types.specs.declared.PortState.TheVariants.{Ready};
 ghost use Rattle.block_machine.specs.Due.{IsDue, due_of};
-ghost use Rattle.port_driver.specs.Ports.{HasReadyPort, HasFoundPort, MayGoIn, with_port_slots};
+ghost use Rattle.port_driver.specs.Ports.{HasFoundPort, MayGoIn, with_port_slots};
 ghost use Rattle.commands.specs.Issuing.{IsIssued, MayIssueTask};
 ghost use Rattle.request_queue.specs.Entries.{Held, asks, asks_of};
 ghost use Rattle.server_history.specs.Served.{IssuesAll, IssuesOne};
-ghost use Rattle.server_history.specs.Server.{ServerState};
+ghost use Rattle.server_history.specs.Server.{ServerState, state_of};
 ghost use Rattle.std.specs.List.{Contains};
 ghost use Rattle.adapter.specs.Counted.{MakesAtMost};
 ghost use Rattle.commands.specs.Costs.{ISSUE_ACCESSES};
@@ -31,7 +32,7 @@ fn issue_task<A: Adapter>(adapter: &mut A, port: Port, slot: Slot, task: &Task, 
     requires may { MayIssueTask port slot.0 (A.device adapter.old) }
     requires small { slot.0 < 32 }
     requires usable { slot.0 ≤ (A.device adapter.old).cap / 256 % 32 }
-    requires fits { MayGoIn task.now.op task.now frames.now slot.0 }
+    requires fits { MayGoIn task.now frames.now slot.0 }
     ensures issued { IsIssued port slot.0 task.now frames.now (A.device adapter.old) (A.device adapter.new) }
     ensures cost { MakesAtMost ISSUE_ACCESSES (A.access_count adapter.old) (A.access_count adapter.new) }
 {
@@ -46,12 +47,13 @@ fn issue_task<A: Adapter>(adapter: &mut A, port: Port, slot: Slot, task: &Task, 
 impl ServedPort {
     /// Issues a due request of the port, which is ready, in the lowest free slot.
     fn issue_one<A: Adapter>(&mut self, adapter: &mut A, book: &mut Book, port: Port, id: RequestId)
+        requires ready { state_of self.old.found ≡ Ready }
         requires lends { (s : ServerState)
-            × HasReadyPort s (A.device adapter.old) book.old self.old.slots port self.old.mode }
+            × HasFoundPort s (A.device adapter.old) book.old self.old.slots port self.old.mode self.old.found }
         requires due { (request : Held) × Contains book.old request × (request.entry.id ≡ id)
             × (request.entry.port ≡ port) × IsDue self.old.mode (asks_of book.old) (asks request.entry) }
         ensures issues { (s : ServerState)
-            → HasReadyPort s (A.device adapter.old) book.old self.old.slots port self.old.mode
+            → HasFoundPort s (A.device adapter.old) book.old self.old.slots port self.old.mode self.old.found
             → IssuesOne port id s (with_port_slots s (A.device adapter.new) book.new self.new.slots port) }
         ensures rest { self.new ≡ record self.old { slots = self.new.slots } }
         ensures cost { MakesAtMost ISSUE_ACCESSES (A.access_count adapter.old) (A.access_count adapter.new) }
@@ -73,10 +75,11 @@ impl ServedPort {
 
     /// Issues the due requests of the port, which is ready, in order of acceptance.
     pub fn issue_due<A: Adapter>(&mut self, adapter: &mut A, book: &mut Book, port: Port)
+        requires ready { state_of self.old.found ≡ Ready }
         requires lends { (s : ServerState)
-            × HasReadyPort s (A.device adapter.old) book.old self.old.slots port self.old.mode }
+            × HasFoundPort s (A.device adapter.old) book.old self.old.slots port self.old.mode self.old.found }
         ensures issues { (s : ServerState)
-            → HasReadyPort s (A.device adapter.old) book.old self.old.slots port self.old.mode
+            → HasFoundPort s (A.device adapter.old) book.old self.old.slots port self.old.mode self.old.found
             → IssuesAll port s (with_port_slots s (A.device adapter.new) book.new self.new.slots port) }
         ensures rest { self.new ≡ record self.old { slots = self.new.slots } }
         ensures as_many { length book.new ≡ length book.old }

@@ -27,13 +27,14 @@ use port_control::events::{has_changed, has_device};
 use server_history::laws::law_looks_keep;
 
 /// Whether a port in such a state shows what it is booted again for: an absent one a device; one whose disk isn't
-/// served a change of it, or none. No other is looked at.
+/// served a change of it, or none. No other is looked at, and of a dead one no access is made.
 pub(crate) fn needs_probe<A: Adapter>(adapter: &mut A, port: Port, state: PortState) -> bool
     requires on { IsOn (A.device adapter.old) }
     requires there { HasPort (A.device adapter.old) port.0 }
     ensures on { IsOn (A.device adapter.new) }
     ensures looks { IsLookedAt state port result (A.device adapter.old) (A.device adapter.new) }
     ensures followed { IsSimulated (IsLooking port) AnyUse (A.device adapter.old) (A.device adapter.new) }
+    ensures dead { state ≡ PortState.Dead → adapter.new ≡ adapter.old }
     ensures cost { MakesAtMost FIND_ACCESSES (A.access_count adapter.old) (A.access_count adapter.new) }
 {
     law_looks_keep();

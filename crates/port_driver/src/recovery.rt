@@ -2,7 +2,7 @@
 // to be.
 ghost use Rattle.std.specs.Prelude.{ℕ, ◌≡◌, ◌≤◌, ◌+◌, ◌++◌, IsTrue, ◌↔◌, Some, List, AllPairs, IsPermutation, drop, length, take};
 ghost use Rattle.ata_types.specs.declared.request.Reply.{Reply};
-ghost use Rattle.port_driver.specs.Recovery.{HasPortInError, CompletesAndRecovers, error_of};
+ghost use Rattle.port_driver.specs.Recovery.{CompletesAndRecovers, IsInError, error_of};
 ghost use Rattle.server_history.specs.Server.{ServerState};
 ghost use Rattle.ata_types.specs.declared.Port.{Port};
 ghost use Rattle.adapter.specs.Rules.{IsOn};
@@ -85,12 +85,11 @@ impl ServedPort {
         port_error: PortError,
         replies: &mut Replies,
     ) -> (Option<FailedRequest>, Next)
-        requires lends { (s : ServerState) × HasPortInError s (A.device adapter.old) shared.old.table.value
-            shared.old.book self.old.slots port port_error }
+        requires sees { (s : ServerState)
+            × IsInError s (A.device adapter.old) shared.old port self.old port_error }
         requires room { length replies.old.items + length shared.old.book ≤ MOST_UNANSWERED }
         ensures on { IsOn (A.device adapter.new) }
-        ensures handling { (s : ServerState) → HasPortInError s (A.device adapter.old) shared.old.table.value
-            shared.old.book self.old.slots port port_error
+        ensures handling { (s : ServerState) → IsInError s (A.device adapter.old) shared.old port self.old port_error
             → CompletesAndRecovers port port_error replies.old.items replies.new.items result.0 result.1 s
             shared.new.table.value shared.new.book self.new.slots (A.device adapter.new) }
         ensures rest { self.new ≡ record self.old { slots = self.new.slots } }

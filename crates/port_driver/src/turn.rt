@@ -1,5 +1,5 @@
 // A port's turn in a service, or in a tick.
-ghost use Rattle.std.specs.Prelude.{ℕ, ◌≡◌, ◌<◌, ◌≤◌, ◌+◌, ◌↔◌, IsTrue, List, length, true};
+ghost use Rattle.std.specs.Prelude.{ℕ, ◌≡◌, ◌⊎◌, ◌<◌, ◌≤◌, ◌+◌, ◌↔◌, IsTrue, List, length, true, false};
 ghost use Rattle.adapter.specs.Counted.{MakesAtMost};
 ghost use Rattle.ata_types.specs.declared.PortState.TheVariants.{Ready};
 ghost use Rattle.port_driver.specs.Costs.{ISSUES_ACCESSES, TURN_ACCESSES, port_error_accesses};
@@ -10,7 +10,7 @@ ghost use Rattle.refinement.specs.Slots.{IsOver};
 ghost use Rattle.request_queue.specs.Entries.{Held, IsOverdue};
 ghost use Rattle.server_history.specs.Served.{AnswersDone};
 ghost use Rattle.server_history.specs.Server.{ServerState, SettledInvariant, state_of};
-ghost use Rattle.server_history.specs.Turns.{ProbesUnready, ServesPort};
+ghost use Rattle.server_history.specs.Turns.{ProbesUnready, ServesPort, is_ready};
 
 use crate::answering::answer_done;
 use crate::probing::{needs_probe, probe_anew};
@@ -142,7 +142,7 @@ impl ServedPort {
 
     /// Looks at a port that isn't ready. Where an absent one shows a device, or one whose disk isn't served shows that
     /// it is another by now, or gone, the port is stopped and booted. Nobody waits for it, so that nobody is answered.
-    /// A dead port isn't looked at.
+    /// A dead port isn't looked at: no access is made.
     fn probe<A: Adapter>(&mut self, adapter: &mut A, port: Port, state: PortState)
         requires unready { self.old.found ≡ ProbeResult.Unready state }
         requires settled { (s : ServerState) × (shared : Shared)
@@ -151,6 +151,7 @@ impl ServedPort {
             → IsSettledWith s (A.device adapter.old) shared port self.old
             → ProbesUnready port s (with_served_port s (A.device adapter.new) shared port self.new)
             × SettledInvariant (with_served_port s (A.device adapter.new) shared port self.new) }
+        ensures dead { state ≡ PortState.Dead → adapter.new ≡ adapter.old }
         ensures cost { MakesAtMost TURN_ACCESSES (A.access_count adapter.old) (A.access_count adapter.new) }
     {
         law_an_unready_port_is_probed();
@@ -161,7 +162,8 @@ impl ServedPort {
         self.begin_anew(found, mode);
     }
 
-    /// The port's turn in a service: a ready one is served, and another one that is served is probed.
+    /// The port's turn in a service: a ready one is served, and another one that is served is probed. Of one that isn't
+    /// served, or is dead, no access is made.
     pub fn take_turn<A: Adapter>(
         &mut self,
         adapter: &mut A,
@@ -174,6 +176,8 @@ impl ServedPort {
         ensures turn { (s : ServerState) → IsSettledWith s (A.device adapter.old) shared.old port self.old
             → TakesTurn (TurnInService self.old.found port) replies.old.items replies.new.items s
             (with_served_port s (A.device adapter.new) shared.new port self.new) }
+        ensures untouched { (self.old.found ≡ ProbeResult.Unserved)
+            ⊎ (self.old.found ≡ ProbeResult.Unready PortState.Dead) → adapter.new ≡ adapter.old }
         ensures room { length replies.new.items + length shared.new.book ≤ MOST_UNANSWERED }
         ensures cost { MakesAtMost TURN_ACCESSES (A.access_count adapter.old) (A.access_count adapter.new) }
     {
@@ -185,7 +189,7 @@ impl ServedPort {
     }
 
     /// The port's turn in a tick: a ready one of which a request is overdue is restarted. It isn't looked at, and its
-    /// error is a timeout. Another rests.
+    /// error is a timeout. Another rests, and no access is made of it.
     pub fn tick<A: Adapter>(
         &mut self,
         adapter: &mut A,
@@ -200,6 +204,7 @@ impl ServedPort {
             → IsSettledWith s (A.device adapter.old) shared.old port self.old
             → TakesTurn (TurnInTick self.old.found book port) replies.old.items replies.new.items s
             (with_served_port s (A.device adapter.new) shared.new port self.new) }
+        ensures rests { (is_ready self.old.found ≡ false) ⊎ (is_overdue ≡ false) → adapter.new ≡ adapter.old }
         ensures room { length replies.new.items + length shared.new.book ≤ MOST_UNANSWERED }
         ensures cost { MakesAtMost (port_error_accesses PortError.TimedOut)
             (A.access_count adapter.old) (A.access_count adapter.new) }

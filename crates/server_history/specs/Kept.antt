@@ -1,5 +1,5 @@
 -- Loans that are kept, and end together (this project's own).
-use Rattle.std.specs.Prelude.{ℕ, ◌≡◌, ◌≢◌, List, None, All, AllPairs, Contains}
+use Rattle.std.specs.Prelude.{ℕ, ◌≡◌, ◌≢◌, ◌↔◌, ◌++◌, List, None, All, AllPairs, Contains}
 use Rattle.ata_types.specs.declared.request.Frame.{Frame}
 use Rattle.dma_frames.specs.Loan.{Lending}
 use Rattle.dma_frames.specs.Table.{Table, lent_to}
@@ -10,6 +10,17 @@ pub record TakesBack (old new : Table) (Such : Lending → Type 0) : Type 0 wher
   pub owners : new.owners ≡ old.owners
   pub none : (loan : Lending) (f : Frame) → Such loan → Contains loan.frames f → lent_to new f ≡ None
   pub others : (f : Frame) → ((loan : Lending) → Such loan → Contains loan.frames f → ⊥) → lent_to new f ≡ lent_to old f
+
+-- Loans end one after another. Where some have ended, a loan of another request is lent out still; where others end
+-- then, all of them have ended; and it doesn't matter in which order they are told.
+pub record LoansEndInTurn : Type 0 where
+  pub stays : (old new : Table) (ended : List Lending) (loan : Lending) → TakesBack old new (Contains ended)
+      → ((other : Lending) → Contains ended other → IsLentOut old other × AreOfTwo other loan)
+      → IsLentOut old loan → IsLentOut new loan
+  pub both : (old mid new : Table) (first later : List Lending) → TakesBack old mid (Contains first)
+      → All (IsLentOut mid) later → TakesBack mid new (Contains later) → TakesBack old new (Contains (first ++ later))
+  pub alike : (old new : Table) (first other : List Lending) → TakesBack old new (Contains first)
+      → ((loan : Lending) → Contains first loan ↔ Contains other loan) → TakesBack old new (Contains other)
 
 -- the loan is kept of some port
 abbrev pub IsKeptIn : List (List Lending) → Lending → Type 0

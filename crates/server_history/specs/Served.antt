@@ -81,7 +81,7 @@ pub record HasTurnWithoutError (port : Port) (slots : PortSlots) (replies : List
     pub seen : Device
     pub looks : LooksAt port look old seen
     pub quiet : look ≡ NoEvent
-    pub calm : look ≡ NoEvent → ChecksUsed port slots replies seen new
+    pub checked : ChecksUsed port slots replies seen new
 
 -- ---- requests are issued
 
@@ -209,9 +209,8 @@ abbrev pub AnswersTurn : (port : Port) (replies : List Reply) (old new : ServerS
     → HasTurnWithoutError port (slots_at old.slots port.0) replies old.device new.device → Type 0
 AnswersTurn port replies old new turn =
     ((replies ≡ []) × (new ≡ record old { device = new.device }))
-    ⊎ ((calm : turn.look ≡ NoEvent) × (some : HasNone (turn.calm calm).mask → ⊥)
-    × AnswersDone port ((turn.calm calm).checks some).done replies
-    (record old { device = ((turn.calm calm).checks some).read }) new)
+    ⊎ ((some : HasNone turn.checked.mask → ⊥) × AnswersDone port (turn.checked.checks some).done replies
+    (record old { device = (turn.checked.checks some).read }) new)
 
 -- ---- as the machine has it
 

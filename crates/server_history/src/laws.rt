@@ -35,6 +35,7 @@ ghost use Rattle.hba_regs.specs.Bits.{bit};
 ghost use Rattle.commands.specs.Masks.{ReadsDone, SeesClear};
 ghost use Rattle.request_queue.specs.Entries.{Held, asks, asks_of, due_ids};
 ghost use Rattle.server_history.specs.Histories.{ExtendsSettled, ExtendsBy, ExtendsHistory, HasBegun, InvariantBy, load_said, store_said};
+ghost use Rattle.server_history.specs.Kept.{LoansEndInTurn};
 ghost use Rattle.server_history.specs.Revoked.{RevokesGrant};
 ghost use Rattle.server_history.specs.Served.{Accepts, AnswersDone, AnswersOne, HasNone, IsMaskOf, IssuesOne, accepting, IssuesAll};
 ghost use Rattle.server_history.specs.Stalled.{BookInvariant};
@@ -364,3 +365,8 @@ pub fn law_ticks_add()
 {
     law_below();
 }
+
+/// Loans end one after another.
+pub fn law_loans_end_in_turn()
+    ensures { LoansEndInTurn }
+{}

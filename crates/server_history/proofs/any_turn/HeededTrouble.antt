@@ -87,7 +87,7 @@ module _ (laws : LawsBelow) where
         (none_or_some 32 c.mask)
       where
         c : ChecksUsed port slots replies turn.seen new
-        c = turn.calm calm
+        c = turn.checked
 
     seen_on : IsOn turn.seen
     seen_on = laws.of_on port old.device turn.seen on (driven_as (IsLooking port) (IsOf port) old.device turn.seen (laws.looking.looking_of port) (laws.looking.looks_driven port turn.look old.device turn.seen turn.looks))

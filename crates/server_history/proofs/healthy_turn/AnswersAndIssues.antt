@@ -117,8 +117,8 @@ module _ (laws : LawsBelow) (port : Port) (done : ℕ) where
 pub turn_settings : LawsBelow → (port : Port) (replies : List Reply) (old new : ServerState) (turn : HasTurnWithoutError port (slots_at old.slots port.0) replies old.device new.device) → AnswersTurn port replies old new turn
     → SameSettings old new
 turn_settings laws port replies old new turn (inl (none, is)) = is ∙ ap (λ (n : ServerState). record old { device = n.device; table = n.table; slots = n.slots; book = n.book }) (sym is)
-turn_settings laws port replies old new turn (inr (calm, some, a)) =
-    let c = (turn.calm calm).checks some in
+turn_settings laws port replies old new turn (inr (some, a)) =
+    let c = turn.checked.checks some in
     each_settings laws port (due_ids (mode_in a.mid port) port (asks_of a.mid.book)) a.mid new a.issued
     ∙ ap (λ (n : ServerState). record n { device = new.device; slots = new.slots; book = new.book }) (answers_settings laws port c.done a.requests (record old { device = c.read }) a.mid a.each)
     ∙ ap (λ (table : Table). record old { device = new.device; table = table; slots = new.slots; book = new.book }) (sym table_is)
@@ -130,8 +130,8 @@ turn_settings laws port replies old new turn (inr (calm, some, a)) =
 pub turn_apart : LawsBelow → (port : Port) (replies : List Reply) (old new : ServerState) (turn : HasTurnWithoutError port (slots_at old.slots port.0) replies old.device new.device) → BookIsInOrder old.book
     → AnswersTurn port replies old new turn → (other : Port) → other ≢ port → of_port other (asks_of new.book) ≡ of_port other (asks_of old.book)
 turn_apart laws port replies old new turn order (inl (none, is)) other ne = ap (λ (n : ServerState). of_port other (asks_of n.book)) is
-turn_apart laws port replies old new turn order (inr (calm, some, a)) other ne =
-    let c = (turn.calm calm).checks some in
+turn_apart laws port replies old new turn order (inr (some, a)) other ne =
+    let c = turn.checked.checks some in
     each_apart laws port (due_ids (mode_in a.mid port) port (asks_of a.mid.book)) a.mid new (answers_order laws port c.done a.requests (record old { device = c.read }) a.mid order a.each) a.issued other ne
     ∙ answers_apart laws port c.done a.requests (record old { device = c.read }) a.mid order a.each other ne
 
@@ -139,7 +139,7 @@ turn_apart laws port replies old new turn order (inr (calm, some, a)) other ne =
 pub turn_slots : LawsBelow → (port : Port) (replies : List Reply) (old new : ServerState) (turn : HasTurnWithoutError port (slots_at old.slots port.0) replies old.device new.device) → AnswersTurn port replies old new turn
     → (other : ℕ) → other ≢ port.0 → slots_at new.slots other ≡ slots_at old.slots other
 turn_slots laws port replies old new turn (inl (none, is)) other ne = ap (λ (n : ServerState). slots_at n.slots other) is
-turn_slots laws port replies old new turn (inr (calm, some, a)) other ne =
-    let c = (turn.calm calm).checks some in
+turn_slots laws port replies old new turn (inr (some, a)) other ne =
+    let c = turn.checked.checks some in
     each_slots laws port (due_ids (mode_in a.mid port) port (asks_of a.mid.book)) a.mid new a.issued other ne
     ∙ answers_slots laws port c.done a.requests (record old { device = c.read }) a.mid a.each other ne

@@ -220,7 +220,7 @@ module _ (s : ServerState) (seen : Device) (port : Port) (t : SettledInvariant s
           seen = seen;
           looks = l;
           quiet = refl;
-          calm = λ _. record { mask = 0; its = its; idle = λ _. (refl, refl); checks = λ some. absurd (some (λ slot small. bit_zero slot)) };
+          checked = record { mask = 0; its = its; idle = λ _. (refl, refl); checks = λ some. absurd (some (λ slot small. bit_zero slot)) };
         })
         (looks_serve laws port s.device seen looks)
         (seen_silent laws)
@@ -249,7 +249,7 @@ module _ (s : ServerState) (seen : Device) (port : Port) (t : SettledInvariant s
             seen = seen;
             looks = l;
             quiet = refl;
-            calm = λ _. record {
+            checked = record {
               mask = mask;
               its = its;
               idle = λ none. absurd (some none);
@@ -390,7 +390,7 @@ module _ (s : ServerState) (seen : Device) (port : Port) (t : SettledInvariant s
               seen = seen;
               looks = l;
               quiet = refl;
-              calm = λ _. record {
+              checked = record {
                 mask = mask;
                 its = its;
                 idle = λ none. absurd (some none);
@@ -404,7 +404,7 @@ module _ (s : ServerState) (seen : Device) (port : Port) (t : SettledInvariant s
                 };
               };
             })
-            (inr (refl, some, a))
+            (inr (some, a))
             turn_adds
             (λ calm slot used small is ci sact.
             let c = still_clear s port k ready slot laws seen looks.driven used is ci sact in

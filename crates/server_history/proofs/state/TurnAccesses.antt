@@ -163,9 +163,9 @@ module _ (port : Port) where
           only = look_turns t.looks.causes t.looks.own t.looks.status t.looks.alone;
         })
 
-    module _ (calm : t.look ≡ NoEvent) (some : HasNone (t.calm calm).mask → ⊥) where
-      abbrev c : Checks port slots (t.calm calm).mask replies t.seen new
-      c = (t.calm calm).checks some
+    module _ (some : HasNone t.checked.mask → ⊥) where
+      abbrev c : Checks port slots t.checked.mask replies t.seen new
+      c = t.checked.checks some
 
       -- the accesses that come after the masks
       more : IsDrivenBy (IsTurn port) c.read new
@@ -183,7 +183,7 @@ module _ (port : Port) where
       checked_driven : IsDrivenBy (IsTurn port) old new
       checked_driven = record {
         accesses = early ++ late;
-        all = laws.basic.does_append early late old t.seen new (look_does t.look old t.seen t.looks) (let r = both_read port (t.calm calm).mask c.done t.seen c.read c.reads in (r.0, r.1, (c.read, r.2, more.all)));
+        all = laws.basic.does_append early late old t.seen new (look_does t.look old t.seen t.looks) (let r = both_read port t.checked.mask c.done t.seen c.read c.reads in (r.0, r.1, (c.read, r.2, more.all)));
         only = All-append (IsTurn port) early late (look_turns t.looks.causes t.looks.own t.looks.status t.looks.alone)
             (All-cons (IsTurn port) (Reading (Px port Ci) c.reads.issued) (Reading (Px port Sact) c.reads.active ∷ more.accesses) (tt, (tt, refl))
             (All-cons (IsTurn port) (Reading (Px port Sact) c.reads.active) more.accesses (tt, (tt, refl)) more.only));
@@ -193,19 +193,19 @@ module _ (port : Port) where
       unfolding checked_driven
       masks_there = record { before = early; later = more.accesses; here = refl; running = leaves }
 
-    checked : (calm : t.look ≡ NoEvent) → (HasNone (t.calm calm).mask → ⊥) → TurnList slots replies old new t
-    checked calm some = record {
-      driven = checked_driven calm some;
-      of = of_all (checked_driven calm some);
-      own = own_all (checked_driven calm some);
-      leaves = leaves_all (checked_driven calm some);
-      calm = λ _ _ _. calm;
-      masks = λ _ _. ((t.calm calm).mask, (t.calm calm).its, (c calm some, masks_there calm some));
+    with_masks : (HasNone t.checked.mask → ⊥) → TurnList slots replies old new t
+    with_masks some = record {
+      driven = checked_driven some;
+      of = of_all (checked_driven some);
+      own = own_all (checked_driven some);
+      leaves = leaves_all (checked_driven some);
+      calm = λ _ _ _. t.quiet;
+      masks = λ _ _. (t.checked.mask, t.checked.its, (c some, masks_there some));
     }
 
     pub turn_list : TurnList slots replies old new t
     turn_list =
-        let calm = t.quiet in ⊎_elim
-        (λ (none : HasNone (t.calm calm).mask). looked ((t.calm calm).idle none) (λ _ busy. unmasked slots (t.calm calm).mask (t.calm calm).its none busy))
-        (λ some. checked calm (λ none. false≢true (sym (none some.0 some.1) ∙ some.2)))
-        (none_or_some 32 (t.calm calm).mask)
+        ⊎_elim
+        (λ (none : HasNone t.checked.mask). looked (t.checked.idle none) (λ _ busy. unmasked slots t.checked.mask t.checked.its none busy))
+        (λ some. with_masks (λ none. false≢true (sym (none some.0 some.1) ∙ some.2)))
+        (none_or_some 32 t.checked.mask)

@@ -6,21 +6,21 @@ use Rattle.std.proofs.lemmas.List.Edits.{map_over_more}
 use Rattle.dma_frames.specs.Loan.{Lending}
 use Rattle.server_history.specs.Kept.{TakesBack}
 use Rattle.server_history.specs.Server.{AreOfTwo, IsLentOut, kept_at}
-use Rattle.block_server.specs.FourPorts.{kept_by_port, without_loans}
+use Rattle.block_server.specs.FourPorts.{by_port, without_loans}
 use Rattle.port_driver.specs.Parts.{no_port}
 use Rattle.port_driver.specs.declared.served_port.ServedPort.{ServedPort}
 use Rattle.block_server.proofs.Keeping.{BackSoFar, all_taken, next_out, next_so_far, next_two, none_so_far}
 use Rattle.block_server.proofs.resetting.give_all_back.Goals as goal
 
 -- what is kept of the port at this place
-kept_there : (ports : List ServedPort) (number : ℕ) (default : ServedPort) → number < length ports → kept_at (kept_by_port ports) number ≡ (get_or ports number default).kept
+kept_there : (ports : List ServedPort) (number : ℕ) (default : ServedPort) → number < length ports → kept_at (by_port (λ p. p.kept) ports) number ≡ (get_or ports number default).kept
 kept_there ports number default low = get_or-map (λ (p : ServedPort). p.kept) ports number no_port ∙ ap (λ (p : ServedPort). p.kept) (get_or_default ports number no_port default low)
 
-four : (ports : List ServedPort) → length (kept_by_port ports) ≡ 4 → length ports ≡ 4
+four : (ports : List ServedPort) → length (by_port (λ p. p.kept) ports) ≡ 4 → length ports ≡ 4
 four ports long = sym (length-map ports (λ (p : ServedPort). p.kept)) ∙ long
 
 pub loop-number-init : goal.loop-number-init
-loop-number-init c = record { back = none_so_far (kept_by_port c.args.ports.now) c.args.table.now (length-map c.args.ports.now (λ (p : ServedPort). p.kept) ∙ c.told-ports); ports = refl }
+loop-number-init c = record { back = none_so_far (by_port (λ p. p.kept) c.args.ports.now) c.args.table.now (length-map c.args.ports.now (λ (p : ServedPort). p.kept) ∙ c.told-ports); ports = refl }
 
 pub give_back-requires-clause-lent : goal.give_back-requires-clause-lent
 give_back-requires-clause-lent c =
@@ -28,7 +28,7 @@ give_back-requires-clause-lent c =
     let ports = c.loop-number.ports in
     let number = c.loop-number.number in
     subst (All (IsLentOut c.loop-number.table)) (kept_there ports number _ (let long = four ports so_far.four in let low = c.loop-number-test.true in omega (arith, long, low)))
-    (next_out c.law_loans_end_in_turn.ensures.stays (kept_by_port c.args.ports.now) (kept_by_port ports) c.args.table.now c.loop-number.table number c.requires so_far.back (so_far.left number (omega arith)))
+    (next_out c.law_loans_end_in_turn.ensures (by_port (λ p. p.kept) c.args.ports.now) (by_port (λ p. p.kept) ports) c.args.table.now c.loop-number.table number c.requires so_far.back (so_far.left number (omega arith)))
 
 pub give_back-requires-clause-apart : goal.give_back-requires-clause-apart
 give_back-requires-clause-apart c =
@@ -36,7 +36,7 @@ give_back-requires-clause-apart c =
     let ports = c.loop-number.ports in
     let number = c.loop-number.number in
     subst (AllPairs AreOfTwo) (kept_there ports number _ (let long = four ports so_far.four in let low = c.loop-number-test.true in omega (arith, long, low)))
-    (next_two c.law_loans_end_in_turn.ensures.stays (kept_by_port c.args.ports.now) (kept_by_port ports) c.args.table.now c.loop-number.table number c.requires so_far.back (so_far.left number (omega arith)))
+    (next_two c.law_loans_end_in_turn.ensures (by_port (λ p. p.kept) c.args.ports.now) (by_port (λ p. p.kept) ports) c.args.table.now c.loop-number.table number c.requires so_far.back (so_far.left number (omega arith)))
 
 -- one more has none
 next : (old now : List ServedPort) (number : ℕ) (default : ServedPort) (kept : List Lending) → number < length old → number < length now → kept ≡ [] → now ≡ map without_loans (take number old) ++ drop number old
@@ -54,13 +54,13 @@ loop-number-preserved c =
     let long = four ports so_far.four in
     let told = c.told-ports in
     let small : number < length ports = omega (arith, long, low) in
-    let first = kept_by_port c.args.ports.now in
+    let first = by_port (λ p. p.kept) c.args.ports.now in
     let B : List (List Lending) → Type 0 = λ kept. BackSoFar first kept c.args.table.now c.give_back.new.table (number + 1) in
     let here = sym (kept_there ports number c.index-ports-number.result small) in
     record {
       back = subst B (sym (map-set (λ (p : ServedPort). p.kept) ports number (record (get_or ports number c.index-ports-number.result) { kept = c.give_back.new.self })
-          ∙ ap (set (kept_by_port ports) number) c.give_back.ensures.empty))
-          (next_so_far c.law_loans_end_in_turn.ensures.stays c.law_loans_end_in_turn.ensures.both first (kept_by_port ports) c.args.table.now c.loop-number.table c.give_back.new.table number c.requires so_far low
+          ∙ ap (set (by_port (λ p. p.kept) ports) number) c.give_back.ensures.empty))
+          (next_so_far c.law_loans_end_in_turn.ensures first (by_port (λ p. p.kept) ports) c.args.table.now c.loop-number.table c.give_back.new.table number c.requires so_far low
           (subst (λ (loans : List Lending). TakesBack c.loop-number.table c.give_back.new.table (Contains loans)) here c.give_back.ensures.back));
       ports = next c.args.ports.now ports number c.index-ports-number.result c.give_back.new.self (omega (arith, told, low)) small c.give_back.ensures.empty c.loop-number.invariant.ports;
     }
@@ -77,5 +77,5 @@ returns-clause-ports c =
 
 pub returns-clause-back : goal.returns-clause-back
 returns-clause-back c =
-    all_taken (kept_by_port c.args.ports.now) (kept_by_port c.loop-number.ports) c.args.table.now c.loop-number.table c.loop-number.number c.loop-number.invariant.back
+    all_taken (by_port (λ p. p.kept) c.args.ports.now) (by_port (λ p. p.kept) c.loop-number.ports) c.args.table.now c.loop-number.table c.loop-number.number c.loop-number.invariant.back
     (length-map c.args.ports.now (λ (p : ServedPort). p.kept) ∙ c.told-ports) (let past = c.loop-number-test.false in omega (arith, past))

@@ -3,7 +3,8 @@ use Rattle.std.proofs.lemmas.List.{length-map, length-set}
 use Rattle.std.proofs.Math.Seq.{map-set_same}
 use Rattle.ata_types.specs.declared.request.Reply.{Reply}
 use Rattle.refinement.specs.Relation.{port_at}
-use Rattle.block_server.specs.FourPorts.{found_by_port, with_ports}
+use Rattle.block_server.specs.FourPorts.{by_port}
+use Rattle.block_server.specs.Seen.{with_ports}
 use Rattle.port_driver.specs.declared.served_port.ServedPort.{ServedPort}
 use Rattle.server_history.specs.Resets.{MaySettle, SettlesPort}
 use Rattle.server_history.specs.Server.{ServerState}
@@ -59,7 +60,7 @@ loop-number-preserved c =
     let four = so_far.four in
     let small = c.loop-number-test.true in
     let low : number < length ports = omega (arith, four, small) in
-    let found = found_by_port c.args.ports.now in
+    let found = by_port (λ p. p.found) c.args.ports.now in
     let told = c.told-ports in
     let long = length-map c.args.ports.now (λ (p : ServedPort). p.found) in
     let at = (goal.at.loop-number-preserved c).After-resolve_after_reset in
@@ -83,7 +84,7 @@ returns-clause-settles c = λ s may.
     let long = length-map c.args.ports.now (λ (p : ServedPort). p.found) in
     let four = c.told-ports in
     let large = c.loop-number-test.false in
-    let all = c.loop-number.invariant.rest s may [] now (reviving.none_to_settle (found_by_port c.args.ports.now) c.loop-number.number (omega (arith, long, four, large)) now) in
+    let all = c.loop-number.invariant.rest s may [] now (reviving.none_to_settle (by_port (λ p. p.found) c.args.ports.now) c.loop-number.number (omega (arith, long, four, large)) now) in
     (all.0, sym (append-nil c.loop-number.replies.items) ∙ all.1, all.2)
 
 pub returns-clause-found : goal.returns-clause-found

@@ -1,7 +1,8 @@
 use Rattle.std.proofs.Common.{◌≡◌, ◌≤◌, ◌+◌, ◌++◌, List, drop, length}
 use Rattle.ata_types.specs.declared.request.Reply.{Reply}
 use Rattle.ata_types.specs.declared.limits.TheConstants.{MOST_UNANSWERED}
-use Rattle.block_server.specs.FourPorts.{found_by_port, with_ports}
+use Rattle.block_server.specs.FourPorts.{by_port}
+use Rattle.block_server.specs.Seen.{with_ports}
 use Rattle.server_history.specs.Resets.{MaySettle, SettlePorts}
 use Rattle.server_history.specs.Server.{ServerState}
 use Rattle.block_server.proofs.resetting.resolve_ports.Given as goal
@@ -9,10 +10,10 @@ use Rattle.block_server.proofs.resetting.resolve_ports.Given as goal
 abbrev pub invariant-loop-number : goal.invariant-loop-number
 invariant-loop-number l = record {
   four : length l.ports ≡ 4;
-  found : found_by_port l.ports ≡ found_by_port l.fn.ports;
+  found : by_port (λ p. p.found) l.ports ≡ by_port (λ p. p.found) l.fn.ports;
   settle : (s : ServerState) → MaySettle (with_ports s s.device l.fn.shared l.fn.ports) → MaySettle (with_ports s s.device l.shared l.ports);
   rest : (s : ServerState) → MaySettle (with_ports s s.device l.fn.shared l.fn.ports) → (later : List Reply) (new : ServerState)
-      → SettlePorts l.number (drop l.number (found_by_port l.fn.ports)) later (with_ports s s.device l.shared l.ports) new
-      → (its : List Reply) × (l.replies.items ++ later ≡ l.fn.replies.items ++ its) × SettlePorts 0 (found_by_port l.fn.ports) its (with_ports s s.device l.fn.shared l.fn.ports) new;
+      → SettlePorts l.number (drop l.number (by_port (λ p. p.found) l.fn.ports)) later (with_ports s s.device l.shared l.ports) new
+      → (its : List Reply) × (l.replies.items ++ later ≡ l.fn.replies.items ++ its) × SettlePorts 0 (by_port (λ p. p.found) l.fn.ports) its (with_ports s s.device l.fn.shared l.fn.ports) new;
   room : length l.replies.items + length l.shared.book ≤ MOST_UNANSWERED;
 }

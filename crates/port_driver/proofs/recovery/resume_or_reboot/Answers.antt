@@ -1,6 +1,6 @@
-use Rattle.std.proofs.Common.{◌≡◌, sym, ◌∙◌, ⊎_elim}
-use Rattle.ata_types.specs.declared.PortState.TheVariants.{Absent}
-use Rattle.host_boot.specs.declared.ProbeResult.TheVariants.{Ready, Unready}
+use Rattle.std.proofs.Common.{sym, ap, ◌∙◌, ⊎_elim}
+use Rattle.server_history.specs.Server.{mode_found}
+use Rattle.port_driver.specs.Modes.{mode_of_port}
 use Rattle.port_driver.proofs.Restoring.{boots_or_absent}
 use Rattle.port_driver.proofs.recovery.resume_or_reboot.Goals as goal
 
@@ -9,7 +9,9 @@ boot_after-booted-requires-clause-bootable g c = (c.requires.bootable c.in-Resta
 
 pub returns-in-Restart-clause-mode : goal.returns-in-Restart-clause-mode
 returns-in-Restart-clause-mode g c =
-    let device = g.A.Adapter.device in ⊎_elim
+    let device = g.A.Adapter.device in
+    let booted = c.boot_after-booted.result in
+    ⊎_elim
     (λ boots. c.mode_found-mode.ensures.found _ boots.slots boots.queued)
-    (λ absent. c.mode_found-mode.ensures.plain _ (λ info is. let z : Unready Absent ≡ Ready info = sym absent ∙ is in cc))
+    (λ absent. c.mode_found-mode.ensures.mode ∙ ap (mode_of_port booted.slots booted.queued) absent ∙ sym (ap (mode_found (device c.boot_after-booted.new.adapter).cap) absent))
     (boots_or_absent c.args.port_error c.args.wanted.now c.in-Restart.stopped.port c.boot_after-booted.result (device c.args.adapter.now) (device c.boot_after-booted.new.adapter) c.boot_after-booted.ensures.boots)

@@ -11,8 +11,8 @@ use Rattle.dma_frames.specs.Table.{owner_of, lent_to}
 use Rattle.block_server.specs.Calls.{AcceptsRequest, IsFor}
 use Rattle.std.specs.Box.{with_value}
 use Rattle.port_driver.specs.Parts.{HasPortAt}
-use Rattle.block_server.specs.FourPorts.{found_by_port, kept_by_port, remembered_by_port, mode_by_port, slots_by_port, wanted_by_port}
-use Rattle.port_driver.specs.Ports.{HasReadyPort, with_port_slots}
+use Rattle.block_server.specs.FourPorts.{by_port}
+use Rattle.port_driver.specs.Ports.{HasFoundPort, with_port_slots}
 use Rattle.port_driver.specs.declared.served_port.ServedPort.{ServedPort}
 use Rattle.port_driver.specs.declared.served_port.Shared.{Shared}
 use Rattle.block_server.proofs.Placing as placing
@@ -21,7 +21,7 @@ use Rattle.block_server.specs.View.{ServerView, server_of}
 use Rattle.request_queue.specs.Entries.{Held, asks, asks_of}
 use Rattle.server_history.specs.Histories.{ExtendsHistory}
 use Rattle.server_history.specs.Served.{Accepts, accepted_as, accepting}
-use Rattle.server_history.specs.Server.{ServerState, mode_in, server_situation}
+use Rattle.server_history.specs.Server.{ServerState, mode_in, server_situation, state_of}
 use Rattle.block_server.proofs.Standing.{is_on, of_on}
 use Rattle.block_server.proofs.Accepting as accepted
 use Rattle.block_server.proofs.Newest as newest
@@ -56,39 +56,35 @@ has_port g c =
 
 -- what the server has once it is accepted
 lends : (g : Over) (c : After-index-self-from g)
-    → HasReadyPort (accepting c.args.port c.args.r.now (record { 0 = c.self.inside.last + 1 }) c.lend-loan.new.self (server_of g.A.Adapter.device (seen c.self.inside))) (g.A.Adapter.device c.self.inside.adapter) c.accept.new.self (its_port g c).slots c.args.port (its_port g c).mode
+    → HasFoundPort (accepting c.args.port c.args.r.now (record { 0 = c.self.inside.last + 1 }) c.lend-loan.new.self (server_of g.A.Adapter.device (seen c.self.inside))) (g.A.Adapter.device c.self.inside.adapter) c.accept.new.self (its_port g c).slots c.args.port (its_port g c).mode (its_port g c).found
 lends g c =
     let acc = (subst (λ (v : ServerView g.row.A.Denot). IsAcceptable (server_situation (server_of g.A.Adapter.device v)) c.args.r.now) (sym c.self.view_is) c.requires.acceptable) in
     let is_for = subst (λ (x : ServerView g.row.A.Denot). IsFor x.grants c.args.r.now c.args.port) (sym c.self.view_is) c.requires.port in
     accepted.lends (server_of g.A.Adapter.device (seen c.self.inside)) c.args.r.now acc (is_on g.A.Adapter.device (seen c.self.inside) c.args.self.now c.self.view_is c.requires.on c.self.invariant).kept c.args.port is_for
     c.law_requests_keep.ensures.accepted (record { 0 = c.self.inside.last + 1 }) refl c.as_slice.result.now c.as_slice.ensures.value
     c.lend-loan.new.self (rw c.deref_mut.ensures.value at c.lend-loan.ensures.lent) c.lend-loan.result.frames c.lend-loan.ensures.frames c.accept.new.self c.accept.ensures
-    (its_port g c).slots (has_port g c).slots_are (its_port g c).mode (has_port g c).mode_is
+    (its_port g c).slots (has_port g c).slots_are (its_port g c).mode (has_port g c).mode_is (its_port g c).found (has_port g c).found_is
 
 pub issue_due-requires : goal.issue_due-requires
 issue_due-requires g c =
     let at = (goal.at.issue_due-requires g c).After-index-self-from in
-    record { lends = (accepting c.args.port c.args.r.now (record { 0 = c.self.inside.last + 1 }) c.lend-loan.new.self (server_of g.A.Adapter.device (seen c.self.inside)), lends g at) }
+    let s = server_of g.A.Adapter.device (seen c.self.inside) in
+    let acc = subst (λ (v : ServerView g.row.A.Denot). IsAcceptable (server_situation (server_of g.A.Adapter.device v)) c.args.r.now) (sym c.self.view_is) c.requires.acceptable in
+    let is_for = subst (λ (v : ServerView g.row.A.Denot). IsFor v.grants c.args.r.now c.args.port) (sym c.self.view_is) c.requires.port in
+    let kept = (is_on g.A.Adapter.device (seen c.self.inside) c.args.self.now c.self.view_is c.requires.on c.self.invariant).kept in
+    record { ready = ap state_of (sym (has_port g at).found_is) ∙ accepted.ready s c.args.r.now acc kept c.args.port is_for; lends = (accepting c.args.port c.args.r.now (record { 0 = c.self.inside.last + 1 }) c.lend-loan.new.self (server_of g.A.Adapter.device (seen c.self.inside)), lends g at) }
 
 abbrev at_issuing : (g : Over) (c : After-issue_due g) → After-index-self-from g
 at_issuing g c = (goal.at.returns-clause-cost g c).After-index-self-from
 
 -- the server then
 abbrev after : (g : Over) (c : After-issue_due g) → ServerView g.row.A.Denot
-after g c =
-    let ports = set c.self.inside.ports c.from.result c.issue_due.new.self in
-    record (seen c.self.inside) {
-      adapter = c.issue_due.new.adapter;
-      table = c.lend-loan.new.self;
-      wanted = wanted_by_port ports;
-      ports = found_by_port ports;
-      remembered = remembered_by_port ports;
-      modes = mode_by_port ports;
-      slots = slots_by_port ports;
-      kept = kept_by_port ports;
-      book = c.issue_due.new.book;
-      last = c.self.inside.last + 1;
-    }
+after g c = seen (record c.self.inside {
+  adapter = c.issue_due.new.adapter;
+  shared = record { table = with_value c.self.inside.shared.table c.lend-loan.new.self; book = c.issue_due.new.book };
+  ports = set c.self.inside.ports c.from.result c.issue_due.new.self;
+  last = c.self.inside.last + 1;
+})
 
 -- what was due then is issued
 sent : (g : Over) (c : After-issue_due g) → Accepts c.args.port c.args.r.now (record { 0 = c.self.inside.last + 1 }) (server_of g.A.Adapter.device (seen c.self.inside)) (server_of g.A.Adapter.device (after g c))
@@ -106,7 +102,7 @@ sent g c =
     let u = c.issue_due.new.self.slots in
     let shared : Shared = record { table = with_value v.shared.table c.lend-loan.new.self; book = c.issue_due.new.book } in
     subst (Accepts c.args.port c.args.r.now id s) (sym (placing.slots_placed (record s { last = v.last + 1 }) v.ports c.from.result c.index-self-from.result new shared c.issue_due.new.self c.issue_due.ensures.rest))
-    (subst (λ (n : ℕ). Accepts c.args.port c.args.r.now id s (record more { device = new; slots = slice_set (slots_by_port v.ports) n u; book = c.issue_due.new.book })) (sym c.from.ensures)
+    (subst (λ (n : ℕ). Accepts c.args.port c.args.r.now id s (record more { device = new; slots = slice_set (by_port (λ p. p.slots) v.ports) n u; book = c.issue_due.new.book })) (sym c.from.ensures)
     (accepts (with_port_slots more new c.issue_due.new.book u c.args.port) (c.issue_due.ensures.issues more (lends g (at_issuing g c)))))
 
 pub invariant_of-self : goal.invariant_of-self

@@ -4,7 +4,7 @@ use Rattle.dma_frames.specs.Loan.{Lending}
 use Rattle.dma_frames.specs.Table.{Table}
 use Rattle.request_queue.specs.Entries.{GivesBack}
 use Rattle.server_history.specs.Server.{ServerState, kept_at}
-use Rattle.block_server.specs.FourPorts.{kept_by_port, without_loans}
+use Rattle.block_server.specs.FourPorts.{by_port, without_loans}
 use Rattle.port_driver.specs.Parts.{no_port}
 use Rattle.port_driver.specs.declared.served_port.ServedPort.{ServedPort}
 use Rattle.server_history.specs.Kept.{MayGoBack}
@@ -36,5 +36,5 @@ give_all_back-requires-2 g c =
 pub end_all-requires : goal.end_all-requires
 end_all-requires g c =
     let ports = c.self.inside.ports in
-    subst (λ (lists : List (List Lending)). (port : ℕ) → kept_at lists port ≡ []) (sym (c.into_loans.ensures ∙ ap kept_by_port c.give_all_back-2.ensures.ports))
+    subst (λ (lists : List (List Lending)). (port : ℕ) → kept_at lists port ≡ []) (sym (c.into_loans.ensures ∙ ap (by_port (λ p. p.kept)) c.give_all_back-2.ensures.ports))
     (λ port. get_or-map (λ (p : ServedPort). p.kept) (map without_loans ports) port no_port ∙ ap (λ (p : ServedPort). p.kept) (get_or-map without_loans ports port no_port))

@@ -6,8 +6,7 @@ use Rattle.server_history.specs.Resets.{SettlePorts}
 use Rattle.server_history.specs.Server.{ServerState}
 use Rattle.server_history.specs.Stalled.{StuckInvariant}
 use Rattle.block_server.specs.Calls.{ServicesBy}
-use Rattle.block_server.specs.FourPorts.{with_ports}
-use Rattle.block_server.specs.Seen.{seen}
+use Rattle.block_server.specs.Seen.{seen, with_ports}
 use Rattle.block_server.specs.View.{ServerView, server_of}
 use Rattle.block_server.proofs.Standing.{now_off, still}
 use Rattle.block_server.proofs.server.Server.fail_all.Given.{Over}

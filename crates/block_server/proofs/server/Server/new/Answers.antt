@@ -1,4 +1,4 @@
-use Rattle.std.proofs.Common.{rules, ◌∙◌, ◌*◌, ◌≤◌, List, ap, refl, sym, subst, arith}
+use Rattle.std.proofs.Common.{rules, false, ◌∙◌, ◌*◌, ◌≤◌, List, ap, refl, sym, subst, arith}
 use Rattle.std.specs.List.{AllPairs}
 use Rattle.ata_types.specs.declared.grant.GrantRow.{GrantRow}
 use Rattle.block_machine.specs.Rules.{DifferInName}
@@ -9,7 +9,8 @@ use Rattle.host_boot.specs.declared.ProbeResult.{ProbeResult}
 use Rattle.identify.specs.declared.wanted.Wanted.{Wanted}
 use Rattle.server_history.specs.Histories.{HasBegun}
 use Rattle.server_history.specs.Server.{ServerState, SettledInvariant, mode_found}
-use Rattle.block_server.specs.FourPorts.{found_by_port, kept_by_port, remembered_by_port, mode_by_port, slots_by_port, wanted_by_port}
+use Rattle.block_server.specs.Seen.{seen}
+use Rattle.block_server.specs.View.{server_of}
 use Rattle.block_server.proofs.Making.{NewPorts, new_fits, new_ports}
 use Rattle.block_server.proofs.server.Server.new.Given.{Over}
 use Rattle.block_server.proofs.server.Server.new.Goals as goal
@@ -24,21 +25,14 @@ boxed-requires-clause-apart g c = subst (AllPairs ExtentsApart) (sym c.owners.en
 
 -- the server then
 abbrev new_server : (g : Over) (c : After-law_a_new_server_has_begun g) → ServerState
-new_server g c =
-    let ports = c.begin_anew.new.ports in
-    record {
-      device = g.A.Adapter.device c.take_over-host.new.adapter;
-      grants = c.in-Ok-from_rows.grants;
-      table = c.in-Ok-boxed.table.value;
-      wanted = wanted_by_port ports;
-      ports = found_by_port ports;
-      remembered = remembered_by_port ports;
-      modes = mode_by_port ports;
-      slots = slots_by_port ports;
-      kept = kept_by_port ports;
-      book = c.in-Ok-new.book;
-      last = 0;
-    }
+new_server g c = server_of g.A.Adapter.device (seen (record {
+  adapter = c.take_over-host.new.adapter;
+  grants = c.in-Ok-from_rows.grants;
+  shared = record { table = c.in-Ok-boxed.table; book = c.in-Ok-new.book };
+  ports = c.begin_anew.new.ports;
+  last = 0;
+  stuck = false;
+}))
 
 -- what it has of its ports
 has_ports : (g : Over) (c : After-law_a_new_server_has_begun g) → NewPorts c.take_over-host.result c.wanted.result.now c.begin_anew.new.ports

@@ -11,8 +11,8 @@ use Rattle.server_history.specs.Kept.{IsKeptIn, MayGoBack, TakesBack}
 use Rattle.server_history.specs.Resets.{IsReinitialized, IssuePorts, ResetsServer, SettlePorts}
 use Rattle.server_history.specs.Server.{InCallInvariant, ServerState}
 use Rattle.server_history.specs.Stalled.{ResetGetsStuck, BookInvariant}
-use Rattle.block_server.specs.FourPorts.{EachBecomes, BeginsAsHostFound, kept_by_port, wanted_by_port, with_ports}
-use Rattle.block_server.specs.Seen.{seen}
+use Rattle.block_server.specs.FourPorts.{EachBecomes, BeginsAsHostFound, by_port}
+use Rattle.block_server.specs.Seen.{seen, with_ports}
 use Rattle.block_server.specs.View.{ServerView, server_of}
 use Rattle.port_driver.specs.declared.served_port.ServedPort.{ServedPort}
 use Rattle.port_driver.specs.declared.served_port.Shared.{Shared}
@@ -91,8 +91,8 @@ takes g c =
     let idle = device c.reset.new.adapter in
     becoming.takes_again (server_of device (seen v)) (device v.adapter) idle new v.shared (shared_then g c) v.ports c.begin_anew.new.ports (placing.four_ports v.ports (its_books g c).four) host c.take_over-host.ensures.four
     (subst (λ (ports : List ServedPort). EachBecomes (BeginsAsHostFound host) ports c.begin_anew.new.ports) back.ports c.begin_anew.ensures) c.in_default.ensures.reset
-    (subst (λ (table : Table). TakesBack table c.give_all_back.new.table (IsKeptIn (kept_by_port v.ports))) c.deref_mut.ensures.value back.back)
-    (subst (λ (wanted : List Wanted). TakesOver wanted host idle new) (c.wanted_disks.ensures ∙ ap wanted_by_port back.ports) c.take_over-host.ensures.taken) refl
+    (subst (λ (table : Table). TakesBack table c.give_all_back.new.table (IsKeptIn (by_port (λ p. p.kept) v.ports))) c.deref_mut.ensures.value back.back)
+    (subst (λ (wanted : List Wanted). TakesOver wanted host idle new) (c.wanted_disks.ensures ∙ ap (by_port (λ p. p.wanted)) back.ports) c.take_over-host.ensures.taken) refl
 
 pub resolve_ports-requires-clause-settle : goal.resolve_ports-requires-clause-settle
 resolve_ports-requires-clause-settle g c = (taken g c, c.law_a_reset_server_goes_on.ensures.settle (server_of g.A.Adapter.device (seen c.self.inside)) (taken g c) (its_books g c) (takes g c))

@@ -1,4 +1,4 @@
-use Rattle.std.proofs.Common.{Bool, true, false, ◌≡◌, List, None, Some, refl, sym, ap, ◌∙◌, subst, arith, get_or, set, [], ⊎_elim}
+use Rattle.std.proofs.Common.{Bool, true, false, ◌≡◌, List, None, Some, refl, sym, ap, ◌∙◌, subst, arith, get_or, length, set, [], ⊎_elim}
 use Rattle.ata_types.specs.declared.grant.GrantRow.{GrantRow}
 use Rattle.block_machine.specs.Events.{RevokeOf, WasRevoked}
 use Rattle.block_machine.specs.Due.{due_of}
@@ -8,7 +8,6 @@ use Rattle.server_history.specs.Histories.{ExtendsSettled, ExtendsHistory, Exten
 use Rattle.server_history.specs.Revoked.{RevokesGrant}
 use Rattle.server_history.specs.Served.{IssuesAll}
 use Rattle.server_history.specs.Server.{InCallInvariant, SettledInvariant, ServerState}
-use Rattle.block_server.specs.FourPorts.{found_by_port, kept_by_port, remembered_by_port, mode_by_port, slots_by_port, wanted_by_port}
 use Rattle.port_driver.specs.Ports.{HasFoundPort}
 use Rattle.port_driver.specs.declared.served_port.ServedPort.{ServedPort}
 use Rattle.port_driver.specs.declared.served_port.Shared.{Shared}
@@ -33,15 +32,18 @@ returns-in_default-clause-adds g c =
     let Q : List GrantRow → Type 0 = λ rows. ExtendsHistory (server_of device s) (server_of device (record s { grants = rows })) (RevokeOf c.args.client c.args.number) (WasRevoked None) in
     subst P c.self.view_is (subst Q (sym none.0) (c.law_refusals_add.ensures.revoke c.self.inside.stuck (server_of device s) c.args.client c.args.number c.self.invariant none.1))
 
-pub answer_waiting-requires-clause-sound : goal.answer_waiting-requires-clause-sound
-answer_waiting-requires-clause-sound g c =
+pub answer_waiting-requires : goal.answer_waiting-requires
+answer_waiting-requires g c =
     let s = server_of g.A.Adapter.device (seen c.self.inside) in
     let b : BookInvariant s = holds_either c.self.inside.stuck c.self.invariant (λ _ settled. c.law_a_server_is_booked.ensures.kept s settled.kept) (λ _ stalled. stalled.booked) in
-    let sound : BookIsSound s.table (all_marked_under c.args.client c.args.number s.book) = record {
+    let marked : BookIsSound s.table (all_marked_under c.args.client c.args.number s.book) = record {
       ordered = c.law_the_book_stays_in_order.ensures.revoked s.book c.args.client c.args.number b.ordered;
       accepted = c.law_accepted_requests_stay.ensures.revoked s.table s.book c.args.client c.args.number b.accepted;
     } in
-    subst (BookIsSound s.table) (sym c.revoke-2.ensures) sound
+    let sound : BookIsSound s.table c.revoke-2.new.self = subst (BookIsSound s.table) (sym c.revoke-2.ensures) marked in
+    let all = c.law_the_book_stays_in_order.ensures.all c.revoke-2.new.self sound.ordered in
+    let none = ap length c.clear.ensures in
+    record { sound = sound; room = omega (arith, all, none) }
 
 -- ---- since a reset that got stuck
 
@@ -126,20 +128,12 @@ issue_where_ready-requires g c =
 
 -- the server then
 abbrev after_on : (g : Over) (c : After-issue_where_ready g) → ServerView g.row.A.Denot
-after_on g c =
-    let ports = set c.self.inside.ports c.from.result c.issue_where_ready.new.self in
-    record (seen c.self.inside) {
-      adapter = c.issue_where_ready.new.adapter;
-      grants = c.revoke.new.self;
-      table = c.answer_waiting.new.self.table.value;
-      wanted = wanted_by_port ports;
-      ports = found_by_port ports;
-      remembered = remembered_by_port ports;
-      modes = mode_by_port ports;
-      slots = slots_by_port ports;
-      kept = kept_by_port ports;
-      book = c.issue_where_ready.new.book;
-    }
+after_on g c = seen (record c.self.inside {
+  adapter = c.issue_where_ready.new.adapter;
+  grants = c.revoke.new.self;
+  shared = record c.answer_waiting.new.self { book = c.issue_where_ready.new.book };
+  ports = set c.self.inside.ports c.from.result c.issue_where_ready.new.self;
+})
 
 -- the moment before that
 abbrev before : (g : Over) (c : After-issue_where_ready g) → After-index-self-from g

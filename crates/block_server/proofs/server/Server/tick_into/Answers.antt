@@ -1,4 +1,5 @@
-use Rattle.std.proofs.Common.{◌≡◌, ◌↔◌, Bool, IsTrue, false, List, arith, length, slice_index_or, refl, sym, ap, ◌∙◌, subst}
+use Rattle.std.proofs.Common.{◌≡◌, ◌↔◌, Bool, IsTrue, false, List, arith, length, slice_index_or, inr, refl, sym, ap, ◌∙◌, subst}
+use Rattle.std.proofs.lemmas.Bool.{false_from_ne_true}
 use Rattle.std.proofs.Math.ListN.{get_or-map}
 use Rattle.std.proofs.lemmas.List.{length-map}
 use Rattle.ata_types.specs.declared.request.Reply.{Reply}
@@ -11,7 +12,7 @@ use Rattle.server_history.specs.Histories.{ExtendsHistory, InvariantBy}
 use Rattle.server_history.specs.Server.{SettledInvariant, ServerState}
 use Rattle.server_history.specs.Turns.{Ticks, TicksPort, a_tick_older, is_ready}
 use Rattle.port_driver.specs.Parts.{IsAtRest, no_port}
-use Rattle.block_server.specs.FourPorts.{found_by_port}
+use Rattle.block_server.specs.FourPorts.{by_port}
 use Rattle.block_server.specs.Seen.{seen}
 use Rattle.block_server.specs.View.{ServerView, server_of}
 use Rattle.port_driver.specs.declared.served_port.ServedPort.{ServedPort}
@@ -23,7 +24,7 @@ use Rattle.block_server.proofs.server.Server.tick_into.Goals as goal
 use Rattle.block_server.proofs.server.Server.tick_into.Goals.{After-loop-number, After-overdue_ports-overdue}
 
 -- requests are a tick older
-older : (g : Over) (c : After-overdue_ports-overdue g) → c.tick-any_overdue.new.self ≡ aged (λ port. is_ready (probe_result_of (found_by_port c.self.inside.ports) port.0)) c.self.inside.shared.book
+older : (g : Over) (c : After-overdue_ports-overdue g) → c.tick-any_overdue.new.self ≡ aged (λ port. is_ready (probe_result_of (by_port (λ p. p.found) c.self.inside.ports) port.0)) c.self.inside.shared.book
 older g c =
     c.tick-any_overdue.ensures.older_entry
     ∙ (λ i. aged (λ port. (c.ready_ports.ensures port ∙ ap is_ready (sym (get_or-map (λ (p : ServedPort). p.found) c.self.inside.ports port.0 no_port))) i) c.self.inside.shared.book)
@@ -62,6 +63,7 @@ loop-number-preserved g c =
           (c.tick.ensures.turn s old.book exact (its_part (TicksPort old.book) IsAtRest c.args.self.now.ports old s (device v.adapter) v.shared v.ports told number so_far.turns small default));
       room = c.tick.ensures.room;
       on = so_far.on;
+      rests = λ none. c.tick.ensures.rests (inr (false_from_ne_true (slice_index_or c.overdue_ports-overdue.result number false) (λ overdue. none (port_at number, exact.0 overdue)))) ∙ so_far.rests none;
       cost = omega (arith, so_far.cost, c.tick.ensures.cost);
     }
 
@@ -81,10 +83,12 @@ invariant_of-self g c = subst (λ (b : Bool). InvariantBy b (server_of g.A.Adapt
 
 pub returns-clause-ticks : goal.returns-clause-ticks
 returns-clause-ticks g c =
-    let device = g.A.Adapter.device in (
-      by_on (λ (b : Bool). TicksBy b c.loop-number.replies.items (server_of device c.args.self.now) (server_of device (seen c.loop-number.self-inside))) c.self.view_is c.if-self.false (ticked g c),
-      c.loop-number.invariant.on ∙ by_on (λ (b : Bool). false ≡ b) c.self.view_is c.if-self.false refl,
-    )
+    let device = g.A.Adapter.device in
+    record {
+      ticks = by_on (λ (b : Bool). TicksBy b c.loop-number.replies.items (server_of device c.args.self.now) (server_of device (seen c.loop-number.self-inside))) c.self.view_is c.if-self.false (ticked g c);
+      stuck = c.loop-number.invariant.on ∙ by_on (λ (b : Bool). false ≡ b) c.self.view_is c.if-self.false refl;
+      rests = c.loop-number.invariant.rests;
+    }
 
 pub returns-clause-adds : goal.returns-clause-adds
 returns-clause-adds g c =
@@ -96,7 +100,11 @@ returns-clause-adds g c =
 pub returns-then-self-clause-ticks : goal.returns-then-self-clause-ticks
 returns-then-self-clause-ticks g c =
     let s = server_of g.A.Adapter.device c.args.self.now in
-    (subst (λ (b : Bool). TicksBy b c.clear.new.self.items s s) (sym (ap (λ (v : ServerView g.row.A.Denot). v.stuck) (sym c.self.view_is) ∙ c.if-self.true)) (c.clear.ensures, refl), refl)
+    record {
+      ticks = subst (λ (b : Bool). TicksBy b c.clear.new.self.items s s) (sym (ap (λ (v : ServerView g.row.A.Denot). v.stuck) (sym c.self.view_is) ∙ c.if-self.true)) (c.clear.ensures, refl);
+      stuck = refl;
+      rests = λ none. refl;
+    }
 
 pub returns-then-self-clause-adds : goal.returns-then-self-clause-adds
 returns-then-self-clause-adds g c =
@@ -121,5 +129,6 @@ loop-number-init g c =
           (none_yet (TicksPort old.book) IsAtRest c.args.self.now.ports old v.ports (record (server_of device (seen v)) { book = c.tick-any_overdue.new.self }) four ports now (older_now g at));
       room = let all = c.law_the_book_stays_in_order.ensures.all c.tick-any_overdue.new.self now.kept.ordered in let none = ap length c.clear.ensures in omega (arith, all, none);
       on = c.if-self.false;
+      rests = λ none. ap (λ (x : ServerView g.row.A.Denot). x.adapter) c.self.view_is;
       cost = let same = ap (λ (x : ServerView g.row.A.Denot). g.A.Adapter.access_count x.adapter) c.self.view_is in omega (arith, same);
     }

@@ -3,6 +3,7 @@ use Rattle.adapter.specs.Counted.{MakesAtMost}
 use Rattle.port_driver.specs.Costs.{port_error_accesses}
 use Rattle.port_control.specs.declared.events.PortError.TheVariants.{TimedOut}
 use Rattle.ata_types.specs.declared.limits.TheConstants.{MOST_UNANSWERED}
+use Rattle.request_queue.specs.Entries.{IsAnyOverdue}
 use Rattle.server_history.specs.Turns.{TicksPort, a_tick_older}
 use Rattle.port_driver.specs.Parts.{IsAtRest}
 use Rattle.block_server.proofs.Turns.{TurnsSoFar}
@@ -16,5 +17,6 @@ invariant-loop-number g l = record {
   turns : TurnsSoFar (TicksPort (a_tick_older (server_of g.A.Adapter.device l.fn.self)).book) IsAtRest l.fn.self.ports (a_tick_older (server_of g.A.Adapter.device l.fn.self)) l.self-inside.ports l.replies.items (server_of g.A.Adapter.device (seen l.self-inside)) l.number;
   room : length l.replies.items + length l.self-inside.shared.book ≤ MOST_UNANSWERED;
   on : l.self-inside.stuck ≡ false;
+  rests : (IsAnyOverdue (a_tick_older (server_of g.A.Adapter.device l.fn.self)).book → ⊥) → l.self-inside.adapter ≡ l.fn.self.adapter;
   cost : MakesAtMost (port_error_accesses TimedOut * l.number) (g.A.Adapter.access_count l.fn.self.adapter) (g.A.Adapter.access_count l.self-inside.adapter);
 }

@@ -2,7 +2,7 @@ use Rattle.std.proofs.Common.{sym, subst}
 use Rattle.dma_frames.specs.Table.{Table}
 use Rattle.server_history.specs.Server.{ServerState}
 use Rattle.port_driver.specs.Ports.{HasDonePort}
-use Rattle.port_driver.specs.Recovery.{HasPortInError}
+use Rattle.port_driver.specs.Recovery.{IsInError}
 use Rattle.port_driver.proofs.Lent.{Answered, FoundDone, Troubled, Waiting, agreed, alike, alone, lends_done, may, mid_kept, mends_rest, mid_there, named, places, seen_kept, seen_there}
 use Rattle.port_driver.proofs.served_port.ServedPort.complete_and_recover.Given.{Over}
 use Rattle.port_driver.proofs.served_port.ServedPort.complete_and_recover.Goals as goal
@@ -10,7 +10,7 @@ use Rattle.port_driver.proofs.served_port.ServedPort.complete_and_recover.Goals.
 
 -- a server of which so much is lent
 abbrev Has : (g : Over) (c : After-done-arg-1 g) → Type 0
-Has g c = (s : ServerState) × HasPortInError s (g.A.Adapter.device c.args.adapter.now) c.args.shared.now.table.value c.args.shared.now.book c.args.self.now.slots c.args.port c.args.port_error
+Has g c = (s : ServerState) × IsInError s (g.A.Adapter.device c.args.adapter.now) c.args.shared.now c.args.port c.args.self.now c.args.port_error
 
 abbrev troubled : (g : Over) (c : After-done-arg-1 g) → Has g c → Troubled
 troubled g c l = record {
@@ -25,10 +25,9 @@ troubled g c l = record {
   };
   s = l.0;
   device = g.A.Adapter.device c.args.adapter.now;
-  table = c.args.shared.now.table.value;
-  book = c.args.shared.now.book;
-  slots = c.args.self.now.slots;
+  shared = c.args.shared.now;
   port = c.args.port;
+  p = c.args.self.now;
   port_error = c.args.port_error;
   lends = l.1;
 }
@@ -82,26 +81,26 @@ waiting g c l = record {
 }
 
 pub done-finished-requires-clause-on : goal.done-finished-requires-clause-on
-done-finished-requires-clause-on g c = (seen_kept (troubled g c c.requires.lends)).on
+done-finished-requires-clause-on g c = (seen_kept (troubled g c c.requires.sees)).on
 
 pub done-finished-requires-clause-there : goal.done-finished-requires-clause-there
-done-finished-requires-clause-there g c = seen_there (troubled g c c.requires.lends)
+done-finished-requires-clause-there g c = seen_there (troubled g c c.requires.sees)
 
 pub answer_done-requires-clause-lends : goal.answer_done-requires-clause-lends
 answer_done-requires-clause-lends g c =
-    let f = found_done g c c.requires.lends in
-    let s = record c.requires.lends.0 { device = f.found } in
+    let f = found_done g c c.requires.sees in
+    let s = record c.requires.sees.0 { device = f.found } in
     let D : Table → Type 0 = λ table. HasDonePort s table c.args.shared.now.book c.args.self.now.slots c.args.port f.done in
-    (s, c.args.port, subst D (sym c.deref_mut.ensures.value) (lends_done (troubled g (at_taking g c) c.requires.lends) f))
+    (s, c.args.port, subst D (sym c.deref_mut.ensures.value) (lends_done (troubled g (at_taking g c) c.requires.sees) f))
 
 pub are_queued-queued-requires : goal.are_queued-queued-requires
 are_queued-queued-requires g c =
-    let l = c.requires.lends in
+    let l = c.requires.sees in
     record { alike = alike (its_trouble g c l) (its_done g c l) (answered g c l); places = places (its_trouble g c l) (its_done g c l) (answered g c l) }
 
 pub recover_or_stop-recovered-requires-clause-ready : goal.recover_or_stop-recovered-requires-clause-ready
 recover_or_stop-recovered-requires-clause-ready g c =
-    let l = c.requires.lends in
+    let l = c.requires.sees in
     let a = at_answer g c in
     record {
       on = (mid_kept (its_trouble g a l) (its_done g a l) (answered g a l)).on;
@@ -113,20 +112,20 @@ recover_or_stop-recovered-requires-clause-ready g c =
 
 pub recover_or_stop-recovered-requires-clause-may : goal.recover_or_stop-recovered-requires-clause-may
 recover_or_stop-recovered-requires-clause-may g c =
-    let l = c.requires.lends in
+    let l = c.requires.sees in
     let a = at_answer g c in
     may (its_trouble g a l) (its_done g a l)
 
 pub failed_in-failed-requires : goal.failed_in-failed-requires
 failed_in-failed-requires g c =
-    let l = c.requires.lends in
+    let l = c.requires.sees in
     let q = (goal.at.failed_in-failed-requires g c).After-recover_or_stop-arg-1 in
     let a = at_answer g q in
     named (its_trouble g a l) (its_done g a l) (answered g a l) (waiting g q l) c.recover_or_stop-recovered.result (g.A.Adapter.device c.recover_or_stop-recovered.new.adapter) c.recover_or_stop-recovered.ensures.handling
 
 pub returns-clause-handling : goal.returns-clause-handling
-returns-clause-handling g c = λ s lends.
+returns-clause-handling g c = λ s sees.
     let q = (goal.at.returns-clause-handling g c).After-recover_or_stop-arg-1 in
     let a = at_answer g q in
-    let l : Has g (at_taking g (at_done g a)) = (s, lends) in
+    let l : Has g (at_taking g (at_done g a)) = (s, sees) in
     mends_rest (its_trouble g a l) (its_done g a l) (answered g a l) (waiting g q l) c.recover_or_stop-recovered.result (g.A.Adapter.device c.recover_or_stop-recovered.new.adapter) c.recover_or_stop-recovered.ensures.handling c.failed_in-failed.result c.failed_in-failed.ensures

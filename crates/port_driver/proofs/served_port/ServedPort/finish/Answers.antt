@@ -3,7 +3,7 @@ use Rattle.std.specs.Box.{with_value}
 use Rattle.adapter.specs.Device.{Device}
 use Rattle.port_driver.specs.declared.served_port.Shared.{Shared}
 use Rattle.port_driver.specs.Parts.{IsSettledWith, TakesTurn, with_served_port}
-use Rattle.port_driver.specs.Ports.{HasDonePort, HasReadyPort, with_answers}
+use Rattle.port_driver.specs.Ports.{HasDonePort, HasFoundPort, with_answers}
 use Rattle.server_history.specs.Served.{AnswersDone, done_reply}
 use Rattle.server_history.specs.Server.{ServerState, state_of}
 use Rattle.ata_types.specs.declared.PortState.TheVariants.{Ready}
@@ -37,12 +37,12 @@ module _ (g : Over) (c : After-issue_due g) (s : ServerState) (h : IsSettledWith
   abbrev mid : ServerState
   mid = with_answers s c.answer_done.new.table c.answer_done.new.book c.answer_done.new.slots c.args.port
 
-  ready_then : HasReadyPort mid (g.A.Adapter.device c.args.adapter.now) c.answer_done.new.book c.answer_done.new.slots c.args.port c.args.self.now.mode
-  ready_then =
+  found_then : HasFoundPort mid (g.A.Adapter.device c.args.adapter.now) c.answer_done.new.book c.answer_done.new.slots c.args.port c.args.self.now.mode c.args.self.now.found
+  found_then =
       let then = c.answer_done.new in
-      subst (λ (d : Device). HasReadyPort mid d then.book then.slots c.args.port c.args.self.now.mode) h.parts.device_is
+      subst (λ (d : Device). HasFoundPort mid d then.book then.slots c.args.port c.args.self.now.mode c.args.self.now.found) h.parts.device_is
       (finishing.lends_on s c.args.port c.args.finished c.args.replies.now.items then.replies.items then.table then.book then.slots
-      (c.answer_done.ensures.answers s c.args.port lent) (c.answer_done.ensures.lends s c.args.port lent) c.args.self.now.mode h.parts.port_is.mode_is)
+      (c.answer_done.ensures.answers s c.args.port lent) (c.answer_done.ensures.lends s c.args.port lent) c.args.self.now.mode h.parts.port_is.mode_is c.args.self.now.found h.parts.port_is.found_is)
 
   finished : TakesTurn (AnswersDone c.args.port c.args.finished) c.args.replies.now.items c.answer_done.new.replies.items s
       (with_served_port s (g.A.Adapter.device c.issue_due.new.adapter) (record { table = with_value c.args.shared.now.table c.answer_done.new.table; book = c.issue_due.new.book }) c.args.port c.issue_due.new.self)
@@ -52,7 +52,7 @@ module _ (g : Over) (c : After-issue_due g) (s : ServerState) (h : IsSettledWith
       let u = c.issue_due.new.self.slots in
       let answers = c.answer_done.ensures.answers s c.args.port lent in
       let done = finishing.finishes s c.args.port c.args.finished c.args.replies.now.items then.replies.items then.table then.book then.slots answers (c.answer_done.ensures.lends s c.args.port lent)
-      new c.issue_due.new.book u (c.issue_due.ensures.issues mid ready_then) c.args.port.0 refl in
+      new c.issue_due.new.book u (c.issue_due.ensures.issues mid found_then) c.args.port.0 refl in
       let after : ServerState = record s { device = new; table = then.table; slots = set s.slots c.args.port.0 u; book = c.issue_due.new.book } in
       let settled = c.law_a_finished_port_settles.ensures s after c.args.port c.args.finished (map done_reply answers.requests) h.settled its_ready over done in
       let shared : Shared = record { table = with_value c.args.shared.now.table then.table; book = c.issue_due.new.book } in

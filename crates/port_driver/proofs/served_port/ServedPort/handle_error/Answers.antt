@@ -2,7 +2,7 @@ use Rattle.std.proofs.Common.{Option, Some, ℕ, ◌≡◌, ◌≤◌, ◌++◌,
 use Rattle.std.specs.List.Sorted.{IsPermutation}
 use Rattle.std.proofs.lemmas.List.{length-append, set-set}
 use Rattle.port_driver.specs.Parts.{TakesTurn, with_served_port}
-use Rattle.port_driver.specs.Recovery.{HasPortInError, HandlesPortErrorOf, IsInError}
+use Rattle.port_driver.specs.Recovery.{HandlesPortErrorOf, IsInError}
 use Rattle.port_driver.specs.Dispositions.{HavePlaces, holding}
 use Rattle.port_driver.specs.Ports.{HasFoundPort, with_port_slots}
 use Rattle.block_machine.specs.declared.due.QueueMode.{QueueMode}
@@ -29,10 +29,6 @@ use Rattle.port_driver.proofs.served_port.ServedPort.handle_error.Goals.{After-c
 abbrev Has : (g : Over) (c : After-complete_and_recover-failed g) → ServerState → Type 0
 Has g c s = IsInError s (g.A.Adapter.device c.args.adapter.now) c.args.shared.now c.args.port c.args.self.now c.args.port_error
 
-has_port : (g : Over) (c : After-complete_and_recover-failed g) (s : ServerState) → Has g c s
-    → HasPortInError s (g.A.Adapter.device c.args.adapter.now) c.args.shared.now.table.value c.args.shared.now.book c.args.self.now.slots c.args.port c.args.port_error
-has_port g c s h = record { sees = h.sees; table_is = h.table_is; book_is = h.book_is; slots_are = h.port_is.slots_are }
-
 -- what was seen of the port, and what recovery left
 abbrev recovered : (g : Over) (c : After-complete_and_recover-failed g) (s : ServerState) → Has g c s → Recovery
 recovered g c s h =
@@ -52,7 +48,7 @@ recovered g c s h =
       first = g.A.Adapter.device c.args.adapter.now;
       sees = h.sees;
       was = c.in-Ready.was;
-      is_ready = h.port_is.found_is ∙ c.in-Ready.is;
+      is_ready = h.before.parts.port_is.found_is ∙ c.in-Ready.is;
       before = c.args.replies.now.items;
       told = then.replies.items;
       failed = c.complete_and_recover-failed.result.0;
@@ -61,7 +57,7 @@ recovered g c s h =
       b = then.shared.book;
       u = then.self.slots;
       one = g.A.Adapter.device then.adapter;
-      rest = c.complete_and_recover-failed.ensures.handling s (has_port g c s h);
+      rest = c.complete_and_recover-failed.ensures.handling s h;
     }
 
 -- what the port is once it was found so
@@ -82,13 +78,13 @@ is_anew g c =
 
 -- what the server kept of the port is kept still
 same_kept : (g : Over) (c : After-complete_and_recover-failed g) (s : ServerState) → Has g c s → c.complete_and_recover-failed.new.self.kept ≡ kept_at s.kept c.args.port.0
-same_kept g c s h = ap (λ (p : ServedPort). p.kept) c.complete_and_recover-failed.ensures.rest ∙ sym h.port_is.kept_is
+same_kept g c s h = ap (λ (p : ServedPort). p.kept) c.complete_and_recover-failed.ensures.rest ∙ sym h.before.parts.port_is.kept_is
 
 pub resume_or_reboot-found-requires-clause-mode : goal.resume_or_reboot-found-requires-clause-mode
 resume_or_reboot-found-requires-clause-mode g c =
     let a = (goal.at.resume_or_reboot-found-requires-clause-mode g c).After-complete_and_recover-failed in
     let h = c.requires.sees in
-    restoring.mode_then (recovered g a h.0 h.1) c.complete_and_recover-failed.new.self.mode (ap (λ (p : ServedPort). p.mode) c.complete_and_recover-failed.ensures.rest ∙ sym h.1.port_is.mode_is)
+    restoring.mode_then (recovered g a h.0 h.1) c.complete_and_recover-failed.new.self.mode (ap (λ (p : ServedPort). p.mode) c.complete_and_recover-failed.ensures.rest ∙ sym h.1.before.parts.port_is.mode_is)
 
 pub resume_or_reboot-found-requires-clause-bootable : goal.resume_or_reboot-found-requires-clause-bootable
 resume_or_reboot-found-requires-clause-bootable g c =
@@ -99,9 +95,11 @@ begin_anew-requires g c =
     let few = few_usable (g.A.Adapter.device c.resume_or_reboot-found.new.adapter).cap c.resume_or_reboot-found.result.0 in
     subst (λ (mode : QueueMode). mode.usable ≤ 32) (sym c.resume_or_reboot-found.ensures.mode) few
 
-pub resolve-requires-clause-sound : goal.resolve-requires-clause-sound
-resolve-requires-clause-sound g c =
-    restoring.sound (recovered g (goal.at.resolve-requires-clause-sound g c).After-complete_and_recover-failed c.requires.sees.0 c.requires.sees.1)
+pub resolve-requires-clause-may : goal.resolve-requires-clause-may
+resolve-requires-clause-may g c = record {
+  sound = restoring.sound (recovered g (goal.at.resolve-requires-clause-may g c).After-complete_and_recover-failed c.requires.sees.0 c.requires.sees.1);
+  room = c.complete_and_recover-failed.ensures.room;
+}
 
 pub resolve-requires-clause-places : goal.resolve-requires-clause-places
 resolve-requires-clause-places g c =
@@ -112,7 +110,7 @@ resolve-requires-clause-places g c =
 pub order_from-requires : goal.order_from-requires
 order_from-requires g c =
     let r = (recovered g (goal.at.order_from-requires g c).After-complete_and_recover-failed c.requires.sees.0 c.requires.sees.1).rest in
-    let all = ap length c.resolve.ensures.meet.1 ∙ length-append c.complete_and_recover-failed.new.replies.items c.resolve.ensures.meet.0 in
+    let all = ap length c.resolve.ensures.resolves.1 ∙ length-append c.complete_and_recover-failed.new.replies.items c.resolve.ensures.resolves.0 in
     let told = ap length r.told ∙ length-append c.args.replies.now.items (map done_reply r.error_handled.requests) in
     let first = c.len-first.ensures.value in
     omega (arith, all, told, first)
@@ -120,16 +118,16 @@ order_from-requires g c =
 abbrev at_mending : (g : Over) (c : After-order_from-arg-1 g) → After-complete_and_recover-failed g
 at_mending g c = (goal.at.order_from-requires g c).After-complete_and_recover-failed
 
--- what the port was found to be then, and how its requests met their fates
+-- what the port was found to be then, and how its requests were resolved
 abbrev restored : (g : Over) (c : After-order_from-arg-1 g) (s : ServerState) (h : Has g (at_mending g c) s) → Restoration (recovered g (at_mending g c) s h)
 restored g c s h =
     let device = g.A.Adapter.device in
     let x = recovered g (at_mending g c) s h in
-    let met = c.resolve.ensures.meet in
+    let met = c.resolve.ensures.resolves in
     let now = holding c.resolve.new.self.book c.resolve.new.self.table.value c.resolve.new.kept in
     let K : List Lending → Type 0 = λ loans. AreResolved (disposition_of c.complete_and_recover-failed.result.0 c.revalidation_of-revalidation.result) (requests_of c.args.port x.b) met.0 (holding x.b x.t loans) now in
     let W : Wanted → Type 0 = λ wanted. IsRevalidated wanted c.args.port c.args.port_error c.in-Ready.was x.next x.one (device c.resume_or_reboot-found.new.adapter) c.resume_or_reboot-found.result.0 in
-    let wanted_is = (ap (λ (p : ServedPort). p.wanted) c.complete_and_recover-failed.ensures.rest ∙ sym h.port_is.wanted_is) in
+    let wanted_is = (ap (λ (p : ServedPort). p.wanted) c.complete_and_recover-failed.ensures.rest ∙ sym h.before.parts.port_is.wanted_is) in
     record {
       two = device c.resume_or_reboot-found.new.adapter;
       found = c.resume_or_reboot-found.result.0;
@@ -181,7 +179,7 @@ module _ (g : Over) (c : After-issue_where_ready g) (s : ServerState) (h : IsInE
       let X : ℕ → Type 0 = λ n. (c.order_from.new.replies.items ≡ take n c.resolve.new.replies.items ++ sorted.0) × IsPermutation sorted.0 (drop n c.resolve.new.replies.items) in
       let moved = subst X c.len-first.ensures.value (sorted.1, sorted.2) in
       record {
-        settled = h.settled;
+        settled = h.before.settled;
         three = g.A.Adapter.device c.issue_where_ready.new.adapter;
         book = c.issue_where_ready.new.book;
         slots = c.issue_where_ready.new.self.slots;
@@ -189,7 +187,7 @@ module _ (g : Over) (c : After-issue_where_ready g) (s : ServerState) (h : IsInE
         all = c.resolve.new.replies.items;
         its = sorted.0;
         after = c.order_from.new.replies.items;
-        all_is = c.resolve.ensures.meet.1;
+        all_is = c.resolve.ensures.resolves.1;
         sorted = moved.0;
         moved = moved.1;
         ordered = sorted.3;
@@ -214,7 +212,7 @@ module _ (g : Over) (c : After-issue_where_ready g) (s : ServerState) (h : IsInE
         kept = set s.kept c.args.port.0 kept;
         book = c.issue_where_ready.new.book;
       } in
-      placing.with_other s c.args.port c.args.self.now h.port_is three shared c.issue_where_ready.new.self wanted_is
+      placing.with_other s c.args.port c.args.self.now h.before.parts.port_is three shared c.issue_where_ready.new.self wanted_is
       ∙ ap (λ (p : ServedPort). P p.kept p.slots p) c.issue_where_ready.ensures.rest
       ∙ ap (P c.resolve.new.kept c.issue_where_ready.new.self.slots) (is_anew g (at_order g c))
       ∙ ap (λ (list : List PortSlots). record (restoring.then x y) { device = three; slots = list; book = c.issue_where_ready.new.book })
@@ -238,6 +236,6 @@ returns-clause-handles g c = λ s h. handled g (goal.at.returns-clause-handles g
 pub returns-clause-room : goal.returns-clause-room
 returns-clause-room g c =
     let same = as_many g (goal.at.returns-clause-room g c).After-issue_where_ready c.requires.sees.0 c.requires.sees.1 in
-    let room = c.resolve.ensures.room in
+    let room = c.resolve.ensures.may.room in
     let as_many = c.issue_where_ready.ensures.as_many in
     omega (arith, same, room, as_many)

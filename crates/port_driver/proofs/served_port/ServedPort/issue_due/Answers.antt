@@ -4,10 +4,10 @@ use Rattle.ata_types.specs.declared.request.RequestId.{RequestId}
 use Rattle.block_machine.specs.Due.{AreAllDueInOrder, due_of}
 use Rattle.block_machine.specs.declared.due.QueueMode.{QueueMode}
 use Rattle.block_machine.specs.declared.due.Unanswered.{Unanswered}
-use Rattle.port_driver.specs.Ports.{HasReadyPort, with_port_slots}
+use Rattle.port_driver.specs.Ports.{HasFoundPort, with_port_slots}
 use Rattle.request_queue.specs.Entries.{Held, BookIsInOrder, asks_of, at_entry, due_ids, issue}
 use Rattle.server_history.specs.Served.{IssuesEach, IssuesOne}
-use Rattle.server_history.specs.Server.{ServerState, InCallInvariant}
+use Rattle.server_history.specs.Server.{ServerState, InCallInvariant, state_of}
 use Rattle.port_driver.specs.declared.served_port.ServedPort.{ServedPort}
 use Rattle.port_driver.proofs.Sending as sending
 use Rattle.port_driver.proofs.served_port.ServedPort.issue_due.Goals as goal
@@ -25,8 +25,8 @@ loop-place-init g c =
     let l = c.requires.lends.1 in
     let order : BookIsInOrder book = subst BookIsInOrder l.book_is l.kept.ordered in
     record {
-      rest = λ s new k e. subst (λ (x : ServerState). IssuesEach port c.issuable.new.due.items x new) (sending.lent_same s device book slots port c.args.self.now.mode k) e;
-      lends = λ s k. sending.lent_on_from s device book slots port c.args.self.now.mode k device book slots (subst InCallInvariant (sym (sending.lent_same s device book slots port c.args.self.now.mode k)) k.kept);
+      rest = λ s new k e. subst (λ (x : ServerState). IssuesEach port c.issuable.new.due.items x new) (sending.lent_same s device book slots port c.args.self.now.mode c.args.self.now.found c.requires.ready k) e;
+      lends = λ s k. sending.lent_on_from s device book slots port c.args.self.now.mode c.args.self.now.found c.requires.ready k device book slots (subst InCallInvariant (sym (sending.lent_same s device book slots port c.args.self.now.mode c.args.self.now.found c.requires.ready k)) k.kept);
       turns = subst (λ (ids : List RequestId). AreAllDueInOrder c.args.self.now.mode port ids (asks_of book)) (sym c.issuable.ensures)
           (c.law_due_in_turn.ensures c.args.self.now.mode port (asks_of book) (c.law_the_book_stays_in_order.ensures.asks book order));
       many = refl;
@@ -35,12 +35,15 @@ loop-place-init g c =
       cost = omega arith;
     }
 
+pub issue_one-requires-clause-ready : goal.issue_one-requires-clause-ready
+issue_one-requires-clause-ready g c = ap (λ (p : ServedPort). state_of p.found) c.loop-place.invariant.port ∙ c.requires.ready
+
 pub issue_one-requires-clause-lends : goal.issue_one-requires-clause-lends
 issue_one-requires-clause-lends g c =
     let s = c.requires.lends.0 in
     let now = with_port_slots s (g.A.Adapter.device c.loop-place.adapter) c.loop-place.book c.loop-place.self.slots c.args.port in (
       now,
-      subst (HasReadyPort now (g.A.Adapter.device c.loop-place.adapter) c.loop-place.book c.loop-place.self.slots c.args.port) (sym (its_mode c.args.self.now c.loop-place.self c.loop-place.invariant.port))
+      subst (λ (p : ServedPort). HasFoundPort now (g.A.Adapter.device c.loop-place.adapter) c.loop-place.book c.loop-place.self.slots c.args.port p.mode p.found) (sym c.loop-place.invariant.port)
           (c.loop-place.invariant.lends s c.requires.lends.1),
     )
 
@@ -66,9 +69,9 @@ loop-place-preserved g c =
     let ids = c.issuable.new.due.items in
     let place = c.loop-place.place in
     let so_far = c.loop-place.invariant in
-    let D : List RequestId → Type 0 = λ xs. (s : ServerState) → HasReadyPort s now book slots port c.args.self.now.mode → IssuesOne port (get_or xs place (record { 0 = 0 })) s (with_port_slots s then later used port) in
-    let one : (s : ServerState) → HasReadyPort s now book slots port c.args.self.now.mode → IssuesOne port (get_or ids place (record { 0 = 0 })) s (with_port_slots s then later used port) =
-    subst D c.deref.ensures.0 (λ s k. c.issue_one.ensures.issues s (subst (HasReadyPort s now book slots port) (sym (its_mode c.args.self.now c.loop-place.self so_far.port)) k)) in
+    let D : List RequestId → Type 0 = λ xs. (s : ServerState) → HasFoundPort s now book slots port c.args.self.now.mode c.args.self.now.found → IssuesOne port (get_or xs place (record { 0 = 0 })) s (with_port_slots s then later used port) in
+    let one : (s : ServerState) → HasFoundPort s now book slots port c.args.self.now.mode c.args.self.now.found → IssuesOne port (get_or ids place (record { 0 = 0 })) s (with_port_slots s then later used port) =
+    subst D c.deref.ensures.0 (λ s k. c.issue_one.ensures.issues s (subst (λ (p : ServedPort). HasFoundPort s now book slots port p.mode p.found) (sym so_far.port) k)) in
     let low : suc place ≤ length ids = (let l = c.loop-place-test.true in let e = c.len-place-end.ensures.value in omega (arith, l, e)) in
     let next = drop_more ids place (record { 0 = 0 }) low in
     let s0 = c.requires.lends.0 in
@@ -79,13 +82,13 @@ loop-place-preserved g c =
           let mid : ServerState = with_port_slots p then later used port in
           so_far.rest s new k
           (subst (λ (xs : List RequestId). IssuesEach port xs p new) (sym next)
-          (mid, one p (so_far.lends s k), subst (λ (x : ServerState). IssuesEach port (drop (place + 1) ids) x new) (sym (sending.lent_again s (g.A.Adapter.device c.args.adapter.now) c.args.book.now c.args.self.now.slots port c.args.self.now.mode k now book slots then later used)) e));
+          (mid, one p (so_far.lends s k), subst (λ (x : ServerState). IssuesEach port (drop (place + 1) ids) x new) (sym (sending.lent_again s (g.A.Adapter.device c.args.adapter.now) c.args.book.now c.args.self.now.slots port c.args.self.now.mode c.args.self.now.found c.requires.ready k now book slots then later used)) e));
       lends = λ s k.
           let p : ServerState = with_port_slots s now book slots port in
           let mid : ServerState = with_port_slots p then later used port in
           let kept : InCallInvariant mid = c.law_requests_keep.ensures.issued p mid port (get_or ids place (record { 0 = 0 })) (so_far.lends s k).kept (one p (so_far.lends s k)) in
-          sending.lent_on_from s (g.A.Adapter.device c.args.adapter.now) c.args.book.now c.args.self.now.slots port c.args.self.now.mode k then later used
-          (subst InCallInvariant (sending.lent_again s (g.A.Adapter.device c.args.adapter.now) c.args.book.now c.args.self.now.slots port c.args.self.now.mode k now book slots then later used) kept);
+          sending.lent_on_from s (g.A.Adapter.device c.args.adapter.now) c.args.book.now c.args.self.now.slots port c.args.self.now.mode c.args.self.now.found c.requires.ready k then later used
+          (subst InCallInvariant (sending.lent_again s (g.A.Adapter.device c.args.adapter.now) c.args.book.now c.args.self.now.slots port c.args.self.now.mode c.args.self.now.found c.requires.ready k now book slots then later used) kept);
       turns =
           let p : ServerState = with_port_slots s0 now book slots port in
           let is = ap (λ (x : ServerState). asks_of x.book) (one p (so_far.lends s0 l0)).server ∙ c.law_operations_change_what_is_due.ensures.issue book (get_or ids place (record { 0 = 0 })) in

@@ -12,7 +12,7 @@ use Rattle.port_driver.proofs.served_port.ServedPort.issue_one.Goals as goal
 pub unreachable-requires : goal.unreachable-requires
 unreachable-requires g c =
     let l = c.requires.lends in
-    sending.is_free l.0 (g.A.Adapter.device c.args.adapter.now) c.args.book.now c.args.self.now.slots c.args.port c.args.self.now.mode l.1 c.args.id c.requires.due c.law_a_due_request_may_issue.ensures.full c.in_default.ensures.full
+    sending.is_free l.0 (g.A.Adapter.device c.args.adapter.now) c.args.book.now c.args.self.now.slots c.args.port c.args.self.now.mode c.args.self.now.found c.requires.ready l.1 c.args.id c.requires.due c.law_a_due_request_may_issue.ensures.full c.in_default.ensures.full
 
 pub issue_task-requires-clause-fits : goal.issue_task-requires-clause-fits
 issue_task-requires-clause-fits g c =
@@ -22,11 +22,11 @@ issue_task-requires-clause-fits g c =
     let book = c.args.book.now in
     let slots = c.args.self.now.slots in
     let lowest = c.law_a_due_request_may_issue.ensures.lowest in
-    let entry_is = sending.entry_is l.0 device book slots c.args.port c.args.self.now.mode l.1 c.args.id c.requires.due one c.request-entry.result c.request-entry.ensures in
-    sending.may_go l.0.table c.requires.due.0 (sending.its l.0 device book slots c.args.port c.args.self.now.mode l.1 c.args.id c.requires.due) c.args.self.now.mode c.in-Some.slot.0
-    (sending.may_issue l.0 device book slots c.args.port c.args.self.now.mode l.1 c.args.id c.requires.due lowest c.in-Some.slot.0 c.in-Some.ensures.lowest).2
+    let entry_is = sending.entry_is l.0 device book slots c.args.port c.args.self.now.mode c.args.self.now.found c.requires.ready l.1 c.args.id c.requires.due one c.request-entry.result c.request-entry.ensures in
+    sending.may_go l.0.table c.requires.due.0 (sending.its l.0 device book slots c.args.port c.args.self.now.mode c.args.self.now.found c.requires.ready l.1 c.args.id c.requires.due) c.args.self.now.mode c.in-Some.slot.0
+    (sending.may_issue l.0 device book slots c.args.port c.args.self.now.mode c.args.self.now.found c.requires.ready l.1 c.args.id c.requires.due lowest c.in-Some.slot.0 c.in-Some.ensures.lowest).2
     (not c.is_plain.result) (ap not c.is_plain.ensures ∙ ap (λ (x : PendingRequest). not (is_plain c.args.self.now.mode x.op)) entry_is) c.request-entry.result entry_is
-    c.frames.result.now (c.frames.ensures.frames ∙ sending.frames_are l.0 device book slots c.args.port c.args.self.now.mode l.1 c.args.id c.requires.due one c.loan.result.now.frames c.loan.ensures.held)
+    c.frames.result.now (c.frames.ensures.frames ∙ sending.frames_are l.0 device book slots c.args.port c.args.self.now.mode c.args.self.now.found c.requires.ready l.1 c.args.id c.requires.due one c.loan.result.now.frames c.loan.ensures.held)
 
 pub returns : goal.returns
 returns g c = record {
@@ -37,16 +37,16 @@ returns g c = record {
       let one = c.law_an_id_is_one_request.ensures.one in
       let e = c.requires.due.0 in
       let task : Task = record { op = c.request-entry.result.op; range = c.request-entry.result.range; queued = not c.is_plain.result } in
-      let small = (sending.may_issue s (device c.args.adapter.now) c.args.book.now c.args.self.now.slots port c.args.self.now.mode l c.args.id c.requires.due c.law_a_due_request_may_issue.ensures.lowest slot c.in-Some.ensures.lowest).0 in
-      let entry_is = sending.entry_is s (device c.args.adapter.now) c.args.book.now c.args.self.now.slots port c.args.self.now.mode l c.args.id c.requires.due one c.request-entry.result c.request-entry.ensures in
-      let task_is = sending.task_is s (device c.args.adapter.now) c.args.book.now c.args.self.now.slots port c.args.self.now.mode l c.args.id c.requires.due c.is_plain.result c.request-entry.result c.is_plain.ensures entry_is in
-      let lent_is = c.frames.ensures.frames ∙ sending.frames_are s (device c.args.adapter.now) c.args.book.now c.args.self.now.slots port c.args.self.now.mode l c.args.id c.requires.due one c.loan.result.now.frames c.loan.ensures.held in
+      let small = (sending.may_issue s (device c.args.adapter.now) c.args.book.now c.args.self.now.slots port c.args.self.now.mode c.args.self.now.found c.requires.ready l c.args.id c.requires.due c.law_a_due_request_may_issue.ensures.lowest slot c.in-Some.ensures.lowest).0 in
+      let entry_is = sending.entry_is s (device c.args.adapter.now) c.args.book.now c.args.self.now.slots port c.args.self.now.mode c.args.self.now.found c.requires.ready l c.args.id c.requires.due one c.request-entry.result c.request-entry.ensures in
+      let task_is = sending.task_is s (device c.args.adapter.now) c.args.book.now c.args.self.now.slots port c.args.self.now.mode c.args.self.now.found c.requires.ready l c.args.id c.requires.due c.is_plain.result c.request-entry.result c.is_plain.ensures entry_is in
+      let lent_is = c.frames.ensures.frames ∙ sending.frames_are s (device c.args.adapter.now) c.args.book.now c.args.self.now.slots port c.args.self.now.mode c.args.self.now.found c.requires.ready l c.args.id c.requires.due one c.loan.result.now.frames c.loan.ensures.held in
       let F : List Frame → Type 0 = λ frames. IssuesTask port slot task frames (device c.args.adapter.now) (device c.issue_task.new.adapter) in
       let T : Task → Type 0 = λ t. IssuesTask port slot t e.frames (device c.args.adapter.now) (device c.issue_task.new.adapter) in
       let FS : List Frame → Type 0 = λ frames. IsStored (device c.issue_task.new.adapter) port.0 slot (meaning_of task) (addresses_of port.0 task.op task.range.count frames) in
       let TS : Task → Type 0 = λ t. IsStored (device c.issue_task.new.adapter) port.0 slot (meaning_of t) (addresses_of port.0 t.op t.range.count e.frames) in
       let B : Task → Type 0 = λ t. HasBlockOf t.op t.range port.0 (device c.issue_task.new.adapter).memory in
-      sending.sent s (device c.args.adapter.now) c.args.book.now c.args.self.now.slots port c.args.self.now.mode l c.args.id c.requires.due
+      sending.sent s (device c.args.adapter.now) c.args.book.now c.args.self.now.slots port c.args.self.now.mode c.args.self.now.found c.requires.ready l c.args.id c.requires.due
       slot small c.in-Some.ensures.lowest (device c.issue_task.new.adapter)
       (subst T task_is (subst F lent_is c.issue_task.ensures.issued.issues)) (subst TS task_is (subst FS lent_is c.issue_task.ensures.issued.stored)) (subst B task_is c.issue_task.ensures.issued.block) c.issue.new.self c.issue.ensures
       c.take.new.self (c.in-Some.ensures.taken ∙ ap (λ (t : Task). with_use c.args.self.now.slots slot (Some (record { id = c.args.id; queued = t.queued }))) task_is);
@@ -57,4 +57,4 @@ returns g c = record {
 pub issue_task-requires-clause-may : goal.issue_task-requires-clause-may
 issue_task-requires-clause-may g c =
     let l = c.requires.lends in
-    sending.may_issue_task l.0 (g.A.Adapter.device c.args.adapter.now) c.args.book.now c.args.self.now.slots c.args.port c.args.self.now.mode l.1 c.args.id c.requires.due c.law_a_due_request_may_issue.ensures.lowest c.in-Some.slot.0 c.in-Some.ensures.lowest
+    sending.may_issue_task l.0 (g.A.Adapter.device c.args.adapter.now) c.args.book.now c.args.self.now.slots c.args.port c.args.self.now.mode c.args.self.now.found c.requires.ready l.1 c.args.id c.requires.due c.law_a_due_request_may_issue.ensures.lowest c.in-Some.slot.0 c.in-Some.ensures.lowest

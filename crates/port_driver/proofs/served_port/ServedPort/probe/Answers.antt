@@ -45,6 +45,11 @@ returns-then-not-needs_probe-clause-probes g c = λ s shared h.
     (sym (placing.with_same s c.args.port c.args.self.now h.parts.port_is new shared ∙ (λ i. record s { device = new; table = sym h.parts.table_is i; book = sym h.parts.book_is i })))
     (anew.left_settles c.law_an_unready_port_is_probed.ensures.tried s c.args.port c.args.state (unready g a s shared h) h.settled new (looks g a s shared h false c.if-not-needs_probe.ensures.looks) (followed g a s shared h))
 
+-- a dead port isn't booted
+pub returns-clause-dead : goal.returns-clause-dead
+returns-clause-dead g c = λ dead.
+    absurd (anew.booted_alive c.args.state c.args.port (g.A.Adapter.device c.args.adapter.now) (g.A.Adapter.device c.needs_probe.new.adapter) c.if-not-needs_probe.ensures.looks dead)
+
 pub probe_anew-found-requires-clause-there : goal.probe_anew-found-requires-clause-there
 probe_anew-found-requires-clause-there g c =
     (looked g (goal.at.probe_anew-found-requires-clause-there g c).After-needs_probe c.requires.settled.0 c.requires.settled.1 c.requires.settled.2 c.if-not-needs_probe.ensures.looks).1

@@ -6,7 +6,7 @@ use Rattle.port_driver.proofs.served_port.ServedPort.resolve_after_reset.Goals a
 
 pub returns-clause-settles : goal.returns-clause-settles
 returns-clause-settles c = λ s settle has.
-    let met = c.resolve.ensures.meet in
+    let met = c.resolve.ensures.resolves in
     let new = c.resolve.new in (
       met.0,
       met.1,

@@ -14,6 +14,7 @@ use Rattle.port_control.specs.declared.events.PortError.TheVariants.{TimedOut}
 use Rattle.port_control.specs.declared.events.PortEvent.TheVariants.{NoEvent}
 use Rattle.port_driver.specs.Parts.{IsSettledWith, TakesTurn, with_served_port}
 use Rattle.port_driver.specs.Recovery.{IsInError, error_of}
+use Rattle.port_driver.proofs.Sending.{ready_there}
 use Rattle.port_driver.proofs.Placing as placing
 use Rattle.port_driver.proofs.Serving as serving
 use Rattle.port_driver.proofs.served_port.ServedPort.serve.Given.{Over}
@@ -60,11 +61,8 @@ module _ (g : Over) (c : After-take_event-look g) (s : ServerState) (h : Has g c
 
   in_error : (port_error : PortError) → error_of c.take_event-look.result ≡ Some port_error → IsInError s seen c.args.shared.now c.args.port c.args.self.now port_error
   in_error port_error is = record {
-    settled = h.settled;
+    before = placing.on_its_device s c.args.shared.now c.args.port c.args.self.now h;
     sees = record { kept = h.settled.kept; ready = ready; finds = (found port_error is).0; followed = followed };
-    table_is = h.parts.table_is;
-    book_is = h.parts.book_is;
-    port_is = h.parts.port_is;
   }
 
 -- ---- it shows trouble
@@ -109,7 +107,7 @@ pub done-finished-requires-clause-there : goal.done-finished-requires-clause-the
 done-finished-requires-clause-there g c =
     let l = (goal.at.done-finished-requires-clause-there g c).After-take_event-look in
     let h = c.requires.settled in
-    serving.ready_there (looked g l h.0 h.1) c.args.port (looked_settled g l h.0 h.1).kept (ready g l h.0 h.1)
+    ready_there (looked g l h.0 h.1) c.args.port (looked_settled g l h.0 h.1).kept (ready g l h.0 h.1)
 
 -- the server once it was looked for what is done
 module _ (g : Over) (c : After-done-finished g) (s : ServerState) (h : IsSettledWith s (g.A.Adapter.device c.args.adapter.now) c.args.shared.now c.args.port c.args.self.now)

@@ -1,5 +1,7 @@
-use Rattle.std.proofs.Common.{[], append-nil, refl, sym, ◌∙◌, subst}
+use Rattle.std.proofs.Common.{◌≡◌, [], append-nil, refl, sym, ◌∙◌, subst, ⊎_elim}
+use Rattle.ata_types.specs.declared.PortState.TheVariants.{Dead}
 use Rattle.host_boot.specs.declared.ProbeResult.{ProbeResult}
+use Rattle.host_boot.specs.declared.ProbeResult.TheVariants.{Ready, Unready, Unserved}
 use Rattle.server_history.specs.Server.{ServerState}
 use Rattle.port_driver.specs.Parts.{TakesTurn, TurnInService, with_served_port}
 use Rattle.port_driver.proofs.Placing as placing
@@ -16,6 +18,19 @@ returns-in-Unready-clause-turn g c = λ s h.
     let probed = c.probe.ensures.probes s c.args.shared.now h in
     subst (λ (found : ProbeResult). TakesTurn (TurnInService found c.args.port) c.args.replies.now.items c.args.replies.now.items s (with_served_port s (g.A.Adapter.device c.probe.new.adapter) c.args.shared.now c.args.port c.probe.new.self)) (sym c.in-Unready.is)
     (record { its = []; told = sym (append-nil c.args.replies.now.items); does = (refl, probed.0); settled = probed.1 })
+
+-- no access is made of one that isn't served, or is dead
+pub returns-in-Ready-clause-untouched : goal.returns-in-Ready-clause-untouched
+returns-in-Ready-clause-untouched g c = λ which. ⊎_elim
+    (λ unserved. let z : Ready c.in-Ready.field-0 ≡ Unserved = sym c.in-Ready.is ∙ unserved in absurd cc)
+    (λ dead. let z : Ready c.in-Ready.field-0 ≡ Unready Dead = sym c.in-Ready.is ∙ dead in absurd cc)
+    which
+
+pub returns-in-Unready-clause-untouched : goal.returns-in-Unready-clause-untouched
+returns-in-Unready-clause-untouched g c = λ which. ⊎_elim
+    (λ unserved. let z : Unready c.in-Unready.state ≡ Unserved = sym c.in-Unready.is ∙ unserved in absurd cc)
+    (λ dead. let z : Unready c.in-Unready.state ≡ Unready Dead = sym c.in-Unready.is ∙ dead in c.probe.ensures.dead cc)
+    which
 
 pub returns-in-Unserved-clause-turn : goal.returns-in-Unserved-clause-turn
 returns-in-Unserved-clause-turn g c = λ s h.

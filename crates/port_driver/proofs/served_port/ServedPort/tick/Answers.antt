@@ -1,4 +1,4 @@
-use Rattle.std.proofs.Common.{◌≡◌, List, [], append-nil, inl, inr, refl, sym, ap, ◌∙◌, subst}
+use Rattle.std.proofs.Common.{true, false, ◌≡◌, List, [], append-nil, inl, inr, refl, sym, ap, ◌∙◌, subst, ⊎_elim}
 use Rattle.std.proofs.lemmas.Bool.{false≢true}
 use Rattle.ata_types.specs.declared.Port.{Port}
 use Rattle.adapter.specs.Device.{Device}
@@ -10,6 +10,7 @@ use Rattle.host_boot.specs.declared.ProbeResult.TheVariants.{Ready, Unready, Uns
 use Rattle.request_queue.specs.Entries.{Held}
 use Rattle.port_control.specs.declared.events.PortError.TheVariants.{TimedOut}
 use Rattle.server_history.specs.Server.{ServerState, state_of}
+use Rattle.server_history.specs.Turns.{is_ready}
 use Rattle.port_driver.specs.Parts.{IsSettledWith, TakesTurn, TurnInTick, with_served_port}
 use Rattle.port_driver.specs.Recovery.{IsInError}
 use Rattle.port_driver.specs.declared.served_port.ServedPort.{ServedPort}
@@ -34,7 +35,7 @@ rests Unserved unready book port s = (refl, refl)
 in_error : (g : Over) (c : In-Ready g) (s : ServerState) → IsSettledWith s (g.A.Adapter.device c.args.adapter.now) c.args.shared.now c.args.port c.args.self.now
     → IsInError s (g.A.Adapter.device c.args.adapter.now) c.args.shared.now c.args.port c.args.self.now TimedOut
 in_error g c s h = record {
-  settled = h.settled;
+  before = placing.on_its_device s c.args.shared.now c.args.port c.args.self.now h;
   sees =
       record {
         kept = h.settled.kept;
@@ -42,9 +43,6 @@ in_error g c s h = record {
         finds = sym h.parts.device_is;
         followed = subst (IsSimulated (IsLooking c.args.port) AnyUse s.device) h.parts.device_is (c.law_looks_keep.ensures.none c.args.port s.device);
       };
-  table_is = h.parts.table_is;
-  book_is = h.parts.book_is;
-  port_is = h.parts.port_is;
 }
 
 pub returns-in_default-clause-turn : goal.returns-in_default-clause-turn
@@ -62,6 +60,13 @@ returns-then-is_overdue-clause-turn g c = λ s book exact h.
     let part = c.law_a_timed_out_port_is_restarted.ensures s _ c.args.port turn.its h.settled (ap state_of (h.parts.port_is.found_is ∙ c.in-Ready.is)) r.handling r.trouble_is in
     subst (λ (found : ProbeResult). TakesTurn (TurnInTick found book c.args.port) c.args.replies.now.items c.handle_error.new.replies.items s (with_served_port s (g.A.Adapter.device c.handle_error.new.adapter) c.handle_error.new.shared c.args.port c.handle_error.new.self)) (sym c.in-Ready.is)
     (record { its = turn.its; told = turn.told; does = inl (exact.0 c.if-is_overdue.true, r.handling, r.trouble_is, part.0); settled = turn.settled })
+
+-- a ready one of which a request is overdue doesn't rest
+pub returns-then-is_overdue-clause-rests : goal.returns-then-is_overdue-clause-rests
+returns-then-is_overdue-clause-rests g c = λ which. ⊎_elim
+    (λ unready. let z : true ≡ false = ap is_ready (sym c.in-Ready.is) ∙ unready in absurd cc)
+    (λ young. let z : true ≡ false = sym c.if-is_overdue.true ∙ young in absurd cc)
+    which
 
 pub returns-else-is_overdue-clause-turn : goal.returns-else-is_overdue-clause-turn
 returns-else-is_overdue-clause-turn g c = λ s book exact h.

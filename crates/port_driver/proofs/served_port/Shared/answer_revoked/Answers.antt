@@ -12,12 +12,12 @@ use Rattle.request_queue.specs.declared.disposition.Disposition.TheVariants.{Com
 use Rattle.port_driver.proofs.Settling.{ends_back, shorter, sound_back}
 use Rattle.port_driver.proofs.served_port.Shared.answer_revoked.Goals as goal
 
-pub returns-clause-meets : goal.returns-clause-meets
-returns-clause-meets c = λ request kept here its.
+pub returns-clause-resolves : goal.returns-clause-resolves
+returns-clause-resolves c = λ request kept here its.
     let it = c.release-entry in
     let e = it.ensures.entry in
     let named = ap (λ (r : PendingRequest). r.id) e.2 ∙ e.3 in
-    let left : e.0 ≡ request = c.law_an_id_is_one_request.ensures.one c.args.self.now.book e.0 request c.requires.sound.ordered e.1 here (named ∙ sym its) in
+    let left : e.0 ≡ request = c.law_an_id_is_one_request.ensures.one c.args.self.now.book e.0 request c.requires.may.sound.ordered e.1 here (named ∙ sym its) in
     let loan : Lending = record { frames = e.0.frames; request = request.entry.id } in
     let whole : record { entry = request.entry; frames = loan.frames } ≡ request = (λ i. record { entry = ap (λ (h : Held). h.entry) (sym left) i; frames = e.0.frames }) ∙ left in
     let client = sym (ap (λ (r : PendingRequest). r.client) e.2) ∙ ap (λ (h : Held). h.entry.client) left in
@@ -31,17 +31,16 @@ returns-clause-meets c = λ request kept here its.
 pub returns-clause-others : goal.returns-clause-others
 returns-clause-others c = λ e here ne. subst (λ (book : List Held). Contains book e) (sym c.release-entry.ensures.rest) ((c.law_operations_change_one_request.ensures.answered c.args.self.now.book c.args.id e).1 (here, ne))
 
-pub returns-clause-sound : goal.returns-clause-sound
-returns-clause-sound c =
+pub returns-clause-may : goal.returns-clause-may
+returns-clause-may c =
     let it = c.release-entry in
     let e = it.ensures.entry in
-    sound_back c.args.id c.args.self.now.book it.new.self e.0 c.args.self.now.table.value it.new.table c.law_accepted_requests_stay.ensures.answered
-    (c.law_the_book_stays_in_order.ensures.answered c.args.self.now.book c.args.id c.requires.sound.ordered) c.requires.sound.accepted e.1 (ap (λ (r : PendingRequest). r.id) e.2 ∙ e.3) (subst (λ (old : Table). LendsOnly old it.new.table e.0.frames None) c.deref_mut-table.ensures.value e.4) it.ensures.rest
-
-pub returns-clause-room : goal.returns-clause-room
-returns-clause-room c =
+    let named = ap (λ (r : PendingRequest). r.id) e.2 ∙ e.3 in
     let n = c.push.ensures.len in
-    let r = c.requires.room in
-    let e = c.release-entry.ensures.entry in
-    let f = shorter c.args.id c.args.self.now.book c.release-entry.new.self e.0 e.1 (ap (λ (r : PendingRequest). r.id) e.2 ∙ e.3) c.release-entry.ensures.rest in
-    omega (arith, n, r, f)
+    let r = c.requires.may.room in
+    let f = shorter c.args.id c.args.self.now.book it.new.self e.0 e.1 named it.ensures.rest in
+    record {
+      sound = sound_back c.args.id c.args.self.now.book it.new.self e.0 c.args.self.now.table.value it.new.table c.law_accepted_requests_stay.ensures.answered
+          (c.law_the_book_stays_in_order.ensures.answered c.args.self.now.book c.args.id c.requires.may.sound.ordered) c.requires.may.sound.accepted e.1 named (subst (λ (old : Table). LendsOnly old it.new.table e.0.frames None) c.deref_mut-table.ensures.value e.4) it.ensures.rest;
+      room = omega (arith, n, r, f);
+    }

@@ -13,10 +13,10 @@ use Rattle.port_driver.proofs.served_port.Shared.answer_waiting.Goals as goal
 pub loop-place-init : goal.loop-place-init
 loop-place-init c kept =
     settling.begins (λ e. Complete Revoked) (filter (λ (e : Held). waits_under c.args.client c.args.number e.entry) c.args.self.now.book) (holding c.args.self.now.book c.args.self.now.table.value kept) c.args.replies.now.items
-    (settling.of_book (waits_under c.args.client c.args.number) c.args.self.now.book) (settling.passing_ordered (waits_under c.args.client c.args.number) c.args.self.now.book c.requires.sound.ordered) c.requires.sound c.requires.room
+    (settling.of_book (waits_under c.args.client c.args.number) c.args.self.now.book) (settling.passing_ordered (waits_under c.args.client c.args.number) c.args.self.now.book c.requires.sound.ordered) c.requires
 
-pub answer_revoked-requires-clause-sound : goal.answer_revoked-requires-clause-sound
-answer_revoked-requires-clause-sound c = (c.loop-place.invariant []).sound
+pub answer_revoked-requires-clause-may : goal.answer_revoked-requires-clause-may
+answer_revoked-requires-clause-may c = (c.loop-place.invariant []).may
 
 pub answer_revoked-requires-clause-here : goal.answer_revoked-requires-clause-here
 answer_revoked-requires-clause-here c =
@@ -27,9 +27,6 @@ answer_revoked-requires-clause-here c =
       (c.loop-place.invariant []).here n.0 (subst (λ (list : List Held). Contains list n.0) (sym n.1) (Contains-get_or (n.0 ∷ drop (c.loop-place.place + 1) all) 0 n.0 (omega arith))),
       sym (ap (λ (ids : List RequestId). get_or ids c.loop-place.place (record { 0 = 0 })) (c.deref.ensures.0 ∙ c.waiting_of-waiting.ensures) ∙ n.2 (record { 0 = 0 })),
     )
-
-pub answer_revoked-requires-clause-room : goal.answer_revoked-requires-clause-room
-answer_revoked-requires-clause-room c = (c.loop-place.invariant []).room
 
 pub loop-place-preserved : goal.loop-place-preserved
 loop-place-preserved c kept =
@@ -44,9 +41,9 @@ loop-place-preserved c kept =
     subst (λ (list : List Held). settling.SoFar (λ e. Complete Revoked) all start c.args.replies.now.items list now c.loop-place.replies.items) n.1 (c.loop-place.invariant kept) in
     let here = f.here n.0 (Contains-get_or (n.0 ∷ left) 0 n.0 (omega arith)) in
     let its_id = sym (ap (λ (ids : List RequestId). get_or ids c.loop-place.place (record { 0 = 0 })) (c.deref.ensures.0 ∙ c.waiting_of-waiting.ensures) ∙ n.2 (record { 0 = 0 })) in
-    let m = c.answer_revoked.ensures.meets n.0 kept here its_id in
+    let m = c.answer_revoked.ensures.resolves n.0 kept here its_id in
     settling.goes_on (λ e. Complete Revoked) all start c.args.replies.now.items n.0 left now new c.loop-place.replies.items c.answer_revoked.new.replies.items m.0 f m.1 m.2
-    (λ e there ne. c.answer_revoked.ensures.others e there (λ same. ne (same ∙ sym its_id))) c.answer_revoked.ensures.sound c.answer_revoked.ensures.room
+    (λ e there ne. c.answer_revoked.ensures.others e there (λ same. ne (same ∙ sym its_id))) c.answer_revoked.ensures.may
 
 pub returns : goal.returns
 returns c = λ kept.

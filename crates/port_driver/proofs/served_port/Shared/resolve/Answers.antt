@@ -12,12 +12,12 @@ use Rattle.port_driver.proofs.served_port.Shared.resolve.Goals as goal
 pub loop-place-init : goal.loop-place-init
 loop-place-init c = (
   settling.begins (disposition_of c.args.failed.now c.args.revalidation) (filter (λ (e : Held). is_of c.args.port e.entry) c.args.self.now.book) (holding c.args.self.now.book c.args.self.now.table.value c.args.kept.now) c.args.replies.now.items
-      (settling.of_book (is_of c.args.port) c.args.self.now.book) (settling.passing_ordered (is_of c.args.port) c.args.self.now.book c.requires.sound.ordered) c.requires.sound c.requires.room,
+      (settling.of_book (is_of c.args.port) c.args.self.now.book) (settling.passing_ordered (is_of c.args.port) c.args.self.now.book c.requires.may.sound.ordered) c.requires.may,
   c.requires.places,
 )
 
-pub resolve_one-requires-clause-sound : goal.resolve_one-requires-clause-sound
-resolve_one-requires-clause-sound c = c.loop-place.invariant.0.sound
+pub resolve_one-requires-clause-may : goal.resolve_one-requires-clause-may
+resolve_one-requires-clause-may c = c.loop-place.invariant.0.may
 
 pub resolve_one-requires-clause-here : goal.resolve_one-requires-clause-here
 resolve_one-requires-clause-here c =
@@ -29,9 +29,6 @@ resolve_one-requires-clause-here c =
       sym (ap (λ (ids : List RequestId). get_or ids c.loop-place.place (record { 0 = 0 })) (c.deref.ensures.0 ∙ c.ids_of-ids.ensures) ∙ n.2 (record { 0 = 0 })),
       settling.next_place n.0 (drop (c.loop-place.place + 1) all) c.loop-place.kept (subst (λ (list : List Held). HavePlaces list c.loop-place.kept) n.1 c.loop-place.invariant.1),
     )
-
-pub resolve_one-requires-clause-room : goal.resolve_one-requires-clause-room
-resolve_one-requires-clause-room c = c.loop-place.invariant.0.room
 
 pub loop-place-preserved : goal.loop-place-preserved
 loop-place-preserved c =
@@ -47,14 +44,14 @@ loop-place-preserved c =
     subst (λ (list : List Held). settling.SoFar disposition all start c.args.replies.now.items list now c.loop-place.replies.items) n.1 c.loop-place.invariant.0 in
     let here = f.here n.0 (Contains-get_or (n.0 ∷ left) 0 n.0 (omega arith)) in
     let its_id = sym (ap (λ (ids : List RequestId). get_or ids c.loop-place.place (record { 0 = 0 })) (c.deref.ensures.0 ∙ c.ids_of-ids.ensures) ∙ n.2 (record { 0 = 0 })) in
-    let m = c.resolve_one.ensures.meets n.0 here its_id in (
+    let m = c.resolve_one.ensures.resolves n.0 here its_id in (
       settling.goes_on disposition all start c.args.replies.now.items n.0 left now new c.loop-place.replies.items c.resolve_one.new.replies.items m.0 f m.1 m.2
-          (λ e there ne. c.resolve_one.ensures.others e there (λ same. ne (same ∙ sym its_id))) c.resolve_one.ensures.sound c.resolve_one.ensures.room,
+          (λ e there ne. c.resolve_one.ensures.others e there (λ same. ne (same ∙ sym its_id))) c.resolve_one.ensures.may,
       c.resolve_one.ensures.places n.0 left here its_id (subst (λ (list : List Held). HavePlaces list c.loop-place.kept) n.1 c.loop-place.invariant.1),
     )
 
-pub returns-clause-meet : goal.returns-clause-meet
-returns-clause-meet c =
+pub returns-clause-resolves : goal.returns-clause-resolves
+returns-clause-resolves c =
     let all = filter (λ (e : Held). is_of c.args.port e.entry) c.args.self.now.book in
     let disposition = disposition_of c.args.failed.now c.args.revalidation in
     let start = holding c.args.self.now.book c.args.self.now.table.value c.args.kept.now in
@@ -63,8 +60,5 @@ returns-clause-meet c =
     (subst (λ (list : List Held). settling.SoFar disposition all start c.args.replies.now.items list now c.loop-place.replies.items)
     (drop_all c.loop-place.place all (settling.no_more (is_of c.args.port) c.args.self.now.book c.ids_of-ids.result.items c.loop-place.place c.len-place-end.result c.ids_of-ids.ensures c.len-place-end.ensures.value c.loop-place-test.false)) c.loop-place.invariant.0)
 
-pub returns-clause-sound : goal.returns-clause-sound
-returns-clause-sound c = c.loop-place.invariant.0.sound
-
-pub returns-clause-room : goal.returns-clause-room
-returns-clause-room c = c.loop-place.invariant.0.room
+pub returns-clause-may : goal.returns-clause-may
+returns-clause-may c = c.loop-place.invariant.0.may

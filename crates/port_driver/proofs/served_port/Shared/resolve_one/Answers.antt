@@ -1,15 +1,16 @@
 use Rattle.std.proofs.Common.{◌≡◌, ◌++◌, List, [], ◌∷◌, refl, sym, ap, ◌∙◌, subst, append-nil, arith, None}
 use Rattle.std.specs.List.{Contains}
+use Rattle.std.proofs.lemmas.List.{length-map}
 use Rattle.ata_types.specs.declared.request.Reply.{Reply}
 use Rattle.ata_types.specs.declared.request.RequestId.{RequestId}
 use Rattle.dma_frames.specs.Loan.{Lending}
 use Rattle.dma_frames.specs.Table.{Table, LendsOnly}
-use Rattle.request_queue.specs.Entries.{Held, IsAccepted, requeued_entry, without_entry}
+use Rattle.request_queue.specs.Entries.{Held, IsAccepted, at_entry, requeued_entry, without_entry}
 use Rattle.request_queue.specs.Dispositions.{IsResolved, disposition_of, keeps_loan, reply_to}
 use Rattle.request_queue.specs.declared.PendingRequest.{PendingRequest}
 use Rattle.request_queue.specs.declared.disposition.Disposition.{Disposition}
 use Rattle.port_driver.specs.declared.served_port.Shared.{Shared}
-use Rattle.port_driver.specs.Dispositions.{HavePlaces, BookIsSound, holding}
+use Rattle.port_driver.specs.Dispositions.{HavePlaces, BookIsSound, MayAnswerAll, holding}
 use Rattle.port_driver.proofs.Settling.{again, ends_back, ends_kept, kept_issued, left_each, may_go_again, places_kept, places_left, shorter, sound_back}
 use Rattle.port_driver.proofs.served_port.Shared.resolve_one.Goals as goal
 use Rattle.port_driver.proofs.served_port.Shared.resolve_one.Goals.{then-keeps_loan, else-keeps_loan}
@@ -22,33 +23,33 @@ pub keep-requires : goal.keep-requires
 keep-requires c =
     let r = c.request-entry.ensures in
     let q = c.requires.here in
-    let same : r.0 ≡ q.0 = c.law_an_id_is_one_request.ensures.one c.args.self.now.book r.0 q.0 c.requires.sound.ordered r.1 q.1 (ap (λ (e : PendingRequest). e.id) r.2 ∙ r.3 ∙ sym q.2) in
+    let same : r.0 ≡ q.0 = c.law_an_id_is_one_request.ensures.one c.args.self.now.book r.0 q.0 c.requires.may.sound.ordered r.1 q.1 (ap (λ (e : PendingRequest). e.id) r.2 ∙ r.3 ∙ sym q.2) in
     q.3 (ap (λ (h : Held). h.entry.issued) (sym same) ∙ ap (λ (e : PendingRequest). e.issued) r.2 ∙ kept_issued c.in-Complete.outcome c.request-entry.result (sym c.keeps_loan.ensures ∙ c.if-keeps_loan.true))
 
-pub returns-in-Wait-clause-meets : goal.returns-in-Wait-clause-meets
-returns-in-Wait-clause-meets c = λ request here its.
+pub returns-in-Wait-clause-resolves : goal.returns-in-Wait-clause-resolves
+returns-in-Wait-clause-resolves c = λ request here its.
     let r = c.request-entry.ensures in
-    let same : r.0 ≡ request = c.law_an_id_is_one_request.ensures.one c.args.self.now.book r.0 request c.requires.sound.ordered r.1 here (ap (λ (e : PendingRequest). e.id) r.2 ∙ r.3 ∙ sym its) in
+    let same : r.0 ≡ request = c.law_an_id_is_one_request.ensures.one c.args.self.now.book r.0 request c.requires.may.sound.ordered r.1 here (ap (λ (e : PendingRequest). e.id) r.2 ∙ r.3 ∙ sym its) in
     let entry : request.entry ≡ c.request-entry.result = ap (λ (h : Held). h.entry) (sym same) ∙ r.2 in
     let disposition = ap (disposition_of c.args.failed.now c.args.revalidation) entry ∙ sym c.disposition.ensures ∙ c.in-Wait.is in
     let h = holding c.args.self.now.book c.args.self.now.table.value c.args.kept.now in
     ([], sym (append-nil c.args.replies.now.items), subst (λ (f : Disposition). IsResolved request f [] h h) (sym disposition) (refl, refl))
 
-pub returns-in-Requeue-clause-meets : goal.returns-in-Requeue-clause-meets
-returns-in-Requeue-clause-meets c = λ request here its.
+pub returns-in-Requeue-clause-resolves : goal.returns-in-Requeue-clause-resolves
+returns-in-Requeue-clause-resolves c = λ request here its.
     let r = c.request-entry.ensures in
-    let same : r.0 ≡ request = c.law_an_id_is_one_request.ensures.one c.args.self.now.book r.0 request c.requires.sound.ordered r.1 here (ap (λ (e : PendingRequest). e.id) r.2 ∙ r.3 ∙ sym its) in
+    let same : r.0 ≡ request = c.law_an_id_is_one_request.ensures.one c.args.self.now.book r.0 request c.requires.may.sound.ordered r.1 here (ap (λ (e : PendingRequest). e.id) r.2 ∙ r.3 ∙ sym its) in
     let entry : request.entry ≡ c.request-entry.result = ap (λ (h : Held). h.entry) (sym same) ∙ r.2 in
     let disposition = ap (disposition_of c.args.failed.now c.args.revalidation) entry ∙ sym c.disposition.ensures ∙ c.in-Requeue.is in
     let h = holding c.args.self.now.book c.args.self.now.table.value c.args.kept.now in
     let n = holding c.requeue.new.self c.args.self.now.table.value c.args.kept.now in
     ([], sym (append-nil c.args.replies.now.items), subst (λ (f : Disposition). IsResolved request f [] h n) (sym disposition) (refl, again c.args.id request.entry.id c.args.self.now.book c.requeue.new.self c.args.self.now.table.value c.args.kept.now its c.requeue.ensures))
 
-pub returns-after-keeps_loan-clause-meets : goal.returns-after-keeps_loan-clause-meets
-returns-after-keeps_loan-clause-meets c = λ request here its.
+pub returns-after-keeps_loan-clause-resolves : goal.returns-after-keeps_loan-clause-resolves
+returns-after-keeps_loan-clause-resolves c = λ request here its.
     let r = c.request-entry.ensures in
     let one = c.law_an_id_is_one_request.ensures.one c.args.self.now.book in
-    let same : r.0 ≡ request = one r.0 request c.requires.sound.ordered r.1 here (ap (λ (e : PendingRequest). e.id) r.2 ∙ r.3 ∙ sym its) in
+    let same : r.0 ≡ request = one r.0 request c.requires.may.sound.ordered r.1 here (ap (λ (e : PendingRequest). e.id) r.2 ∙ r.3 ∙ sym its) in
     let entry : request.entry ≡ c.request-entry.result = ap (λ (h : Held). h.entry) (sym same) ∙ r.2 in
     let outcome = c.in-Complete.outcome in
     let disposition = ap (disposition_of c.args.failed.now c.args.revalidation) entry ∙ sym c.disposition.ensures ∙ c.in-Complete.is in
@@ -63,12 +64,12 @@ returns-after-keeps_loan-clause-meets c = λ request here its.
         | then-keeps_loan w ↦
             let loan = w.answer-loan.result.1 in
             let taken : Held = record { entry = w.answer-loan.result.0; frames = loan.frames } in
-            let left : taken ≡ request = one taken request c.requires.sound.ordered w.answer-loan.ensures.entry here (w.answer-loan.ensures.id.0 ∙ sym its) in
+            let left : taken ≡ request = one taken request c.requires.may.sound.ordered w.answer-loan.ensures.entry here (w.answer-loan.ensures.id.0 ∙ sym its) in
             ends_kept request outcome c.args.self.now.book c.if-keeps_loan.self.book c.args.self.now.table.value table c.args.kept.now kept loan (whole taken request left) (w.answer-loan.ensures.id.1 ∙ sym its)
             ((ap (λ (x : Shared). x.book) w.self-is) ∙ w.answer-loan.ensures.rest ∙ named) (disposition_of c.args.failed.now c.args.revalidation request.entry) disposition (keeps ∙ w.if-keeps_loan.true) (w.kept-is ∙ w.keep.ensures) (ap (λ (x : Shared). x.table.value) w.self-is)
         | else-keeps_loan w ↦
             let e = w.release.ensures.entry in
-            let left : e.0 ≡ request = one e.0 request c.requires.sound.ordered e.1 here (ap (λ (x : PendingRequest). x.id) e.2 ∙ e.3 ∙ sym its) in
+            let left : e.0 ≡ request = one e.0 request c.requires.may.sound.ordered e.1 here (ap (λ (x : PendingRequest). x.id) e.2 ∙ e.3 ∙ sym its) in
             let loan : Lending = record { frames = e.0.frames; request = request.entry.id } in
             ends_back request outcome c.args.self.now.book c.if-keeps_loan.self.book c.args.self.now.table.value table c.args.kept.now kept loan (whole e.0 request left) refl
             ((ap (λ (x : Shared). x.book) w.self-is) ∙ w.release.ensures.rest ∙ named) (disposition_of c.args.failed.now c.args.revalidation request.entry) disposition (keeps ∙ w.if-keeps_loan.false) w.kept-is
@@ -80,15 +81,18 @@ pub returns-in-Requeue-clause-others : goal.returns-in-Requeue-clause-others
 returns-in-Requeue-clause-others c = λ e here ne.
     subst (λ (book : List Held). Contains book e) (sym c.requeue.ensures) (c.law_operations_change_one_request.ensures.others c.args.self.now.book c.args.id requeued_entry e here ne)
 
-pub returns-in-Requeue-clause-sound : goal.returns-in-Requeue-clause-sound
-returns-in-Requeue-clause-sound c =
+pub returns-in-Requeue-clause-may : goal.returns-in-Requeue-clause-may
+returns-in-Requeue-clause-may c =
     let r = c.request-entry.ensures in
-    let sound = c.requires.sound in
-    let its = may_go_again c.args.failed.now c.args.revalidation r.0 c.args.self.now.book sound.ordered r.1
+    let may = c.requires.may in
+    let its = may_go_again c.args.failed.now c.args.revalidation r.0 c.args.self.now.book may.sound.ordered r.1
     (ap (disposition_of c.args.failed.now c.args.revalidation) r.2 ∙ sym c.disposition.ensures ∙ c.in-Requeue.is) in
-    subst (BookIsSound c.args.self.now.table.value) (sym c.requeue.ensures) (record {
-      ordered = c.law_the_book_stays_in_order.ensures.requeued c.args.self.now.book c.args.id sound.ordered (r.0, r.1, ap (λ (e : PendingRequest). e.id) r.2 ∙ r.3, its.0, its.1);
-      accepted = c.law_accepted_requests_stay.ensures.requeued c.args.self.now.table.value c.args.self.now.book c.args.id sound.accepted;
+    subst (λ (book : List Held). MayAnswerAll c.args.self.now.table.value book c.args.replies.now.items) (sym c.requeue.ensures) (record {
+      sound = record {
+        ordered = c.law_the_book_stays_in_order.ensures.requeued c.args.self.now.book c.args.id may.sound.ordered (r.0, r.1, ap (λ (e : PendingRequest). e.id) r.2 ∙ r.3, its.0, its.1);
+        accepted = c.law_accepted_requests_stay.ensures.requeued c.args.self.now.table.value c.args.self.now.book c.args.id may.sound.accepted;
+      };
+      room = let as_many = length-map c.args.self.now.book (at_entry c.args.id requeued_entry) in omega (arith, as_many, may.room);
     })
 
 pub returns-after-keeps_loan-clause-others : goal.returns-after-keeps_loan-clause-others
@@ -102,7 +106,7 @@ returns-after-keeps_loan-clause-others c = λ e here ne.
 pub returns-after-keeps_loan-clause-places : goal.returns-after-keeps_loan-clause-places
 returns-after-keeps_loan-clause-places c = λ request rest here its places.
     let r = c.request-entry.ensures in
-    let same : r.0 ≡ request = c.law_an_id_is_one_request.ensures.one c.args.self.now.book r.0 request c.requires.sound.ordered r.1 here (ap (λ (e : PendingRequest). e.id) r.2 ∙ r.3 ∙ sym its) in
+    let same : r.0 ≡ request = c.law_an_id_is_one_request.ensures.one c.args.self.now.book r.0 request c.requires.may.sound.ordered r.1 here (ap (λ (e : PendingRequest). e.id) r.2 ∙ r.3 ∙ sym its) in
     let entry : request.entry ≡ c.request-entry.result = ap (λ (h : Held). h.entry) (sym same) ∙ r.2 in
     let keeps = ap (keeps_loan c.in-Complete.outcome) entry ∙ sym c.keeps_loan.ensures in
     elim c.if-keeps_loan.branch [
@@ -111,28 +115,33 @@ returns-after-keeps_loan-clause-places c = λ request rest here its places.
       | else-keeps_loan w ↦ subst (HavePlaces rest) (sym w.kept-is) (places_left request rest c.args.kept.now places)
     ]
 
-pub returns-after-keeps_loan-clause-sound : goal.returns-after-keeps_loan-clause-sound
-returns-after-keeps_loan-clause-sound c =
-    let sound = c.requires.sound in
-    let left = c.law_operations_change_one_request.ensures.answered c.args.self.now.book c.args.id in
-    let ordered = c.law_the_book_stays_in_order.ensures.answered c.args.self.now.book c.args.id sound.ordered in
+pub returns-after-keeps_loan-clause-may : goal.returns-after-keeps_loan-clause-may
+returns-after-keeps_loan-clause-may c =
+    let may = c.requires.may in
+    let q = c.requires.here in
+    let n = c.push.ensures.len in
+    let book = c.args.self.now.book in
+    let left = c.law_operations_change_one_request.ensures.answered book c.args.id in
+    let ordered = c.law_the_book_stays_in_order.ensures.answered book c.args.id may.sound.ordered in
     elim c.if-keeps_loan.branch [
-      | then-keeps_loan w ↦ subst (λ (table : Table). BookIsSound table c.if-keeps_loan.self.book) (sym (ap (λ (x : Shared). x.table.value) w.self-is)) (subst (BookIsSound c.args.self.now.table.value) (sym ((ap (λ (x : Shared). x.book) w.self-is) ∙ w.answer-loan.ensures.rest)) (record {
-        ordered = ordered;
-        accepted = left_each c.args.id c.args.self.now.book left (IsAccepted c.args.self.now.table.value) sound.accepted;
-      }))
+      | then-keeps_loan w ↦
+          let rest = ap (λ (x : Shared). x.book) w.self-is ∙ w.answer-loan.ensures.rest in
+          let f = shorter c.args.id book c.if-keeps_loan.self.book q.0 q.1 q.2 rest in
+          record {
+            sound = subst (λ (table : Table). BookIsSound table c.if-keeps_loan.self.book) (sym (ap (λ (x : Shared). x.table.value) w.self-is)) (subst (BookIsSound c.args.self.now.table.value) (sym rest) (record {
+              ordered = ordered;
+              accepted = left_each c.args.id book left (IsAccepted c.args.self.now.table.value) may.sound.accepted;
+            }));
+            room = omega (arith, n, may.room, f);
+          }
       | else-keeps_loan w ↦
           let e = w.release.ensures.entry in
-          subst (λ (table : Table). BookIsSound table c.if-keeps_loan.self.book) (sym (ap (λ (x : Shared). x.table.value) w.self-is))
-          (sound_back c.args.id c.args.self.now.book c.if-keeps_loan.self.book e.0 c.args.self.now.table.value w.release.new.table c.law_accepted_requests_stay.ensures.answered ordered sound.accepted e.1 (ap (λ (x : PendingRequest). x.id) e.2 ∙ e.3) (subst (λ (old : Table). LendsOnly old w.release.new.table e.0.frames None) w.deref_mut.ensures.value e.4) ((ap (λ (x : Shared). x.book) w.self-is) ∙ w.release.ensures.rest))
-    ]
-
-pub returns-after-keeps_loan-clause-room : goal.returns-after-keeps_loan-clause-room
-returns-after-keeps_loan-clause-room c =
-    let n = c.push.ensures.len in
-    let r = c.requires.room in
-    let q = c.requires.here in
-    elim c.if-keeps_loan.branch [
-      | then-keeps_loan w ↦ let f = shorter c.args.id c.args.self.now.book c.if-keeps_loan.self.book q.0 q.1 q.2 ((ap (λ (x : Shared). x.book) w.self-is) ∙ w.answer-loan.ensures.rest) in omega (arith, n, r, f)
-      | else-keeps_loan w ↦ let f = shorter c.args.id c.args.self.now.book c.if-keeps_loan.self.book q.0 q.1 q.2 ((ap (λ (x : Shared). x.book) w.self-is) ∙ w.release.ensures.rest) in omega (arith, n, r, f)
+          let rest = ap (λ (x : Shared). x.book) w.self-is ∙ w.release.ensures.rest in
+          let f = shorter c.args.id book c.if-keeps_loan.self.book q.0 q.1 q.2 rest in
+          record {
+            sound = subst (λ (table : Table). BookIsSound table c.if-keeps_loan.self.book) (sym (ap (λ (x : Shared). x.table.value) w.self-is))
+                (sound_back c.args.id book c.if-keeps_loan.self.book e.0 c.args.self.now.table.value w.release.new.table c.law_accepted_requests_stay.ensures.answered ordered may.sound.accepted e.1 (ap (λ (x : PendingRequest). x.id) e.2 ∙ e.3)
+                (subst (λ (old : Table). LendsOnly old w.release.new.table e.0.frames None) w.deref_mut.ensures.value e.4) rest);
+            room = omega (arith, n, may.room, f);
+          }
     ]
