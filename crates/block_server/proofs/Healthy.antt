@@ -39,7 +39,7 @@ use Rattle.identify.specs.declared.DiskInfo.{DiskInfo}
 use Rattle.identify.specs.declared.wanted.Wanted.{Wanted}
 use Rattle.server_history.specs.Histories.{ExtendsHistory, LeadsToServer}
 use Rattle.server_history.specs.Server.{is_served, ports_of, state_of}
-use Rattle.block_server.specs.Clients.{ConfinesMoves, EachAfter, HoldsBetween, IsBackedCall, IsInState, IsSeenAt, OutlivesUnplugs}
+use Rattle.block_server.specs.Clients.{ConfinesMoves, EachAfter, HoldsBetween, MatchesTape, IsInState, IsSeenAt, OutlivesUnplugs}
 use Rattle.block_server.specs.Made.{IsInitialServer}
 use Rattle.block_server.specs.Promise.{IsServedWell, IsToldWell, Simulates, ServesPorts}
 use Rattle.block_server.specs.Running.{ask_of, machine_result_of}
@@ -135,7 +135,7 @@ holds_now wanted first [] history = history.1.0
 holds_now wanted first (h ∷ past) history = history.2.holds
 
 -- the tape after calls is the tape before with more
-grows : (wanted : List Wanted) (first : JointState Device) (past added : Calls) → EachAfter (IsBackedCall wanted first) past added
+grows : (wanted : List Wanted) (first : JointState Device) (past added : Calls) → EachAfter (MatchesTape wanted first) past added
     → (gained : List Entry) × ((now first (added ++ past)).device.tape ≡ (now first past).device.tape ++ gained)
 grows wanted first past [] each = ([], sym (append-nil (now first past).device.tape))
 grows wanted first past (h ∷ added) each =
@@ -208,7 +208,7 @@ module _ (laws : HistoryLaws) where
       )
 
   all_backed : (wanted : List Wanted) (first : JointState Device) (past added : Calls) → IsDriverHistory wanted first (added ++ past)
-      → EachAfter (IsBackedCall wanted first) past added
+      → EachAfter (MatchesTape wanted first) past added
   all_backed wanted first past [] history = tt
   all_backed wanted first past (h ∷ added) history =
       let device = history.2.backed in (

@@ -71,11 +71,13 @@ abbrev pub TicksBy : Bool → List Reply → ServerState → ServerState → Typ
 TicksBy false replies old new = Ticks replies old new
 TicksBy true replies old new = (replies ≡ []) × (new ≡ old)
 
--- So a tick does; it doesn't end a reset either. Where no request is overdue once they got older, no access was made.
+-- So a tick does; it doesn't end a reset either. Where no request is overdue once they got older, or the last reset got
+-- stuck, no access was made.
 pub record TicksServer {A : Type 0} (device : A → Device) (old new : ServerView A) (replies : List Reply) : Type 0 where
   pub ticks : TicksBy old.stuck replies (server_of device old) (server_of device new)
   pub stuck : new.stuck ≡ old.stuck
   pub rests : (IsAnyOverdue (a_tick_older (server_of device old)).book → ⊥) → new.adapter ≡ old.adapter
+  pub idle : old.stuck ≡ true → new.adapter ≡ old.adapter
 
 -- A refused load is told the first cause that applies, and changes nothing, the buffer neither. Another brings the
 -- frame's bytes and changes nothing of the server but what the device does meanwhile.

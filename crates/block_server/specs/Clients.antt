@@ -79,7 +79,7 @@ pub record HoldsBetween (wanted : List Wanted) (i : JointState Device) : Type 0 
 -- The call's device steps are those that its tape tells of, one by one: what moved, was cleared or ended is of a
 -- request that was issued then, or kept; a move is of a sector of its own, to or from its place in a frame that was
 -- lent to it. The disks that were put in are the device's. And after the call there holds what holds between calls.
-pub record IsBackedCall (wanted : List Wanted) (first : JointState Device) (past : List (Happening Device DeviceStep))
+pub record MatchesTape (wanted : List Wanted) (first : JointState Device) (past : List (Happening Device DeviceStep))
     (h : Happening Device DeviceStep) : Type 0 where
   pub gained : List Entry
   pub tape : h.device.tape ≡ (now first past).device.tape ++ gained
@@ -103,7 +103,7 @@ pub record ServesClients (first : JointState Device) (past added : List (Happeni
   pub run : IsRun first.abstract (events_of (added ++ past))
   pub reads : first.device.telling ≡ true → EveryReadHolds first.abstract (events_of (added ++ past))
   pub begins : HoldsBetween old.wanted (now first past)
-  pub backed : EachAfter (IsBackedCall new.wanted first) past added
+  pub backed : EachAfter (MatchesTape new.wanted first) past added
 
 -- What is promised of moves of data, which follows: in each of these calls moves and clears keep to their places, of
 -- requests that were accepted when they broke no rule.

@@ -19,7 +19,7 @@ use port_driver::{ServedPort, Shared, mode_found};
 use server_history::laws::{
     law_a_port_goes_on_after_its_errors, law_loans_end_in_turn, law_requests_keep,
 };
-use server_history::stalled::law_settling_goes_on;
+use server_history::stalled::law_resolving_goes_on;
 
 /// Gives back the loans that are kept of all ports: their frames are lent to none.
 pub(crate) fn give_all_back(ports: &mut [ServedPort; PORTS], table: &mut FrameTable)
@@ -71,7 +71,7 @@ pub(crate) fn resolve_ports(
     ensures found { by_port (λ p. p.found) ports.new
         ≡ by_port (λ p. p.found) ports.old }
 {
-    law_settling_goes_on();
+    law_resolving_goes_on();
     for number in 0..PORTS {
         ports[number].resolve_after_reset(shared, Port(number as u8), replies);
     }

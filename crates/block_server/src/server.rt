@@ -30,8 +30,8 @@ use server_history::laws::{
 };
 use server_history::resets::{law_a_reset_server_goes_on, law_resets_add};
 use server_history::stalled::{
-    law_a_server_is_booked, law_booked_loans_are_lent, law_stalled_servers_admit_none,
-    law_stalled_services_add, law_stalled_ticks_add, law_stuck_resets_add,
+    law_book_invariant_holds, law_quarantined_loans_are_lent, law_stuck_resets_add,
+    law_stuck_servers_admit_none, law_stuck_services_add, law_stuck_ticks_add,
 };
 use std::alloc::Global;
 use std::marker::Model;
@@ -72,7 +72,7 @@ impl<A: Adapter> Server<A> {
     ghost use Rattle.host_boot.specs.Taken.{probe_result_of};
     ghost use Rattle.server_history.specs.Histories.{ExtendsHistory};
     ghost use Rattle.block_server.specs.Resetting.{DoesReset, reset_said};
-    ghost use Rattle.server_history.specs.Server.{last_disk_of, remembered_at, server_situation, state_of, last_sectors_of, last_trims_of};
+    ghost use Rattle.server_history.specs.Server.{last_disk_of, remembered_at, server_situation, state_of, last_sectors_of, trims_of};
     ghost use Rattle.ata_types.specs.declared.PortState.TheVariants.{Ready};
     ghost use Rattle.adapter.specs.Counted.{MakesAtMost};
     ghost use Rattle.block_server.specs.Costs.{MOST_OF_NEW, MOST_OF_RESET, MOST_OF_SERVICE, MOST_OF_SUBMIT, MOST_OF_TICK};
@@ -182,7 +182,7 @@ impl<A: Adapter> Server<A> {
     /// isn't ready has none that does.
     fn lacks_trim(&self, r: &Request, port: Port) -> bool
         ensures { IsTrue result
-            ↔ ((r.now.op ≡ Op.Trim) × (last_trims_of (probe_result_of self.now.ports port.0) ≡ false)) }
+            ↔ ((r.now.op ≡ Op.Trim) × (trims_of (probe_result_of self.now.ports port.0) ≡ false)) }
     {
         let trims = match self.found(port) {
             ProbeResult::Ready(info) => info.trim,
@@ -270,7 +270,7 @@ impl<A: Adapter> Server<A> {
         ensures cost { MakesAtMost MOST_OF_SUBMIT (A.access_count self.old.adapter) (A.access_count self.new.adapter) }
     {
         law_refusals_add();
-        law_stalled_servers_admit_none();
+        law_stuck_servers_admit_none();
         let _ = &self.adapter;
         let port = self.admit(r)?;
         Ok(self.accept(r, port))
@@ -337,8 +337,8 @@ impl<A: Adapter> Server<A> {
             (Served replies.new.items) }
         ensures cost { MakesAtMost 0 (A.access_count self.old.adapter) (A.access_count self.new.adapter) }
     {
-        law_a_server_is_booked();
-        law_stalled_services_add();
+        law_book_invariant_holds();
+        law_stuck_services_add();
         law_the_book_stays_in_order();
         resolve_ports(&mut self.ports, &mut self.shared, replies);
     }
@@ -376,7 +376,7 @@ impl<A: Adapter> Server<A> {
     {
         law_requests_get_older();
         law_ticks_add();
-        law_stalled_ticks_add();
+        law_stuck_ticks_add();
         law_the_book_stays_in_order();
         replies.clear();
         if self.stuck {
@@ -433,8 +433,8 @@ impl<A: Adapter> Server<A> {
             (reset_said result replies.new.items) }
         ensures cost { MakesAtMost MOST_OF_RESET (A.access_count self.old.adapter) (A.access_count self.new.adapter) }
     {
-        law_a_server_is_booked();
-        law_booked_loans_are_lent();
+        law_book_invariant_holds();
+        law_quarantined_loans_are_lent();
         law_a_reset_server_goes_on();
         law_resets_add();
         law_stuck_resets_add();
@@ -458,8 +458,8 @@ impl<A: Adapter> Server<A> {
     pub fn close(self) -> A
         ensures { result ≡ self.adapter }
     {
-        law_a_server_is_booked();
-        law_booked_loans_are_lent();
+        law_book_invariant_holds();
+        law_quarantined_loans_are_lent();
         let Server {
             adapter,
             grants: _,

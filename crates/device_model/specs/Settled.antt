@@ -101,7 +101,7 @@ abbrev pub LeavesOne : Hardware → Device → Type 0
 LeavesOne h d = (port slot : ℕ) × (port < 4) × (slot < 32) × HasDisks d port × (has : HasPageCommand d port slot)
     × (TapeHasRoom h (has.left + 1) → ⊥)
 
--- What a port does by itself leaves the number of ports, a pending reset, the tape, and what is told of it.
+-- What a port does by itself leaves the number of ports, a pending reset, the tape, and whether memory for it lacked.
 pub record SparesAdapter (old new : Hardware) : Type 0 where
   pub number : length new.ports ≡ length old.ports
   pub reset : new.hr ≡ old.hr

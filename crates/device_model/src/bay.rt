@@ -150,7 +150,6 @@ impl<S: SectorStore> Bay<S> {
     /// sector; a trim's block stands there already. `false` says that the store failed: it tells what it told, and the
     /// bytes are as they were. A read is told how many pieces of its command come right behind this one.
     #[inline(always)]
-    #[tactic(auto, using(crate::proofs::Transfers::fits_sector))]
     fn transfer_bytes(&mut self, next: NextMove, ahead: u32, bytes: &mut [u8; 512]) -> bool
         requires { HasOldRoom self.old.cache (written_ahead (transfer_operation next.transfer) 1) }
         ensures { Exchanges S.size S.told S.failures self.old self.new next bytes.old bytes.new result }

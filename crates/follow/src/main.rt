@@ -24,7 +24,7 @@ use device_model::{Disks, Model, ModelDisk, PortDisks};
 use error::{FollowError, unless_memory};
 use followed::Followed;
 use lines::QtestPeer;
-use play::{Stop, model_with, play_over, read};
+use play::{Stop, model_with, play_on, read};
 use sector_store::{DiskStore, FileStore, MemStore};
 use std::fs::{self, File, Files, OpenOptions};
 use std::io::{self, BufReader, BufWriter, Write};
@@ -136,7 +136,7 @@ fn run(
     };
     let followed = Followed::new(model, open_peer(rt, &words)?);
     let mut out = BufWriter::new(rt.alloc(), io::writer(rt)).map_err(unread)?;
-    let (performed, adapter) = play_over(
+    let (performed, adapter) = play_on(
         rt.alloc(),
         &values,
         script.as_slice(),

@@ -274,7 +274,7 @@ fn unbegun<S: SectorStore>(ended: Ended) -> Finished<S>
 /// answers. The adapter comes back as the last line that was played left it; or as it was, with nothing printed, where
 /// no server could be made of it for want of memory. It doesn't come back where there was no memory to keep the server
 /// in: nothing is printed then either. Where it can't go on, `NoMemory` is told, too.
-pub fn play_over<A: Watched + Drop, W: io::Write>(
+pub fn play_on<A: Watched + Drop, W: io::Write>(
     alloc: Global,
     config: &Config,
     script: &[u8],

@@ -15,7 +15,7 @@ use Rattle.ata_types.specs.declared.request.RequestId.{RequestId}
 use Rattle.std.specs.List.{All, AllPairs, Contains}
 use Rattle.port_driver.proofs.Finishing as finishing
 use Rattle.request_queue.specs.Entries.{HasFewIssues, Held, IsAccepted, IsEarlier, BookIsInOrder, at_entry, ids_where, requeued_entry, without_entry}
-use Rattle.request_queue.specs.Dispositions.{EndsLoan, Holdings, AreResolved, IsResolved, disposition_of, disposition_on, keeps_loan, reply_to}
+use Rattle.request_queue.specs.Dispositions.{KeepsOrEndsLoan, Holdings, AreResolved, IsResolved, disposition_of, disposition_on, keeps_loan, reply_to}
 use Rattle.request_queue.specs.declared.PendingRequest.{PendingRequest}
 use Rattle.request_queue.specs.declared.disposition.Disposition.{Disposition}
 use Rattle.request_queue.specs.declared.disposition.Disposition.TheVariants.{Complete, Requeue, Wait}
@@ -98,7 +98,7 @@ module _ (request : Held) (outcome : Outcome) (book later : List Held) (old new 
   ends_kept disposition is keeps more_is same = subst (λ (f : Disposition). IsResolved request f (reply_to request outcome ∷ []) (holding book old kept) (holding later new more)) (sym is) (
     refl,
     rest,
-    subst (λ (b : Bool). EndsLoan b request (holding book old kept) (holding later new more)) (sym keeps)
+    subst (λ (b : Bool). KeepsOrEndsLoan b request (holding book old kept) (holding later new more)) (sym keeps)
         (more_is ∙ (λ i. kept ++ record { frames = frames_are i; request = whose i } ∷ []), same),
   )
 
@@ -107,7 +107,7 @@ module _ (request : Held) (outcome : Outcome) (book later : List Held) (old new 
   ends_back disposition is keeps same lends = subst (λ (f : Disposition). IsResolved request f (reply_to request outcome ∷ []) (holding book old kept) (holding later new more)) (sym is) (
     refl,
     rest,
-    subst (λ (b : Bool). EndsLoan b request (holding book old kept) (holding later new more)) (sym keeps)
+    subst (λ (b : Bool). KeepsOrEndsLoan b request (holding book old kept) (holding later new more)) (sym keeps)
         (same, subst (λ frames. LendsOnly old new frames None) frames_are lends),
   )
 

@@ -7,7 +7,7 @@
 //! A caller has each port begin anew once its adapter was taken over (`begin_anew`), and calls it by one number from
 //! then on. It calls `take_turn` in a service, and `tick` in a tick, in which requests got older before (`Book::tick`).
 //! After a reset that ended it gives back what is kept, has the adapter taken over and the port begin anew, calls
-//! `resolve_after_reset`, and then issues what is due (`issue_due`). After one that got stuck it calls
+//! `resolve_after_reset`, and then issues what is due (`issue_where_ready`). After one that got stuck it calls
 //! `note_stuck_reset`, and `resolve_after_reset` in the next service. Under a grant that is revoked `answer_waiting`
 //! answers what waits. It must not expect that a request is ever answered, nor that a port which is ready still has its
 //! disk. What may hold loans can't be dropped.

@@ -11,7 +11,7 @@ use Rattle.ata_types.specs.declared.request.Reply.{Reply}
 use Rattle.ata_types.specs.declared.request.RequestId.{RequestId}
 use Rattle.dma_frames.specs.Table.{LendsOnly, Table, lent_to}
 use Rattle.request_queue.specs.Entries.{GivesBack, Held, IsAccepted, IsEarlier, BookIsInOrder, HasItsFrames, has_id, without_entry}
-use Rattle.request_queue.specs.Dispositions.{AnswersAlike, EndsLoan, Holdings, AreResolved, keeps_loan, reply_to}
+use Rattle.request_queue.specs.Dispositions.{AnswersAlike, KeepsOrEndsLoan, Holdings, AreResolved, keeps_loan, reply_to}
 use Rattle.request_queue.specs.declared.PendingRequest.{PendingRequest}
 use Rattle.request_queue.specs.declared.disposition.Disposition.TheVariants.{Complete}
 use Rattle.request_queue.proofs.Ending.{more_given, none_given, ordered_rest, stand_still}
@@ -92,7 +92,7 @@ module _ (o : Outcome) (back : (e : PendingRequest) → keeps_loan o e ≡ false
     kept = ap (λ (h : Holdings). h.kept) same;
   }
   all_met (e ∷ es) replies old new ordered stands (mid, its, later, split, meets, rest) =
-      let ends : EndsLoan false e old mid = subst (λ (b : Bool). EndsLoan b e old mid) (back e.entry) meets.2 in
+      let ends : KeepsOrEndsLoan false e old mid = subst (λ (b : Bool). KeepsOrEndsLoan b e old mid) (back e.entry) meets.2 in
       let still = stand_still old.table mid.table e es ends.1 stands ordered in
       let r = all_met es later mid new (ordered_rest e es ordered) still rest in
       record {
@@ -151,7 +151,7 @@ module _ (o : Outcome) (back : (e : PendingRequest) → keeps_loan o e ≡ false
   may_come (e ∷ es) old =
       let mid : Holdings = record { book = without_entry e.entry.id old.book; table = give e.frames old.table; kept = old.kept } in
       let r = may_come es mid in
-      (r.0, (mid, reply_to e o ∷ [], replies_to es, refl, (refl, refl, subst (λ (b : Bool). EndsLoan b e old mid) (sym (back e.entry)) (refl, gives e.frames old.table)), r.1))
+      (r.0, (mid, reply_to e o ∷ [], replies_to es, refl, (refl, refl, subst (λ (b : Bool). KeepsOrEndsLoan b e old mid) (sym (back e.entry)) (refl, gives e.frames old.table)), r.1))
 
 -- ---- what is given back is told by what it is
 

@@ -49,10 +49,11 @@ abbrev pub reply_to : Held → Outcome → Reply
 reply_to request outcome = record { id = request.entry.id; client = request.entry.client; outcome = outcome }
 
 -- its loan is kept, or its frames are given back, and no other changed hands
-abbrev pub EndsLoan : Bool → Held → Holdings → Holdings → Type 0
-EndsLoan true request old new = (new.kept ≡ old.kept ++ record { frames = request.frames; request = request.entry.id }
-    ∷ []) × (new.table ≡ old.table)
-EndsLoan false request old new = (new.kept ≡ old.kept) × LendsOnly old.table new.table request.frames None
+abbrev pub KeepsOrEndsLoan : Bool → Held → Holdings → Holdings → Type 0
+KeepsOrEndsLoan true request old new =
+    (new.kept ≡ old.kept ++ record { frames = request.frames; request = request.entry.id } ∷ [])
+    × (new.table ≡ old.table)
+KeepsOrEndsLoan false request old new = (new.kept ≡ old.kept) × LendsOnly old.table new.table request.frames None
 
 -- The request was resolved: it waits as it did, it waits again, or it was answered and has left the book.
 abbrev pub IsResolved : Held → Disposition → List Reply → Holdings → Holdings → Type 0
@@ -61,7 +62,7 @@ IsResolved request Requeue replies old new = (replies ≡ [])
     × (new ≡ record old { book = map (at_entry request.entry.id requeued_entry) old.book })
 IsResolved request (Complete outcome) replies old new =
     (replies ≡ reply_to request outcome ∷ []) × (new.book ≡ without_entry request.entry.id old.book)
-    × EndsLoan (keeps_loan outcome request.entry) request old new
+    × KeepsOrEndsLoan (keeps_loan outcome request.entry) request old new
 
 -- so were these requests, one after another
 abbrev pub AreResolved : (PendingRequest → Disposition) → List Held → List Reply → Holdings → Holdings → Type 0

@@ -8,6 +8,7 @@ use Rattle.ata_types.specs.declared.request.Op.TheVariants.{Read, Write, Trim, F
 use Rattle.ata_types.specs.declared.request.RequestId.{RequestId}
 use Rattle.block_machine.specs.Due.{conflict, is_earlier_on_port}
 use Rattle.block_machine.specs.declared.due.Unanswered.{Unanswered}
+use Rattle.request_queue.specs.declared.holder.TheConstants.{NOBODY}
 
 -- the operation is a read or a write
 abbrev pub is_read_or_write : Op → Bool
@@ -43,7 +44,7 @@ pub record AreHolders (book : List Unanswered) (holders : List (Option RequestId
 
 -- A holder in one word: its id. The greatest id stands for none, since no holder has it.
 abbrev pub holder_in : ℕ → Option RequestId
-holder_in word = if word == 18446744073709551615 then None else Some (record { 0 = word })
+holder_in word = if word == NOBODY then None else Some (record { 0 = word })
 
 -- the holder is the request with this id
 abbrev pub is_held_by : RequestId → Option RequestId → Bool

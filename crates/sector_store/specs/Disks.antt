@@ -5,9 +5,9 @@ use Rattle.sector_store.specs.declared.disks.DiskStore.TheVariants.{File, Memory
 use Rattle.sector_store.specs.declared.store.Failures.{Failures}
 
 -- how many sectors there are
-abbrev pub size_of : DiskStore → ℕ
-size_of (File file) = file.sectors
-size_of (Memory memory) = length memory.sectors.items
+abbrev pub sector_count_of : DiskStore → ℕ
+sector_count_of (File file) = file.sectors
+sector_count_of (Memory memory) = length memory.sectors.items
 
 -- the sectors in memory; a file tells none
 abbrev pub told_of : DiskStore → Option (ℕ → List ℕ)
@@ -15,6 +15,6 @@ told_of (File file) = None
 told_of (Memory memory) = Some (λ sector. slice_index_or memory.sectors.items sector [])
 
 -- how many calls failed on sectors that are there, and the last of these; in memory none does
-abbrev pub io_errors_of : DiskStore → Option Failures
-io_errors_of (File file) = Some file.failures
-io_errors_of (Memory memory) = None
+abbrev pub failures_of : DiskStore → Option Failures
+failures_of (File file) = Some file.failures
+failures_of (Memory memory) = None

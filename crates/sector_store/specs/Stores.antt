@@ -28,8 +28,8 @@ FailsOn is_write sector was now =
     (f : Failures) × (was ≡ Some f)
     × (now ≡ Some (record { calls = (f.calls + 1) % 2 ^ 64; sector = sector; is_write = is_write }))
 
--- A sector of a store was to be copied. It was, and nothing of the store is another; or there is none, or a call has
--- failed, and the place that it was to come to is as it was.
+-- A sector of a store was to be copied. It was; or there is none, or a call has failed, and the place that it was to
+-- come to is as it was. What the store tells is as it was.
 pub record ReadsSector {S : Type 0} (size : S → ℕ) (told : S → Option (ℕ → List ℕ)) (failures : S → Option Failures)
     (sector : ℕ) (old new : S) (before after : List ℕ) (done : Bool) : Type 0 where
   pub inside : done ≡ true → sector < size old

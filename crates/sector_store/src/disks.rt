@@ -1,7 +1,7 @@
 // A disk over a file or in memory.
 ghost use Rattle.std.specs.Prelude.{◌≡◌};
 ghost use Rattle.sector_store.specs.declared.disks.DiskStore.TheVariants.{File, Memory};
-ghost use Rattle.sector_store.specs.Disks.{io_errors_of, size_of, told_of};
+ghost use Rattle.sector_store.specs.Disks.{failures_of, sector_count_of, told_of};
 
 use crate::{FileStore, MemStore, SectorStore};
 
@@ -13,11 +13,11 @@ pub enum DiskStore {
 }
 
 impl SectorStore for DiskStore {
-    ghost size = { size_of };
+    ghost size = { sector_count_of };
 
     ghost told = { told_of };
 
-    ghost failures = { io_errors_of };
+    ghost failures = { failures_of };
 
     ghost tells_sectors = { elim [ File file ↦ tt | Memory memory ↦ memory.are_sectors ] };
 

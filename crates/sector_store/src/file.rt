@@ -12,8 +12,9 @@ const SECTOR_BYTES: u64 = 512;
 
 /// The whole sectors that a file or a block device has when it is opened. The system's calls promise nothing of what a
 /// file holds, nor of where they read and write; so it tells no sectors, and any call may fail. Sector k begins at byte
-/// 512 k of the file. Others may change the file meanwhile, and then their bytes are read. Where they cut it, reads of
-/// the sectors that are gone fail, and a write to one makes the file longer again.
+/// 512 k of the file. Others may change the file meanwhile, and then their bytes are read, but of sectors that were
+/// read ahead. Where they cut it, reads of the sectors that are gone fail, and a write to one makes the file longer
+/// again.
 #[derive(Drop)]
 pub struct FileStore {
     file: SectorFile,
@@ -29,7 +30,8 @@ impl FileStore {
     /// Opens a file or a block device that is there for reading and writing, and locks it until the store is dropped:
     /// where another holds its lock, the error is `WouldBlock`. The lock binds those who ask for it. Where the file
     /// system says that it knows none (`Unsupported`), the file is opened without. The end of a file that isn't a whole
-    /// sector is left alone. Another error, of the lock's too, is the system's own.
+    /// sector is left alone. Where memory for what is read ahead is refused, the error is `OutOfMemory`. Another one,
+    /// of the lock's too, is the system's own.
     pub fn open(
         alloc: Global,
         files: &impl Files<File = File>,

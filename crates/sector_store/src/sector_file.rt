@@ -1,5 +1,5 @@
 // A file as sectors, some of which are read ahead.
-ghost use Rattle.std.specs.Prelude.{◌≡◌, ◌<◌, ◌≤◌, ◌+◌, ◌-◌, ◌*◌, ◌^◌, IfOk, length, true, false};
+ghost use Rattle.std.specs.Prelude.{◌≡◌, ◌<◌, ◌≤◌, ◌+◌, ◌-◌, ◌*◌, ◌^◌, IfOk, length, take, true, false};
 ghost use Rattle.sector_store.specs.declared.sector_file.TheConstants.{MOST_SECTORS};
 ghost use Rattle.sector_store.specs.Stores.{IsStoredSector, first_left};
 
@@ -67,6 +67,8 @@ impl SectorFile {
         requires low { 512 * (sector + count) ≤ 2 ^ 64 }
         ensures holds { result ≡ true → (self.new.next ≡ sector) × (self.new.end ≡ sector + count) }
         ensures forgets { result ≡ false → self.new.end ≡ 0 }
+        ensures others { take (MOST_SECTORS - count) self.new.room.items
+            ≡ take (MOST_SECTORS - count) self.old.room.items }
     {
         let begin = self.room.len() - count;
         let done = self
@@ -87,7 +89,7 @@ impl SectorFile {
         ensures bytes { result ≡ true → IsStoredSector out.new }
         ensures kept { result ≡ false → out.new ≡ out.old }
         ensures left { result ≡ true → self.new.next ≡ sector + 1 }
-        ensures end { self.new.end ≡ self.old.end }
+        ensures same { (self.new.end ≡ self.old.end) × (self.new.room.items ≡ self.old.room.items) }
         ensures there { sector ≡ self.old.next → sector < self.old.end → result ≡ true }
     {
         if sector != self.next || sector >= self.end {
@@ -106,6 +108,8 @@ impl SectorFile {
         ensures kept { result ≡ false → out.new ≡ out.old }
         ensures forgets { self.new.end ≤ self.new.next }
         ensures end { self.new.end ≤ sector + 1 }
+        ensures gives { result ≡ true → (self.new.next ≡ sector + 1) × (self.new.end ≡ sector + 1)
+            × (out.new ≡ first_left self.new.room.items 1) }
     {
         self.fill(sector, 1) && self.take(sector, out)
     }
@@ -119,6 +123,8 @@ impl SectorFile {
         ensures kept { result ≡ false → out.new ≡ out.old }
         ensures forgets { result ≡ false → self.new.end ≤ self.new.next }
         ensures end { self.new.end ≤ sector + ahead + 1 }
+        ensures next { result ≡ true → (self.new.next ≡ sector + 1) × (self.new.next ≤ self.new.end) }
+        ensures gives { result ≡ true → out.new ≡ first_left self.new.room.items (self.new.end - sector) }
     {
         let count = 1 + ahead.min(MOST_SECTORS as u64 - 1) as usize;
         if self.fill(sector, count) {

@@ -18,7 +18,7 @@ use Rattle.request_queue.specs.declared.disposition.Revalidation.TheVariants.{Sa
 use Rattle.server_history.specs.Kept.{IsKeptIn, TakesBack}
 use Rattle.server_history.specs.ErrorHandling.{IsSameDisk, holdings_of, requests_of}
 use Rattle.server_history.specs.Served.{IssuesAll}
-use Rattle.server_history.specs.Server.{ServerState, disk_in, kept_at, mode_at, mode_found, remembered_at, slots_at, used_for}
+use Rattle.server_history.specs.Server.{ServerState, last_disk_in, kept_at, mode_at, mode_found, remembered_at, slots_at, used_for}
 
 -- ---- the adapter is taken over again
 
@@ -34,7 +34,7 @@ pub record IsReinitialized (old taken : ServerState) : Type 0 where
   pub host : Host
   pub takes : TakesOver old.wanted host idle taken.device
   pub four : length host.ports ≡ 4
-  pub remembered : (port : ℕ) → remembered_at taken.remembered port ≡ disk_in old (port_at port)
+  pub remembered : (port : ℕ) → remembered_at taken.remembered port ≡ last_disk_in old (port_at port)
   pub four_remembered : length taken.remembered ≡ 4
   pub four_modes : length taken.modes ≡ 4
   pub modes : (port : ℕ) → port < 4

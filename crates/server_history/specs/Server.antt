@@ -92,9 +92,9 @@ last_sectors_of None = 0
 last_sectors_of (Some info) = info.sectors
 
 -- whether its disk trims, which is known of a ready port alone
-abbrev pub last_trims_of : ProbeResult → Bool
-last_trims_of (Ready info) = info.trim
-last_trims_of _ = false
+abbrev pub trims_of : ProbeResult → Bool
+trims_of (Ready info) = info.trim
+trims_of _ = false
 
 -- commands are plain, and one slot of a port is used
 abbrev pub plain_mode : QueueMode
@@ -115,16 +115,16 @@ abbrev pub mode_in : ServerState → Port → QueueMode
 mode_in s port = mode_at s.modes port.0
 
 -- the disk that the port is ready with, or was last ready with
-abbrev pub disk_in : ServerState → Port → Option DiskInfo
-disk_in s port = last_disk_of (probe_result_of s.ports port.0) (remembered_at s.remembered port.0)
+abbrev pub last_disk_in : ServerState → Port → Option DiskInfo
+last_disk_in s port = last_disk_of (probe_result_of s.ports port.0) (remembered_at s.remembered port.0)
 
 abbrev pub ports_of : ServerState → Ports
 ports_of s = record {
   served = λ port. is_served (probe_result_of s.ports port.0);
   state = λ port. state_of (probe_result_of s.ports port.0);
-  serial = λ port. last_serial_of (disk_in s port);
-  sectors = λ port. last_sectors_of (disk_in s port);
-  trims = λ port. last_trims_of (probe_result_of s.ports port.0);
+  serial = λ port. last_serial_of (last_disk_in s port);
+  sectors = λ port. last_sectors_of (last_disk_in s port);
+  trims = λ port. trims_of (probe_result_of s.ports port.0);
   mode = mode_in s;
 }
 
@@ -218,8 +218,8 @@ abbrev pub IsLentOut : Table → Lending → Type 0
 IsLentOut table loan = All (λ f. lent_to table f ≡ Some loan.request) loan.frames
 
 -- frames that have an owner are clients' frames of the memory
-abbrev pub OwnsClientFrames : Table → ℕ → Type 0
-OwnsClientFrames table size = (frame : Frame) (client : ClientId) → owner_of table frame ≡ Some client
+abbrev pub OwnedFramesAreClients : Table → ℕ → Type 0
+OwnedFramesAreClients table size = (frame : Frame) (client : ClientId) → owner_of table frame ≡ Some client
     → (DRIVER_FRAMES ≤ frame.0) × (FRAME_BYTES * frame.0 + FRAME_BYTES ≤ size)
 
 -- What stands behind each port, as it was found; a ready one runs, has a disk in if it shows one, and doesn't wait for
@@ -246,7 +246,7 @@ pub record HasSlots (found : List ProbeResult) (modes : List QueueMode) (slots :
       → used_for slots port slot ≡ None
 
 -- header and table of a slot of a port that runs say a command that is queued, or one that isn't
-pub record HasCommand (queued : Bool) (d : Device) (port slot : ℕ) : Type 0 where
+pub record HasStoredCommand (queued : Bool) (d : Device) (port slot : ℕ) : Type 0 where
   pub command : Meaning
   pub places : List ℕ
   pub stored : IsStored d port slot command places
@@ -286,11 +286,11 @@ pub record InCallInvariant (s : ServerState) : Type 0 where
   pub kinds : (port : Port) (slot : ℕ) (used : SlotUse) (e : Held) → used_for s.slots port.0 slot ≡ Some used
       → Contains s.book e → e.entry.id ≡ used.id → used.queued ≡ not (is_plain (mode_in s port) e.entry.op)
   pub commands : (port slot : ℕ) (used : SlotUse) → used_for s.slots port slot ≡ Some used
-      → HasCommand used.queued s.device port slot
+      → HasStoredCommand used.queued s.device port slot
   pub alone : (port slot : ℕ) (used : SlotUse) → used_for s.slots port slot ≡ Some used → used.queued ≡ false
       → StandsAlone s.slots port slot
   pub rows : All IsRow s.grants
-  pub owners : OwnsClientFrames s.table s.device.size
+  pub owners : OwnedFramesAreClients s.table s.device.size
   pub accepted : All (IsAccepted s.table) s.book
   pub ordered : BookIsInOrder s.book
   pub marked : All (HasTrueMark s.grants) s.book
@@ -318,7 +318,7 @@ pub record IsNewServer (host : Host) (s : ServerState) : Type 0 where
   pub rows : All IsRow s.grants
   pub names : AllPairs DifferInName s.grants
   pub few : length s.grants ≤ 64
-  pub owners : OwnsClientFrames s.table s.device.size
+  pub owners : OwnedFramesAreClients s.table s.device.size
   pub clients : (frame : Frame) (client : ClientId) → owner_of s.table frame ≡ Some client → (1 ≤ client.0)
       × (client.0 ≤ 8) × (frame.0 < MOST_FRAMES)
   pub room : DRIVER_BYTES ≤ s.device.size

@@ -16,7 +16,7 @@ use Rattle.host_boot.specs.declared.ProbeResult.{ProbeResult}
 use Rattle.host_boot.specs.declared.ProbeResult.TheVariants.{Unserved, Unready}
 use Rattle.request_queue.specs.Entries.{Held, IsAccepted, BookIsInOrder}
 use Rattle.server_history.specs.ErrorHandling.{requests_of}
-use Rattle.server_history.specs.Server.{ServerState, IsMachineOf, HasTrueMark, OwnsClientFrames, disk_in, is_served, kept_at, mode_at, plain_mode, remembered_at, slots_at, used_for}
+use Rattle.server_history.specs.Server.{ServerState, IsMachineOf, HasTrueMark, OwnedFramesAreClients, last_disk_in, is_served, kept_at, mode_at, plain_mode, remembered_at, slots_at, used_for}
 
 -- What holds of a server whether or not its adapter is on. The adapter has the memory of the driver and of the clients.
 -- Ports are served in which a disk is wanted, and which the adapter has; another one is idle, has no slot that is used,
@@ -38,7 +38,7 @@ pub record BookInvariant (s : ServerState) : Type 0 where
   pub places : (port : Port) → length (kept_at s.kept port.0) + count_by (λ (e : Held). e.entry.issued)
       (requests_of port s.book) ≤ 32
   pub rows : All IsRow s.grants
-  pub owners : OwnsClientFrames s.table s.device.size
+  pub owners : OwnedFramesAreClients s.table s.device.size
   pub accepted : All (IsAccepted s.table) s.book
   pub ordered : BookIsInOrder s.book
   pub marked : All (HasTrueMark s.grants) s.book
@@ -70,7 +70,7 @@ stuck_found _ = Unready Dead
 pub record ResetGetsStuck (old new : ServerState) : Type 0 where
   pub stays : StaysReset old.device new.device
   pub found : (port : ℕ) → probe_result_of new.ports port ≡ stuck_found (probe_result_of old.ports port)
-  pub remembered : (port : ℕ) → remembered_at new.remembered port ≡ disk_in old (port_at port)
+  pub remembered : (port : ℕ) → remembered_at new.remembered port ≡ last_disk_in old (port_at port)
   pub four : length new.remembered ≡ 4
   pub four_modes : length new.modes ≡ 4
   pub modes : (port : ℕ) → port < 4 → mode_at new.modes port ≡ plain_mode

@@ -18,7 +18,7 @@ ghost use Rattle.server_history.specs.Stalled.{ResetGetsStuck, BookInvariant, St
 use super::lawful::{law_below, law_living};
 
 /// What holds of a server at each moment of a call holds of its book, whether or not its adapter is on.
-pub fn law_a_server_is_booked()
+pub fn law_book_invariant_holds()
     ensures kept { (s : ServerState) → InCallInvariant s → BookInvariant s }
     ensures settle { (s : ServerState) → BookInvariant s → MaySettle s }
 {
@@ -27,7 +27,7 @@ pub fn law_a_server_is_booked()
 
 /// What is kept may be given back, whether or not the adapter is on: the frames of each kept loan are lent to its
 /// request, which isn't unanswered, and of which there is no other loan.
-pub fn law_booked_loans_are_lent()
+pub fn law_quarantined_loans_are_lent()
     ensures lent { (s : ServerState) (port : ℕ) → BookInvariant s → All (IsLentOut s.table) (kept_at s.kept port) }
     ensures two { (s : ServerState) (port : ℕ) → BookInvariant s → AllPairs AreOfTwo (kept_at s.kept port) }
     ensures one { (s : ServerState) (port other : ℕ) (a b : Lending) → BookInvariant s
@@ -40,7 +40,7 @@ pub fn law_booked_loans_are_lent()
 }
 
 /// The requests of one port are resolved, and those of the others may still.
-pub fn law_settling_goes_on()
+pub fn law_resolving_goes_on()
     ensures { (s new : ServerState) (port : Port) (replies : List Reply) → port.0 < 4 → MaySettle s
         → SettlesPort port replies s new → MaySettle new }
 {
@@ -56,14 +56,14 @@ pub fn law_stuck_resets_add()
 }
 
 /// No request is acceptable while no port is ready.
-pub fn law_stalled_servers_admit_none()
+pub fn law_stuck_servers_admit_none()
     ensures { (s : ServerState) (r : Request) → StuckInvariant s → IsAcceptable (server_situation s) r → ⊥ }
 {
     law_below();
 }
 
 /// A tick adds an event, and nothing changes: no port is ready, so no request is issued that could get older.
-pub fn law_stalled_ticks_add()
+pub fn law_stuck_ticks_add()
     ensures { (s : ServerState) → StuckInvariant s → ExtendsStuck s s Tick (Served []) }
 {
     law_below();
@@ -71,7 +71,7 @@ pub fn law_stalled_ticks_add()
 
 /// A client's grant that is revoked adds an event: the requests that waited under it are answered, and nothing is
 /// accessed.
-pub fn law_stalled_revocations_add()
+pub fn law_stuck_revocations_add()
     ensures { (s new : ServerState) (client : ClientId) (number : ℕ) (replies : List Reply) → StuckInvariant s
         → RevokesGrant client number replies s new
         → ExtendsStuck s new (RevokeOf client number) (WasRevoked (Some replies)) }
@@ -81,7 +81,7 @@ pub fn law_stalled_revocations_add()
 
 /// A service adds an event: the requests of each dead port are told that it is dead, port by port, and nothing is
 /// accessed.
-pub fn law_stalled_services_add()
+pub fn law_stuck_services_add()
     ensures { (s new : ServerState) (replies : List Reply) → StuckInvariant s → SettlePorts 0 s.ports replies s new
         → ExtendsStuck s new Service (Served replies) }
 {

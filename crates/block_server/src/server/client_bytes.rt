@@ -5,7 +5,7 @@ use super::Server;
 use adapter::Adapter;
 use ata_types::{ClientId, FRAME_BYTES, Frame, MemFault};
 use server_history::laws::{law_client_bytes_add, law_open_bytes_are_free, law_refusals_add};
-use server_history::stalled::law_a_server_is_booked;
+use server_history::stalled::law_book_invariant_holds;
 
 impl<A: Adapter> Server<A> {
     ghost use Rattle.adapter.specs.Counted.{MakesAtMost};
@@ -59,7 +59,7 @@ impl<A: Adapter> Server<A> {
         ensures cost { MakesAtMost 1 (A.access_count self.old.adapter) (A.access_count self.new.adapter) }
     {
         law_refusals_add();
-        law_a_server_is_booked();
+        law_book_invariant_holds();
         law_open_bytes_are_free();
         law_client_bytes_add();
         let address = self.open(client, frame, offset, bytes.len())?;
@@ -81,7 +81,7 @@ impl<A: Adapter> Server<A> {
         ensures cost { MakesAtMost 1 (A.access_count self.old.adapter) (A.access_count self.new.adapter) }
     {
         law_refusals_add();
-        law_a_server_is_booked();
+        law_book_invariant_holds();
         law_open_bytes_are_free();
         law_client_bytes_add();
         let address = self.open(client, frame, offset, out.len())?;

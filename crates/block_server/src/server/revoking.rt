@@ -6,7 +6,7 @@ use adapter::Adapter;
 use ata_types::{ClientId, NoSuchGrant, Replies};
 use request_queue::laws::{law_accepted_requests_stay, law_the_book_stays_in_order};
 use server_history::laws::{law_refusals_add, law_requests_keep, law_revocations_add};
-use server_history::stalled::{law_a_server_is_booked, law_stalled_revocations_add};
+use server_history::stalled::{law_book_invariant_holds, law_stuck_revocations_add};
 
 impl<A: Adapter> Server<A> {
     ghost use Rattle.block_machine.specs.Events.{RevokeOf, WasRevoked};
@@ -59,10 +59,10 @@ impl<A: Adapter> Server<A> {
     {
         law_accepted_requests_stay();
         law_the_book_stays_in_order();
-        law_a_server_is_booked();
+        law_book_invariant_holds();
         law_requests_keep();
         law_revocations_add();
-        law_stalled_revocations_add();
+        law_stuck_revocations_add();
         law_refusals_add();
         replies.clear();
         let Some(row) = self.grants.revoke(client, number) else {

@@ -22,7 +22,7 @@ use Rattle.host_boot.specs.Taken.{probe_result_of}
 use Rattle.host_boot.specs.declared.ProbeResult.{ProbeResult}
 use Rattle.driver_history.specs.Parts.{NamesAlike}
 use Rattle.server_history.specs.Turns.{NamesOnly}
-use Rattle.server_history.specs.Server.{ServerState, disk_in, last_disk_of, is_served, mode_in, ports_of, remembered_at, last_sectors_of, last_serial_of, state_of, last_trims_of}
+use Rattle.server_history.specs.Server.{ServerState, last_disk_in, last_disk_of, is_served, mode_in, ports_of, remembered_at, last_sectors_of, last_serial_of, state_of, trims_of}
 use Rattle.server_history.proofs.state.FirstMembers.{nowhere}
 
 -- ---- answers of lists of steps
@@ -189,8 +189,8 @@ lawful_lift old new evidence other ports later e Revoked was faults lost stopped
 pub same_at : (one other : ServerState) (q : Port) → probe_result_of other.ports q.0 ≡ probe_result_of one.ports q.0 → remembered_at other.remembered q.0 ≡ remembered_at one.remembered q.0 → mode_in other q ≡ mode_in one q
     → SamePort (ports_of one) (ports_of other) q
 same_at one other q found remembered mode =
-    let disk : disk_in other q ≡ disk_in one q = ap (λ (f : ProbeResult). last_disk_of f (remembered_at other.remembered q.0)) found ∙ ap (last_disk_of (probe_result_of one.ports q.0)) remembered in
-    (ap is_served found, ap state_of found, ap last_serial_of disk, ap last_sectors_of disk, ap last_trims_of found, mode)
+    let disk : last_disk_in other q ≡ last_disk_in one q = ap (λ (f : ProbeResult). last_disk_of f (remembered_at other.remembered q.0)) found ∙ ap (last_disk_of (probe_result_of one.ports q.0)) remembered in
+    (ap is_served found, ap state_of found, ap last_serial_of disk, ap last_sectors_of disk, ap trims_of found, mode)
 
 pub same_then : (a b c : Ports) (q : Port) → SamePort a b q → SamePort b c q → SamePort a c q
 same_then a b c q x y = (y.0 ∙ x.0, y.1 ∙ x.1, y.2 ∙ x.2, y.3 ∙ x.3, y.4 ∙ x.4, y.5 ∙ x.5)

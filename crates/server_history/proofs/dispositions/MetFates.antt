@@ -21,7 +21,7 @@ use Rattle.block_machine.specs.Steps.{Step, Again, Answer, May, after_step, stay
 use Rattle.dma_frames.specs.Loan.{Lending}
 use Rattle.dma_frames.specs.Table.{Table, lent_to}
 use Rattle.request_queue.specs.Entries.{HasFewIssues, Held, IsAccepted, IsEarlier, BookIsInOrder, at_entry, requeued_entry, without_entry}
-use Rattle.request_queue.specs.Dispositions.{EndsLoan, Holdings, AreResolved, IsResolved, keeps_loan, reply_to}
+use Rattle.request_queue.specs.Dispositions.{KeepsOrEndsLoan, Holdings, AreResolved, IsResolved, keeps_loan, reply_to}
 use Rattle.request_queue.specs.Machine.{IsBook, IsEntry}
 use Rattle.request_queue.specs.declared.PendingRequest.{PendingRequest}
 use Rattle.request_queue.specs.declared.disposition.Disposition.{Disposition}
@@ -341,8 +341,8 @@ module _ (laws : LawsBelow) (port : Port) (disposition : PendingRequest → Disp
           unserved = λ e there none. may.unserved e (in_rest request rest now mid k m may e there) none;
         })
       where
-        loan : EndsLoan false request now mid
-        loan = subst (λ (b : Bool). EndsLoan b request now mid) never meets.2
+        loan : KeepsOrEndsLoan false request now mid
+        loan = subst (λ (b : Bool). KeepsOrEndsLoan b request now mid) never meets.2
     by true keeps =
         answers k.parked (λ q ne. refl) (λ id there. (there, λ goes. absurd (false≢true (sym goes.1 ∙ fate_is ∙ keeps)))) (x ∷ [])
         (ap (λ (b : Bool). if b then x ∷ m.kept else m.kept) (stay ∙ keeps)) (loan.0 ∙ ap (λ (l : Lending). now.kept ++ l ∷ []) loan_is) (λ i j d lt below. absurd (omega (arith, lt, below)))
@@ -362,8 +362,8 @@ module _ (laws : LawsBelow) (port : Port) (disposition : PendingRequest → Disp
           unserved = λ e there none. may.unserved e (in_rest request rest now mid k m may e there) none;
         })
       where
-        loan : EndsLoan true request now mid
-        loan = subst (λ (b : Bool). EndsLoan b request now mid) keeps meets.2
+        loan : KeepsOrEndsLoan true request now mid
+        loan = subst (λ (b : Bool). KeepsOrEndsLoan b request now mid) keeps meets.2
 
         loan_is : record { frames = request.frames; request = request.entry.id } ≡ loan_of x
         loan_is = λ i. record { frames = sym its_entry.frames i; request = sym its_entry.id i }

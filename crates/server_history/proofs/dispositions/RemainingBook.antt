@@ -14,7 +14,7 @@ use Rattle.ata_types.specs.declared.request.RequestId.{RequestId}
 use Rattle.server_history.proofs.state.ListMembers.{contains_cases, contains_there, map_in}
 use Rattle.dma_frames.specs.Table.{Table}
 use Rattle.request_queue.specs.Entries.{HasFewIssues, Held, IsAccepted, IsEarlier, BookIsInOrder, at_entry, has_id, is_of, requeued_entry, without_entry}
-use Rattle.request_queue.specs.Dispositions.{EndsLoan, Holdings, AreResolved, IsResolved, disposition_of, disposition_on, keeps_loan}
+use Rattle.request_queue.specs.Dispositions.{KeepsOrEndsLoan, Holdings, AreResolved, IsResolved, disposition_of, disposition_on, keeps_loan}
 use Rattle.request_queue.specs.declared.PendingRequest.{PendingRequest}
 use Rattle.request_queue.specs.declared.disposition.FailedRequest.{FailedRequest}
 use Rattle.request_queue.specs.declared.disposition.Disposition.{Disposition}
@@ -211,7 +211,7 @@ module _ (laws : LawsBelow) (port : Port) (disposition : PendingRequest → Disp
             let other = eqb-false request.entry.issues 4 issue.1 in omega (arith, most, other)
 
     -- it is answered, and its loan is kept, or ends
-    loan_left : (kept : Bool) → EndsLoan kept request old mid → (mid.table.owners ≡ old.table.owners) × All (IsAccepted mid.table) (without_entry request.entry.id old.book)
+    loan_left : (kept : Bool) → KeepsOrEndsLoan kept request old mid → (mid.table.owners ≡ old.table.owners) × All (IsAccepted mid.table) (without_entry request.entry.id old.book)
     loan_left true loan = (
       ap (λ (table : Table). table.owners) loan.1,
       subst (λ (table : Table). All (IsAccepted table) (without_entry request.entry.id old.book)) (sym loan.1)
@@ -220,7 +220,7 @@ module _ (laws : LawsBelow) (port : Port) (disposition : PendingRequest → Disp
     loan_left false loan = (loan.1.owners, laws.still_answered old.table mid.table old.book request its loan.1 may.accepted)
 
     -- and then it is one loan more, and one issued request fewer
-    loan_placed : mid.book ≡ without_entry request.entry.id old.book → (kept : Bool) → (kept ≡ true → request.entry.issued ≡ true) → EndsLoan kept request old mid
+    loan_placed : mid.book ≡ without_entry request.entry.id old.book → (kept : Bool) → (kept ≡ true → request.entry.issued ≡ true) → KeepsOrEndsLoan kept request old mid
         → length mid.kept + issued_of port mid.book ≤ length old.kept + issued_of port old.book
     loan_placed book true issued loan =
         let longer : length mid.kept ≡ length old.kept + 1 = ap length loan.0 ∙ length-append old.kept (record { frames = request.frames; request = request.entry.id } ∷ []) in
@@ -236,7 +236,7 @@ module _ (laws : LawsBelow) (port : Port) (disposition : PendingRequest → Disp
         let same = ap (issued_of port) book in
         omega (arith, as_long, less, same)
 
-    answered : mid.book ≡ without_entry request.entry.id old.book → (kept : Bool) → (kept ≡ true → request.entry.issued ≡ true) → EndsLoan kept request old mid → HasMet request rest old mid
+    answered : mid.book ≡ without_entry request.entry.id old.book → (kept : Bool) → (kept ≡ true → request.entry.issued ≡ true) → KeepsOrEndsLoan kept request old mid → HasMet request rest old mid
     answered book kept issued loan =
         let l = loan_left kept loan in
         record {

@@ -32,7 +32,7 @@ use Rattle.std.specs.Prelude.{Option}
 use Rattle.request_queue.specs.Entries.{Held}
 use Rattle.server_history.specs.Below.{LawsBelow}
 use Rattle.server_history.specs.Histories.{ExtendsStuck, LeadsToServer}
-use Rattle.server_history.specs.Server.{ServerState, IsMachineOf, disk_in, last_disk_of, is_served, ports_of, remembered_at, last_sectors_of, last_serial_of, state_of, use_of}
+use Rattle.server_history.specs.Server.{ServerState, IsMachineOf, last_disk_in, last_disk_of, is_served, ports_of, remembered_at, last_sectors_of, last_serial_of, state_of, use_of}
 use Rattle.server_history.specs.Stalled.{AreDead, ResetGetsStuck, BookInvariant, StuckInvariant, stuck_found}
 use Rattle.server_history.proofs.state.DeviceSteps.{devices_belong, devices_last, devices_lawful}
 use Rattle.server_history.proofs.state.HistorySteps.{happening_with, lead_with, machine_on, with_device}
@@ -104,7 +104,7 @@ module _ (laws : LawsBelow) (s new : ServerState) (b : BookInvariant s) (g : Res
   alive_unserved : (port : ℕ) → probe_result_of new.ports port ≢ Unready Dead → probe_result_of s.ports port ≡ Unserved
   alive_unserved port alive = ⊎_elim (was_unserved port) (λ is. absurd (alive is)) (dead_if_served (probe_result_of new.ports port) (dead port))
 
-  disk_same : (port : Port) → disk_in n port ≡ disk_in s port
+  disk_same : (port : Port) → last_disk_in n port ≡ last_disk_in s port
   disk_same port =
       ap (λ (f : ProbeResult). last_disk_of f (remembered_at new.remembered port.0)) (g.found port.0) ∙ stuck_disk (probe_result_of s.ports port.0) (remembered_at new.remembered port.0) ∙ g.remembered port.0
 

@@ -41,7 +41,7 @@ use Rattle.request_queue.specs.Entries.{asks}
 use Rattle.slots.specs.Uses.{IsLowestFree}
 use Rattle.slots.specs.declared.SlotUse.{SlotUse}
 use Rattle.server_history.specs.Served.{IssuesOne, task_of, use_for}
-use Rattle.server_history.specs.Server.{HasCommand, StandsAlone, ServerState, InCallInvariant, IsMachineOf, IsPortOf, IsUsedAs, mode_at, mode_in, slots_at, state_of, usable_of, used_for, with_slot, HasTrueMark}
+use Rattle.server_history.specs.Server.{HasStoredCommand, StandsAlone, ServerState, InCallInvariant, IsMachineOf, IsPortOf, IsUsedAs, mode_at, mode_in, slots_at, state_of, usable_of, used_for, with_slot, HasTrueMark}
 use Rattle.server_history.specs.Below.{LawsBelow}
 use Rattle.server_history.proofs.state.DueRequests.{asked_alike, same_book}
 use Rattle.server_history.proofs.state.ChangedRequests.{all_changed}
@@ -287,11 +287,11 @@ module _ (laws : LawsBelow) (s new : ServerState) (port : Port) (id : RequestId)
       id_same x = id_by x (has_id id x)
 
   -- and its slot's bytes say such a command
-  commands_then : (q n : ℕ) (used : SlotUse) → used_for (with_slot s.slots port.0 slot its_use) q n ≡ Some used → HasCommand used.queued new.device q n
+  commands_then : (q n : ℕ) (used : SlotUse) → used_for (with_slot s.slots port.0 slot its_use) q n ≡ Some used → HasStoredCommand used.queued new.device q n
   commands_then q n used is = ⊎_elim
       (λ (its : (q ≡ port.0) × (n ≡ slot)).
-      subst (λ (u : SlotUse). HasCommand u.queued new.device q n) (its_there q n used its.0 its.1 is)
-      (subst (λ (p : ℕ). HasCommand r.queued new.device p n) (sym its.0) (subst (λ (m : ℕ). HasCommand r.queued new.device port.0 m) (sym its.1)
+      subst (λ (u : SlotUse). HasStoredCommand u.queued new.device q n) (its_there q n used its.0 its.1 is)
+      (subst (λ (p : ℕ). HasStoredCommand r.queued new.device p n) (sym its.0) (subst (λ (m : ℕ). HasStoredCommand r.queued new.device port.0 m) (sym its.1)
       (record { command = _; places = _; stored = one.stored; kind = queued_is mode e.entry.op }))))
       (λ (other : AreApart port.0 slot q n).
       let was = was_used q n used other is in

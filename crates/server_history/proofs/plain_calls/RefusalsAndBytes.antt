@@ -45,7 +45,7 @@ use Rattle.driver_history.specs.Heeding.{OnlyFailedPortsRequeueIn}
 use Rattle.driver_history.specs.Histories.{ExplainsAccesses, Issues, IssuesDue, LosesNoPortError, PortCorresponds}
 use Rattle.driver_history.specs.Trace.{ClearsNone, LeavesEngine}
 use Rattle.server_history.specs.Histories.{ExtendsSettled, ExtendsHistory, LeadsToServer, ServerRelation, load_said, store_said}
-use Rattle.server_history.specs.Server.{HasCommand, ServerState, InCallInvariant, IsMachineOf, IsPortOf, SettledInvariant, OwnsClientFrames, mode_in, ports_of, server_situation, used_for}
+use Rattle.server_history.specs.Server.{HasStoredCommand, ServerState, InCallInvariant, IsMachineOf, IsPortOf, SettledInvariant, OwnedFramesAreClients, mode_in, ports_of, server_situation, used_for}
 use Rattle.slots.specs.declared.SlotUse.{SlotUse}
 use Rattle.refinement.specs.Relation.{port_at}
 use Rattle.refinement.specs.Places.{IsTableByte}
@@ -286,7 +286,7 @@ module _ (laws : LawsBelow) where
   pub open_owned : (owner : Frame → Option ClientId) (lent : Frame → Option RequestId) (client : ClientId) (frame : Frame) (offset count : ℕ) → IsOpen owner lent client frame offset count → owner frame ≡ Some client
   open_owned = laws.open_owned
 
-  pub open_free : (s : ServerState) (client : ClientId) (frame : Frame) (offset count : ℕ) → OwnsClientFrames s.table s.device.size → (m : Machine) → IsReachable m → IsMachineOf s m
+  pub open_free : (s : ServerState) (client : ClientId) (frame : Frame) (offset count : ℕ) → OwnedFramesAreClients s.table s.device.size → (m : Machine) → IsReachable m → IsMachineOf s m
       → IsOpen (owner_of s.table) (lent_to s.table) client frame offset count → IsStable (IsUnowned (4096 * frame.0 + offset) count) s.device
   open_free s client frame offset count owners m was is opens =
       laws.client_bytes_free is.uses m s.device was is.knows.agrees client frame offset count (owners frame client (open_owned (owner_of s.table) (lent_to s.table) client frame offset count opens)).1
@@ -328,7 +328,7 @@ module _ (laws : LawsBelow) where
         (laws.port_error.halts_access k.stands.uses k.machine (port_at port) access s.device new k.reached k.stands.knows.agrees (bytes_spare_commands (port_at port) access its) does) (k.behind port below)
 
     -- what is stored for slots stays
-    commands_on : (port slot : ℕ) (used : SlotUse) → used_for s.slots port slot ≡ Some used → HasCommand used.queued new port slot
+    commands_on : (port slot : ℕ) (used : SlotUse) → used_for s.slots port slot ≡ Some used → HasStoredCommand used.queued new port slot
     commands_on port slot used is =
         let t = used_there s port slot used k is in
         let h = k.commands port slot used is in

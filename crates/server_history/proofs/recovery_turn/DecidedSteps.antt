@@ -51,7 +51,7 @@ use Rattle.slots.specs.declared.SlotUse.{SlotUse}
 use Rattle.server_history.specs.Below.{LawsBelow}
 use Rattle.server_history.specs.ErrorHandling.{IsFailed, IsRevalidation, HasResolved, HandlesPortError, holdings_of, requests_of}
 use Rattle.server_history.specs.Served.{HasEnded, answers_in, done_reply}
-use Rattle.server_history.specs.Server.{InCallInvariant, IsMachineOf, ServerState, disk_in, last_disk_of, mode_in, ports_of, remembered_at, last_sectors_of, last_serial_of, slots_at, state_of}
+use Rattle.server_history.specs.Server.{InCallInvariant, IsMachineOf, ServerState, last_disk_in, last_disk_of, mode_in, ports_of, remembered_at, last_sectors_of, last_serial_of, slots_at, state_of}
 use Rattle.server_history.specs.Turns.{IsOfTurn, abstract_state_of}
 use Rattle.server_history.proofs.state.AnswerSteps.{answered_in, ended_stood, issuing_answers, may_parts, no_answer, no_answer_issuing, told_so, with_ok}
 use Rattle.server_history.proofs.any_turn.ToldTrouble.{given_up, lost_or_not}
@@ -153,10 +153,10 @@ module _ (laws : LawsBelow) (port : Port) (replies : List Reply) (old new : Serv
   mode_new : mode_in new port ≡ mode_in r.mid port
   mode_new = ap (λ (ports : Ports). ports.mode port) ports_same
 
-  disk_new : disk_in new port ≡ last_disk_of a.found (Some a.was)
-  disk_new = ap (λ (s : ServerState). disk_in s port) new_settings ∙ ap (λ (f : ProbeResult). last_disk_of f (remembered_at r.mid.remembered port.0)) found_mid ∙ ap (last_disk_of a.found) remembered_mid
+  disk_new : last_disk_in new port ≡ last_disk_of a.found (Some a.was)
+  disk_new = ap (λ (s : ServerState). last_disk_in s port) new_settings ∙ ap (λ (f : ProbeResult). last_disk_of f (remembered_at r.mid.remembered port.0)) found_mid ∙ ap (last_disk_of a.found) remembered_mid
 
-  disk_old : disk_in old port ≡ Some a.was
+  disk_old : last_disk_in old port ≡ Some a.was
   disk_old = ap (λ (f : ProbeResult). last_disk_of f (remembered_at old.remembered port.0)) a.ready
 
   -- the disk is the same, where the one that was found is

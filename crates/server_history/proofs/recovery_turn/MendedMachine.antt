@@ -32,7 +32,7 @@ use Rattle.host_boot.specs.declared.ProbeResult.TheVariants.{Unserved, Ready, Un
 use Rattle.identify.specs.declared.DiskInfo.{DiskInfo}
 use Rattle.port_control.specs.Looks.{IsLooking}
 use Rattle.request_queue.specs.Entries.{Held, IsEarlier, is_of}
-use Rattle.request_queue.specs.Dispositions.{EndsLoan, Holdings, AreResolved, IsResolved, disposition_of, disposition_on, keeps_loan}
+use Rattle.request_queue.specs.Dispositions.{KeepsOrEndsLoan, Holdings, AreResolved, IsResolved, disposition_of, disposition_on, keeps_loan}
 use Rattle.request_queue.specs.Machine.{IsEntry}
 use Rattle.request_queue.specs.declared.PendingRequest.{PendingRequest}
 use Rattle.request_queue.specs.declared.disposition.FailedRequest.{FailedRequest}
@@ -91,7 +91,7 @@ fate_owners request Wait replies old new meets = ap (λ (h : Holdings). h.table.
 fate_owners request Requeue replies old new meets = ap (λ (h : Holdings). h.table.owners) meets.1
 fate_owners request (Complete o) replies old new meets = by (keeps_loan o request.entry) meets.2
   where
-    by : (b : Bool) → EndsLoan b request old new → new.table.owners ≡ old.table.owners
+    by : (b : Bool) → KeepsOrEndsLoan b request old new → new.table.owners ≡ old.table.owners
     by true loan = ap (λ t. t.owners) loan.1
     by false loan = loan.1.owners
 

@@ -27,7 +27,7 @@ use Rattle.port_control.specs.declared.events.PortError.{PortError}
 use Rattle.port_control.specs.declared.events.PortError.TheVariants.{FatalError, TaskFileError, TimedOut, LinkChanged}
 use Rattle.server_history.specs.Below.{LawsBelow}
 use Rattle.server_history.specs.ErrorHandling.{IsRevalidated, IsRevalidation, IsErrorHandled, IsSameDisk, HasResolved, HandlesPortError}
-use Rattle.server_history.specs.Server.{ServerState, InCallInvariant, disk_in, last_disk_of, is_served, mode_in, ports_of, remembered_at, last_sectors_of, last_serial_of, state_of}
+use Rattle.server_history.specs.Server.{ServerState, InCallInvariant, last_disk_in, last_disk_of, is_served, mode_in, ports_of, remembered_at, last_sectors_of, last_serial_of, state_of}
 use Rattle.server_history.specs.Turns.{NamesOnly}
 use Rattle.server_history.proofs.recovery_turn.TurnParts.{evidence_by, evidence_of, failed_of, fatal_of, gone_of, lost_of, named_if, stopped_of, stuck_of}
 use Rattle.server_history.proofs.plain_calls.IssueRounds.{each_settings}
@@ -175,19 +175,19 @@ module _ (laws : LawsBelow) (port : Port) (replies : List Reply) (old new : Serv
       ap (λ (n : ServerState). remembered_at n.remembered port.0) issued_as ∙ ap (λ (n : ServerState). remembered_at n.remembered port.0) a.server ∙ get_or-set_same a.mid.remembered port.0 (Some a.was) None within
 
   -- its disk, now and then
-  pub disk_new : disk_in new port ≡ last_disk_of a.found (Some a.was)
+  pub disk_new : last_disk_in new port ≡ last_disk_of a.found (Some a.was)
   disk_new = ap₂ (λ (f : ProbeResult) (was : Option DiskInfo). last_disk_of f was) found_new remembered_new
 
-  pub disk_old : disk_in old port ≡ Some a.was
+  pub disk_old : last_disk_in old port ≡ Some a.was
   disk_old = ap (λ (f : ProbeResult). last_disk_of f (remembered_at old.remembered port.0)) a.ready
 
   pub same_disk : last_disk_of a.found (Some a.was) ≡ Some a.was → SameDisk (ports_of old) (ports_of new) port
-  same_disk is = let e : disk_in new port ≡ disk_in old port = disk_new ∙ is ∙ sym disk_old in (ap last_serial_of e, ap last_sectors_of e)
+  same_disk is = let e : last_disk_in new port ≡ last_disk_in old port = disk_new ∙ is ∙ sym disk_old in (ap last_serial_of e, ap last_sectors_of e)
 
   -- where it is the same, a ready port has the disk that it had
   pub disk_same : (info : DiskInfo) → a.found ≡ Ready info → SameDisk (ports_of old) (ports_of new) port → IsSameDisk a.was info
   disk_same info is same =
-      let now : disk_in new port ≡ Some info = disk_new ∙ ap (λ (f : ProbeResult). last_disk_of f (Some a.was)) is in
+      let now : last_disk_in new port ≡ Some info = disk_new ∙ ap (λ (f : ProbeResult). last_disk_of f (Some a.was)) is in
       (sym (ap last_serial_of now) ∙ same.0 ∙ ap last_serial_of disk_old, sym (ap last_sectors_of now) ∙ same.1 ∙ ap last_sectors_of disk_old)
 
   -- what it is

@@ -47,7 +47,7 @@ use Rattle.slots.specs.declared.SlotUse.{SlotUse}
 use Rattle.server_history.specs.Below.{LawsBelow}
 use Rattle.server_history.specs.ErrorHandling.{IsRevalidated}
 use Rattle.port_control.specs.declared.events.PortError.{PortError}
-use Rattle.server_history.specs.Server.{HasCommand, ServerState, InCallInvariant, used_for}
+use Rattle.server_history.specs.Server.{HasStoredCommand, ServerState, InCallInvariant, used_for}
 use Rattle.server_history.proofs.state.SilentOperations.{silent_more, silent_none}
 use Rattle.server_history.proofs.state.PortSlots.{not_own, used_there}
 use Rattle.server_history.proofs.recovery_turn.BootOrAbsence.{boots_or_absent}
@@ -107,7 +107,7 @@ pub record Passes (s : ServerState) (port : Port) (slots : InSlots) (d : Device)
   pub clients : (q : ℕ) (o : Operation) → q ≢ port.0 → probe_result_of s.ports q ≢ Unready DeadState → slots.uses q 0 ≡ Own o → ⊥
   pub silent : (q : ℕ) (o : Operation) → op_of o ≡ None → q ≢ port.0 → probe_result_of s.ports q ≢ Unready DeadState → SendsNone q o s.device d
   pub halts : (q : ℕ) → q ≢ port.0 → IsHaltedAsTaken (s.device.port q) → IsHaltedAsTaken (d.port q)
-  pub commands : (q slot : ℕ) (used : SlotUse) → q ≢ port.0 → used_for s.slots q slot ≡ Some used → HasCommand used.queued d q slot
+  pub commands : (q slot : ℕ) (used : SlotUse) → q ≢ port.0 → used_for s.slots q slot ≡ Some used → HasStoredCommand used.queued d q slot
 
 -- what the server's machine has in the slots
 abbrev pub slots_of : (s : ServerState) → InCallInvariant s → InSlots

@@ -27,7 +27,7 @@ use Rattle.port_control.specs.declared.events.PortError.{PortError}
 use Rattle.port_control.specs.declared.events.PortError.TheVariants.{TaskFileError, LinkChanged}
 use Rattle.server_history.specs.Below.{LawsBelow}
 use Rattle.server_history.specs.ErrorHandling.{IsRevalidated, IsErrorHandled, HasResolved, HandlesPortError}
-use Rattle.server_history.specs.Server.{ServerState, InCallInvariant, disk_in, last_disk_of, is_served, mode_found, mode_in, plain_mode, ports_of, last_sectors_of, last_serial_of, state_of, last_trims_of}
+use Rattle.server_history.specs.Server.{ServerState, InCallInvariant, last_disk_in, last_disk_of, is_served, mode_found, mode_in, plain_mode, ports_of, last_sectors_of, last_serial_of, state_of, trims_of}
 use Rattle.server_history.specs.Turns.{joint_state_of}
 use Rattle.server_history.proofs.recovery_turn.MendedPort.{disk_new, disk_old, found_new, issued_as, next_dead, state_new}
 use Rattle.server_history.proofs.recovery_turn.TurnEvidence.{IsEvident}
@@ -76,7 +76,7 @@ module _ (laws : LawsBelow) (port : Port) (replies : List Reply) (old new : Serv
     found_same : probe_result_of new.ports port.0 ≡ probe_result_of old.ports port.0
     found_same = found_new laws port replies old new k ready r looks kept ∙ found ∙ sym a.ready
 
-    disk_same : disk_in new port ≡ disk_in old port
+    disk_same : last_disk_in new port ≡ last_disk_in old port
     disk_same = disk_new laws port replies old new k ready r looks kept ∙ ap (λ (f : ProbeResult). last_disk_of f (Some a.was)) found ∙ sym (disk_old laws port replies old new k ready r looks kept)
 
     mode_same : mode_in new port ≡ mode_in old port
@@ -85,7 +85,7 @@ module _ (laws : LawsBelow) (port : Port) (replies : List Reply) (old new : Serv
         ∙ ap (λ cap. mode_found cap (probe_result_of old.ports port.0)) (ap (λ (d : Device). d.cap) device ∙ adapter.cap) ∙ sym (k.modes port.0 low)
 
     same : SamePort (ports_of old) (ports_of new) port
-    same = (ap is_served found_same, ap state_of found_same, ap last_serial_of disk_same, ap last_sectors_of disk_same, ap last_trims_of found_same, mode_same)
+    same = (ap is_served found_same, ap state_of found_same, ap last_serial_of disk_same, ap last_sectors_of disk_same, ap trims_of found_same, mode_same)
 
   -- ---- one that was booted
 

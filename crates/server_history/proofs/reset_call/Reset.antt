@@ -63,7 +63,7 @@ use Rattle.server_history.specs.Ended.{ResetLaws}
 use Rattle.server_history.specs.Histories.{ExtendsSettled, LeadsToServer}
 use Rattle.server_history.proofs.reset_call.ResetDevice.{IsRebootedBy}
 use Rattle.server_history.specs.Resets.{IsResetRevalidation, IsReinitialized, IssuePorts, ResetsServer, SettlePorts}
-use Rattle.server_history.specs.Server.{InCallInvariant, IsMachineOf, SettledInvariant, ServerState, disk_in, last_disk_of, is_served, mode_in, ports_of, remembered_at, last_sectors_of, last_serial_of, state_of}
+use Rattle.server_history.specs.Server.{InCallInvariant, IsMachineOf, SettledInvariant, ServerState, last_disk_in, last_disk_of, is_served, mode_in, ports_of, remembered_at, last_sectors_of, last_serial_of, state_of}
 use Rattle.server_history.specs.Stalled.{BookInvariant}
 use Rattle.server_history.specs.Turns.{joint_state_of, abstract_state_of}
 use Rattle.ata_types.specs.declared.request.Outcome.TheVariants as outcome
@@ -161,13 +161,13 @@ module _ (laws : ResetLaws) (s taken settled new : ServerState) (replies : List 
   found_taken port = ap (λ (c : ServerState). probe_result_of c.ports port) f.settings
 
   -- the disk that is remembered is the one that the port was last ready with
-  remembered_new : (port : Port) → remembered_at new.remembered port.0 ≡ disk_in s port
+  remembered_new : (port : Port) → remembered_at new.remembered port.0 ≡ last_disk_in s port
   remembered_new port = ap (λ (c : ServerState). remembered_at c.remembered port.0) (a.settings ∙ ap (λ (c : ServerState). record c { device = new.device; slots = new.slots; book = new.book }) f.settings) ∙ takes.remembered port.0
 
   -- with another state than Ready it shows the same disk
   shows_same : (port : Port) → (ports_of new).state port ≢ ReadyState → SameDisk (ports_of s) (ports_of new) port
   shows_same port other =
-      let disk : disk_in new port ≡ disk_in s port = remembers (probe_result_of new.ports port.0) (remembered_at new.remembered port.0) other ∙ remembered_new port in
+      let disk : last_disk_in new port ≡ last_disk_in s port = remembers (probe_result_of new.ports port.0) (remembered_at new.remembered port.0) other ∙ remembered_new port in
       (ap last_serial_of disk, ap last_sectors_of disk)
 
   -- a port is served as it was
@@ -213,27 +213,27 @@ module _ (laws : ResetLaws) (s taken settled new : ServerState) (replies : List 
       (All-contains (λ (x : Held). is_served (probe_result_of s.ports x.entry.port.0) ≡ true) s.book has.from.was booked.asked here)
 
   -- its port is what it expects
-  expects_new : (e : Pending) (disposition : Disposition) (has : HasFate taken e disposition) → IsResetRevalidation (disk_in s e.request.port) (probe_result_of new.ports e.request.port.0) has.revalidation
-  expects_new e disposition has = subst (λ (found : ProbeResult). IsResetRevalidation (disk_in s e.request.port) found has.revalidation) (sym (found_new e.request.port.0 ∙ found_taken e.request.port.0))
+  expects_new : (e : Pending) (disposition : Disposition) (has : HasFate taken e disposition) → IsResetRevalidation (last_disk_in s e.request.port) (probe_result_of new.ports e.request.port.0) has.revalidation
+  expects_new e disposition has = subst (λ (found : ProbeResult). IsResetRevalidation (last_disk_in s e.request.port) found has.revalidation) (sym (found_new e.request.port.0 ∙ found_taken e.request.port.0))
       (subst (λ (disk : Option DiskInfo). IsResetRevalidation disk (probe_result_of taken.ports e.request.port.0) has.revalidation) (takes.remembered e.request.port.0) has.expects)
 
   -- a port with the disk that it had
-  module _ (port : Port) (expects : IsResetRevalidation (disk_in s port) (probe_result_of new.ports port.0) Same) where
+  module _ (port : Port) (expects : IsResetRevalidation (last_disk_in s port) (probe_result_of new.ports port.0) Same) where
     is_ready : (ports_of new).state port ≡ ReadyState
     is_ready = ap state_of expects.3
 
     same_disk : SameDisk (ports_of s) (ports_of new) port
     same_disk =
-        let now_is : disk_in new port ≡ Some expects.1 = ap (λ (found : ProbeResult). last_disk_of found (remembered_at new.remembered port.0)) expects.3 in
+        let now_is : last_disk_in new port ≡ Some expects.1 = ap (λ (found : ProbeResult). last_disk_of found (remembered_at new.remembered port.0)) expects.3 in
         (ap last_serial_of now_is ∙ expects.4.0 ∙ sym (ap last_serial_of expects.2), ap last_sectors_of now_is ∙ expects.4.1 ∙ sym (ap last_sectors_of expects.2))
 
   -- one with another
-  module _ (port : Port) (expects : IsResetRevalidation (disk_in s port) (probe_result_of new.ports port.0) DiskLost) where
+  module _ (port : Port) (expects : IsResetRevalidation (last_disk_in s port) (probe_result_of new.ports port.0) DiskLost) where
     not_dead : (ports_of new).state port ≢ Dead
     not_dead dead = expects.0 (dead_found (probe_result_of new.ports port.0) dead)
 
     other_disk : (ports_of new).state port ≡ ReadyState → SameDisk (ports_of s) (ports_of new) port → ⊥
-    other_disk ready alike = by_disk (disk_in s port) refl
+    other_disk ready alike = by_disk (last_disk_in s port) refl
       where
         new_kept : InCallInvariant new
         new_kept = a.kept
@@ -244,19 +244,19 @@ module _ (laws : ResetLaws) (s taken settled new : ServerState) (replies : List 
         info : DiskInfo
         info = found.1.0
 
-        now_is : disk_in new port ≡ Some info
+        now_is : last_disk_in new port ≡ Some info
         now_is = ap (λ (x : ProbeResult). last_disk_of x (remembered_at new.remembered port.0)) found.1.1
 
         fit : StillStandsBehind (wanted_of new.wanted port.0) (Ready info) port.0 new.device
         fit = subst (λ (x : ProbeResult). StillStandsBehind (wanted_of new.wanted port.0) x port.0 new.device) found.1.1 (new_kept.behind port.0 found.0).behind
 
-        serials : info.serial ≡ last_serial_of (disk_in s port)
+        serials : info.serial ≡ last_serial_of (last_disk_in s port)
         serials = sym (ap last_serial_of now_is) ∙ alike.0
 
-        counts : info.sectors ≡ last_sectors_of (disk_in s port)
+        counts : info.sectors ≡ last_sectors_of (last_disk_in s port)
         counts = sym (ap last_sectors_of now_is) ∙ alike.1
 
-        by_disk : (disk : Option DiskInfo) → disk_in s port ≡ disk → ⊥
+        by_disk : (disk : Option DiskInfo) → last_disk_in s port ≡ disk → ⊥
         by_disk None at_entry =
             let long = fit.1.fit.tells.serial.size in
             let short : length info.serial ≡ 0 = ap (λ (serial : List ℕ). length serial) (serials ∙ ap last_serial_of at_entry) in omega (arith, long, short)
@@ -267,7 +267,7 @@ module _ (laws : ResetLaws) (s taken settled new : ServerState) (replies : List 
   again_ready : (e : Pending) → Contains f.steps (Again e) → (ports_of new).state e.request.port ≡ ReadyState
   again_ready e here =
       let has = f.again e here in
-      is_ready e.request.port (subst (IsResetRevalidation (disk_in s e.request.port) (probe_result_of new.ports e.request.port.0)) (why_again None has.revalidation has.request.entry has.disposition) (expects_new e Requeue has))
+      is_ready e.request.port (subst (IsResetRevalidation (last_disk_in s e.request.port) (probe_result_of new.ports e.request.port.0)) (why_again None has.revalidation has.request.entry has.disposition) (expects_new e Requeue has))
 
   gives_up : (e : Pending) (o : Outcome) → Contains f.steps (Answer e o) → EndsUndone o
   gives_up e o here =
@@ -336,8 +336,8 @@ module _ (laws : ResetLaws) (s taken settled new : ServerState) (replies : List 
       stopped : Contains by.evidence.stopped e.request.port
       stopped = by.stopped e.request.port (of_served e (Complete o) has)
 
-      expects : (p : Revalidation) → has.revalidation ≡ p → IsResetRevalidation (disk_in s e.request.port) (probe_result_of new.ports e.request.port.0) p
-      expects p at_entry = subst (IsResetRevalidation (disk_in s e.request.port) (probe_result_of new.ports e.request.port.0)) at_entry (expects_new e (Complete o) has)
+      expects : (p : Revalidation) → has.revalidation ≡ p → IsResetRevalidation (last_disk_in s e.request.port) (probe_result_of new.ports e.request.port.0) p
+      expects p at_entry = subst (IsResetRevalidation (last_disk_in s e.request.port) (probe_result_of new.ports e.request.port.0)) at_entry (expects_new e (Complete o) has)
 
       goes_on : has.revalidation ≡ Same → IsReadyAgain was by.evidence (ports_of new) e.request.port
       goes_on as_before = (
@@ -391,16 +391,16 @@ module _ (laws : ResetLaws) (s taken settled new : ServerState) (replies : List 
   }
 
   -- where one is told that its disk has gone, its port has another, or none
-  unplugged_expects : (e : Pending) → Contains steps (Answer e outcome.Unplugged) → IsResetRevalidation (disk_in s e.request.port) (probe_result_of new.ports e.request.port.0) DiskLost
+  unplugged_expects : (e : Pending) → Contains steps (Answer e outcome.Unplugged) → IsResetRevalidation (last_disk_in s e.request.port) (probe_result_of new.ports e.request.port.0) DiskLost
   unplugged_expects e here = because (why None has.revalidation has.request.entry outcome.Unplugged has.disposition)
     where
       has : HasFate taken e (Complete outcome.Unplugged)
       has = f.answered e outcome.Unplugged (answer_in e outcome.Unplugged here)
 
-      because : Why None has.revalidation has.request.entry outcome.Unplugged → IsResetRevalidation (disk_in s e.request.port) (probe_result_of new.ports e.request.port.0) DiskLost
+      because : Why None has.revalidation has.request.entry outcome.Unplugged → IsResetRevalidation (last_disk_in s e.request.port) (probe_result_of new.ports e.request.port.0) DiskLost
       because (inl x) = let y : outcome.Unplugged ≡ outcome.DeviceError x.0.status x.0.error = x.3 in absurd cc
       because (inr (inl x)) = let y : outcome.Unplugged ≡ outcome.Aborted = x.3 in absurd cc
-      because (inr (inr (inl x))) = subst (IsResetRevalidation (disk_in s e.request.port) (probe_result_of new.ports e.request.port.0)) x.0 (expects_new e (Complete outcome.Unplugged) has)
+      because (inr (inr (inl x))) = subst (IsResetRevalidation (last_disk_in s e.request.port) (probe_result_of new.ports e.request.port.0)) x.0 (expects_new e (Complete outcome.Unplugged) has)
       because (inr (inr (inr (inl x)))) = let y : outcome.Unplugged ≡ outcome.PortDead = x.1 in absurd cc
       because (inr (inr (inr (inr x)))) = let y : outcome.Unplugged ≡ outcome.Revoked = x.3 in absurd cc
 
@@ -415,7 +415,7 @@ module _ (laws : ResetLaws) (s taken settled new : ServerState) (replies : List 
       because (inr (inl x)) = let y : outcome.PortDead ≡ outcome.Aborted = x.3 in absurd cc
       because (inr (inr (inl x))) = let y : outcome.PortDead ≡ outcome.Unplugged = x.1 in absurd cc
       because (inr (inr (inr (inr x)))) = let y : outcome.PortDead ≡ outcome.Revoked = x.3 in absurd cc
-      because (inr (inr (inr (inl x)))) = subst (IsResetRevalidation (disk_in s e.request.port) (probe_result_of new.ports e.request.port.0)) x.0 (expects_new e (Complete outcome.PortDead) has)
+      because (inr (inr (inr (inl x)))) = subst (IsResetRevalidation (last_disk_in s e.request.port) (probe_result_of new.ports e.request.port.0)) x.0 (expects_new e (Complete outcome.PortDead) has)
 
   -- who is left is of a port that has its disk
   left_has : (e : Pending) → Contains (after m steps).book e → HasItsDisk settled.remembered settled.ports e.request.port.0
@@ -424,7 +424,7 @@ module _ (laws : ResetLaws) (s taken settled new : ServerState) (replies : List 
       let w = a.from h.0 h.1 in
       subst (λ (p : Port). HasItsDisk settled.remembered settled.ports p.0) (sym (h.2.port ∙ w.port)) (its_disk laws s taken settled booked takes replies settles m reached is w.was w.there)
 
-  left_expects : (e : Pending) → Contains (after m steps).book e → IsResetRevalidation (disk_in s e.request.port) (probe_result_of new.ports e.request.port.0) Same
+  left_expects : (e : Pending) → Contains (after m steps).book e → IsResetRevalidation (last_disk_in s e.request.port) (probe_result_of new.ports e.request.port.0) Same
   left_expects e here =
       let has = left_has e here in
       (has.0, has.1, sym (remembered_new e.request.port) ∙ ap (λ (c : ServerState). remembered_at c.remembered e.request.port.0) a.settings ∙ has.2, found_new e.request.port.0 ∙ has.3, has.4)
@@ -433,7 +433,7 @@ module _ (laws : ResetLaws) (s taken settled new : ServerState) (replies : List 
   unplugs = record {
     emptied = λ e other here there own.
         let lost = unplugged_expects e here in
-        let has = subst (λ (p : Port). IsResetRevalidation (disk_in s p) (probe_result_of new.ports p.0) Same) own (left_expects other there) in
+        let has = subst (λ (p : Port). IsResetRevalidation (last_disk_in s p) (probe_result_of new.ports p.0) Same) own (left_expects other there) in
         lost.1 has.0 has.1 has.2 has.3 has.4;
     alike = λ e other here there own. (unplugged_expects e here).0 (ap (λ (p : Port). probe_result_of new.ports p.0) (sym own) ∙ dead_expects other there);
   }

@@ -34,7 +34,7 @@ use Rattle.server_history.specs.Histories.{LeadsToServer}
 use Rattle.request_queue.specs.Entries.{Held, IsAccepted, BookIsInOrder}
 use Rattle.request_queue.specs.Machine.{IsBook, IsEntry, range_of}
 use Rattle.slots.specs.Uses.{PortSlots}
-use Rattle.server_history.specs.Server.{HasCommand, StandsAlone, HasSlots, ServerState, InCallInvariant, IsMachineOf, IsPortOf, mode_found, mode_in, kept_at, AreKept, ports_of, state_of, used_for, HasTrueMark}
+use Rattle.server_history.specs.Server.{HasStoredCommand, StandsAlone, HasSlots, ServerState, InCallInvariant, IsMachineOf, IsPortOf, mode_found, mode_in, kept_at, AreKept, ports_of, state_of, used_for, HasTrueMark}
 use Rattle.slots.specs.declared.SlotUse.{SlotUse}
 use Rattle.block_machine.specs.Due.{is_plain}
 use Rattle.server_history.proofs.state.ServerInstant.{holds_with, slots}
@@ -112,7 +112,7 @@ machine_on laws s new m steps is own knows = machine_with laws s new m (after m 
 pub kept_then : (s : ServerState) (device : Device) (grants : List GrantRow) (table : Table) (slots : List PortSlots) (book : List Held) (last : ℕ) → InCallInvariant s → All IsRow grants → IsOn device → SameAdapter s.device device
     → ((port : ℕ) → port < 4 → IsPortOf s.wanted s.ports port device) → table.owners ≡ s.table.owners → length slots ≡ 4 → ((port : ℕ) → port < 4 → HasSlots s.ports s.modes slots port)
     → ((port : Port) (slot : ℕ) (used : SlotUse) (e : Held) → used_for slots port.0 slot ≡ Some used → Contains book e → e.entry.id ≡ used.id → used.queued ≡ not (is_plain (mode_in s port) e.entry.op))
-    → ((port slot : ℕ) (used : SlotUse) → used_for slots port slot ≡ Some used → HasCommand used.queued device port slot)
+    → ((port slot : ℕ) (used : SlotUse) → used_for slots port slot ≡ Some used → HasStoredCommand used.queued device port slot)
     → ((port slot : ℕ) (used : SlotUse) → used_for slots port slot ≡ Some used → used.queued ≡ false → StandsAlone slots port slot)
     → All (IsAccepted table) book → BookIsInOrder book → All (HasTrueMark grants) book → All (λ e. e.entry.id.0 ≤ last) book → All (λ e. state_of (probe_result_of s.ports e.entry.port.0) ≡ ReadyState) book → (m : Machine) → IsReachable m
     → IsMachineOf (record s { device = device; grants = grants; table = table; slots = slots; book = book; last = last }) m
@@ -148,7 +148,7 @@ kept_then s device grants table used_now book last k rows on same behind owners 
 
 -- the same with another device alone
 pub kept_on : LawsBelow → (s : ServerState) (new : Device) → (k : InCallInvariant s) → IsOn new → SameAdapter s.device new
-    → ((port : ℕ) → port < 4 → IsPortOf s.wanted s.ports port new) → ((port slot : ℕ) (used : SlotUse) → used_for s.slots port slot ≡ Some used → HasCommand used.queued new port slot) → (steps : List Step) → AllMay k.machine steps
+    → ((port : ℕ) → port < 4 → IsPortOf s.wanted s.ports port new) → ((port slot : ℕ) (used : SlotUse) → used_for s.slots port slot ≡ Some used → HasStoredCommand used.queued new port slot) → (steps : List Step) → AllMay k.machine steps
     → IsMachineOf (record s { device = new }) (after k.machine steps) → InCallInvariant (record s { device = new })
 kept_on laws s new k on same behind commands steps may is =
     kept_then s new s.grants s.table s.slots s.book s.last k k.rows on same behind refl k.four k.slots k.kinds commands k.alone k.accepted k.ordered k.marked k.handed_out k.ready (after k.machine steps) (laws.basic.reached k.machine steps k.reached may) is

@@ -23,7 +23,7 @@ use Rattle.identify.specs.declared.wanted.Wanted.{Wanted}
 use Rattle.request_queue.specs.Entries.{Held}
 use Rattle.request_queue.specs.Machine.{IsEntry}
 use Rattle.slots.specs.declared.SlotUse.{SlotUse}
-use Rattle.server_history.specs.Server.{StandsAlone, ServerState, InCallInvariant, IsMachineOf, is_served, mode_at, mode_found, mode_in, ports_of, disk_in, last_disk_of, remembered_at, last_sectors_of, last_serial_of, state_of, last_trims_of, usable_of, use_of, used_for}
+use Rattle.server_history.specs.Server.{StandsAlone, ServerState, InCallInvariant, IsMachineOf, is_served, mode_at, mode_found, mode_in, ports_of, last_disk_in, last_disk_of, remembered_at, last_sectors_of, last_serial_of, state_of, trims_of, usable_of, use_of, used_for}
 use Rattle.server_history.proofs.state.PortSlots.{free_unused, none_kept, not_dead, of_ready, ready_use, usable_ready, used_serves}
 use Rattle.server_history.proofs.state.PairedLists.{at_right}
 
@@ -68,7 +68,7 @@ module _ (s : ServerState) (k : InCallInvariant s) (m : Machine) (reached : IsRe
       ready : state_of (probe_result_of s.ports port.0) ≡ ReadyState
       ready = ap state_of found
 
-      disk_is : disk_in s port ≡ Some info
+      disk_is : last_disk_in s port ≡ Some info
       disk_is = ap (λ (f : ProbeResult). last_disk_of f (remembered_at s.remembered port.0)) found
 
       abbrev mode : QueueMode
@@ -135,7 +135,7 @@ module _ (s : ServerState) (k : InCallInvariant s) (m : Machine) (reached : IsRe
       runs = runs refl;
       info = info;
       disk = behind.1;
-      shows = record { serial = ap last_serial_of (disk_is info e); sectors = ap last_sectors_of (disk_is info e); trims = ap last_trims_of e; mode = k.modes port.0 low ∙ ap (mode_found s.device.cap) e };
+      shows = record { serial = ap last_serial_of (disk_is info e); sectors = ap last_sectors_of (disk_is info e); trims = ap trims_of e; mode = k.modes port.0 low ∙ ap (mode_found s.device.cap) e };
       slots = requests info e;
       kept = none_kept s m port is (alive (Ready info) e (λ x. cc));
     }

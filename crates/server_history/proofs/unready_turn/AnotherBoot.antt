@@ -32,7 +32,7 @@ use Rattle.port_control.specs.declared.Stopped.{Stopped}
 use Rattle.port_control.specs.Looks.{IsLooking}
 use Rattle.server_history.specs.Below.{LawsBelow}
 use Rattle.server_history.specs.ErrorHandling.{IsRevalidated}
-use Rattle.server_history.specs.Server.{InCallInvariant, ServerState, disk_in, last_disk_of, is_served, no_slots, plain_mode, ports_of, remembered_at, last_sectors_of, last_serial_of, state_of}
+use Rattle.server_history.specs.Server.{InCallInvariant, ServerState, last_disk_in, last_disk_of, is_served, no_slots, plain_mode, ports_of, remembered_at, last_sectors_of, last_serial_of, state_of}
 use Rattle.server_history.specs.Probing.{BootsOnce, IsProbedAnew}
 use Rattle.server_history.specs.Turns.{LeavesOthers}
 use Rattle.port_control.specs.declared.events.PortError.TheVariants.{TimedOut}
@@ -253,7 +253,7 @@ module _ (laws : LawsBelow) (s new : ServerState) (seen : Device) (port : Port) 
       remembered : Option DiskInfo
       remembered = remembered_at s.remembered port.0
 
-      same_disk : (ports_of then_is).state port ≢ ReadyState → disk_in then_is port ≡ disk_in s port
+      same_disk : (ports_of then_is).state port ≢ ReadyState → last_disk_in then_is port ≡ last_disk_in s port
       same_disk other = ap (λ (f : ProbeResult). last_disk_of f remembered) found_then ∙ disk_is b.found remembered (λ ready. other (ap state_of found_then ∙ ready)) ∙ sym (ap (λ (f : ProbeResult). last_disk_of f remembered) is)
 
   pub tells : TellsTried port (stopped_of port b.anew.result.next) (stuck_if port b.found) accesses s then_is

@@ -30,7 +30,7 @@ use Rattle.driver_history.specs.Histories.{BootsAnew, FindsDone, IsUnfitOrForeig
 use Rattle.driver_history.specs.Parts.{HasTurnIn, NamesAlike}
 use Rattle.server_history.specs.Below.{LawsBelow}
 use Rattle.server_history.specs.Turns.{IsPortTurn, HandlesShownErrors, InService, MakesTurn, TurnCorresponds, Turn, joint_state_of, abstract_state_of, happening_of_turn}
-use Rattle.server_history.specs.Server.{HasCommand, ServerState, InCallInvariant, IsMachineOf, SettledInvariant, ports_of, state_of}
+use Rattle.server_history.specs.Server.{HasStoredCommand, ServerState, InCallInvariant, IsMachineOf, SettledInvariant, ports_of, state_of}
 use Rattle.server_history.proofs.any_turn.JoinedParts.{same_then}
 use Rattle.server_history.proofs.whole_call.TurnResults as lifting
 use Rattle.server_history.proofs.whole_call.TurnResults.{counts_apart}
@@ -128,7 +128,7 @@ module _ (laws : LawsBelow) (s : ServerState) (start : SettledInvariant s) (old 
         -- whose command is a plain one
         used_plain : it.has.used.queued ≡ false
         used_plain =
-            let k = subst (HasCommand it.has.used.queued s.device n) (sym its_slot) (kept.commands n it.has.slot it.has.used (sym (lifting.used_then AService laws s start old reached at ports_are n c mid before its p next part m_reached on_mid ready it.has.slot) ∙ it.has.used_is)) in
+            let k = subst (HasStoredCommand it.has.used.queued s.device n) (sym its_slot) (kept.commands n it.has.slot it.has.used (sym (lifting.used_then AService laws s start old reached at ports_are n c mid before its p next part m_reached on_mid ready it.has.slot) ∙ it.has.used_is)) in
             let same = laws.slots.one_said s.device.memory (s.device.port n).bases.clb slot says.command k.command says.places k.places says.told.says k.stored.told.says in
             sym k.kind ∙ sym (ap (λ (y : Meaning). is_queued y.operation) same.0) ∙ plain
 

@@ -69,7 +69,7 @@ loop-number-preserved c =
       found = map-set_same (λ (p : ServedPort). p.found) ports number c.resolve_after_reset.new.self c.index-ports-number.result (ap (λ (p : ServedPort). p.found) c.resolve_after_reset.ensures.rest) ∙ so_far.found;
       settle = λ s may.
           let one = settled at s (so_far.settle s may) low in
-          c.law_settling_goes_on.ensures (now at s (so_far.settle s may) low) (after at s (so_far.settle s may) low) (port_at number) one.0 small (so_far.settle s may) one.2;
+          c.law_resolving_goes_on.ensures (now at s (so_far.settle s may) low) (after at s (so_far.settle s may) low) (port_at number) one.0 small (so_far.settle s may) one.2;
       rest = λ s may later new settles.
           let one = settled at s (so_far.settle s may) low in
           let all = so_far.rest s may (one.0 ++ later) new

@@ -9,7 +9,7 @@ use Rattle.block_server.specs.Calls.{IsFor}
 use Rattle.block_server.specs.Seen.{seen}
 use Rattle.block_server.specs.View.{ServerView, server_of}
 use Rattle.host_boot.specs.Taken.{probe_result_of}
-use Rattle.server_history.specs.Server.{last_disk_of, remembered_at, last_sectors_of, server_situation, state_of, last_trims_of}
+use Rattle.server_history.specs.Server.{last_disk_of, remembered_at, last_sectors_of, server_situation, state_of, trims_of}
 use Rattle.block_server.proofs.Refusing as refusing
 use Rattle.block_server.proofs.Ruling.{rule_first}
 use Rattle.block_server.proofs.server.Server.admit.Goals as goal
@@ -48,7 +48,7 @@ returns-then-lacks_trim-clause-refused g c =
     (λ other its. (c.row.ensures other).1 its) ((c.row.ensures c.in-Some.row).0 c.in-Some.is) (sym (subst (λ (v : ServerView g.row.A.Denot). c.state-state.result ≡ state_of (probe_result_of v.ports c.in-Some.row.port.0)) (sym c.self.view_is) c.state-state.ensures.state) ∙ c.in-Ready.is)
     (λ leaves. absurd (true≢false (sym (c.leaves_disk.ensures.1 (subst (λ (n : ℕ). (c.args.r.now.op ≢ Flush) × (n < c.args.r.now.first.0 + c.args.r.now.count)) (sym (subst (λ (v : ServerView g.row.A.Denot). c.sectors.result ≡ last_sectors_of (last_disk_of (probe_result_of v.ports c.in-Some.row.port.0) (remembered_at v.remembered c.in-Some.row.port.0))) (sym c.self.view_is) c.sectors.ensures)) leaves)) ∙ c.if-leaves_disk.false)))
     (c.lacks_trim.ensures.0 c.if-lacks_trim.true).0
-    (subst (λ (v : ServerView g.row.A.Denot). last_trims_of (probe_result_of v.ports c.in-Some.row.port.0) ≡ false) (sym c.self.view_is) (c.lacks_trim.ensures.0 c.if-lacks_trim.true).1))
+    (subst (λ (v : ServerView g.row.A.Denot). trims_of (probe_result_of v.ports c.in-Some.row.port.0) ≡ false) (sym c.self.view_is) (c.lacks_trim.ensures.0 c.if-lacks_trim.true).1))
 
 pub returns-then-unanswered-ge-CLIENT_PLACES-clause-refused : goal.returns-then-unanswered-ge-CLIENT_PLACES-clause-refused
 returns-then-unanswered-ge-CLIENT_PLACES-clause-refused g c =
@@ -56,7 +56,7 @@ returns-then-unanswered-ge-CLIENT_PLACES-clause-refused g c =
     (refusing.client_full (server_of g.A.Adapter.device (seen c.self.inside)) c.args.r.now (rw c.deref.ensures at c.in_default.ensures.ok) c.in-Some.row c.row.result c.in-Some.is
     (λ other its. (c.row.ensures other).1 its) ((c.row.ensures c.in-Some.row).0 c.in-Some.is) (sym (subst (λ (v : ServerView g.row.A.Denot). c.state-state.result ≡ state_of (probe_result_of v.ports c.in-Some.row.port.0)) (sym c.self.view_is) c.state-state.ensures.state) ∙ c.in-Ready.is)
     (λ leaves. absurd (true≢false (sym (c.leaves_disk.ensures.1 (subst (λ (n : ℕ). (c.args.r.now.op ≢ Flush) × (n < c.args.r.now.first.0 + c.args.r.now.count)) (sym (subst (λ (v : ServerView g.row.A.Denot). c.sectors.result ≡ last_sectors_of (last_disk_of (probe_result_of v.ports c.in-Some.row.port.0) (remembered_at v.remembered c.in-Some.row.port.0))) (sym c.self.view_is) c.sectors.ensures)) leaves)) ∙ c.if-leaves_disk.false)))
-    (refusing.takes_trim _ c.lacks_trim.result (c.args.r.now.op ≡ Trim) (subst (λ (v : ServerView g.row.A.Denot). (c.args.r.now.op ≡ Trim) × (last_trims_of (probe_result_of v.ports c.in-Some.row.port.0) ≡ false) → IsTrue c.lacks_trim.result) (sym c.self.view_is) c.lacks_trim.ensures.1) c.if-lacks_trim.false)
+    (refusing.takes_trim _ c.lacks_trim.result (c.args.r.now.op ≡ Trim) (subst (λ (v : ServerView g.row.A.Denot). (c.args.r.now.op ≡ Trim) × (trims_of (probe_result_of v.ports c.in-Some.row.port.0) ≡ false) → IsTrue c.lacks_trim.result) (sym c.self.view_is) c.lacks_trim.ensures.1) c.if-lacks_trim.false)
     (let P : ℕ → Type 0 = λ n. 16 ≤ n in subst P c.unanswered.ensures c.if-unanswered-ge-CLIENT_PLACES.true))
 
 pub returns-then-self-ge18446744073709551615-clause-refused : goal.returns-then-self-ge18446744073709551615-clause-refused
@@ -65,7 +65,7 @@ returns-then-self-ge18446744073709551615-clause-refused g c =
     (refusing.ids_spent (server_of g.A.Adapter.device (seen c.self.inside)) c.args.r.now (rw c.deref.ensures at c.in_default.ensures.ok) c.in-Some.row c.row.result c.in-Some.is
     (λ other its. (c.row.ensures other).1 its) ((c.row.ensures c.in-Some.row).0 c.in-Some.is) (sym (subst (λ (v : ServerView g.row.A.Denot). c.state-state.result ≡ state_of (probe_result_of v.ports c.in-Some.row.port.0)) (sym c.self.view_is) c.state-state.ensures.state) ∙ c.in-Ready.is)
     (λ leaves. absurd (true≢false (sym (c.leaves_disk.ensures.1 (subst (λ (n : ℕ). (c.args.r.now.op ≢ Flush) × (n < c.args.r.now.first.0 + c.args.r.now.count)) (sym (subst (λ (v : ServerView g.row.A.Denot). c.sectors.result ≡ last_sectors_of (last_disk_of (probe_result_of v.ports c.in-Some.row.port.0) (remembered_at v.remembered c.in-Some.row.port.0))) (sym c.self.view_is) c.sectors.ensures)) leaves)) ∙ c.if-leaves_disk.false)))
-    (refusing.takes_trim _ c.lacks_trim.result (c.args.r.now.op ≡ Trim) (subst (λ (v : ServerView g.row.A.Denot). (c.args.r.now.op ≡ Trim) × (last_trims_of (probe_result_of v.ports c.in-Some.row.port.0) ≡ false) → IsTrue c.lacks_trim.result) (sym c.self.view_is) c.lacks_trim.ensures.1) c.if-lacks_trim.false)
+    (refusing.takes_trim _ c.lacks_trim.result (c.args.r.now.op ≡ Trim) (subst (λ (v : ServerView g.row.A.Denot). (c.args.r.now.op ≡ Trim) × (trims_of (probe_result_of v.ports c.in-Some.row.port.0) ≡ false) → IsTrue c.lacks_trim.result) (sym c.self.view_is) c.lacks_trim.ensures.1) c.if-lacks_trim.false)
     (let P : ℕ → Type 0 = λ n. n < 16 in subst P c.unanswered.ensures c.if-unanswered-ge-CLIENT_PLACES.false)
     (let h = c.if-self-ge18446744073709551615.true in omega (arith, h)))
 
@@ -75,7 +75,7 @@ returns-clause-admitted g c =
       refusing.none_applies (server_of g.A.Adapter.device (seen c.self.inside)) c.args.r.now (rw c.deref.ensures at c.in_default.ensures.ok) c.in-Some.row c.row.result c.in-Some.is
           (λ other its. (c.row.ensures other).1 its) ((c.row.ensures c.in-Some.row).0 c.in-Some.is) (sym (subst (λ (v : ServerView g.row.A.Denot). c.state-state.result ≡ state_of (probe_result_of v.ports c.in-Some.row.port.0)) (sym c.self.view_is) c.state-state.ensures.state) ∙ c.in-Ready.is)
           (λ leaves. absurd (true≢false (sym (c.leaves_disk.ensures.1 (subst (λ (n : ℕ). (c.args.r.now.op ≢ Flush) × (n < c.args.r.now.first.0 + c.args.r.now.count)) (sym (subst (λ (v : ServerView g.row.A.Denot). c.sectors.result ≡ last_sectors_of (last_disk_of (probe_result_of v.ports c.in-Some.row.port.0) (remembered_at v.remembered c.in-Some.row.port.0))) (sym c.self.view_is) c.sectors.ensures)) leaves)) ∙ c.if-leaves_disk.false)))
-          (refusing.takes_trim _ c.lacks_trim.result (c.args.r.now.op ≡ Trim) (subst (λ (v : ServerView g.row.A.Denot). (c.args.r.now.op ≡ Trim) × (last_trims_of (probe_result_of v.ports c.in-Some.row.port.0) ≡ false) → IsTrue c.lacks_trim.result) (sym c.self.view_is) c.lacks_trim.ensures.1) c.if-lacks_trim.false)
+          (refusing.takes_trim _ c.lacks_trim.result (c.args.r.now.op ≡ Trim) (subst (λ (v : ServerView g.row.A.Denot). (c.args.r.now.op ≡ Trim) × (trims_of (probe_result_of v.ports c.in-Some.row.port.0) ≡ false) → IsTrue c.lacks_trim.result) (sym c.self.view_is) c.lacks_trim.ensures.1) c.if-lacks_trim.false)
           (let P : ℕ → Type 0 = λ n. n < 16 in subst P c.unanswered.ensures c.if-unanswered-ge-CLIENT_PLACES.false)
           (let h = c.if-self-ge18446744073709551615.false in omega (arith, h)),
       (c.in-Some.row, (c.row.ensures c.in-Some.row).0 c.in-Some.is, refl),

@@ -31,7 +31,7 @@ load-requires g c =
     subst (λ (at : ℕ). IsStable (IsUnowned at (length c.args.out.now)) (g.A.Adapter.device c.self.inside.adapter)) (sym c.in_ok-address.ensures.ok.1)
     (let s = server_of g.A.Adapter.device (seen c.self.inside) in
     let opened = subst P (sym c.self.view_is) c.in_ok-address.ensures.ok.0 in
-    let booked = holds_either c.self.inside.stuck c.self.invariant (λ _ settled. c.law_a_server_is_booked.ensures.kept s settled.kept) (λ _ stalled. stalled.booked) in
+    let booked = holds_either c.self.inside.stuck c.self.invariant (λ _ settled. c.law_book_invariant_holds.ensures.kept s settled.kept) (λ _ stalled. stalled.booked) in
     c.law_open_bytes_are_free.ensures s c.args.client c.args.frame c.args.offset (length c.args.out.now) booked opened)
 
 -- what it leaves, and that it adds an event

@@ -20,8 +20,8 @@ give_all_back-requires g c = search rules
 pub give_all_back-requires-2 : goal.give_all_back-requires-2
 give_all_back-requires-2 g c =
     let s : ServerState = server_of g.A.Adapter.device (seen c.self.inside) in
-    let kept = holds_either c.self.inside.stuck c.self.invariant (λ _ settled. c.law_a_server_is_booked.ensures.kept s settled.kept) (λ _ stalled. stalled.booked) in
-    let laws = c.law_booked_loans_are_lent.ensures in
+    let kept = holds_either c.self.inside.stuck c.self.invariant (λ _ settled. c.law_book_invariant_holds.ensures.kept s settled.kept) (λ _ stalled. stalled.booked) in
+    let laws = c.law_quarantined_loans_are_lent.ensures in
     subst (λ (table : Table). MayGoBack table (seen c.self.inside).kept) (sym c.deref_mut-2.ensures.value)
     (may_go_back s c.give_all_back.new.table
     (record {

@@ -18,7 +18,7 @@ resolve_ports-requires-clause-settle g c =
     let device = g.A.Adapter.device in
     let s = server_of device (seen c.self.inside) in
     let off : StuckInvariant s = now_off device refl (still true c.self.view_is c.requires.stuck) c.self.invariant in
-    (s, c.law_a_server_is_booked.ensures.settle s off.booked)
+    (s, c.law_book_invariant_holds.ensures.settle s off.booked)
 
 -- the server then
 abbrev after : (g : Over) (c : After-resolve_ports g) → ServerState
@@ -33,9 +33,9 @@ told g c =
     let device = g.A.Adapter.device in
     let s = server_of device (seen c.self.inside) in
     let off : StuckInvariant s = now_off device refl (still true c.self.view_is c.requires.stuck) c.self.invariant in
-    let all = c.resolve_ports.ensures.settles s (c.law_a_server_is_booked.ensures.settle s off.booked) in
+    let all = c.resolve_ports.ensures.settles s (c.law_book_invariant_holds.ensures.settle s off.booked) in
     let settles = subst (λ (replies : List Reply). SettlePorts 0 s.ports replies s (after g c)) (sym (all.1 ∙ ap (λ (told : List Reply). told ++ all.0) c.requires.none)) all.2 in
-    (settles, c.law_stalled_services_add.ensures s (after g c) c.resolve_ports.new.replies.items off settles)
+    (settles, c.law_stuck_services_add.ensures s (after g c) c.resolve_ports.new.replies.items off settles)
 
 pub invariant_of-self : goal.invariant_of-self
 invariant_of-self g c = subst (λ (b : Bool). InvariantBy b (after g c)) (sym (still true c.self.view_is c.requires.stuck)) (told g c).1.stalled

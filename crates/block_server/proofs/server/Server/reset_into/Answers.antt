@@ -32,7 +32,7 @@ stuck_server g c = with_ports (server_of g.A.Adapter.device (seen c.self.inside)
 
 stuck_books : (g : Over) (c : After-note_stuck_reset g) → BookInvariant (server_of g.A.Adapter.device (seen c.self.inside))
 stuck_books g c =
-    holds_either c.self.inside.stuck c.self.invariant (λ _ settled. c.law_a_server_is_booked.ensures.kept (server_of g.A.Adapter.device (seen c.self.inside)) settled.kept) (λ _ stalled. stalled.booked)
+    holds_either c.self.inside.stuck c.self.invariant (λ _ settled. c.law_book_invariant_holds.ensures.kept (server_of g.A.Adapter.device (seen c.self.inside)) settled.kept) (λ _ stalled. stalled.booked)
 
 got_stuck : (g : Over) (c : After-note_stuck_reset g) → ResetGetsStuck (server_of g.A.Adapter.device (seen c.self.inside)) (stuck_server g c)
 got_stuck g c =
@@ -65,15 +65,15 @@ returns-in-Err-clause-resets g c =
 pub give_all_back-requires : goal.give_all_back-requires
 give_all_back-requires g c =
     let s = server_of g.A.Adapter.device (seen c.self.inside) in
-    let booked : BookInvariant s = holds_either c.self.inside.stuck c.self.invariant (λ _ settled. c.law_a_server_is_booked.ensures.kept s settled.kept) (λ _ stalled. stalled.booked) in
-    let laws = c.law_booked_loans_are_lent.ensures in
+    let booked : BookInvariant s = holds_either c.self.inside.stuck c.self.invariant (λ _ settled. c.law_book_invariant_holds.ensures.kept s settled.kept) (λ _ stalled. stalled.booked) in
+    let laws = c.law_quarantined_loans_are_lent.ensures in
     subst (λ (table : Table). MayGoBack table s.kept) (sym c.deref_mut.ensures.value)
     (reviving.may_go s booked (λ port. laws.lent s port booked) (λ port. laws.two s port booked) (λ port other a b. laws.one s port other a b booked))
 
 -- the server as its adapter was taken over again, with no loan kept
 its_books : (g : Over) (c : After-resolve_ports-arg-3-1 g) → BookInvariant (server_of g.A.Adapter.device (seen c.self.inside))
 its_books g c =
-    holds_either c.self.inside.stuck c.self.invariant (λ _ settled. c.law_a_server_is_booked.ensures.kept (server_of g.A.Adapter.device (seen c.self.inside)) settled.kept) (λ _ stalled. stalled.booked)
+    holds_either c.self.inside.stuck c.self.invariant (λ _ settled. c.law_book_invariant_holds.ensures.kept (server_of g.A.Adapter.device (seen c.self.inside)) settled.kept) (λ _ stalled. stalled.booked)
 
 abbrev shared_then : (g : Over) (c : After-resolve_ports-arg-3-1 g) → Shared
 shared_then g c = record { table = with_value c.self.inside.shared.table c.give_all_back.new.table; book = c.self.inside.shared.book }

@@ -35,7 +35,7 @@ returns-in_default-clause-adds g c =
 pub answer_waiting-requires : goal.answer_waiting-requires
 answer_waiting-requires g c =
     let s = server_of g.A.Adapter.device (seen c.self.inside) in
-    let b : BookInvariant s = holds_either c.self.inside.stuck c.self.invariant (λ _ settled. c.law_a_server_is_booked.ensures.kept s settled.kept) (λ _ stalled. stalled.booked) in
+    let b : BookInvariant s = holds_either c.self.inside.stuck c.self.invariant (λ _ settled. c.law_book_invariant_holds.ensures.kept s settled.kept) (λ _ stalled. stalled.booked) in
     let marked : BookIsSound s.table (all_marked_under c.args.client c.args.number s.book) = record {
       ordered = c.law_the_book_stays_in_order.ensures.revoked s.book c.args.client c.args.number b.ordered;
       accepted = c.law_accepted_requests_stay.ensures.revoked s.table s.book c.args.client c.args.number b.accepted;
@@ -61,7 +61,7 @@ added_off : (g : Over) (c : Then-self g) → ExtendsStuck (server_of g.A.Adapter
 added_off g c =
     let s = server_of g.A.Adapter.device (seen c.self.inside) in
     let stalled : StuckInvariant s = holds_either c.self.inside.stuck c.self.invariant (λ on _. absurd (let z : false ≡ true = sym on ∙ c.if-self.true in cc)) (λ _ stalled. stalled) in
-    c.law_stalled_revocations_add.ensures s (server_of g.A.Adapter.device (after_off g c)) c.args.client c.args.number c.answer_waiting.new.replies.items stalled (revoked_off g c)
+    c.law_stuck_revocations_add.ensures s (server_of g.A.Adapter.device (after_off g c)) c.args.client c.args.number c.answer_waiting.new.replies.items stalled (revoked_off g c)
 
 pub invariant_of-self-then-self : goal.invariant_of-self-then-self
 invariant_of-self-then-self g c = subst (λ (b : Bool). InvariantBy b (server_of g.A.Adapter.device (after_off g c))) (sym c.if-self.true) (added_off g c).stalled

@@ -25,7 +25,7 @@ accept-requires-clause-on g c =
     let P : ServerView g.row.A.Denot → Type 0 = λ v. IsAcceptable (server_situation (server_of g.A.Adapter.device v)) c.args.r.now in
     sym (ap (λ (v : ServerView g.row.A.Denot). v.stuck) c.self.view_is)
     ∙ holds_either c.self.inside.stuck c.self.invariant (λ on _. on)
-    (λ _ stalled. absurd (c.law_stalled_servers_admit_none.ensures (server_of g.A.Adapter.device (seen c.self.inside)) c.args.r.now stalled (subst P (sym c.self.view_is) c.in_ok-port.ensures.admitted.0)))
+    (λ _ stalled. absurd (c.law_stuck_servers_admit_none.ensures (server_of g.A.Adapter.device (seen c.self.inside)) c.args.r.now stalled (subst P (sym c.self.view_is) c.in_ok-port.ensures.admitted.0)))
 
 pub accept-requires-clause-port : goal.accept-requires-clause-port
 accept-requires-clause-port g c = grind (arith, common_steps)

@@ -1,5 +1,5 @@
 use Rattle.std.proofs.Common.{◌≡◌, ◌↔◌, Bool, IsTrue, false, List, arith, length, slice_index_or, inr, refl, sym, ap, ◌∙◌, subst}
-use Rattle.std.proofs.lemmas.Bool.{false_from_ne_true}
+use Rattle.std.proofs.lemmas.Bool.{false_from_ne_true, false≢true}
 use Rattle.std.proofs.Math.ListN.{get_or-map}
 use Rattle.std.proofs.lemmas.List.{length-map}
 use Rattle.ata_types.specs.declared.request.Reply.{Reply}
@@ -88,6 +88,7 @@ returns-clause-ticks g c =
       ticks = by_on (λ (b : Bool). TicksBy b c.loop-number.replies.items (server_of device c.args.self.now) (server_of device (seen c.loop-number.self-inside))) c.self.view_is c.if-self.false (ticked g c);
       stuck = c.loop-number.invariant.on ∙ by_on (λ (b : Bool). false ≡ b) c.self.view_is c.if-self.false refl;
       rests = c.loop-number.invariant.rests;
+      idle = λ stuck. absurd (false≢true (by_on (λ (b : Bool). false ≡ b) c.self.view_is c.if-self.false refl ∙ stuck));
     }
 
 pub returns-clause-adds : goal.returns-clause-adds
@@ -104,13 +105,14 @@ returns-then-self-clause-ticks g c =
       ticks = subst (λ (b : Bool). TicksBy b c.clear.new.self.items s s) (sym (ap (λ (v : ServerView g.row.A.Denot). v.stuck) (sym c.self.view_is) ∙ c.if-self.true)) (c.clear.ensures, refl);
       stuck = refl;
       rests = λ none. refl;
+      idle = λ stuck. refl;
     }
 
 pub returns-then-self-clause-adds : goal.returns-then-self-clause-adds
 returns-then-self-clause-adds g c =
     let s = server_of g.A.Adapter.device c.args.self.now in
     subst (λ (replies : List Reply). ExtendsHistory s s Tick (Served replies)) (sym c.clear.ensures)
-    (c.law_stalled_ticks_add.ensures s (now_off g.A.Adapter.device c.self.view_is c.if-self.true c.self.invariant)).adds
+    (c.law_stuck_ticks_add.ensures s (now_off g.A.Adapter.device c.self.view_is c.if-self.true c.self.invariant)).adds
 
 pub loop-number-init : goal.loop-number-init
 loop-number-init g c =

@@ -40,3 +40,26 @@ returns-in-Write g c =
           c.put_sector.ensures.left n (subst P more room);
       rest = search rules;
     }
+
+pub returns-in-Trim : goal.returns-in-Trim
+returns-in-Trim g c =
+    record {
+      inside = search rules;
+      sector = fits_sector c.args.bytes.now c.told-bytes c.fits-bytes;
+      gives = search rules;
+      takes = search rules;
+      left = search rules;
+      page = search rules;
+      log = search rules;
+      same = search rules;
+      disk = search rules;
+      kept = search rules;
+      sized = search rules;
+      fine = search rules;
+      ranged = search rules;
+      fails = search rules;
+      lasting = search rules;
+      cached = search rules;
+      old_room = search rules;
+      rest = search rules;
+    }

@@ -1,4 +1,4 @@
-use Rattle.follow.proofs.lines.LinePeerPeer.store.Given as goal
+use Rattle.follow.proofs.lines.QtestPeerPeer.load.Given as goal
 
 abbrev pub invariant-loop-chunk : goal.invariant-loop-chunk
 invariant-loop-chunk g l =

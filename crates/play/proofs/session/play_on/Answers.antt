@@ -1,7 +1,7 @@
 use Rattle.std.proofs.Common.{sym, subst, inr}
 use Rattle.block_server.specs.Made.{IsInitialServer}
 use Rattle.block_server.specs.View.{ServerView}
-use Rattle.play.proofs.session.play_over.Goals as goal
+use Rattle.play.proofs.session.play_on.Goals as goal
 
 pub returns-clause-left : goal.returns-clause-left
 returns-clause-left g c =

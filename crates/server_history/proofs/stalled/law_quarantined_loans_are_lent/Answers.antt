@@ -1,5 +1,5 @@
 use Rattle.server_history.proofs.state.Quarantine.{all_lent, answered, one_loan}
-use Rattle.server_history.proofs.stalled.law_booked_loans_are_lent.Goals as goal
+use Rattle.server_history.proofs.stalled.law_quarantined_loans_are_lent.Goals as goal
 
 pub returns-clause-lent : goal.returns-clause-lent
 returns-clause-lent c = λ s port b. all_lent c.law_living.ensures s b.machine b.reached b.stands port

@@ -1,5 +1,5 @@
 use Rattle.server_history.proofs.failed_reset.ServerBook.{booked, may_settle}
-use Rattle.server_history.proofs.stalled.law_a_server_is_booked.Goals as goal
+use Rattle.server_history.proofs.stalled.law_book_invariant_holds.Goals as goal
 
 pub returns-clause-kept : goal.returns-clause-kept
 returns-clause-kept c = booked c.law_below.ensures

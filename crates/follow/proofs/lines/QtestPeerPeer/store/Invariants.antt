@@ -1,4 +1,4 @@
-use Rattle.follow.proofs.lines.LinePeerPeer.load.Given as goal
+use Rattle.follow.proofs.lines.QtestPeerPeer.store.Given as goal
 
 abbrev pub invariant-loop-chunk : goal.invariant-loop-chunk
 invariant-loop-chunk g l =
