@@ -5,6 +5,7 @@
 check` and the scripts take them. `toolchain.py above NAME..` lists these crates and all that stand on them, lowest
 first.
 """
+import functools
 import hashlib
 import importlib.util
 import os
@@ -22,6 +23,8 @@ def load():
     module = importlib.util.module_from_spec(spec)
     sys.modules["rtlib"] = module
     spec.loader.exec_module(module)
+    # A crate's sum is made of those of all crates below it, and no file changes while a script runs: each is made once.
+    module.Crate.stamp = functools.cache(module.Crate.stamp)
     return module
 
 
