@@ -6,7 +6,7 @@ use Rattle.adapter.specs.Device.{FetchedCommand, Bases, DevicePort, Device}
 use Rattle.adapter.specs.Kept.{KeepsPort}
 use Rattle.adapter.specs.Steps.{with_port}
 use Rattle.adapter.specs.Access.{Reads, note, noted}
-use Rattle.adapter.specs.Guarded.{Spares, IsGuardedSlot, IsGuarded}
+use Rattle.adapter.specs.Guarded.{MissesRange, IsGuardedSlot, IsGuarded}
 use Rattle.adapter.proofs.Changed.{changed_each}
 use Rattle.adapter.proofs.Guards.{in_use_before, steps_guard}
 use Rattle.adapter.proofs.KeptLemmas.{SameEngine, same_engine, still}
@@ -66,7 +66,7 @@ module _ (Tables Kept : ℕ → Type 0) where
               subst P (sym a.memory) (subst Q (sym k.bases) ((g.port q).slot slot (in_use_before (old.port q) (new.port q) k slot used)));
           taken = λ slot t is. (g.port q).taken slot t (sym (ap (λ (f : ℕ → Option FetchedCommand). f slot) ((a.port q).7)) ∙ is);
           received = λ set.
-              let P : Bases → Type 0 = λ b. Spares Kept b.fb (b.fb + 256) in
+              let P : Bases → Type 0 = λ b. MissesRange Kept b.fb (b.fb + 256) in
               subst P (sym k.bases) ((g.port q).received (sym ((a.port q).2) ∙ set));
         };
   }

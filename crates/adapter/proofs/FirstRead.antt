@@ -5,10 +5,10 @@ use Rattle.std.proofs.lemmas.Bool.Decides.{leb_tells}
 use Rattle.std.proofs.lemmas.List.{length-replicate}
 use Rattle.std.proofs.lemmas.List.Elements.{All-replicate}
 use Rattle.adapter.specs.Memory.{patched, bytes_at, changed}
-use Rattle.adapter.specs.Device.{Disk, IsSector, IsDisk, TellsItsSectors, DevicePort, Device}
+use Rattle.adapter.specs.Device.{Disk, IsSector, IsDisk, HasKnownSectors, DevicePort, Device}
 use Rattle.adapter.specs.FirstRead.{header_bytes, command_fis_bytes, prd_bytes, first_memory, first_disk_sector, first_disk, no_disk, empty_port, reading_port, first_read_device}
 use Rattle.adapter.specs.Idle.{IsIdlePort, IsSane}
-use Rattle.adapter.specs.OneCommand.{HasOneCommand, SaysCommand, Standing, standing, is_from, is_of_pieces, is_read_alone, is_written, is_unwritten, IsElsewhere}
+use Rattle.adapter.specs.OneCommand.{HasOneCommand, SaysCommand, CommandLayout, layout_of, is_in_span, is_of_pieces, is_read_only, is_written, is_unwritten, IsElsewhere}
 use Rattle.adapter.specs.ReadDone.{read_of, IsReadDone}
 use Rattle.adapter.specs.Rules.{IsUnowned, IsStable}
 use Rattle.adapter.specs.Decoding.{DecodesTo, IsWholePieces, piece_addresses}
@@ -134,16 +134,16 @@ pub first_sane : IsSane first_read_device
 first_sane = record {
   bytes = first_small;
   disk = changed_each (λ _. empty_port) 0 reading_port (λ q p. IsDisk p.disk) (told_sectors first_disk first_disk_sector refl (λ k small. sector_is k small)) (λ q. told_sectors no_disk (λ k. []) refl (λ k small. absurd (omega arith)));
-  told = λ _. changed_each (λ _. empty_port) 0 reading_port (λ q p. TellsItsSectors p.disk) (first_disk_sector, refl) (λ q. (λ k. [], refl));
+  told = λ _. changed_each (λ _. empty_port) 0 reading_port (λ q p. HasKnownSectors p.disk) (first_disk_sector, refl) (λ q. (λ k. [], refl));
 }
 
 -- ---- tests of bytes
 
-from_within : (first n at : ℕ) → is_from first n at ≡ true → (first ≤ at) × (at < first + n)
+from_within : (first n at : ℕ) → is_in_span first n at ≡ true → (first ≤ at) × (at < first + n)
 from_within first n at h =
     (leb-true first at (and_left (nat_le first at) (nat_lt at (first + n)) h), ltb-true at (first + n) (and_right (nat_le first at) (nat_lt at (first + n)) h))
 
-from_no : (first n at : ℕ) → (at < first) ⊎ (first + n ≤ at) → is_from first n at ≡ false
+from_no : (first n at : ℕ) → (at < first) ⊎ (first + n ≤ at) → is_in_span first n at ≡ false
 from_no first n at (inl before) = rw (lt-leb first at before) refl
 from_no first n at (inr past) = rw (le-leb first at (omega (arith, past)), le-ltb at (first + n) past) refl
 
@@ -160,10 +160,10 @@ unfolding changed
 command = record { meaning = read_of 100 8; places = piece_addresses 0x64000 8; says = first_says }
 
 -- where it stands
-abbrev stands : Standing
+abbrev stands : CommandLayout
 stands = record { header = 0; table = 0x1000; entries = 1; places = piece_addresses 0x64000 8; received = 0x400 }
 
-stands_is : standing first_read_device 0 0 command ≡ stands
+stands_is : layout_of first_read_device 0 0 command ≡ stands
 unfolding changed command first_says
 stands_is = refl
 
@@ -177,11 +177,11 @@ one_of false false c h = inr (inr h)
 
 unwritten : (at : ℕ) → (at < 4) ⊎ (8 ≤ at) → (at < 0x400) ⊎ (0x500 ≤ at) → (at < 0x64000) ⊎ (0x65000 ≤ at) → is_written stands at ≡ false
 unwritten at count area frame =
-    none_of (is_from 4 4 at) (is_of_pieces (piece_addresses 0x64000 8) at) (is_from 0x400 256 at) (from_no 4 4 at count) (pieces_no 0x64000 8 at frame) (from_no 0x400 256 at area)
+    none_of (is_in_span 4 4 at) (is_of_pieces (piece_addresses 0x64000 8) at) (is_in_span 0x400 256 at) (from_no 4 4 at count) (pieces_no 0x64000 8 at frame) (from_no 0x400 256 at area)
 
-stands_apart : (at : ℕ) → is_read_alone stands at ≡ true → is_unwritten stands at ≡ true
+stands_apart : (at : ℕ) → is_read_only stands at ≡ true → is_unwritten stands at ≡ true
 stands_apart at h =
-    elim (one_of (is_from 0 4 at) (is_from 8 24 at) (is_from 0x1000 144 at) h) [
+    elim (one_of (is_in_span 0 4 at) (is_in_span 8 24 at) (is_in_span 0x1000 144 at) h) [
       | inl head ↦
           let in_head = from_within 0 4 at head in
           ap not (unwritten at (inl in_head.1) (inl (omega (arith, in_head.1))) (inl (omega (arith, in_head.1))))
@@ -199,7 +199,7 @@ first_command = record {
   used = inl refl;
   command = command;
   taken = λ t is. some-none is refl;
-  apart = let P : Standing → Type 0 = λ s. (at : ℕ) → is_read_alone s at ≡ true → is_unwritten s at ≡ true in subst P (sym stands_is) stands_apart;
+  apart = let P : CommandLayout → Type 0 = λ s. (at : ℕ) → is_read_only s at ≡ true → is_unwritten s at ≡ true in subst P (sym stands_is) stands_apart;
   other_slots = λ k ne. record { ci = changed_other (λ _. false) 0 true k ne; taken = refl };
   other_ports = λ q ne. let P : DevicePort → Type 0 = λ p. IsIdlePort p in subst P (sym (changed_other (λ _. empty_port) 0 reading_port q ne)) quiet;
 }
@@ -212,8 +212,8 @@ elsewhere : IsElsewhere stands 0x65000 4096 first_read_device
 elsewhere = record {
   inside = omega arith;
   elsewhere = λ a low high.
-      or_no (is_read_alone stands a) (is_written stands a)
-      (none_of (is_from 0 4 a) (is_from 8 24 a) (is_from 0x1000 144 a) (from_no 0 4 a (inr (omega (arith, low)))) (from_no 8 24 a (inr (omega (arith, low)))) (from_no 0x1000 144 a (inr (omega (arith, low)))))
+      or_no (is_read_only stands a) (is_written stands a)
+      (none_of (is_in_span 0 4 a) (is_in_span 8 24 a) (is_in_span 0x1000 144 a) (from_no 0 4 a (inr (omega (arith, low)))) (from_no 8 24 a (inr (omega (arith, low)))) (from_no 0x1000 144 a (inr (omega (arith, low)))))
       (unwritten a (inr (omega (arith, low))) (inr (omega (arith, low))) (inr low));
 }
   where
@@ -223,7 +223,7 @@ elsewhere = record {
 pub first_free : IsStable (IsUnowned 0x65000 4096) first_read_device
 unfolding first_command
 first_free =
-    let P : Standing → Type 0 = λ s. IsElsewhere s 0x65000 4096 first_read_device in
+    let P : CommandLayout → Type 0 = λ s. IsElsewhere s 0x65000 4096 first_read_device in
     elsewhere_free first_read_device 0 0 first_command 0x65000 4096 (subst P (sym stands_is) elsewhere)
 
 -- ---- and it can be done

@@ -2,7 +2,7 @@
 use Rattle.std.proofs.Common.{ℕ, Bool, true, false, zero, suc, ◌≡◌, ◌⊎◌, ◌+◌, ◌*◌, ◌<◌, All, Option, None, Some, refl, sym, subst, inl, inr, arith}
 use Rattle.std.specs.Prelude.{if◌then◌else◌, is_some, nat_le, replicate}
 use Rattle.std.proofs.lemmas.List.Elements.{All-replicate}
-use Rattle.ata_types.specs.declared.memory.TheConstants.{HEADER_BYTES, RECEIVED_BYTES}
+use Rattle.ata_types.specs.declared.memory.TheConstants.{HEADER_BYTES, RECEIVED_FIS_BYTES}
 use Rattle.adapter.specs.Memory.{patched}
 use Rattle.adapter.specs.Device.{FetchedCommand, DevicePort, Device}
 use Rattle.adapter.specs.Steps.{MayScribble, Steps}
@@ -13,18 +13,18 @@ use Rattle.adapter.specs.declared.access.DeviceStep.{DeviceStep}
 use Rattle.adapter.specs.declared.access.DeviceStep.TheVariants as asked
 use Rattle.adapter.proofs.Runs.{Steps-refl, Steps-one, Steps-trans}
 use Rattle.adapter.proofs.Scribbling.{area_filled, one_filled, scribbled_is_one}
-use Rattle.adapter.specs.Asked.{DoesClear, DoesOne, DoesSome, Fails, FailsAfter, FailsOf, SlotGoesOn, MayPost, Asked, DoneOf, DoesScribble, IsScribbled, busy, fatal_bit, memory_filled}
+use Rattle.adapter.specs.Asked.{DoesClear, DoesSlotStep, DoesSlotSteps, Fails, FailsAfter, FailsToldStep, SlotGoesOn, MayPost, Asked, DoesToldStep, DoesScribble, IsScribbled, busy, fatal_bit, memory_filled}
 
 module _ (Posts : (port flag : ℕ) → Operation → Device → Device → Type 0) where
-  pub goes_one : (port slot : ℕ) (old new : Device) → DoesOne Posts port slot old new → SlotGoesOn Posts port slot old new
+  pub goes_one : (port slot : ℕ) (old new : Device) → DoesSlotStep Posts port slot old new → SlotGoesOn Posts port slot old new
   goes_one port slot old new one = (0, (old, refl, one))
 
   -- a step that happened or not, after some or none
   pub goes_next : (port slot : ℕ) (old mid new : Device) (did : Bool) → (did ≡ true → SlotGoesOn Posts port slot old mid) → (did ≡ false → mid ≡ old) →
-      DoesOne Posts port slot mid new → SlotGoesOn Posts port slot old new
+      DoesSlotStep Posts port slot mid new → SlotGoesOn Posts port slot old new
   goes_next port slot old mid new true before same one = let b = before refl in (suc b.0, (mid, b.1, one))
   goes_next port slot old mid new false before same one =
-      let P : Device → Type 0 = λ d. DoesOne Posts port slot d new in
+      let P : Device → Type 0 = λ d. DoesSlotStep Posts port slot d new in
       goes_one port slot old new (subst P (same refl) one)
 
 -- what is posted is a step of the device
@@ -37,7 +37,7 @@ post_steps port flag operation old new (inr post) =
 clear_steps : (port slot most : ℕ) (old new : Device) → DoesClear port slot most old new → Steps old new
 clear_steps port slot most old new c = Steps-one (Clear port slot c.t c.first c.count) old new c.can c.effect
 
-one_steps : (port slot : ℕ) (old new : Device) → DoesOne MayPost port slot old new → Steps old new
+one_steps : (port slot : ℕ) (old new : Device) → DoesSlotStep MayPost port slot old new → Steps old new
 one_steps port slot old new (inl f) = Steps-one (Fetch port slot f.meaning f.places) old new f.can f.effect
 one_steps port slot old new (inr (inl m)) = Steps-one (Move port slot m.t m.bytes) old new m.can m.effect
 one_steps port slot old new (inr (inr (inr c))) = clear_steps port slot c.0 old new c.1
@@ -45,7 +45,7 @@ one_steps port slot old new (inr (inr (inl e))) =
     Steps-trans (Steps-one (Done port slot e.done.flag e.done.t) old e.mid e.done.can e.done.effect)
     (post_steps port e.done.flag e.done.t.meaning.operation e.mid new e.posts)
 
-some_steps : (n port slot : ℕ) (old new : Device) → DoesSome MayPost n port slot old new → Steps old new
+some_steps : (n port slot : ℕ) (old new : Device) → DoesSlotSteps MayPost n port slot old new → Steps old new
 some_steps zero port slot old new e = let P : Device → Type 0 = λ d. Steps old d in subst P (sym e) (Steps-refl old)
 some_steps (suc n) port slot old new s = Steps-trans (some_steps n port slot old s.0 s.1) (one_steps port slot s.0 new s.2)
 
@@ -90,10 +90,10 @@ scribbles : (slots port byte : ℕ) (d : Device) → (d.port port).fre ≡ true 
     (memory : ℕ → ℕ) × IsScribbled slots d.size byte (d.port port) d.memory memory × Steps d (record d { memory = memory })
 scribbles zero port byte d fre small =
     let at : ℕ = (d.port port).bases.fb in (
-      memory_filled d.size at RECEIVED_BYTES byte d.memory,
+      memory_filled d.size at RECEIVED_FIS_BYTES byte d.memory,
       area_filled d.size byte (d.port port) d.memory,
-      fill_steps port 0 at RECEIVED_BYTES byte d (nat_le (at + RECEIVED_BYTES) d.size)
-          (record { fre = fre; place = inl (omega arith, omega arith); are_bytes = bytes_of RECEIVED_BYTES byte small }),
+      fill_steps port 0 at RECEIVED_FIS_BYTES byte d (nat_le (at + RECEIVED_FIS_BYTES) d.size)
+          (record { fre = fre; place = inl (omega arith, omega arith); are_bytes = bytes_of RECEIVED_FIS_BYTES byte small }),
     )
 scribbles (suc slot) port byte d fre small =
     let p : DevicePort = d.port port in
@@ -111,7 +111,7 @@ scribble_steps port byte old new did =
     let Q : Device → Type 0 = λ d. Steps old d in
     subst Q (sym did.effect) (subst P same way.2)
 
-done_steps : (s : DeviceStep) (old new : Device) → DoneOf MayPost s old new → Steps old new
+done_steps : (s : DeviceStep) (old new : Device) → DoesToldStep MayPost s old new → Steps old new
 done_steps (asked.Fetch p slot) old new did = one_steps p.0 slot.0 old new (inl did)
 done_steps (asked.Move p slot) old new did = one_steps p.0 slot.0 old new (inr (inl did))
 done_steps (asked.Clear p slot most) old new did = clear_steps p.0 slot.0 most old new did
@@ -129,7 +129,7 @@ done_steps (asked.Unplug p) old new did = Steps-one (Unplug p.0) old new did.can
 done_steps (asked.Plug p number) old new did = Steps-one (Plug p.0 did.disk) old new did.can did.effect
 done_steps (asked.LosePlug p) old new did = Steps-one (Plug p.0 did.disk) old new did.can did.effect
 
-failed_steps : (s : DeviceStep) (old new : Device) → FailsOf MayPost s old new → Steps old new
+failed_steps : (s : DeviceStep) (old new : Device) → FailsToldStep MayPost s old new → Steps old new
 failed_steps (asked.Fetch p slot) old new f =
     Steps-trans (Steps-one (FetchFault p.0 slot.0 f.fault.queued 0) old f.mid f.fault.can f.fault.effect)
     (post_steps p.0 30 Identify f.mid new (f.posts Identify))

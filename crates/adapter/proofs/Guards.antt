@@ -7,7 +7,7 @@ use Rattle.adapter.specs.Kept.{Keeps, KeepsPort}
 use Rattle.adapter.specs.Rules.{InUse}
 use Rattle.adapter.specs.Steps.{DeviceTransition, Can, device_after, StepLeads, Steps, MayFetch, MayScribble, next_place}
 use Rattle.adapter.specs.Steps.DeviceTransition.{Fetch, FetchFault, Move, Clear, Done, Fault, Fatal, Fall, FrFall, LinkUp, Unplug, Plug, ResetEnds, Scribble}
-use Rattle.adapter.specs.Guarded.{Spares, Avoids, IsGuardedSlot, IsGuardedPort, IsGuarded}
+use Rattle.adapter.specs.Guarded.{MissesRange, MissesPieces, IsGuardedSlot, IsGuardedPort, IsGuarded}
 use Rattle.adapter.proofs.Absurd.{some-none, some_one, set_before}
 use Rattle.adapter.proofs.Changed.{changed_each}
 use Rattle.adapter.proofs.KeptLemmas.{step_keeps}
@@ -17,11 +17,11 @@ use Rattle.adapter.proofs.SaysLemmas.{says_same, says_places}
 -- ---- kept bytes stay
 
 module _ (Tables Kept : ℕ → Type 0) where
-  spared : (memory : ℕ → ℕ) (at : ℕ) (bytes : List ℕ) → Spares Kept at (at + length bytes) → (a : ℕ) → Kept a → patched memory at bytes a ≡ memory a
+  spared : (memory : ℕ → ℕ) (at : ℕ) (bytes : List ℕ) → MissesRange Kept at (at + length bytes) → (a : ℕ) → Kept a → patched memory at bytes a ≡ memory a
   spared memory at bytes spares a kept = patched_apart memory at bytes a (λ low high. spares a low high kept)
 
   scribble_spares : (d : Device) (port slot at : ℕ) (bytes : List ℕ) → IsGuarded Tables Kept d → MayScribble (d.port port) slot at bytes →
-      Spares Kept at (at + length bytes)
+      MissesRange Kept at (at + length bytes)
   scribble_spares d port slot at bytes g may =
       elim may.place [
         | inl area ↦ λ a low high kept. (g.port port).received may.fre a (omega (arith, area.0)) (omega (arith, area.1)) kept
@@ -32,7 +32,7 @@ module _ (Tables Kept : ℕ → Type 0) where
   step_bytes (Move port slot t bytes) d can g a kept =
       by (reads_memory t.meaning.operation)
     where
-      spares : Spares Kept (next_place t) (next_place t + length bytes)
+      spares : MissesRange Kept (next_place t) (next_place t + length bytes)
       spares at low high kept_at =
           (g.port port).taken slot t can.works.taken at kept_at (record { number = t.moved; listed = can.left; from = low; to = omega (arith, can.sector.0) })
 
@@ -84,7 +84,7 @@ module _ (P : ℕ → FetchedCommand → Type 0) (old : ℕ → Option FetchedCo
 module _ (Tables Kept : ℕ → Type 0) (d : Device) (g : IsGuarded Tables Kept d) where
   -- the pieces of what a port has taken avoid the kept bytes
   abbrev TakenAvoid : DevicePort → Type 0
-  TakenAvoid p = (slot : ℕ) (t : FetchedCommand) → p.taken slot ≡ Some t → Avoids Kept t.places
+  TakenAvoid p = (slot : ℕ) (t : FetchedCommand) → p.taken slot ≡ Some t → MissesPieces Kept t.places
 
   now : (port : ℕ) → TakenAvoid (d.port port)
   now port = (g.port port).taken
@@ -94,12 +94,12 @@ module _ (Tables Kept : ℕ → Type 0) (d : Device) (g : IsGuarded Tables Kept 
   at_port port new here = changed_each d.port port new (λ q p. TakenAvoid p) here now
 
   abbrev at_slot : ℕ → FetchedCommand → Type 0
-  at_slot slot t = Avoids Kept t.places
+  at_slot slot t = MissesPieces Kept t.places
 
-  fetch_avoids : (port slot : ℕ) (m : Meaning) (places : List ℕ) → MayFetch d port slot m places → Avoids Kept places
+  fetch_avoids : (port slot : ℕ) (m : Meaning) (places : List ℕ) → MayFetch d port slot m places → MissesPieces Kept places
   fetch_avoids port slot m places can =
       let h : IsGuardedSlot Tables Kept d.memory (d.port port).bases.clb slot = (g.port port).slot slot (inl can.fetchable.issued) in
-      let P : List ℕ → Type 0 = λ l. Avoids Kept l in
+      let P : List ℕ → Type 0 = λ l. MissesPieces Kept l in
       subst P (says_places d.memory (d.port port).bases.clb slot h.meaning m h.places places h.says can.says) h.places_avoid
 
   step_taken : (step : DeviceTransition) → Can step d → (q : ℕ) → TakenAvoid ((device_after step d).port q)
@@ -135,7 +135,7 @@ module _ (Tables Kept : ℕ → Type 0) (d : Device) (g : IsGuarded Tables Kept 
                   (p.slot slot (in_use_before (d.port q) ((device_after step d).port q) k slot used)));
               taken = step_taken step can q;
               received = λ set.
-                  let P : Bases → Type 0 = λ b. Spares Kept b.fb (b.fb + 256) in
+                  let P : Bases → Type 0 = λ b. MissesRange Kept b.fb (b.fb + 256) in
                   subst P (sym k.bases) (p.received (set_before (d.port q).fre ((device_after step d).port q).fre k.fre set));
             };
       }

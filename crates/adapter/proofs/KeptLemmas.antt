@@ -5,7 +5,7 @@ use Rattle.adapter.proofs.Changed.{changed_each}
 use Rattle.adapter.specs.Memory.{changed}
 use Rattle.adapter.specs.Commands.{is_queued}
 use Rattle.adapter.specs.Device.{FetchedCommand, DevicePort, Device}
-use Rattle.adapter.specs.Kept.{Keeps, KeepsOn, KeepsPort, KeepsControls}
+use Rattle.adapter.specs.Kept.{Keeps, KeepsOutsideReset, KeepsPort, KeepsControls}
 use Rattle.adapter.specs.Steps.{DeviceTransition, Can, device_after, StepLeads, Steps, with_port}
 use Rattle.adapter.specs.Steps.DeviceTransition.{Fetch, FetchFault, Move, Clear, Done, Fault, Fatal, Fall, FrFall, LinkUp, Unplug, Plug, ResetEnds, Scribble}
 use Rattle.adapter.specs.declared.tape.Entry.{Entry}
@@ -372,8 +372,8 @@ KeepsControls-trans a b = record {
   runs = λ st ran. b.runs (a.st ∙ st) (a.runs st ran);
 }
 
-pub KeepsOn-trans : {old mid new : Device} → KeepsOn old mid → KeepsOn mid new → KeepsOn old new
-KeepsOn-trans a b = record {
+pub KeepsOutsideReset-trans : {old mid new : Device} → KeepsOutsideReset old mid → KeepsOutsideReset mid new → KeepsOutsideReset old new
+KeepsOutsideReset-trans a b = record {
   no_reset = b.no_reset;
   ae = b.ae ∙ a.ae;
   ie = b.ie ∙ a.ie;
@@ -390,7 +390,7 @@ Keeps-trans {old} {mid} {new} a b = record {
   notes = λ q. b.notes q ∙ a.notes q;
   gained = a.gained ++ b.gained;
   tape = b.tape ∙ (ap (λ t. t ++ b.gained) a.tape ∙ append_assoc old.tape a.gained b.gained);
-  on = λ h. let first : KeepsOn old mid = a.on h in KeepsOn-trans first (b.on first.no_reset);
+  on = λ h. let first : KeepsOutsideReset old mid = a.on h in KeepsOutsideReset-trans first (b.on first.no_reset);
 }
 
 leads_keeps : (steps : List DeviceTransition) (old new : Device) → StepLeads steps old new → Keeps old new
@@ -398,5 +398,5 @@ leads_keeps [] old new e = let P : Device → Type 0 = λ d. Keeps old d in subs
 leads_keeps (step ∷ steps) old new (can, rest) = Keeps-trans (step_keeps step old can) (leads_keeps steps (device_after step old) new rest)
 
 -- whatever the device does, it keeps this
-pub law_steps_keep : {old new : Device} → Steps old new → Keeps old new
-law_steps_keep {old} {new} s = leads_keeps s.steps old new s.lead
+pub law_steps_guarantee : {old new : Device} → Steps old new → Keeps old new
+law_steps_guarantee {old} {new} s = leads_keeps s.steps old new s.lead

@@ -5,14 +5,14 @@ use Rattle.std.proofs.lemmas.Bool.{cases_eq, cases_lt, le-leb, lt-ltb}
 use Rattle.adapter.specs.Device.{DevicePort, Device}
 use Rattle.adapter.specs.Idle.{IsIdle, IsIdlePort}
 use Rattle.adapter.specs.Rules.{InUse, InDataBlocks, IsUnowned, IsStable}
-use Rattle.adapter.specs.Guarded.{Passing, Spares, Avoids, IsGuardedSlot, IsGuardedPort, IsGuarded}
-use Rattle.adapter.specs.OneCommand.{Standing, is_from, is_of_pieces, is_read_alone, is_written, is_unwritten, IsFreeSlot, standing, HasOneCommand, NoneHasCommand, IsElsewhere}
+use Rattle.adapter.specs.Guarded.{Passing, MissesRange, MissesPieces, IsGuardedSlot, IsGuardedPort, IsGuarded}
+use Rattle.adapter.specs.OneCommand.{CommandLayout, is_in_span, is_of_pieces, is_read_only, is_written, is_unwritten, IsFreeSlot, layout_of, HasOneCommand, NoneHasCommand, IsElsewhere}
 use Rattle.adapter.proofs.Absurd.{true-false, some-none}
 use Rattle.adapter.proofs.Free.{apart_free_stays}
 
 -- ---- tests of bytes
 
-is_from_yes : (first n at : ℕ) → first ≤ at → at < first + n → is_from first n at ≡ true
+is_from_yes : (first n at : ℕ) → first ≤ at → at < first + n → is_in_span first n at ≡ true
 is_from_yes first n at low high =
     rw (le-leb first at low, lt-ltb at (first + n) high) refl
 
@@ -27,7 +27,7 @@ is_of_pieces_yes : (places : List ℕ) (k at : ℕ) → k < length places → sl
 is_of_pieces_yes [] k at small low high = absurd (omega arith)
 is_of_pieces_yes (place ∷ places) zero at small low high = rw (is_from_yes place 512 at low high) refl
 is_of_pieces_yes (place ∷ places) (suc k) at small low high =
-    or_two (is_from place 512 at) _ (is_of_pieces_yes places k at (omega arith) low high)
+    or_two (is_in_span place 512 at) _ (is_of_pieces_yes places k at (omega arith) low high)
 
 -- the first, the second or the third of three
 first_of : (a b c : Bool) → a ≡ true → a || b || c ≡ true
@@ -39,27 +39,27 @@ second_of a b c h = or_one (a || b) c (or_two a b h)
 third_of : (a b c : Bool) → c ≡ true → a || b || c ≡ true
 third_of a b c h = or_two (a || b) c h
 
-module _ (s : Standing) (at : ℕ) where
-  reads_head : s.header ≤ at → at < s.header + 4 → is_read_alone s at ≡ true
-  reads_head low high = first_of (is_from s.header 4 at) (is_from (s.header + 8) 24 at) (is_from s.table (TABLE_HEAD + PRD_BYTES * s.entries) at) (is_from_yes s.header 4 at low high)
+module _ (s : CommandLayout) (at : ℕ) where
+  reads_head : s.header ≤ at → at < s.header + 4 → is_read_only s at ≡ true
+  reads_head low high = first_of (is_in_span s.header 4 at) (is_in_span (s.header + 8) 24 at) (is_in_span s.table (TABLE_HEAD + PRD_BYTES * s.entries) at) (is_from_yes s.header 4 at low high)
 
-  reads_rest : s.header + 8 ≤ at → at < s.header + 32 → is_read_alone s at ≡ true
-  reads_rest low high = second_of (is_from s.header 4 at) (is_from (s.header + 8) 24 at) (is_from s.table (TABLE_HEAD + PRD_BYTES * s.entries) at) (is_from_yes (s.header + 8) 24 at low (omega (arith, high)))
+  reads_rest : s.header + 8 ≤ at → at < s.header + 32 → is_read_only s at ≡ true
+  reads_rest low high = second_of (is_in_span s.header 4 at) (is_in_span (s.header + 8) 24 at) (is_in_span s.table (TABLE_HEAD + PRD_BYTES * s.entries) at) (is_from_yes (s.header + 8) 24 at low (omega (arith, high)))
 
-  reads_table : s.table ≤ at → at < s.table + TABLE_HEAD + PRD_BYTES * s.entries → is_read_alone s at ≡ true
-  reads_table low high = third_of (is_from s.header 4 at) (is_from (s.header + 8) 24 at) (is_from s.table (TABLE_HEAD + PRD_BYTES * s.entries) at) (is_from_yes s.table (TABLE_HEAD + PRD_BYTES * s.entries) at low (omega (arith, high)))
+  reads_table : s.table ≤ at → at < s.table + TABLE_HEAD + PRD_BYTES * s.entries → is_read_only s at ≡ true
+  reads_table low high = third_of (is_in_span s.header 4 at) (is_in_span (s.header + 8) 24 at) (is_in_span s.table (TABLE_HEAD + PRD_BYTES * s.entries) at) (is_from_yes s.table (TABLE_HEAD + PRD_BYTES * s.entries) at low (omega (arith, high)))
 
   writes_count : s.header + 4 ≤ at → at < s.header + 8 → is_written s at ≡ true
-  writes_count low high = first_of (is_from (s.header + 4) 4 at) (is_of_pieces s.places at) (is_from s.received 256 at) (is_from_yes (s.header + 4) 4 at low (omega (arith, high)))
+  writes_count low high = first_of (is_in_span (s.header + 4) 4 at) (is_of_pieces s.places at) (is_in_span s.received 256 at) (is_from_yes (s.header + 4) 4 at low (omega (arith, high)))
 
   writes_piece : InDataBlocks s.places at → is_written s at ≡ true
-  writes_piece w = second_of (is_from (s.header + 4) 4 at) (is_of_pieces s.places at) (is_from s.received 256 at) (is_of_pieces_yes s.places w.number at w.listed w.from w.to)
+  writes_piece w = second_of (is_in_span (s.header + 4) 4 at) (is_of_pieces s.places at) (is_in_span s.received 256 at) (is_of_pieces_yes s.places w.number at w.listed w.from w.to)
 
   writes_area : s.received ≤ at → at < s.received + 256 → is_written s at ≡ true
-  writes_area low high = third_of (is_from (s.header + 4) 4 at) (is_of_pieces s.places at) (is_from s.received 256 at) (is_from_yes s.received 256 at low high)
+  writes_area low high = third_of (is_in_span (s.header + 4) 4 at) (is_of_pieces s.places at) (is_in_span s.received 256 at) (is_from_yes s.received 256 at low high)
 
 -- a byte that is written isn't unwritten
-written_not : {A : Type 0} (s : Standing) (at : ℕ) → is_written s at ≡ true → is_unwritten s at ≡ true → A
+written_not : {A : Type 0} (s : CommandLayout) (at : ℕ) → is_written s at ≡ true → is_unwritten s at ≡ true → A
 written_not s at w u = true-false u (ap not w)
 
 -- ---- ports with no command
@@ -69,7 +69,7 @@ free_unused p slot f (inl set) = true-false set f.ci
 free_unused p slot f (inr (t, is)) = some-none is f.taken
 
 port_unused : (Tables Kept : ℕ → Type 0) (memory : ℕ → ℕ) (p : DevicePort) → ((slot : ℕ) → IsFreeSlot p slot) →
-    (p.fre ≡ true → Spares Kept p.bases.fb (p.bases.fb + 256)) → IsGuardedPort Tables Kept memory p
+    (p.fre ≡ true → MissesRange Kept p.bases.fb (p.bases.fb + 256)) → IsGuardedPort Tables Kept memory p
 port_unused Tables Kept memory p free area = record {
   slot = λ slot used. free_unused p slot (free slot) used;
   taken = λ slot t is. some-none is (free slot).taken;
@@ -81,7 +81,7 @@ port_idle Tables Kept memory p i =
     port_unused Tables Kept memory p (λ slot. record { ci = i.ci slot; taken = i.taken slot }) (λ fre. true-false fre i.fre)
 
 pub unused_guarded : (kept : ℕ → Bool) (d : Device) → NoneHasCommand d →
-    ((port : ℕ) → (d.port port).fre ≡ true → Spares (Passing kept) (d.port port).bases.fb ((d.port port).bases.fb + 256)) →
+    ((port : ℕ) → (d.port port).fre ≡ true → MissesRange (Passing kept) (d.port port).bases.fb ((d.port port).bases.fb + 256)) →
     IsGuarded (Passing (λ _. false)) (Passing kept) d
 unused_guarded kept d none area = record {
   within = λ at table. true-false table refl;
@@ -107,16 +107,16 @@ idle_free at n d i inside =
 -- ---- one command
 
 module _ (d : Device) (port slot : ℕ) (c : HasOneCommand d port slot) where
-  abbrev s : Standing
-  s = standing d port slot c.command
+  abbrev s : CommandLayout
+  s = layout_of d port slot c.command
 
   abbrev Tables : ℕ → Type 0
-  Tables = Passing (is_read_alone s)
+  Tables = Passing (is_read_only s)
 
   abbrev Kept : ℕ → Type 0
   Kept = Passing (is_unwritten s)
 
-  places_avoid : Avoids Kept c.command.places
+  places_avoid : MissesPieces Kept c.command.places
   places_avoid at kept in_places = written_not s at (writes_piece s at in_places) kept
 
   command_guarded : IsGuardedSlot Tables Kept d.memory (d.port port).bases.clb slot
@@ -143,14 +143,14 @@ module _ (d : Device) (port slot : ℕ) (c : HasOneCommand d port slot) where
     taken = λ k t is.
         elim (cases_eq k slot) [
           | inl e ↦
-              let P : List ℕ → Type 0 = λ places. Avoids Kept places in
+              let P : List ℕ → Type 0 = λ places. MissesPieces Kept places in
               subst P (sym (c.taken t (ap (d.port port).taken (sym e) ∙ is))) places_avoid
           | inr ne ↦ some-none is (c.other_slots k ne).taken
         ];
     received = λ fre at low high kept. written_not s at (writes_area s at low high) kept;
   }
 
-  pub command_is_guarded : IsGuarded (Passing (is_read_alone (standing d port slot c.command))) (Passing (is_unwritten (standing d port slot c.command))) d
+  pub command_is_guarded : IsGuarded (Passing (is_read_only (layout_of d port slot c.command))) (Passing (is_unwritten (layout_of d port slot c.command))) d
   command_is_guarded = record {
     within = c.apart;
     port = λ q.
@@ -167,24 +167,24 @@ module _ (d : Device) (port slot : ℕ) (c : HasOneCommand d port slot) where
   or_none false b h k = k refl h
 
   -- a byte of the header is read alone or written
-  in_header : (at : ℕ) → s.header ≤ at → at < s.header + 32 → is_read_alone s at || is_written s at ≡ true
+  in_header : (at : ℕ) → s.header ≤ at → at < s.header + 32 → is_read_only s at || is_written s at ≡ true
   in_header at low high =
       elim (cases_lt at (s.header + 4)) [
-        | inl first ↦ or_one (is_read_alone s at) (is_written s at) (reads_head s at low first)
+        | inl first ↦ or_one (is_read_only s at) (is_written s at) (reads_head s at low first)
         | inr more ↦
             elim (cases_lt at (s.header + 8)) [
-              | inl count ↦ or_two (is_read_alone s at) (is_written s at) (writes_count s at more count)
-              | inr rest ↦ or_one (is_read_alone s at) (is_written s at) (reads_rest s at rest high)
+              | inl count ↦ or_two (is_read_only s at) (is_written s at) (writes_count s at more count)
+              | inr rest ↦ or_one (is_read_only s at) (is_written s at) (reads_rest s at rest high)
             ]
       ]
 
-  pub elsewhere_free : (at n : ℕ) → IsElsewhere (standing d port slot c.command) at n d → IsStable (IsUnowned at n) d
+  pub elsewhere_free : (at n : ℕ) → IsElsewhere (layout_of d port slot c.command) at n d → IsStable (IsUnowned at n) d
   elsewhere_free at n e =
       apart_free_stays Tables Kept at n d command_is_guarded
       (record {
         inside = e.inside;
-        kept = λ a low high. or_none (is_read_alone s a) (is_written s a) (e.elsewhere a low high) (λ r w. ap not w);
-        no_table = λ a low high table. or_none (is_read_alone s a) (is_written s a) (e.elsewhere a low high) (λ r w. true-false table r);
+        kept = λ a low high. or_none (is_read_only s a) (is_written s a) (e.elsewhere a low high) (λ r w. ap not w);
+        no_table = λ a low high table. or_none (is_read_only s a) (is_written s a) (e.elsewhere a low high) (λ r w. true-false table r);
         no_header = λ q k a used low high from to.
             elim (cases_eq q port) [
               | inl same ↦

@@ -13,18 +13,18 @@ use Rattle.hba_regs.specs.declared.reg.Reg.TheVariants.{Cap, Ghc, Pi, Vs, Cap2, 
 use Rattle.hba_regs.specs.declared.reg.Reg.TheVariants as adapter
 use Rattle.hba_regs.specs.declared.reg.PortReg.{PortReg}
 use Rattle.hba_regs.specs.declared.reg.PortReg.TheVariants.{Clb, Clbu, Fb, Fbu, Is, Ie, Cmd, Tfd, Sig, Ssts, Sctl, Serr, Sact, Ci}
-use Rattle.adapter.specs.Access.{Access, ShowsPending, Does, DoesAll, Reads, Writes, causes, is_cause, is_pending, named_causes, noted, port_written, raises, raises_interrupt, shown_interrupt, unacknowledged, with_st, written}
+use Rattle.adapter.specs.Access.{Access, ShowsPending, Does, DoesAll, Reads, Writes, causes, is_cause, is_pending, named_causes, noted, port_written, raises, raises_interrupt, shown_interrupt, with_is_cleared, with_st, written}
 use Rattle.adapter.specs.Access.Access.{Reading, Writing, Loading, Storing}
 use Rattle.adapter.specs.Device.{DevicePort, Device}
 use Rattle.adapter.specs.Kept.{KeepsControls}
 use Rattle.adapter.specs.Memory.{changed}
 use Rattle.adapter.specs.Pending.{LeavesIe, KeepsIsBit, SetsCause, EnablesAllCauses, interrupts}
 use Rattle.adapter.specs.Rules.{HasPort}
-use Rattle.adapter.specs.Steps.{DeviceTransition, Can, device_after, clear_entry, done_entry, fault_entry, StepLeads, move_of, restarted, Steps}
+use Rattle.adapter.specs.Steps.{DeviceTransition, Can, device_after, clear_entry, done_entry, fault_entry, StepLeads, move_of, halt_after_start, Steps}
 use Rattle.adapter.specs.Steps.DeviceTransition.{Fetch, FetchFault, Move, Clear, Done, Fault, Fatal, Fall, FrFall, LinkUp, Unplug, Plug, ResetEnds, Scribble}
 use Rattle.adapter.proofs.Absurd.{some-none, true-false}
 use Rattle.adapter.proofs.Changed.{changed_same, changed_each}
-use Rattle.adapter.proofs.KeptLemmas.{step_keeps, law_steps_keep}
+use Rattle.adapter.proofs.KeptLemmas.{step_keeps, law_steps_guarantee}
 use Rattle.adapter.specs.declared.tape.Entry.{Entry}
 use Rattle.adapter.specs.declared.tape.Entry.TheVariants as entry
 
@@ -136,7 +136,7 @@ controls_rise : (old new : DevicePort) → KeepsControls old new → Rises old n
 controls_rise old new k = record { ips = λ h. k.ips ∙ h; ie = k.ie; is = k.is; serr_n = k.serr_n; serr_x = k.serr_x }
 
 pub steps_pend : (port : ℕ) (old new : Device) → Steps old new → old.hr ≡ false → is_pending (old.port port) ≡ true → is_pending (new.port port) ≡ true
-steps_pend port old new s off = pending_on (old.port port) (new.port port) (controls_rise (old.port port) (new.port port) (((law_steps_keep s).on off).controls port))
+steps_pend port old new s off = pending_on (old.port port) (new.port port) (controls_rise (old.port port) (new.port port) (((law_steps_guarantee s).on off).controls port))
 
 -- ---- a step that raises a cause
 
@@ -261,7 +261,7 @@ noted_leaves port (Px its r) v d = record {
 st_pends : (st : Bool) (tape : ℕ) (p : DevicePort) → is_pending p ≡ true → is_pending (with_st st tape p) ≡ true
 st_pends true tape p h = by p.st
   where
-    by : (st : Bool) → is_pending (if st then p else record p { st = true; cr = true; broken = false; halt = restarted p.halt; notes = record p.notes { st_set_at = tape } }) ≡ true
+    by : (st : Bool) → is_pending (if st then p else record p { st = true; cr = true; broken = false; halt = halt_after_start p.halt; notes = record p.notes { st_set_at = tape } }) ≡ true
     by true = h
     by false = h
 st_pends false tape p h = h
@@ -286,7 +286,7 @@ port_pends Ssts v tape p h = h
 st_enables : (st : Bool) (tape : ℕ) (p : DevicePort) → (with_st st tape p).ie ≡ p.ie
 st_enables true tape p = by p.st
   where
-    by : (st : Bool) → (if st then p else record p { st = true; cr = true; broken = false; halt = restarted p.halt; notes = record p.notes { st_set_at = tape } }).ie ≡ p.ie
+    by : (st : Bool) → (if st then p else record p { st = true; cr = true; broken = false; halt = halt_after_start p.halt; notes = record p.notes { st_set_at = tape } }).ie ≡ p.ie
     by true = refl
     by false = refl
 st_enables false tape p = refl
@@ -315,11 +315,11 @@ written_leaves : (port : ℕ) (r : Reg) (v : ℕ) (d : Device) → KeepsIsBit po
 written_leaves port Ghc v d none = record { off = λ h. or_false d.hr (bit v 0) h none; tape = refl; ie = λ spares. refl; pends = λ h. h }
 written_leaves port adapter.Is v d none = record { off = λ h. h; tape = refl; ie = λ spares. same (bit v port); pends = by (bit v port) none }
   where
-    same : (b : Bool) → (if b then unacknowledged (d.port port) else d.port port).ie ≡ (d.port port).ie
+    same : (b : Bool) → (if b then with_is_cleared (d.port port) else d.port port).ie ≡ (d.port port).ie
     same true = refl
     same false = refl
 
-    by : (b : Bool) → b ≡ false → is_pending (d.port port) ≡ true → is_pending (if b then unacknowledged (d.port port) else d.port port) ≡ true
+    by : (b : Bool) → b ≡ false → is_pending (d.port port) ≡ true → is_pending (if b then with_is_cleared (d.port port) else d.port port) ≡ true
     by false is h = h
     by true is h = true-false refl is
 written_leaves port (Px its r) v d none = record {
@@ -364,7 +364,7 @@ any_access (access ∷ accesses) = All-cons (λ (access : Access). Unit {0}) acc
 pub accesses_pend : (port : ℕ) (accesses : List Access) (old new : Device) → DoesAll accesses old new → All (KeepsIsBit port) accesses → old.hr ≡ false → is_pending (old.port port) ≡ true → is_pending (new.port port) ≡ true
 accesses_pend port accesses old new does none off h =
     (all_go port (Pends port) (λ access. Unit {0})
-    (λ old new s p. record { off = ((law_steps_keep s).on p.off).no_reset; pends = steps_pend port old new s p.off p.pends })
+    (λ old new s p. record { off = ((law_steps_guarantee s).on p.off).no_reset; pends = steps_pend port old new s p.off p.pends })
     (λ access d new may l p. record { off = l.off p.off; pends = l.pends p.pends })
     accesses old new does (any_access accesses) none (record { off = off; pends = h })).pends
 
@@ -471,6 +471,6 @@ pending_shown port v old new x has =
 pub pending_cleared : (port v : ℕ) (old new : Device) → Writes adapter.Is v old new → bit v port ≡ true → is_pending (new.port port) ≡ raises_interrupt (new.port port)
 pending_cleared port v old new x set = subst (λ (d : Device). is_pending (d.port port) ≡ raises_interrupt (d.port port)) (sym x.effect) (by (bit v port) set)
   where
-    by : (b : Bool) → b ≡ true → is_pending (if b then unacknowledged (x.mid.port port) else x.mid.port port) ≡ raises_interrupt (if b then unacknowledged (x.mid.port port) else x.mid.port port)
+    by : (b : Bool) → b ≡ true → is_pending (if b then with_is_cleared (x.mid.port port) else x.mid.port port) ≡ raises_interrupt (if b then with_is_cleared (x.mid.port port) else x.mid.port port)
     by true is = refl
     by false is = true-false is refl

@@ -1,11 +1,11 @@
 -- A read that may be fetched can be done: one piece after another.
 use Rattle.std.proofs.Common.{ℕ, zero, suc, true, ◌≡◌, ◌+◌, ◌<◌, ◌≤◌, List, [], ◌∷◌, ◌++◌, length, slice_index, Option, None, Some, IfSome, Bool, false, refl, sym, ◌∙◌, ap, subst, arith, inl, inr, append_assoc, append-nil}
 use Rattle.std.proofs.lemmas.Bool.{cases_eq}
-use Rattle.adapter.specs.Asked.{DoesSome, EndsAndPosts, PostsNone}
+use Rattle.adapter.specs.Asked.{DoesSlotSteps, EndsAndPosts, PostsNone}
 use Rattle.adapter.specs.Memory.{patched, bytes_at, changed}
 use Rattle.adapter.specs.Device.{Disk, IsSector, FetchedCommand, Halt, DevicePort, Device}
 use Rattle.adapter.specs.OneCommand.{IsFreeSlot}
-use Rattle.adapter.specs.ReadDone.{read_of, MayBeRead, moves, IsReadDone}
+use Rattle.adapter.specs.ReadDone.{read_of, IsReadFetchable, moves, IsReadDone}
 use Rattle.adapter.specs.Steps.{device_after, Steps, WorksOn, IsWorking, admits, begun, MayMove, MayBeDone, with_fetch, with_move, with_done, done_entry, move_of}
 use Rattle.adapter.specs.Steps.DeviceTransition.{Fetch, Move, Done}
 use Rattle.adapter.specs.declared.command.Operation.{Operation}
@@ -26,7 +26,7 @@ still_working p new o read w cr present fresh halt broken = record {
   whole = broken ∙ w.whole;
 }
 
-module _ (old : Device) (port slot first count : ℕ) (places : List ℕ) (told : ℕ → List ℕ) (may : MayBeRead old port slot first count places told) where
+module _ (old : Device) (port slot first count : ℕ) (places : List ℕ) (told : ℕ → List ℕ) (may : IsReadFetchable old port slot first count places told) where
   -- the command when so many of its pieces were moved
   abbrev command : ℕ → FetchedCommand
   command n = record (begun (read_of first count) places) { moved = n }
@@ -34,7 +34,7 @@ module _ (old : Device) (port slot first count : ℕ) (places : List ℕ) (told 
   -- so many pieces were moved
   record IsMoved (n : ℕ) (d : Device) : Type 0 where
     pub steps : Steps old d
-    pub goes : DoesSome PostsNone (suc n) port slot old d
+    pub goes : DoesSlotSteps PostsNone (suc n) port slot old d
     pub is : (d.port port).is ≡ (old.port port).is
     pub works : WorksOn (d.port port) slot (command n) Read
     pub disk : (d.port port).disk ≡ (old.port port).disk

@@ -4,7 +4,7 @@ use Rattle.std.specs.Prelude.{if◌then◌else◌, is_some, replicate}
 use Rattle.std.proofs.lemmas.Bool.{cases_lt, false≢true}
 use Rattle.std.proofs.lemmas.Bool.Decides.{leb_tells}
 use Rattle.std.proofs.lemmas.List.{length-replicate, get_or-replicate}
-use Rattle.ata_types.specs.declared.memory.TheConstants.{HEADER_BYTES, RECEIVED_BYTES}
+use Rattle.ata_types.specs.declared.memory.TheConstants.{HEADER_BYTES, RECEIVED_FIS_BYTES}
 use Rattle.adapter.specs.Asked.{IsOneOf, IsScribblePlace, IsScribbled, memory_filled}
 use Rattle.adapter.specs.Device.{DevicePort}
 use Rattle.adapter.specs.Memory.{patched}
@@ -49,14 +49,14 @@ module _ (size byte : ℕ) (p : DevicePort) where
   count_at slot = p.bases.clb + HEADER_BYTES * slot + 4
 
   -- of no slot: the received FIS area
-  pub area_filled : (old : ℕ → ℕ) → IsScribbled 0 size byte p old (memory_filled size p.bases.fb RECEIVED_BYTES byte old)
+  pub area_filled : (old : ℕ → ℕ) → IsScribbled 0 size byte p old (memory_filled size p.bases.fb RECEIVED_FIS_BYTES byte old)
   area_filled old = record {
     filled = λ place it.
-        elim (fill_told size p.bases.fb RECEIVED_BYTES byte place old) [
+        elim (fill_told size p.bases.fb RECEIVED_FIS_BYTES byte place old) [
           | inl there ↦ there.1
           | inr not ↦ absurd (⊎_elim not.0 (λ (w : (slot : ℕ) × (slot < 0) × (is_some (p.taken slot) ≡ true) × IsOneOf size (count_at slot) 4 place). omega (arith, w.1)) it)
         ];
-    others = λ place none. elim (fill_told size p.bases.fb RECEIVED_BYTES byte place old) [ inl there ↦ absurd (none (inl there.0)) | inr not ↦ not.1 ];
+    others = λ place none. elim (fill_told size p.bases.fb RECEIVED_FIS_BYTES byte place old) [ inl there ↦ absurd (none (inl there.0)) | inr not ↦ not.1 ];
   }
 
   -- a place of one slot more
@@ -103,7 +103,7 @@ module _ (size byte : ℕ) (p : DevicePort) where
 
   is_place : (slots place : ℕ) → IsScribblePlace slots size p place ⊎ (IsScribblePlace slots size p place → ⊥)
   is_place zero place =
-      elim (is_within p.bases.fb RECEIVED_BYTES place) [
+      elim (is_within p.bases.fb RECEIVED_FIS_BYTES place) [
         | inl area ↦ inl (inl area)
         | inr not ↦ inr (λ it. ⊎_elim not (λ (w : (slot : ℕ) × (slot < 0) × (is_some (p.taken slot) ≡ true) × IsOneOf size (count_at slot) 4 place). omega (arith, w.1)) it)
       ]

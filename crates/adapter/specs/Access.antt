@@ -11,7 +11,7 @@ use Rattle.hba_regs.specs.declared.reg.PortReg.{PortReg}
 use Rattle.hba_regs.specs.declared.reg.PortReg.TheVariants.{Clb, Clbu, Fb, Fbu, Is, Ie, Cmd, Tfd, Sig, Ssts, Sctl, Serr, Sact, Ci}
 use Rattle.adapter.specs.Memory.{patched, bytes_at}
 use Rattle.adapter.specs.Device.{Notes, DevicePort, Device}
-use Rattle.adapter.specs.Steps.{Steps, with_port, restarted}
+use Rattle.adapter.specs.Steps.{Steps, with_port, halt_after_start}
 
 -- ---- what a reading shows (AHCI 1.3.1, 3.1 and 3.3). Bits and registers that are not named here may have any value.
 
@@ -140,7 +140,7 @@ with_st st tape p =
       st = true;
       cr = true;
       broken = false;
-      halt = restarted p.halt;
+      halt = halt_after_start p.halt;
       notes = record p.notes { st_set_at = tape };
     })
     else record p {
@@ -191,13 +191,13 @@ port_written Sact v tape p = record p { sact = λ slot. p.sact slot || bit v slo
 port_written _ v tape p = p
 
 -- The port's bit of IS was written: it falls, unless a cause sets it anew.
-abbrev pub unacknowledged : DevicePort → DevicePort
-unacknowledged p =
+abbrev pub with_is_cleared : DevicePort → DevicePort
+with_is_cleared p =
     record p { ips = false; other_causes = enables_others p.ie; notes = record p.notes { acknowledged = false } }
 
 abbrev pub written : Reg → ℕ → Device → Device
 written Ghc v d = record d { hr = d.hr || bit v 0; ae = bit v 31; ie = bit v 1 }
-written adapter.Is v d = record d { port = λ port. if bit v port then unacknowledged (d.port port) else d.port port }
+written adapter.Is v d = record d { port = λ port. if bit v port then with_is_cleared (d.port port) else d.port port }
 written (Px port r) v d = with_port d port.0 (port_written r v (length d.tape) (d.port port.0))
 written _ v d = d
 

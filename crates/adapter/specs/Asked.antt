@@ -1,7 +1,7 @@
 -- What was asked of the device, and done; or a command that failed as it was to be done. A command that ends or fails
 -- may do so with a FIS in the received FIS area of its port.
 use Rattle.std.specs.Prelude.{ℕ, Bool, zero, suc, ◌≡◌, ◌+◌, ◌<◌, ◌≤◌, ◌*◌, ◌⊎◌, true, List, length, All, if◌then◌else◌, is_some, nat_le, replicate}
-use Rattle.ata_types.specs.declared.memory.TheConstants.{HEADER_BYTES, RECEIVED_BYTES}
+use Rattle.ata_types.specs.declared.memory.TheConstants.{HEADER_BYTES, RECEIVED_FIS_BYTES}
 use Rattle.adapter.specs.Commands.{Meaning}
 use Rattle.adapter.specs.Device.{Disk, FetchedCommand, DevicePort, Device}
 use Rattle.adapter.specs.Memory.{patched}
@@ -49,7 +49,7 @@ pub record DoesDone (port slot : ℕ) (old new : Device) : Type 0 where
 pub record IsPosted (port at : ℕ) (bytes : List ℕ) (old new : Device) : Type 0 where
   pub receives : (old.port port).fre ≡ true
   pub from : (old.port port).bases.fb ≤ at
-  pub to : at + length bytes ≤ (old.port port).bases.fb + RECEIVED_BYTES
+  pub to : at + length bytes ≤ (old.port port).bases.fb + RECEIVED_FIS_BYTES
   pub are_bytes : All (λ byte. byte < 256) bytes
   pub effect : new ≡ record old { memory = patched old.memory at bytes }
 
@@ -70,20 +70,21 @@ pub record EndsAndPosts (Posts : (port flag : ℕ) → Operation → Device → 
   pub posts : Posts port done.flag done.t.meaning.operation mid new
 
 -- a step of this slot's command
-abbrev pub DoesOne : ((port flag : ℕ) → Operation → Device → Device → Type 0) → ℕ → ℕ → Device → Device → Type 0
-DoesOne Posts port slot old new =
+abbrev pub DoesSlotStep : ((port flag : ℕ) → Operation → Device → Device → Type 0) → ℕ → ℕ → Device → Device → Type 0
+DoesSlotStep Posts port slot old new =
     DoesFetch port slot old new ⊎ DoesMove port slot old new ⊎ EndsAndPosts Posts port slot old new
     ⊎ ((most : ℕ) × DoesClear port slot most old new)
 
 -- so many steps of the slot's command, one after another, and nothing else
-abbrev pub DoesSome : ((port flag : ℕ) → Operation → Device → Device → Type 0) → ℕ → ℕ → ℕ → Device → Device → Type 0
-DoesSome Posts zero port slot old new = new ≡ old
-DoesSome Posts (suc n) port slot old new = (mid : Device) × DoesSome Posts n port slot old mid
-    × DoesOne Posts port slot mid new
+abbrev pub DoesSlotSteps : ((port flag : ℕ) → Operation → Device → Device → Type 0) → ℕ → ℕ → ℕ → Device → Device
+    → Type 0
+DoesSlotSteps Posts zero port slot old new = new ≡ old
+DoesSlotSteps Posts (suc n) port slot old new = (mid : Device) × DoesSlotSteps Posts n port slot old mid
+    × DoesSlotStep Posts port slot mid new
 
 -- the slot's command went on by one step or more
 abbrev pub SlotGoesOn : ((port flag : ℕ) → Operation → Device → Device → Type 0) → ℕ → ℕ → Device → Device → Type 0
-SlotGoesOn Posts port slot old new = (n : ℕ) × DoesSome Posts (suc n) port slot old new
+SlotGoesOn Posts port slot old new = (n : ℕ) × DoesSlotSteps Posts (suc n) port slot old new
 
 -- the slot's command failed with this error; BSY and DRQ are left set as these bits say (ACS-3, 6.2 and 6.3)
 pub record DoesFault (port slot error kept_bits : ℕ) (old new : Device) : Type 0 where
@@ -110,7 +111,7 @@ pub record Fails (Posts : (port flag : ℕ) → Operation → Device → Device 
 
 -- Or what is issued in the slot failed, since its bytes mean no command. Then that was posted which is posted for each
 -- operation alike: a model whose FIS differs by the operation can't do this step.
-pub record FailsToMean (Posts : (port flag : ℕ) → Operation → Device → Device → Type 0) (port slot : ℕ)
+pub record FailsToDecode (Posts : (port flag : ℕ) → Operation → Device → Device → Type 0) (port slot : ℕ)
     (old new : Device) : Type 0 where
   pub mid : Device
   pub fault : DoesFetchFault port slot old mid
@@ -146,7 +147,7 @@ IsOneOf size at count place = (at + count ≤ size) × (at ≤ place) × (place 
 -- a place of the port's received FIS area, or of PRDBC of a slot whose command is taken, of the first slots, so many
 -- (AHCI 1.3.1, 4.2.1 and 4.2.2)
 abbrev pub IsScribblePlace : (slots size : ℕ) → DevicePort → ℕ → Type 0
-IsScribblePlace slots size p place = IsOneOf size p.bases.fb RECEIVED_BYTES place
+IsScribblePlace slots size p place = IsOneOf size p.bases.fb RECEIVED_FIS_BYTES place
     ⊎ ((slot : ℕ) × (slot < slots) × (is_some (p.taken slot) ≡ true)
     × IsOneOf size (p.bases.clb + HEADER_BYTES * slot + 4) 4 place)
 
@@ -178,36 +179,38 @@ pub record DoesPlug (port number : ℕ) (old new : Device) : Type 0 where
 
 -- What was asked of the device, and nothing else, where this is posted as commands end or fail. What its disks will say
 -- of themselves, and on which ports it does nothing by itself, is no part of its state.
-abbrev pub DoneOf : ((port flag : ℕ) → Operation → Device → Device → Type 0) → DeviceStep → Device → Device → Type 0
-DoneOf Posts (asked.Fetch p s) old new = DoesFetch p.0 s.0 old new
-DoneOf Posts (asked.Move p s) old new = DoesMove p.0 s.0 old new
-DoneOf Posts (asked.Clear p s most) old new = DoesClear p.0 s.0 most old new
-DoneOf Posts (asked.Done p s) old new = EndsAndPosts Posts p.0 s.0 old new
-DoneOf Posts (asked.Finish p s) old new = SlotGoesOn Posts p.0 s.0 old new
-DoneOf Posts (asked.Fault p s error) old new = Fails Posts p.0 s.0 error 0 old new
-DoneOf Posts (asked.FaultBusy p s error) old new = Fails Posts p.0 s.0 error busy old new
-DoneOf Posts (asked.Fatal p error) old new = DoesFatal p.0 error old new
-DoneOf Posts (asked.Scribble p byte) old new = DoesScribble p.0 byte old new
-DoneOf Posts (asked.Lie p page offset bits) old new = new ≡ old
-DoneOf Posts (asked.Truth p) old new = new ≡ old
-DoneOf Posts (asked.Hold p) old new = new ≡ old
-DoneOf Posts (asked.Release p) old new = new ≡ old
-DoneOf Posts (asked.Unplug p) old new = DoesUnplug p.0 old new
-DoneOf Posts (asked.Plug p number) old new = DoesPlug p.0 number.0 old new
-DoneOf Posts (asked.LosePlug p) old new = DoesPlug p.0 (old.port p.0).disk.name old new
+abbrev pub DoesToldStep : ((port flag : ℕ) → Operation → Device → Device → Type 0) → DeviceStep → Device → Device
+    → Type 0
+DoesToldStep Posts (asked.Fetch p s) old new = DoesFetch p.0 s.0 old new
+DoesToldStep Posts (asked.Move p s) old new = DoesMove p.0 s.0 old new
+DoesToldStep Posts (asked.Clear p s most) old new = DoesClear p.0 s.0 most old new
+DoesToldStep Posts (asked.Done p s) old new = EndsAndPosts Posts p.0 s.0 old new
+DoesToldStep Posts (asked.Finish p s) old new = SlotGoesOn Posts p.0 s.0 old new
+DoesToldStep Posts (asked.Fault p s error) old new = Fails Posts p.0 s.0 error 0 old new
+DoesToldStep Posts (asked.FaultBusy p s error) old new = Fails Posts p.0 s.0 error busy old new
+DoesToldStep Posts (asked.Fatal p error) old new = DoesFatal p.0 error old new
+DoesToldStep Posts (asked.Scribble p byte) old new = DoesScribble p.0 byte old new
+DoesToldStep Posts (asked.Lie p page offset bits) old new = new ≡ old
+DoesToldStep Posts (asked.Truth p) old new = new ≡ old
+DoesToldStep Posts (asked.Hold p) old new = new ≡ old
+DoesToldStep Posts (asked.Release p) old new = new ≡ old
+DoesToldStep Posts (asked.Unplug p) old new = DoesUnplug p.0 old new
+DoesToldStep Posts (asked.Plug p number) old new = DoesPlug p.0 number.0 old new
+DoesToldStep Posts (asked.LosePlug p) old new = DoesPlug p.0 (old.port p.0).disk.name old new
 
 -- Or the command failed in its place: as it was taken, as its next piece was to be moved, or after some of what was
 -- asked, or none.
-abbrev pub FailsOf : ((port flag : ℕ) → Operation → Device → Device → Type 0) → DeviceStep → Device → Device → Type 0
-FailsOf Posts (asked.Fetch p s) old new = FailsToMean Posts p.0 s.0 old new
-FailsOf Posts (asked.Move p s) old new = (error : ℕ) × Fails Posts p.0 s.0 error 0 old new
-FailsOf Posts (asked.Clear p s most) old new = FailsAfter Posts (DoesClear p.0 s.0 most) p.0 s.0 old new
-FailsOf Posts (asked.Finish p s) old new = FailsAfter Posts (SlotGoesOn Posts p.0 s.0) p.0 s.0 old new
-FailsOf Posts step old new = ⊥
+abbrev pub FailsToldStep : ((port flag : ℕ) → Operation → Device → Device → Type 0) → DeviceStep → Device → Device
+    → Type 0
+FailsToldStep Posts (asked.Fetch p s) old new = FailsToDecode Posts p.0 s.0 old new
+FailsToldStep Posts (asked.Move p s) old new = (error : ℕ) × Fails Posts p.0 s.0 error 0 old new
+FailsToldStep Posts (asked.Clear p s most) old new = FailsAfter Posts (DoesClear p.0 s.0 most) p.0 s.0 old new
+FailsToldStep Posts (asked.Finish p s) old new = FailsAfter Posts (SlotGoesOn Posts p.0 s.0) p.0 s.0 old new
+FailsToldStep Posts step old new = ⊥
 
 -- the one or the other
 abbrev pub AskedOf : ((port flag : ℕ) → Operation → Device → Device → Type 0) → DeviceStep → Device → Device → Type 0
-AskedOf Posts step old new = DoneOf Posts step old new ⊎ FailsOf Posts step old new
+AskedOf Posts step old new = DoesToldStep Posts step old new ⊎ FailsToldStep Posts step old new
 
 -- what was asked of the device, or a fault in its place, and any FIS as a command ended or failed, or none
 abbrev pub Asked : DeviceStep → Device → Device → Type 0

@@ -52,12 +52,12 @@ direction_of Trim = FromMemory
 direction_of _ = ToMemory
 
 -- how many pieces of 512 bytes the command moves
-abbrev pub pieces_moved : Operation → ℕ → ℕ
-pieces_moved Flush count = 0
-pieces_moved Identify count = 1
-pieces_moved Trim count = 1
-pieces_moved ReadLog count = 1
-pieces_moved _ count = count
+abbrev pub piece_count : Operation → ℕ → ℕ
+piece_count Flush count = 0
+piece_count Identify count = 1
+piece_count Trim count = 1
+piece_count ReadLog count = 1
+piece_count _ count = count
 
 -- What header, FIS and entries of a slot mean: an operation, and its sectors if it names some.
 pub record Meaning : Type 0 where

@@ -3,7 +3,7 @@ use Rattle.std.specs.Prelude.{ℕ, zero, suc, ◌≡◌, ◌+◌, ◌*◌, ◌/�
 use Rattle.ata_types.specs.declared.limits.TheConstants.{MOST_REQUEST_FRAMES}
 use Rattle.ata_types.specs.declared.memory.TheConstants.{HEADER_BYTES, TABLE_HEAD}
 use Rattle.adapter.specs.Memory.{bytes_at}
-use Rattle.adapter.specs.Commands.{Meaning, IsMeaning, command_of, reads_memory, pieces_moved}
+use Rattle.adapter.specs.Commands.{Meaning, IsMeaning, command_of, reads_memory, piece_count}
 use Rattle.adapter.specs.Encoding.{EncodesCommand, EncodesHeader, EncodesPrd}
 use Rattle.adapter.specs.declared.command.Prd.{Prd}
 
@@ -40,4 +40,4 @@ pub record DecodesTo (memory : ℕ → ℕ) (list slot : ℕ) (m : Meaning) (pla
   pub few : length prds ≤ MOST_REQUEST_FRAMES
   pub whole : All IsWholePieces prds
   pub in_order : places ≡ pieces prds
-  pub as_many : length places ≡ pieces_moved m.operation m.count
+  pub as_many : length places ≡ piece_count m.operation m.count

@@ -12,8 +12,8 @@ pub record Disk : Type 0 where
   pub sectors : Option (ℕ → List ℕ)
 
 -- the disk tells its sectors
-abbrev pub TellsItsSectors : Disk → Type 0
-TellsItsSectors disk = (told : ℕ → List ℕ) × (disk.sectors ≡ Some told)
+abbrev pub HasKnownSectors : Disk → Type 0
+HasKnownSectors disk = (told : ℕ → List ℕ) × (disk.sectors ≡ Some told)
 
 -- the bytes of a sector
 abbrev pub IsSector : List ℕ → Type 0

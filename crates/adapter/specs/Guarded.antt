@@ -1,22 +1,22 @@
 -- Bytes that no step of the device changes, and on which every command in use stands.
 use Rattle.std.specs.Prelude.{ℕ, Bool, true, ◌≡◌, ◌+◌, ◌*◌, ◌<◌, ◌≤◌, length, List, Some}
-use Rattle.ata_types.specs.declared.memory.TheConstants.{HEADER_BYTES, PRD_BYTES, RECEIVED_BYTES, TABLE_HEAD}
+use Rattle.ata_types.specs.declared.memory.TheConstants.{HEADER_BYTES, PRD_BYTES, RECEIVED_FIS_BYTES, TABLE_HEAD}
 use Rattle.adapter.specs.Commands.{Meaning}
 use Rattle.adapter.specs.Device.{FetchedCommand, DevicePort, Device}
 use Rattle.adapter.specs.Decoding.{DecodesTo}
 use Rattle.adapter.specs.Rules.{InDataBlocks, InUse}
 
 -- the bytes from one address up to another are in the set
-abbrev pub Holds : (ℕ → Type 0) → ℕ → ℕ → Type 0
-Holds Set from to = (at : ℕ) → from ≤ at → at < to → Set at
+abbrev pub HasRange : (ℕ → Type 0) → ℕ → ℕ → Type 0
+HasRange Set from to = (at : ℕ) → from ≤ at → at < to → Set at
 
 -- none of these bytes is in the set
-abbrev pub Spares : (ℕ → Type 0) → ℕ → ℕ → Type 0
-Spares Set from to = (at : ℕ) → from ≤ at → at < to → Set at → ⊥
+abbrev pub MissesRange : (ℕ → Type 0) → ℕ → ℕ → Type 0
+MissesRange Set from to = (at : ℕ) → from ≤ at → at < to → Set at → ⊥
 
 -- no piece has a byte of the set
-abbrev pub Avoids : (ℕ → Type 0) → List ℕ → Type 0
-Avoids Set places = (at : ℕ) → Set at → InDataBlocks places at → ⊥
+abbrev pub MissesPieces : (ℕ → Type 0) → List ℕ → Type 0
+MissesPieces Set places = (at : ℕ) → Set at → InDataBlocks places at → ⊥
 
 -- A slot says a command. Its header (but for PRDBC) and its table are table bytes; its PRDBC and its pieces aren't
 -- kept.
@@ -24,17 +24,17 @@ pub record IsGuardedSlot (Tables Kept : ℕ → Type 0) (memory : ℕ → ℕ) (
   pub meaning : Meaning
   pub places : List ℕ
   pub says : DecodesTo memory list slot meaning places
-  pub head : Holds Tables (list + HEADER_BYTES * slot) (list + HEADER_BYTES * slot + 4)
-  pub rest : Holds Tables (list + HEADER_BYTES * slot + 8) (list + HEADER_BYTES * slot + HEADER_BYTES)
-  pub table : Holds Tables says.table (says.table + TABLE_HEAD + PRD_BYTES * length says.prds)
-  pub count : Spares Kept (list + HEADER_BYTES * slot + 4) (list + HEADER_BYTES * slot + 8)
-  pub places_avoid : Avoids Kept places
+  pub head : HasRange Tables (list + HEADER_BYTES * slot) (list + HEADER_BYTES * slot + 4)
+  pub rest : HasRange Tables (list + HEADER_BYTES * slot + 8) (list + HEADER_BYTES * slot + HEADER_BYTES)
+  pub table : HasRange Tables says.table (says.table + TABLE_HEAD + PRD_BYTES * length says.prds)
+  pub count : MissesRange Kept (list + HEADER_BYTES * slot + 4) (list + HEADER_BYTES * slot + 8)
+  pub places_avoid : MissesPieces Kept places
 
 -- Each slot in use is guarded, no piece of a taken command is kept, nor is a byte of the received FIS area.
 pub record IsGuardedPort (Tables Kept : ℕ → Type 0) (memory : ℕ → ℕ) (p : DevicePort) : Type 0 where
   pub slot : (slot : ℕ) → InUse p slot → IsGuardedSlot Tables Kept memory p.bases.clb slot
-  pub taken : (slot : ℕ) (t : FetchedCommand) → p.taken slot ≡ Some t → Avoids Kept t.places
-  pub received : p.fre ≡ true → Spares Kept p.bases.fb (p.bases.fb + RECEIVED_BYTES)
+  pub taken : (slot : ℕ) (t : FetchedCommand) → p.taken slot ≡ Some t → MissesPieces Kept t.places
+  pub received : p.fre ≡ true → MissesRange Kept p.bases.fb (p.bases.fb + RECEIVED_FIS_BYTES)
 
 -- Two sets of bytes: tables, and what is kept, the tables among them. It asks of slots in use alone, and of their
 -- PRDBC: the place of the 128th header would be a table.
@@ -45,8 +45,8 @@ pub record IsGuarded (Tables Kept : ℕ → Type 0) (d : Device) : Type 0 where
 -- These bytes are inside the memory and kept, in no table, and in no header of a slot in use.
 pub record IsApart (Tables Kept : ℕ → Type 0) (at n : ℕ) (d : Device) : Type 0 where
   pub inside : at + n ≤ d.size
-  pub kept : Holds Kept at (at + n)
-  pub no_table : Spares Tables at (at + n)
+  pub kept : HasRange Kept at (at + n)
+  pub no_table : MissesRange Tables at (at + n)
   pub no_header : (port slot a : ℕ) → InUse (d.port port) slot → at ≤ a → a < at + n →
       (d.port port).bases.clb + HEADER_BYTES * slot ≤ a → a < (d.port port).bases.clb + HEADER_BYTES * slot
       + HEADER_BYTES → ⊥

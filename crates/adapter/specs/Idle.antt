@@ -1,6 +1,6 @@
 -- An adapter as its driver takes it over.
 use Rattle.std.specs.Prelude.{ℕ, true, false, ◌≡◌, ◌<◌, None}
-use Rattle.adapter.specs.Device.{TellsItsSectors, IsDisk, DevicePort, Device}
+use Rattle.adapter.specs.Device.{HasKnownSectors, IsDisk, DevicePort, Device}
 
 -- no command runs, and none is issued or taken, in any slot number
 pub record IsIdlePort (p : DevicePort) : Type 0 where
@@ -19,7 +19,7 @@ pub record IsIdle (d : Device) : Type 0 where
 
 -- disks tell their sectors if the adapter is one that tells
 abbrev pub TellsDisks : Device → Type 0
-TellsDisks d = d.telling ≡ true → (port : ℕ) → TellsItsSectors (d.port port).disk
+TellsDisks d = d.telling ≡ true → (port : ℕ) → HasKnownSectors (d.port port).disk
 
 -- Memory and disks hold bytes, and disks tell their sectors if the adapter is one that tells.
 pub record IsSane (d : Device) : Type 0 where

@@ -30,7 +30,7 @@ pub record KeepsControls (old new : DevicePort) : Type 0 where
   pub serr_x : old.serr_x ≡ true → new.serr_x ≡ true
   pub runs : old.st ≡ true → old.cr ≡ true → new.cr ≡ true
 
-pub record KeepsOn (old new : Device) : Type 0 where
+pub record KeepsOutsideReset (old new : Device) : Type 0 where
   pub no_reset : new.hr ≡ false
   pub ae : new.ae ≡ old.ae
   pub ie : new.ie ≡ old.ie
@@ -45,4 +45,4 @@ pub record Keeps (old new : Device) : Type 0 where
   pub notes : (port : ℕ) → (new.port port).notes ≡ (old.port port).notes
   pub gained : List Entry
   pub tape : new.tape ≡ old.tape ++ gained
-  pub on : old.hr ≡ false → KeepsOn old new
+  pub on : old.hr ≡ false → KeepsOutsideReset old new

@@ -1,6 +1,6 @@
 -- An adapter with one command in use.
 use Rattle.std.specs.Prelude.{ℕ, Bool, false, true, ◌≡◌, ◌≢◌, ◌+◌, ◌*◌, ◌<◌, ◌≤◌, ◌&&◌, ◌||◌, not, List, [], ◌∷◌, length, None, Some, nat_le, nat_lt}
-use Rattle.ata_types.specs.declared.memory.TheConstants.{HEADER_BYTES, PRD_BYTES, RECEIVED_BYTES, TABLE_HEAD}
+use Rattle.ata_types.specs.declared.memory.TheConstants.{HEADER_BYTES, PRD_BYTES, RECEIVED_FIS_BYTES, TABLE_HEAD}
 use Rattle.adapter.specs.Commands.{Meaning}
 use Rattle.adapter.specs.Device.{FetchedCommand, DevicePort, Device}
 use Rattle.adapter.specs.Idle.{IsIdlePort}
@@ -9,7 +9,7 @@ use Rattle.adapter.specs.Decoding.{DecodesTo}
 
 -- Where a command stands in memory: its header, its table of so many PRDs, its pieces, and its port's received FIS
 -- area.
-pub record Standing : Type 0 where
+pub record CommandLayout : Type 0 where
   pub header : ℕ
   pub table : ℕ
   pub entries : ℕ
@@ -17,25 +17,26 @@ pub record Standing : Type 0 where
   pub received : ℕ
 
 -- the byte is one of so many from an address on
-abbrev pub is_from : ℕ → ℕ → ℕ → Bool
-is_from first n at = nat_le first at && nat_lt at (first + n)
+abbrev pub is_in_span : ℕ → ℕ → ℕ → Bool
+is_in_span first n at = nat_le first at && nat_lt at (first + n)
 
 -- the byte is one of a piece
 abbrev pub is_of_pieces : List ℕ → ℕ → Bool
 is_of_pieces [] at = false
-is_of_pieces (place ∷ places) at = is_from place 512 at || is_of_pieces places at
+is_of_pieces (place ∷ places) at = is_in_span place 512 at || is_of_pieces places at
 
 -- a byte that the device only reads: of the header but for PRDBC, or of the table
-abbrev pub is_read_alone : Standing → ℕ → Bool
-is_read_alone s at = is_from s.header 4 at || is_from (s.header + 8) 24 at
-    || is_from s.table (TABLE_HEAD + PRD_BYTES * s.entries) at
+abbrev pub is_read_only : CommandLayout → ℕ → Bool
+is_read_only s at = is_in_span s.header 4 at || is_in_span (s.header + 8) 24 at
+    || is_in_span s.table (TABLE_HEAD + PRD_BYTES * s.entries) at
 
 -- a byte that the device may write: of PRDBC, of a piece, or of the received FIS area
-abbrev pub is_written : Standing → ℕ → Bool
-is_written s at = is_from (s.header + 4) 4 at || is_of_pieces s.places at || is_from s.received RECEIVED_BYTES at
+abbrev pub is_written : CommandLayout → ℕ → Bool
+is_written s at = is_in_span
+    (s.header + 4) 4 at || is_of_pieces s.places at || is_in_span s.received RECEIVED_FIS_BYTES at
 
 -- every byte that the device doesn't write
-abbrev pub is_unwritten : Standing → ℕ → Bool
+abbrev pub is_unwritten : CommandLayout → ℕ → Bool
 is_unwritten s at = not (is_written s at)
 
 -- a slot with no command, neither issued nor taken
@@ -49,8 +50,8 @@ pub record SaysCommand (d : Device) (port slot : ℕ) : Type 0 where
   pub places : List ℕ
   pub says : DecodesTo d.memory (d.port port).bases.clb slot meaning places
 
-abbrev pub standing : (d : Device) (port slot : ℕ) → SaysCommand d port slot → Standing
-standing d port slot c =
+abbrev pub layout_of : (d : Device) (port slot : ℕ) → SaysCommand d port slot → CommandLayout
+layout_of d port slot c =
     record {
       header = (d.port port).bases.clb + HEADER_BYTES * slot;
       table = c.says.table;
@@ -66,15 +67,15 @@ pub record HasOneCommand (d : Device) (port slot : ℕ) : Type 0 where
   pub used : InUse (d.port port) slot
   pub command : SaysCommand d port slot
   pub taken : (t : FetchedCommand) → (d.port port).taken slot ≡ Some t → t.places ≡ command.places
-  pub apart : (at : ℕ) → is_read_alone (standing d port slot command) at ≡ true
-      → is_unwritten (standing d port slot command) at ≡ true
+  pub apart : (at : ℕ) → is_read_only (layout_of d port slot command) at ≡ true
+      → is_unwritten (layout_of d port slot command) at ≡ true
   pub other_slots : (k : ℕ) → k ≢ slot → IsFreeSlot (d.port port) k
   pub other_ports : (q : ℕ) → q ≢ port → IsIdlePort (d.port q)
 
 -- these bytes are inside the memory, and none of them is the command's
-pub record IsElsewhere (s : Standing) (at n : ℕ) (d : Device) : Type 0 where
+pub record IsElsewhere (s : CommandLayout) (at n : ℕ) (d : Device) : Type 0 where
   pub inside : at + n ≤ d.size
-  pub elsewhere : (a : ℕ) → at ≤ a → a < at + n → is_read_alone s a || is_written s a ≡ false
+  pub elsewhere : (a : ℕ) → at ≤ a → a < at + n → is_read_only s a || is_written s a ≡ false
 
 -- no slot of any port has a command
 abbrev pub NoneHasCommand : Device → Type 0

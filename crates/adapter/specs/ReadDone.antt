@@ -17,7 +17,7 @@ read_of first count = record { operation = Read; first = first; count = count }
 
 -- A read that may be fetched: each of its sectors is on a disk that tells its sectors, and each of its pieces is in the
 -- memory and apart from the others.
-pub record MayBeRead (d : Device) (port slot first count : ℕ) (places : List ℕ) (told : ℕ → List ℕ) : Type 0 where
+pub record IsReadFetchable (d : Device) (port slot first count : ℕ) (places : List ℕ) (told : ℕ → List ℕ) : Type 0 where
   pub fetch : Can (Fetch port slot (read_of first count) places) d
   pub disk : IsDisk (d.port port).disk
   pub told_is : (d.port port).disk.sectors ≡ Some told

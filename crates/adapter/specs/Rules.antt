@@ -1,6 +1,6 @@
 -- What the driver of an adapter has to keep to (AHCI 1.3.1, 3.1, 3.3, 5.3 and 10).
 use Rattle.std.specs.Prelude.{ℕ, true, false, ◌≡◌, ◌≢◌, ◌+◌, ◌*◌, ◌/◌, ◌%◌, ◌<◌, ◌≤◌, ◌⊎◌, ◌||◌, List, length, None, Some, slice_index}
-use Rattle.ata_types.specs.declared.memory.TheConstants.{HEADER_BYTES, LIST_BYTES, PRD_BYTES, RECEIVED_BYTES, TABLE_HEAD}
+use Rattle.ata_types.specs.declared.memory.TheConstants.{HEADER_BYTES, LIST_BYTES, PRD_BYTES, RECEIVED_FIS_BYTES, TABLE_HEAD}
 use Rattle.hba_regs.specs.Bits.{bit}
 use Rattle.hba_regs.specs.declared.reg.Reg.{Reg}
 use Rattle.hba_regs.specs.declared.reg.Reg.TheVariants.{Ghc, Px}
@@ -67,8 +67,8 @@ pub record MayWriteCmd (p : DevicePort) (v : ℕ) : Type 0 where
 
 -- Each slot whose bit is set is one of the adapter's and has no command; its bytes say one, and if that is a queued
 -- command, its SACT bit is set already. How many queued commands are out isn't held against the depth that a disk
--- tells: to keep to that is the driver's. Nor is a plain command forbidden beside queued ones: `IsAlone` keeps it from
--- being taken.
+-- tells: to keep to that is the driver's. Nor is a plain command forbidden beside queued ones: `IsUnmixed` keeps it
+-- from being taken.
 pub record MayIssue (d : Device) (p : DevicePort) (v : ℕ) : Type 0 where
   pub running : p.st ≡ true
   pub usable : (slot : ℕ) → bit v slot ≡ true → slot ≤ d.cap / 256 % 32
@@ -83,7 +83,8 @@ MayWritePort Cmd v d p = MayWriteCmd p v
 MayWritePort Sctl v d p = (p.st ≡ false) × ((v % 16 ≡ 0) ⊎ (v % 16 ≡ 1))
 MayWritePort Clb v d p = (p.cr ≡ false) × (p.st ≡ false) × (v % LIST_BYTES ≡ 0) × (v + LIST_BYTES ≤ d.size)
 MayWritePort Clbu v d p = (p.cr ≡ false) × (p.st ≡ false) × (v ≡ 0)
-MayWritePort Fb v d p = (p.fr ≡ false) × (p.fre ≡ false) × (v % RECEIVED_BYTES ≡ 0) × (v + RECEIVED_BYTES ≤ d.size)
+MayWritePort Fb v d p = (p.fr ≡ false) × (p.fre ≡ false) × (v % RECEIVED_FIS_BYTES ≡ 0)
+    × (v + RECEIVED_FIS_BYTES ≤ d.size)
 MayWritePort Fbu v d p = (p.fr ≡ false) × (p.fre ≡ false) × (v ≡ 0)
 MayWritePort Ci v d p = MayIssue d p v
 MayWritePort Sact v d p = p.st ≡ true
@@ -131,7 +132,7 @@ DeviceOwns d p slot at =
     × (((p.bases.clb + HEADER_BYTES * slot ≤ at) × (at < p.bases.clb + HEADER_BYTES * slot + HEADER_BYTES))
     ⊎ InCommand d p slot at))
     ⊎ ((t : FetchedCommand) × (p.taken slot ≡ Some t) × InDataBlocks t.places at)
-    ⊎ ((p.fre ≡ true) × (p.bases.fb ≤ at) × (at < p.bases.fb + RECEIVED_BYTES))
+    ⊎ ((p.fre ≡ true) × (p.bases.fb ≤ at) × (at < p.bases.fb + RECEIVED_FIS_BYTES))
 
 -- these bytes are inside the memory, and the device may use none of them
 pub record IsUnowned (at n : ℕ) (d : Device) : Type 0 where

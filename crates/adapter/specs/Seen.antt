@@ -3,30 +3,30 @@ use Rattle.std.specs.Prelude.{ℕ, false, ◌≡◌, ◌≢◌, length}
 use Rattle.hba_regs.specs.declared.reg.PortReg.{PortReg}
 use Rattle.adapter.specs.Access.{PortShows, note, port_written}
 use Rattle.adapter.specs.Device.{Device}
-use Rattle.adapter.specs.Kept.{KeepsOn, KeepsPort}
+use Rattle.adapter.specs.Kept.{KeepsOutsideReset, KeepsPort}
 use Rattle.adapter.specs.Steps.{Steps}
 
 -- What a call leaves of the adapter, while no reset is pending: all that steps do, but for notes.
-pub record KeepsAll (old new : Device) : Type 0 where
+pub record KeepsButNotes (old new : Device) : Type 0 where
   pub size : new.size ≡ old.size
   pub cap : new.cap ≡ old.cap
   pub pi : new.pi ≡ old.pi
-  pub on : KeepsOn old new
+  pub on : KeepsOutsideReset old new
   pub port : (q : ℕ) → KeepsPort (old.port q) (new.port q)
 
 -- A register of a port was read: the state after the call shows the value, and the port's notes have it.
-pub record SeenAt (port : ℕ) (r : PortReg) (v : ℕ) (old new : Device) : Type 0 where
-  pub keeps : KeepsAll old new
+pub record PortRegisterRead (port : ℕ) (r : PortReg) (v : ℕ) (old new : Device) : Type 0 where
+  pub keeps : KeepsButNotes old new
   pub shows : PortShows r v (new.port port)
   pub notes : (new.port port).notes ≡ note r v (record (new.port port) { notes = (old.port port).notes })
   pub others : (q : ℕ) → q ≢ port → (new.port q).notes ≡ (old.port q).notes
 
 -- A register of a port was written: the port has it, after what the device did first, and the others have what that
 -- left.
-pub record PutAt (port : ℕ) (r : PortReg) (v : ℕ) (old new : Device) : Type 0 where
+pub record PortRegisterWritten (port : ℕ) (r : PortReg) (v : ℕ) (old new : Device) : Type 0 where
   pub mid : Device
   pub steps : Steps old mid
-  pub keeps : KeepsAll old mid
+  pub keeps : KeepsButNotes old mid
   pub notes : (q : ℕ) → (mid.port q).notes ≡ (old.port q).notes
   pub hr : new.hr ≡ false
   pub ae : new.ae ≡ old.ae

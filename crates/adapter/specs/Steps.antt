@@ -2,10 +2,10 @@
 -- The choices that the device makes stand in the step.
 use Rattle.std.specs.Prelude.{ℕ, Bool, true, false, ◌≡◌, ◌+◌, ◌*◌, ◌^◌, ◌<◌, ◌≤◌, ◌⊎◌, ◌&&◌, ◌||◌, List, [], ◌∷◌, ◌++◌, length, Option, None, Some, IfSome, option_map, if◌then◌else◌, slice_index, bit_and, bit_or, take, drop, replicate, nat_le, nat_lt, nat_eq, ◌==◌, All, Contains}
 use Rattle.std.specs.declared.snapshot.Snapshot.{Snapshot}
-use Rattle.ata_types.specs.declared.memory.TheConstants.{HEADER_BYTES, RECEIVED_BYTES}
+use Rattle.ata_types.specs.declared.memory.TheConstants.{HEADER_BYTES, RECEIVED_FIS_BYTES}
 use Rattle.adapter.specs.Memory.{patched, bytes_at, changed}
 use Rattle.adapter.specs.Commands.{Meaning, is_queued, is_ranged, reads_memory, direction_of}
-use Rattle.adapter.specs.Device.{Disk, TellsItsSectors, IsDisk, IsSector, FetchedCommand, Halt, Lasting, DevicePort, Device}
+use Rattle.adapter.specs.Device.{Disk, HasKnownSectors, IsDisk, IsSector, FetchedCommand, Halt, Lasting, DevicePort, Device}
 use Rattle.adapter.specs.Device.Halt.{NotHalted, HaltedPlain, HaltedQueued, LogOnly}
 use Rattle.adapter.specs.Decoding.{DecodesTo}
 use Rattle.adapter.specs.Trim.{trim_sectors, consecutive}
@@ -47,10 +47,10 @@ halted HaltedQueued queued = HaltedQueued
 halted LogOnly queued = HaltedQueued
 halted _ queued = if queued then HaltedQueued else HaltedPlain
 
-abbrev pub restarted : Halt → Halt
-restarted HaltedQueued = LogOnly
-restarted LogOnly = LogOnly
-restarted _ = NotHalted
+abbrev pub halt_after_start : Halt → Halt
+halt_after_start HaltedQueued = LogOnly
+halt_after_start LogOnly = LogOnly
+halt_after_start _ = NotHalted
 
 -- ---- conditions that several steps have
 
@@ -74,21 +74,21 @@ pub record IsFetchable (p : DevicePort) (slot : ℕ) : Type 0 where
   pub free : p.taken slot ≡ None
 
 -- a plain command is taken alone, a queued one beside queued ones
-abbrev pub IsAlone : DevicePort → Operation → Type 0
-IsAlone p operation =
+abbrev pub IsUnmixed : DevicePort → Operation → Type 0
+IsUnmixed p operation =
     (slot : ℕ) (t : FetchedCommand) → p.taken slot ≡ Some t → is_queued operation
     && is_queued t.meaning.operation ≡ true
 
 -- BSY and DRQ may be left set, and no other bit
-abbrev pub AreKeptBits : ℕ → Type 0
-AreKeptBits kept_bits = bit_and kept_bits 0x88 ≡ kept_bits
+abbrev pub AreBsyDrqBits : ℕ → Type 0
+AreBsyDrqBits kept_bits = bit_and kept_bits 0x88 ≡ kept_bits
 
 -- ---- Fetch
 
 pub record MayFetch (d : Device) (port slot : ℕ) (meaning : Meaning) (places : List ℕ) : Type 0 where
   pub fetchable : IsFetchable (d.port port) slot
   pub working : IsWorking (d.port port) meaning.operation
-  pub alone : IsAlone (d.port port) meaning.operation
+  pub alone : IsUnmixed (d.port port) meaning.operation
   pub says : DecodesTo d.memory (d.port port).bases.clb slot meaning places
 
 pub record MayFetchFault (d : Device) (port slot kept_bits : ℕ) : Type 0 where
@@ -97,7 +97,7 @@ pub record MayFetchFault (d : Device) (port slot kept_bits : ℕ) : Type 0 where
   pub says_nothing : (meaning : Meaning) (places : List ℕ)
       → DecodesTo d.memory (d.port port).bases.clb slot meaning places
       → ⊥
-  pub kept : AreKeptBits kept_bits
+  pub kept : AreBsyDrqBits kept_bits
 
 abbrev pub begun : Meaning → List ℕ → FetchedCommand
 begun meaning places = record { meaning = meaning; places = places; moved = 0; block = []; cleared = 0 }
@@ -233,7 +233,7 @@ pub record MayFault (p : DevicePort) (slot error kept_bits : ℕ) (t : FetchedCo
   pub taken : p.taken slot ≡ Some t
   pub running : p.cr ≡ true
   pub is_byte : error < 256
-  pub kept : AreKeptBits kept_bits
+  pub kept : AreBsyDrqBits kept_bits
 
 -- ---- LinkUp
 
@@ -292,7 +292,7 @@ with_reset p =
 -- a place where the device may write what it wants: the received FIS area, or the number in PRDBC of a taken slot
 pub record MayScribble (p : DevicePort) (slot at : ℕ) (bytes : List ℕ) : Type 0 where
   pub fre : p.fre ≡ true
-  pub place : ((p.bases.fb ≤ at) × (at + length bytes ≤ p.bases.fb + RECEIVED_BYTES))
+  pub place : ((p.bases.fb ≤ at) × (at + length bytes ≤ p.bases.fb + RECEIVED_FIS_BYTES))
       ⊎ ((t : FetchedCommand) × (p.taken slot ≡ Some t) × (at ≡ p.bases.clb + HEADER_BYTES * slot + 4)
       × (length bytes ≡ 4))
   pub are_bytes : All (λ byte. byte < 256) bytes
@@ -317,7 +317,7 @@ WereHeld tape lasting port k bytes = (option_map (λ sectors. sectors k) lasting
 
 -- A disk with the name of the one that was in last is that one. It has as many sectors, and each that both tell is as
 -- it was at some moment since a flush was last ended: what its cache held may be lost (FLUSH CACHE EXT, ACS-3).
-pub record IsThatDisk (d : Device) (port : ℕ) (disk : Disk) : Type 0 where
+pub record IsReplugOf (d : Device) (port : ℕ) (disk : Disk) : Type 0 where
   pub size : disk.size ≡ (d.port port).disk.size
   pub holds : (last told : ℕ → List ℕ) → (d.port port).disk.sectors ≡ Some last → disk.sectors ≡ Some told
       → (k : ℕ) → k < disk.size → (told k ≡ last k) ⊎ WereHeld d.tape (d.port port).lasting port k (told k)
@@ -341,8 +341,8 @@ Can (Fall port) d = ((d.port port).st ≡ false) × ((d.port port).cr ≡ true)
 Can (FrFall port) d = ((d.port port).fre ≡ false) × ((d.port port).cr ≡ false) × ((d.port port).fr ≡ true)
 Can (LinkUp port sig n) d = MayLinkUp (d.port port) sig
 Can (Unplug port) d = (d.port port).present ≡ true
-Can (Plug port disk) d = ((d.port port).present ≡ false) × IsDisk disk × (d.telling ≡ true → TellsItsSectors disk)
-    × (disk.name ≡ (d.port port).disk.name → IsThatDisk d port disk)
+Can (Plug port disk) d = ((d.port port).present ≡ false) × IsDisk disk × (d.telling ≡ true → HasKnownSectors disk)
+    × (disk.name ≡ (d.port port).disk.name → IsReplugOf d port disk)
 Can ResetEnds d = d.hr ≡ true
 Can (Scribble port slot at bytes) d = MayScribble (d.port port) slot at bytes
 

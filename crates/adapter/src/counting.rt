@@ -38,20 +38,20 @@ impl AccessCount {
 
 /// The same, with a number that code can read.
 #[derive(Drop)]
-pub struct Accesses {
+pub struct AccessCounter {
     /// Their number, as far as 64 bits have one: it stays at the greatest.
     pub shown: u64,
     /// Their number.
     pub count: AccessCount,
 }
 
-impl Accesses {
+impl AccessCounter {
     /// None was made.
-    pub fn none() -> Accesses
+    pub fn none() -> AccessCounter
         ensures shown { result.shown ≡ 0 }
         ensures made { result.count.made ≡ 0 }
     {
-        Accesses {
+        AccessCounter {
             shown: 0,
             count: AccessCount::none(),
         }

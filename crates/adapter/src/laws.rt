@@ -1,7 +1,7 @@
 // Laws of the definitions, for the crates above: the clause is the theorem. Nothing that runs calls these functions.
 ghost use Rattle.std.specs.Prelude.{◌<◌, ◌≡◌, ◌+◌, ◌*◌, ◌≤◌, ◌++◌, ℕ, Some, Bool, true, false, List, All, Contains, if◌then◌else◌, is_some, length, slice_index};
 ghost use Rattle.ata_types.specs.declared.Port.{Port};
-ghost use Rattle.ata_types.specs.declared.memory.TheConstants.{FRAME_BYTES, HEADER_BYTES, RECEIVED_BYTES};
+ghost use Rattle.ata_types.specs.declared.memory.TheConstants.{FRAME_BYTES, HEADER_BYTES, RECEIVED_FIS_BYTES};
 ghost use Rattle.hba_regs.specs.declared.reg.PortReg.{PortReg};
 ghost use Rattle.hba_regs.specs.declared.reg.Reg.{Reg};
 ghost use Rattle.hba_regs.specs.declared.reg.Reg.TheVariants.{Px};
@@ -13,16 +13,16 @@ ghost use Rattle.adapter.specs.Asked.{Asked, IsScribbled, memory_filled};
 ghost use Rattle.adapter.specs.Commands.{Meaning};
 ghost use Rattle.adapter.specs.Device.{Device, DevicePort};
 ghost use Rattle.adapter.specs.FirstRead.{first_read_device, first_disk_sector};
-ghost use Rattle.adapter.specs.Guarded.{Passing, Spares, IsGuarded, IsApart};
+ghost use Rattle.adapter.specs.Guarded.{Passing, MissesRange, IsGuarded, IsApart};
 ghost use Rattle.adapter.specs.Idle.{IsIdle, IsSane};
 ghost use Rattle.adapter.specs.Kept.{Keeps, KeepsControls};
 ghost use Rattle.adapter.specs.Memory.{bytes_at, patched};
-ghost use Rattle.adapter.specs.OneCommand.{NoneHasCommand, HasOneCommand, IsElsewhere, is_read_alone, is_unwritten, standing};
-ghost use Rattle.adapter.specs.ReadDone.{IsReadDone, MayBeRead, read_of};
+ghost use Rattle.adapter.specs.OneCommand.{NoneHasCommand, HasOneCommand, IsElsewhere, is_read_only, is_unwritten, layout_of};
+ghost use Rattle.adapter.specs.ReadDone.{IsReadDone, IsReadFetchable, read_of};
 ghost use Rattle.adapter.specs.Pending.{LeavesIe, KeepsIsBit, SetsCause, EnablesAllCauses, interrupts, cleared, flushed, flushing, flush_taken};
 ghost use Rattle.adapter.specs.Rules.{HasPort, IsOn, IsUnowned, IsStable};
 ghost use Rattle.adapter.specs.Decoding.{DecodesTo, piece_addresses};
-ghost use Rattle.adapter.specs.Seen.{PutAt, SeenAt};
+ghost use Rattle.adapter.specs.Seen.{PortRegisterWritten, PortRegisterRead};
 ghost use Rattle.adapter.specs.Steps.{Can, DeviceTransition, Steps, device_after};
 ghost use Rattle.adapter.specs.declared.tape.Entry.{Entry};
 
@@ -33,13 +33,13 @@ pub fn law_steps_compose()
 {}
 
 /// What a device was told to do is some of its steps.
-pub fn law_what_is_asked_is_steps()
+pub fn law_told_steps_are_transitions()
     ensures { (s : DeviceStep) (old new : Device) → Asked s old new → Steps old new }
 {}
 
 /// What is put into memory is read again, and every other byte is as it was. Memories that agree on some bytes have the
 /// same bytes there. As many are read as were asked for, in order.
-pub fn law_memory_keeps_bytes()
+pub fn law_memory_reads_back()
     ensures put { (memory : ℕ → ℕ) (at : ℕ) (bytes : List ℕ)
         → bytes_at (patched memory at bytes) at (length bytes) ≡ bytes }
     ensures apart { (memory : ℕ → ℕ) (at : ℕ) (bytes : List ℕ) (place : ℕ)
@@ -53,9 +53,9 @@ pub fn law_memory_keeps_bytes()
 {}
 
 /// A scribble fills the received FIS area, and then PRDBC of one slot after another whose command is taken.
-pub fn law_a_scribble_goes_on()
+pub fn law_scribble_slot_by_slot()
     ensures area { (size byte : ℕ) (p : DevicePort) (old : ℕ → ℕ)
-        → IsScribbled 0 size byte p old (memory_filled size p.bases.fb RECEIVED_BYTES byte old) }
+        → IsScribbled 0 size byte p old (memory_filled size p.bases.fb RECEIVED_FIS_BYTES byte old) }
     ensures count { (slot size byte : ℕ) (p : DevicePort) (old before new : ℕ → ℕ)
         → IsScribbled slot size byte p old before
         → new ≡ (if is_some (p.taken slot) then memory_filled size (p.bases.clb + HEADER_BYTES * slot + 4) 4 byte before
@@ -64,17 +64,17 @@ pub fn law_a_scribble_goes_on()
 {}
 
 /// What no step of the device changes, no list of steps changes.
-pub fn law_steps_keep()
+pub fn law_steps_guarantee()
     ensures { (old new : Device) → Steps old new → Keeps old new }
 {}
 
 /// By itself the device doesn't switch an adapter on that isn't: as its reset ends, AE falls.
-pub fn law_steps_switch_nothing_on()
+pub fn law_steps_never_switch_on()
     ensures { (old new : Device) → Steps old new → IsOn new → IsOn old }
 {}
 
 /// The bytes of a slot say one command at most, with one list of places.
-pub fn law_saying_is_one()
+pub fn law_decoding_is_unique()
     ensures { (memory : ℕ → ℕ) (list slot : ℕ) (m n : Meaning) (xs ys : List ℕ) → DecodesTo memory list slot m xs
         → DecodesTo memory list slot n ys → (m ≡ n) × (xs ≡ ys) }
 {}
@@ -110,15 +110,15 @@ pub fn law_accesses_compose()
 
 /// While no reset is pending, a reading of a port's register leaves the adapter as steps of the device do, and the port
 /// shows the value and has it noted. A write is steps of the device, and then the port alone has what was written.
-pub fn law_port_registers_are_accessed()
+pub fn law_port_register_accesses()
     ensures seen { (port : Port) (r : PortReg) (v : ℕ) (old new : Device) → Reads (Px port r) v old new → old.hr ≡ false
-        → SeenAt port.0 r v old new }
+        → PortRegisterRead port.0 r v old new }
     ensures put { (port : Port) (r : PortReg) (v : ℕ) (old new : Device) → Writes (Px port r) v old new → old.hr ≡ false
-        → PutAt port.0 r v old new }
+        → PortRegisterWritten port.0 r v old new }
 {}
 
 /// What each of two fragments keeps of a port's controls, both keep; and so does nothing.
-pub fn law_controls_are_kept()
+pub fn law_kept_controls_compose()
     ensures none { (p : DevicePort) → KeepsControls p p }
     ensures more { (old mid new : DevicePort) → KeepsControls old mid → KeepsControls mid new → KeepsControls old new }
 {}
@@ -180,7 +180,7 @@ pub fn law_an_interrupt_comes_and_goes()
 pub fn law_an_adapter_without_commands_is_guarded()
     ensures { (kept : ℕ → Bool) (d : Device) → NoneHasCommand d
         → ((port : ℕ) → (d.port port).fre ≡ true
-        → Spares (Passing kept) (d.port port).bases.fb ((d.port port).bases.fb + RECEIVED_BYTES))
+        → MissesRange (Passing kept) (d.port port).bases.fb ((d.port port).bases.fb + RECEIVED_FIS_BYTES))
         → IsGuarded (Passing (λ _. false)) (Passing kept) d }
 {}
 
@@ -195,17 +195,17 @@ pub fn law_an_idle_adapter_is_guarded()
 /// is kept. So the driver may load and store all other bytes of the memory, whatever the device does first.
 pub fn law_an_adapter_with_a_command_is_guarded()
     ensures guarded { (port slot : ℕ) (d : Device) (c : HasOneCommand d port slot)
-        → IsGuarded (Passing (is_read_alone (standing d port slot c.command)))
-        (Passing (is_unwritten (standing d port slot c.command))) d }
+        → IsGuarded (Passing (is_read_only (layout_of d port slot c.command)))
+        (Passing (is_unwritten (layout_of d port slot c.command))) d }
     ensures free { (port slot at n : ℕ) (d : Device) (c : HasOneCommand d port slot)
-        → IsElsewhere (standing d port slot c.command) at n d → IsStable (IsUnowned at n) d }
+        → IsElsewhere (layout_of d port slot c.command) at n d → IsStable (IsUnowned at n) d }
 {}
 
 /// A read that may be fetched can be done, on a disk that tells its sectors: some steps of its slot's command lead to
 /// where each sector stands in its piece, and the slot is free.
 pub fn law_a_read_can_be_done()
     ensures { (port slot first count : ℕ) (places : List ℕ) (told : ℕ → List ℕ) (old : Device)
-        → MayBeRead old port slot first count places told → (new : Device)
+        → IsReadFetchable old port slot first count places told → (new : Device)
         × IsReadDone old new port slot first count places told }
 {}
 

@@ -6,7 +6,7 @@
 //! the device does first (`IsStable`). Nothing else is known of the hardware: a bit that no definition
 //! names reads as anything. The main law is that bytes which no command in use may write stay as
 //! they are. `Stepped` adds a device that does the steps it is told, for scripts and tests;
-//! `Accesses` counts, for who writes an adapter.
+//! `AccessCounter` counts, for who writes an adapter.
 #![tactic(auto)]
 
 mod access;
@@ -17,5 +17,5 @@ mod tape;
 
 pub use access::{Adapter, DeviceStep, DiskNumber, DiskPage, FatalError, Stepped};
 pub use command::{Command, Direction, Operation, Prd};
-pub use counting::{AccessCount, Accesses};
+pub use counting::{AccessCount, AccessCounter};
 pub use tape::{Clear, Done, Entry, Fault, Move};

@@ -32,10 +32,10 @@ pub const LIST_BYTES: u32 = 1024;
 pub const HEADER_BYTES: u32 = 32;
 
 /// Bytes of a received FIS area. Its address is a multiple of them (AHCI 1.3.1, 3.3.3 and 4.2.1).
-pub const RECEIVED_BYTES: u32 = 256;
+pub const RECEIVED_FIS_BYTES: u32 = 256;
 
 /// Where a port's received FIS area begins, from its first frame on: behind the command list.
-pub const RECEIVED_OFFSET: u32 = LIST_BYTES;
+pub const RECEIVED_FIS_OFFSET: u32 = LIST_BYTES;
 
 /// What the address of a command table is a multiple of (AHCI 1.3.1, 4.2.2).
 pub const TABLE_ALIGNMENT: u32 = 128;

@@ -11,9 +11,9 @@ use Rattle.ata_types.specs.declared.refusal.Rule.TheVariants.{NoGrant, NoRight, 
 use Rattle.ata_types.specs.declared.grant.GrantRow.{GrantRow}
 use Rattle.ata_types.specs.declared.grant.Rights.{Rights}
 use Rattle.ata_types.specs.Grant.{Allows}
-use Rattle.block_machine.specs.Rules.{IsNamed, IsAllowedCount, frames_for}
+use Rattle.block_machine.specs.Rules.{IsNamed, IsAllowedCount, frame_count_for}
 use Rattle.block_machine.specs.State.{Block, Accepted, Pending, Machine}
-use Rattle.block_machine.specs.Steps.{Step, Accept, Touch, May, MayAccept, IsLiving, after_step}
+use Rattle.block_machine.specs.Steps.{Step, Accept, Touch, May, MayAccept, HoldsFrames, after_step}
 use Rattle.block_machine.specs.Left.{after, IsLegal, IsInitial, IsAccept}
 use Rattle.block_machine.specs.Confined.{IsGranted, IsConfined, WasAccepted, MovesBytes}
 use Rattle.block_machine.proofs.Members.{contains_none, contains_here, contains_there, contains_cases}
@@ -21,7 +21,7 @@ use Rattle.block_machine.proofs.Trace.{Before, Comes, lives_before, next_grows, 
 use Rattle.block_machine.proofs.Runs.{traced, nobody}
 
 -- each request that lives was accepted
-pub living_accepted : (start : Machine) (h : List Step) → IsInitial start → IsLegal start h → (e : Pending) → IsLiving (after start h) e → WasAccepted start h e.request
+pub living_accepted : (start : Machine) (h : List Step) → IsInitial start → IsLegal start h → (e : Pending) → HoldsFrames (after start h) e → WasAccepted start h e.request
 living_accepted start [] s legal e l = absurd (nobody start s e l)
 living_accepted start (step ∷ past) s legal e l = ⊎_elim
     (λ (r : Before (after start past) e). inr (subst (λ (j : Accepted). WasAccepted start past j) (sym r.2) (living_accepted start past s legal.0 r.0 r.1)))
@@ -111,13 +111,13 @@ law_accepted_is_granted m r new = ⊎_elim
     (row_of m.rows r.asked)
 
 -- the numbers of its frames and sectors fit
-frames_fit : (m : Machine) (r : Accepted) → MayAccept m r → length r.asked.frames.items ≡ frames_for r.asked.op r.asked.count
-frames_fit m r new = ⊎_elim (λ e. e) (λ ne. absurd (new.unbroken FrameCount ne)) (cases_eq (length r.asked.frames.items) (frames_for r.asked.op r.asked.count))
+frames_fit : (m : Machine) (r : Accepted) → MayAccept m r → length r.asked.frames.items ≡ frame_count_for r.asked.op r.asked.count
+frames_fit m r new = ⊎_elim (λ e. e) (λ ne. absurd (new.unbroken FrameCount ne)) (cases_eq (length r.asked.frames.items) (frame_count_for r.asked.op r.asked.count))
 
 pub flush_empty : (m : Machine) (r : Accepted) → MayAccept m r → r.asked.op ≡ Flush → r.asked.count ≡ 0
 flush_empty m r new op = ⊎_elim (λ e. e) (λ ne. absurd (new.unbroken BadCount (subst (λ (o : Op). IsAllowedCount o r.asked.count → ⊥) (sym op) ne))) (cases_eq r.asked.count 0)
 
-framed : (op : Op) (count n i : ℕ) → n ≡ frames_for op count → MovesBytes op → i < count → i / 8 < n
+framed : (op : Op) (count n i : ℕ) → n ≡ frame_count_for op count → MovesBytes op → i < count → i / 8 < n
 framed Read count n i e b lt = omega arith
 framed Write count n i e b lt = omega arith
 framed Trim count n i e b lt = absurd b

@@ -10,7 +10,7 @@ use Rattle.ata_types.specs.declared.limits.TheConstants.{MOST_UNANSWERED}
 use Rattle.block_machine.specs.Histories.{IsReachable}
 use Rattle.block_machine.specs.State.{Accepted, Pending, Machine}
 use Rattle.block_machine.specs.Rules.{DifferInName, is_under}
-use Rattle.block_machine.specs.Steps.{Step, Accept, Revoke, after_step, unanswered_of}
+use Rattle.block_machine.specs.Steps.{Step, Accept, Revoke, after_step, unanswered_count}
 use Rattle.block_machine.specs.Left.{after, IsLegal, IsInitial}
 use Rattle.block_machine.specs.Confined.{IsGranted, WasAccepted}
 use Rattle.block_machine.proofs.Members.{filter_in, contains_here, contains_there}
@@ -75,7 +75,7 @@ accepted_client start h r s w =
 -- how many requests the clients 1 to n have
 abbrev total : List Pending → ℕ → ℕ
 total es zero = 0
-total es (suc n) = total es n + unanswered_of es (record { 0 = suc n })
+total es (suc n) = total es n + unanswered_count es (record { 0 = suc n })
 
 total_grows : (x : Pending) (xs : List Pending) (n : ℕ) → total xs n ≤ total (x ∷ xs) n
 total_grows x xs zero = le_refl 0
@@ -110,7 +110,7 @@ total_all (x ∷ xs) n c =
     let more = total_more x xs n own.0 own.1 in
     omega (arith, rest, more)
 
-total_most : (es : List Pending) (n : ℕ) → ((c : ClientId) → unanswered_of es c ≤ 16) → total es n ≤ 16 * n
+total_most : (es : List Pending) (n : ℕ) → ((c : ClientId) → unanswered_count es c ≤ 16) → total es n ≤ 16 * n
 total_most es zero few = le_refl 0
 total_most es (suc n) few =
     let rest = total_most es n few in
@@ -118,7 +118,7 @@ total_most es (suc n) few =
     omega (arith, rest, own)
 
 -- 16 of each of 8 clients
-pub all_few : (start : Machine) (h : List Step) → IsInitial start → IsLegal start h → ((c : ClientId) → unanswered_of (after start h).book c ≤ 16) → length (after start h).book ≤ MOST_UNANSWERED
+pub all_few : (start : Machine) (h : List Step) → IsInitial start → IsLegal start h → ((c : ClientId) → unanswered_count (after start h).book c ≤ 16) → length (after start h).book ≤ MOST_UNANSWERED
 all_few start h s legal few =
     let all = total_all (after start h).book 8 (λ e i. accepted_client start h e.request s (living_accepted start h s legal e (inl i))) in
     let most = total_most (after start h).book 8 few in

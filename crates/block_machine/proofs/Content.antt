@@ -2,7 +2,7 @@
 use Rattle.std.proofs.Common.{◌≡◌, ℕ, ◌+◌, ◌-◌, ◌<◌, ◌≤◌, Bool, true, false, ◌&&◌, ◌==◌, List, ◌∷◌, suc, inl, inr, ⊎_elim, refl, sym, ap, ◌∙◌, subst, arith, eqb-true, eq-eqb, ne_eqb, le_refl}
 use Rattle.std.proofs.lemmas.Bool.{cases_eq, cases_lt, or_left, and_parts, and_from, cond-true, cond-false, both_ways}
 use Rattle.ata_types.specs.declared.Port.{Port}
-use Rattle.block_machine.specs.State.{Block, DiskBytes, Accepted, Pending, Machine, waiting, sector_of, written_by}
+use Rattle.block_machine.specs.State.{Block, DiskBytes, Accepted, Pending, Machine, waiting, sector_of, block_written}
 use Rattle.block_machine.specs.Due.{conflict, changes_sectors}
 use Rattle.block_machine.specs.Steps.{Step, Accept, Issue, Touch, End, Age, Again, Answer, Revoke, Release, Unplug, Replace, Store, Load, May, after_step, MayStillMove, put_sector, disks_after}
 use Rattle.block_machine.specs.Left.{plug_count, bytes_when_plugged, IsTouch, HasTouched, Wrote, IsLastWritten}
@@ -91,7 +91,7 @@ content_touch start h m e i block port k s seen r lt last = by_op (changes_secto
         o.touched
 
     by_place : changes_sectors e.request.asked.op ≡ true → (b : Bool) → ((port.0 == e.request.port.0) && (k == e.request.asked.first.0 + i)) ≡ b
-        → IsLastWritten start port k (plug_count port h) m.next (Touch e i block ∷ h) (put_sector e.request.port (e.request.asked.first.0 + i) (written_by e.request.asked.op e.request.held i) m.disks port k)
+        → IsLastWritten start port k (plug_count port h) m.next (Touch e i block ∷ h) (put_sector e.request.port (e.request.asked.first.0 + i) (block_written e.request.asked.op e.request.held i) m.disks port k)
     by_place writes true t =
         let p = and_parts (port.0 == e.request.port.0) (k == e.request.asked.first.0 + i) t in
         let here : e.request.port ≡ port = sym (same_port port e.request.port (eqb-true port.0 e.request.port.0 p.0)) in
@@ -101,11 +101,11 @@ content_touch start h m e i block port k s seen r lt last = by_op (changes_secto
           e.request,
           record { writes = writes; here = here; earlier = s.below e (runs_lives m e r); touched = inl ((refl, at), ap (λ (q : Port). plug_count q h) here) },
           latest writes here at,
-          cond-true ((port.0 == e.request.port.0) && (k == e.request.asked.first.0 + i)) (written_by e.request.asked.op e.request.held i) (m.disks port k) t
-              ∙ ap (λ (x : ℕ). written_by e.request.asked.op e.request.held x) (sym nth),
+          cond-true ((port.0 == e.request.port.0) && (k == e.request.asked.first.0 + i)) (block_written e.request.asked.op e.request.held i) (m.disks port k) t
+              ∙ ap (λ (x : ℕ). block_written e.request.asked.op e.request.held x) (sym nth),
         )
     by_place writes false t =
-        quiet _ (cond-false ((port.0 == e.request.port.0) && (k == e.request.asked.first.0 + i)) (written_by e.request.asked.op e.request.held i) (m.disks port k) t)
+        quiet _ (cond-false ((port.0 == e.request.port.0) && (k == e.request.asked.first.0 + i)) (block_written e.request.asked.op e.request.held i) (m.disks port k) t)
         (λ w _ here touch.
         let port_same : port ≡ e.request.port = sym here ∙ ap (λ (j : Accepted). j.port) (sym touch.0) in
         let k_same : k ≡ e.request.asked.first.0 + i = sym touch.1 ∙ ap (λ (j : Accepted). sector_of j i) (sym touch.0) in
@@ -115,10 +115,10 @@ content_touch start h m e i block port k s seen r lt last = by_op (changes_secto
         → IsLastWritten start port k (plug_count port h) m.next (Touch e i block ∷ h) (disks_after e.request i m.disks port k)
     by_op true w =
         subst (λ (d : Port → DiskBytes). IsLastWritten start port k (plug_count port h) m.next (Touch e i block ∷ h) (d port k))
-        (sym (cond-true (changes_sectors e.request.asked.op) (put_sector e.request.port (e.request.asked.first.0 + i) (written_by e.request.asked.op e.request.held i) m.disks) m.disks w))
+        (sym (cond-true (changes_sectors e.request.asked.op) (put_sector e.request.port (e.request.asked.first.0 + i) (block_written e.request.asked.op e.request.held i) m.disks) m.disks w))
         (by_place w _ refl)
     by_op false w =
-        quiet _ (ap (λ (d : Port → DiskBytes). d port k) (cond-false (changes_sectors e.request.asked.op) (put_sector e.request.port (e.request.asked.first.0 + i) (written_by e.request.asked.op e.request.held i) m.disks) m.disks w))
+        quiet _ (ap (λ (d : Port → DiskBytes). d port k) (cond-false (changes_sectors e.request.asked.op) (put_sector e.request.port (e.request.asked.first.0 + i) (block_written e.request.asked.op e.request.held i) m.disks) m.disks w))
         (λ x writes here touch. both_ways _ w (subst (λ (j : Accepted). changes_sectors j.asked.op ≡ true) (sym touch.0) writes))
 
 -- the disks hold what was last put there, after each step

@@ -9,14 +9,14 @@ use Rattle.ata_types.specs.declared.request.Op.TheVariants.{Read}
 use Rattle.ata_types.specs.declared.request.Outcome.TheVariants.{Ok, DeviceError, Aborted, Unplugged, PortDead, Revoked}
 use Rattle.block_machine.specs.State.{Block, Memory, Pending, Machine, frame_at, is_reader}
 use Rattle.block_machine.specs.Steps.{Step, Accept, Touch, Again, Answer, Release, Store, May, after_step, stays, unlend, is_lent_to, put_bytes, memory_after, AllTouched}
-use Rattle.block_machine.specs.Left.{after, IsLegal, IsInitial, AllTellSectors, HoldsLeft}
+use Rattle.block_machine.specs.Left.{after, IsLegal, IsInitial, AllStepsFaithful, HoldsExpected}
 use Rattle.block_machine.specs.Ports.{Ports, Evidence}
-use Rattle.block_machine.specs.Events.{AbstractState, Ask, Submit, StoreAt, LoadAt, Service, Tick, Reset, RevokeOf, State, Device, CallRecord, AllMay, IsByDevice, IsByServer, AreStepsOfCall, AllLawful, abstract_after_all, IsRun, steps_of, EveryReadHolds}
+use Rattle.block_machine.specs.Events.{AbstractState, AbstractCall, Submit, StoreAt, LoadAt, Service, Tick, Reset, RevokeOf, State, Device, CallRecord, AllMay, IsByDevice, IsByServer, AreStepsOfCall, AllLawful, abstract_after_all, IsRun, steps_of, EveryReadHolds}
 use Rattle.block_machine.proofs.Order.{In}
 use Rattle.block_machine.proofs.Sound.{Sound}
 use Rattle.block_machine.proofs.Trace.{runs_lives}
 use Rattle.block_machine.proofs.Reading.{put_other}
-use Rattle.block_machine.proofs.Runs.{traced, law_read_holds_left}
+use Rattle.block_machine.proofs.Runs.{traced, law_read_holds_expected}
 
 -- Steps one after the other.
 
@@ -120,13 +120,13 @@ quiet_revoke D client number ports (Accept r) h = absurd h
 quiet_revoke D client number ports (Store c frame offset bytes) h = absurd h
 quiet_revoke D client number ports _ h = tt
 
-abbrev Quiet : {D : Type 0} → Ask D → Ports → Type 0
+abbrev Quiet : {D : Type 0} → AbstractCall D → Ports → Type 0
 Quiet ask ports = (step : Step) → IsByServer ask ports step → IsQuiet step
 
-abbrev Silent : {D : Type 0} → Ask D → Ports → Type 0
+abbrev Silent : {D : Type 0} → AbstractCall D → Ports → Type 0
 Silent ask ports = (step : Step) → IsByServer ask ports step → IsSilent step
 
-quiet_or_silent : {D : Type 0} (ask : Ask D) (ports : Ports) → Quiet ask ports ⊎ Silent ask ports
+quiet_or_silent : {D : Type 0} (ask : AbstractCall D) (ports : Ports) → Quiet ask ports ⊎ Silent ask ports
 quiet_or_silent {D} Service ports = inl (quiet_service D ports)
 quiet_or_silent {D} Tick ports = inl (quiet_tick D ports)
 quiet_or_silent {D} Reset ports = inl (quiet_reset D ports)
@@ -195,12 +195,12 @@ stays_step memory m (Store client frame offset bytes) may s q h = absurd q
 stays_step memory m _ may s q h = h
 
 -- a read that is answered Ok has in the last memory what is left
-answer_holds : (start : Machine) (memory : Memory) (past : List Step) (e : Pending) → IsInitial start → IsLegal start (Answer e Ok ∷ past) → AllTellSectors start past → IsWhole (Answer e Ok)
-    → Stays memory (after start (Answer e Ok ∷ past)) → e.request.asked.op ≡ Read → HoldsLeft start past memory e.request
+answer_holds : (start : Machine) (memory : Memory) (past : List Step) (e : Pending) → IsInitial start → IsLegal start (Answer e Ok ∷ past) → AllStepsFaithful start past → IsWhole (Answer e Ok)
+    → Stays memory (after start (Answer e Ok ∷ past)) → e.request.asked.op ≡ Read → HoldsExpected start past memory e.request
 answer_holds start memory past e s l told w stays op =
     let m = after start past in
     let sound = (traced start past s l.0).sound in
-    let holds = law_read_holds_left start past e s l.0 told l.1.0 w.0 op in
+    let holds = law_read_holds_expected start past e s l.0 told l.1.0 w.0 op in
     let room = sound.room e (inl l.1.0) (ap is_reader op) in
     let gone : (i : ℕ) → i < length e.request.asked.frames.items → unlend e.request.id m.lent (frame_at e.request.asked.frames.items i) ≡ None = λ i lt.
     cond-true (is_lent_to e.request.id (m.lent (frame_at e.request.asked.frames.items i))) None (m.lent (frame_at e.request.asked.frames.items i))
@@ -217,8 +217,8 @@ answering rest e before = rest ++ Answer e Ok ∷ before
 
 -- so has each read that a call answers, at the call's end
 answers_hold : (start : Machine) (memory : Memory) (rest : List Step) (e : Pending) (before past : List Step) → IsInitial start → IsLegal start (answering rest e before ++ past)
-    → AllTellSectors start (answering rest e before ++ past) → AllWhole (answering rest e before ++ past) → ((step : Step) → In step (answering rest e before) → IsQuiet step)
-    → Stays memory (after start (answering rest e before ++ past)) → e.request.asked.op ≡ Read → HoldsLeft start (before ++ past) memory e.request
+    → AllStepsFaithful start (answering rest e before ++ past) → AllWhole (answering rest e before ++ past) → ((step : Step) → In step (answering rest e before) → IsQuiet step)
+    → Stays memory (after start (answering rest e before ++ past)) → e.request.asked.op ≡ Read → HoldsExpected start (before ++ past) memory e.request
 answers_hold start memory [] e before past s l told w quiet stays = answer_holds start memory (before ++ past) e s l told.0 w.1 stays
 answers_hold start memory (step ∷ rest) e before past s l told w quiet stays = answers_hold start memory rest e before past s l.0 told.0 w.0 (λ x i. quiet x (inr i))
     (stays_step memory (after start (answering rest e before ++ past)) step l.1 (traced start (answering rest e before ++ past) s l.0).sound (quiet step (inl refl)) stays)
@@ -227,29 +227,29 @@ answer_is_in : (rest : List Step) (e : Pending) (before : List Step) → In (Ans
 answer_is_in [] e before = inl refl
 answer_is_in (step ∷ rest) e before = inr (answer_is_in rest e before)
 
-belongs : {D : Type 0} (ask : Ask D) (ports : Ports) (steps : List Step) → AreStepsOfCall ask ports steps → (step : Step) → In step steps → IsByDevice step ⊎ IsByServer ask ports step
+belongs : {D : Type 0} (ask : AbstractCall D) (ports : Ports) (steps : List Step) → AreStepsOfCall ask ports steps → (step : Step) → In step steps → IsByDevice step ⊎ IsByServer ask ports step
 belongs ask ports [] b step i = absurd i
 belongs ask ports (x ∷ xs) b step (inl e) = subst (λ (y : Step). IsByDevice y ⊎ IsByServer ask ports y) (sym e) b.1
 belongs ask ports (x ∷ xs) b step (inr i) = belongs ask ports xs b.0 step i
 
 -- each read of a run that was answered Ok has, at the end of its call, what is left
-pub law_every_read_holds : {D : Type 0} (first : AbstractState) (run : List (CallRecord D)) → IsRun first run → AllTellSectors first.machine (steps_of run) → EveryReadHolds first run
+pub law_every_read_holds : {D : Type 0} (first : AbstractState) (run : List (CallRecord D)) → IsRun first run → AllStepsFaithful first.machine (steps_of run) → EveryReadHolds first run
 law_every_read_holds {D} first run r told later earlier event rest before e is split op =
-    in_run later (subst (IsRun first) is r) (subst (λ (l : List (CallRecord D)). AllTellSectors first.machine (steps_of l)) is told)
+    in_run later (subst (IsRun first) is r) (subst (λ (l : List (CallRecord D)). AllStepsFaithful first.machine (steps_of l)) is told)
   where
-    told_before : (late early : List Step) → AllTellSectors first.machine (late ++ early) → AllTellSectors first.machine early
+    told_before : (late early : List Step) → AllStepsFaithful first.machine (late ++ early) → AllStepsFaithful first.machine early
     told_before [] early t = t
     told_before (step ∷ late) early t = told_before late early t.0
 
     Held : Type 0
-    Held = HoldsLeft first.machine (before ++ steps_of earlier) (abstract_after_all first (event ∷ earlier)).machine.memory e.request
+    Held = HoldsExpected first.machine (before ++ steps_of earlier) (abstract_after_all first (event ∷ earlier)).machine.memory e.request
 
-    in_call : IsRun first (event ∷ earlier) → AllTellSectors first.machine (steps_of (event ∷ earlier)) → Held
+    in_call : IsRun first (event ∷ earlier) → AllStepsFaithful first.machine (steps_of (event ∷ earlier)) → Held
     in_call r told = ⊎_elim
         (λ (q : Quiet event.ask event.ports). answers_hold first.machine (abstract_after_all first (event ∷ earlier)).machine.memory rest e before (steps_of earlier)
         (run_starts first earlier r.0)
         (subst (λ (steps : List Step). IsLegal first.machine (steps ++ steps_of earlier)) split (run_legal first (event ∷ earlier) r))
-        (subst (λ (steps : List Step). AllTellSectors first.machine (steps ++ steps_of earlier)) split told)
+        (subst (λ (steps : List Step). AllStepsFaithful first.machine (steps ++ steps_of earlier)) split told)
         (subst (λ (steps : List Step). AllWhole (steps ++ steps_of earlier)) split (run_whole first (event ∷ earlier) r))
         (λ step i. ⊎_elim (λ d. (devices_quiet step d).0) (λ h. q step h) (its step i))
         (λ f none b. ap (λ (m : Machine). m.memory f b) (moment_is first (event ∷ earlier)
@@ -261,6 +261,6 @@ law_every_read_holds {D} first run r told later earlier event rest before e is s
         its : (step : Step) → In step (answering rest e before) → IsByDevice step ⊎ IsByServer event.ask event.ports step
         its step i = belongs event.ask event.ports event.steps r.1.belong step (subst (In step) (sym split) i)
 
-    in_run : (later : List (CallRecord D)) → IsRun first (later ++ event ∷ earlier) → AllTellSectors first.machine (steps_of (later ++ event ∷ earlier)) → Held
+    in_run : (later : List (CallRecord D)) → IsRun first (later ++ event ∷ earlier) → AllStepsFaithful first.machine (steps_of (later ++ event ∷ earlier)) → Held
     in_run [] r told = in_call r told
     in_run (x ∷ later) r told = in_run later r.0 (told_before x.steps (steps_of (later ++ event ∷ earlier)) told)

@@ -12,7 +12,7 @@ use Rattle.ata_types.specs.declared.refusal.FrameFault.TheVariants.{FrameForeign
 use Rattle.ata_types.specs.declared.refusal.Rule.TheVariants.{NoGrant, NoRight, BadCount, OutsideGrant, FrameCount, Frames}
 use Rattle.ata_types.specs.declared.refusal.Refusal.TheVariants as refused
 use Rattle.ata_types.specs.Grant.{Allows, Covers}
-use Rattle.block_machine.specs.Rules.{IsNamed, IsAllowedCount, frames_for}
+use Rattle.block_machine.specs.Rules.{IsNamed, IsAllowedCount, frame_count_for}
 use Rattle.block_machine.specs.Refusals.{Situation, IsAcceptable}
 
 -- The request names this row and no other, which lets it do what it asks. It has one frame at most, its client's own and
@@ -23,7 +23,7 @@ pub record IsFitFor (row : GrantRow) (s : Situation) (r : Request) : Type 0 wher
   pub allowed : Allows row.rights r.op
   pub count : IsAllowedCount r.op r.count
   pub covered : r.op ≢ Flush → Covers row r.first.0 r.count
-  pub frames : length r.frames.items ≡ frames_for r.op r.count
+  pub frames : length r.frames.items ≡ frame_count_for r.op r.count
   pub single : length r.frames.items ≤ 1
   pub owned : (f : Frame) → slice_get r.frames.items 0 ≡ Some f → s.owner f ≡ Some r.client
   pub free : (f : Frame) → slice_get r.frames.items 0 ≡ Some f → s.lent f ≡ None

@@ -15,9 +15,9 @@ use Rattle.ata_types.specs.declared.refusal.Rule.TheVariants.{FrameCount, Frames
 use Rattle.block_machine.specs.declared.due.QueueMode.{QueueMode}
 use Rattle.block_machine.specs.declared.due.Unanswered.{Unanswered}
 use Rattle.block_machine.specs.State.{Accepted, Pending, Machine, frame_at, is_reader, unanswered, waiting}
-use Rattle.block_machine.specs.Rules.{frames_for}
+use Rattle.block_machine.specs.Rules.{frame_count_for}
 use Rattle.block_machine.specs.Due.{IsDue, conflict, waits_for, is_plain}
-use Rattle.block_machine.specs.Steps.{Step, Accept, Issue, Touch, End, Age, Again, Answer, Revoke, Release, Unplug, Replace, Store, Load, May, MayAccept, NoneKept, after_step, at, without, IsLiving, MayStillMove, newly_issued, touch, mark_ended, requeued, older, newly_accepted, lend, unlend, unlend_all, is_lent_to, stays}
+use Rattle.block_machine.specs.Steps.{Step, Accept, Issue, Touch, End, Age, Again, Answer, Revoke, Release, Unplug, Replace, Store, Load, May, MayAccept, NoneQuarantined, after_step, at, without, HoldsFrames, MayStillMove, newly_issued, touch, mark_ended, requeued, older, newly_accepted, lend, unlend, unlend_all, is_lent_to, stays}
 use Rattle.block_machine.proofs.Members.{contains_none, contains_here, contains_there, contains_cases, map_in, into_map, at_cases, without_in, append_in, none_of}
 use Rattle.block_machine.proofs.Sound.{Sound, Carries, IsChanged, KeepsRequest, IsLentAll, IsDistinct, lived, order_carried, carried}
 
@@ -81,14 +81,14 @@ issue_carries m mode e = record {
   lent = λ x. refl;
 }
 
-keeps_issue : (m : Machine) (mode : QueueMode) (e : Pending) → Sound m → Contains m.book e → IsDue mode (map unanswered m.book) (unanswered e) → NoneKept m e.request.port → Sound (after_step m (Issue mode e))
+keeps_issue : (m : Machine) (mode : QueueMode) (e : Pending) → Sound m → Contains m.book e → IsDue mode (map unanswered m.book) (unanswered e) → NoneQuarantined m e.request.port → Sound (after_step m (Issue mode e))
 keeps_issue m mode e s here due none = carried (at e.request.id newly_issued) (λ x. x) m (after_step m (Issue mode e)) (issue_carries m mode e) order s
   where
-    earlier : (a : Pending) → IsLiving m a → a.request.id.0 < e.request.id.0 → conflict (waiting a.request) (waiting e.request) ≡ true → ⊥
+    earlier : (a : Pending) → HoldsFrames m a → a.request.id.0 < e.request.id.0 → conflict (waiting a.request) (waiting e.request) ≡ true → ⊥
     earlier a (inl h) lt con = due_order mode (map unanswered m.book) (unanswered e) (unanswered a) due (into_map unanswered m.book a h) lt con
     earlier a (inr h) lt con = none a h (conflict_port a.request e.request con)
 
-    order : (x a : Pending) → MayStillMove (after_step m (Issue mode e)) x → IsLiving (after_step m (Issue mode e)) a → a.request.id.0 < x.request.id.0 → conflict (waiting a.request) (waiting x.request) ≡ true → ⊥
+    order : (x a : Pending) → MayStillMove (after_step m (Issue mode e)) x → HoldsFrames (after_step m (Issue mode e)) a → a.request.id.0 < x.request.id.0 → conflict (waiting a.request) (waiting x.request) ≡ true → ⊥
     order x a (inr h) l lt con =
         let q = lived (at e.request.id newly_issued) (λ x. x) m (after_step m (Issue mode e)) (issue_carries m mode e) a l in
         s.order x q.0 (inr h) q.1 (subst (λ (j : Accepted). j.id.0 < x.request.id.0) q.2 lt) (subst (λ (j : Accepted). conflict (waiting j) (waiting x.request) ≡ true) q.2 con)
@@ -147,7 +147,7 @@ abbrev answered : Machine → Pending → Bool → Machine
 answered m e b = record m { book = without e.request.id m.book; kept = cond b (e ∷ m.kept) m.kept; lent = cond b m.lent (unlend e.request.id m.lent) }
 
 -- who lives after an answer lived before it, and is not the answered one unless that is kept
-answered_lives : (m : Machine) (e : Pending) (b : Bool) → Contains m.book e → (x : Pending) → IsLiving (answered m e b) x → IsLiving m x
+answered_lives : (m : Machine) (e : Pending) (b : Bool) → Contains m.book e → (x : Pending) → HoldsFrames (answered m e b) x → HoldsFrames m x
 answered_lives m e b h x (inl i) = inl (without_in e.request.id m.book x i).0
 answered_lives m e true h x (inr i) = ⊎_elim (λ p. inl (subst (λ (y : Pending). Contains m.book y) (sym p) h)) (λ j. inr j) (contains_cases e m.kept x i)
 answered_lives m e false h x (inr i) = inr i
@@ -189,7 +189,7 @@ keeps_answer m e b s h w = record {
         (contains_cases e m.kept y j)
     apart false x y i q eq = s.apart x y (without_in e.request.id m.book x i).0 q eq
 
-    lent : (b : Bool) (x : Pending) → IsLiving (answered m e b) x → IsLentAll (answered m e b).lent x.request
+    lent : (b : Bool) (x : Pending) → HoldsFrames (answered m e b) x → IsLentAll (answered m e b).lent x.request
     lent true x l k lt = s.lent x (answered_lives m e true h x l) k lt
     lent false x (inl i) k lt =
         let r = without_in e.request.id m.book x i in
@@ -216,7 +216,7 @@ keeps_release m s = record {
   order = λ x a r l. s.order x a (runs x r) (lives a l);
 }
   where
-    lives : (x : Pending) → IsLiving (after_step m Release) x → IsLiving m x
+    lives : (x : Pending) → HoldsFrames (after_step m Release) x → HoldsFrames m x
     lives x (inl i) = inl i
     lives x (inr i) = absurd (contains_none x i)
 
@@ -224,7 +224,7 @@ keeps_release m s = record {
     runs x (inl i) = inl i
     runs x (inr i) = absurd (contains_none x i)
 
-    lent : (x : Pending) → IsLiving (after_step m Release) x → IsLentAll (unlend_all m.kept m.lent) x.request
+    lent : (x : Pending) → HoldsFrames (after_step m Release) x → IsLentAll (unlend_all m.kept m.lent) x.request
     lent x (inl i) k lt =
         let f = frame_at x.request.asked.frames.items k in
         let e : m.lent f ≡ Some x.request.id = s.lent x (inl i) k lt in
@@ -252,7 +252,7 @@ get_frame frames i lt = slice_get-get_or frames i (record { 0 = 0 }) lt
 some_is_some : (o : Option RequestId) (x : RequestId) → o ≡ Some x → IsSome o
 some_is_some o x e = ap is_some e
 
-enough : (op : Op) (count n : ℕ) → n ≡ frames_for op count → is_reader op ≡ true → count ≤ 8 * n
+enough : (op : Op) (count n : ℕ) → n ≡ frame_count_for op count → is_reader op ≡ true → count ≤ 8 * n
 enough Read count n e r = omega arith
 enough Write count n e r = absurd (false≢true r)
 enough Trim count n e r = absurd (false≢true r)
@@ -270,17 +270,17 @@ keeps_accept m request s new = record {
   order = λ e a r l lt con. order e a r (who a l) lt con;
 }
   where
-    who : (x : Pending) → IsLiving (after_step m (Accept request)) x → IsLiving m x ⊎ (x ≡ newly_accepted request)
+    who : (x : Pending) → HoldsFrames (after_step m (Accept request)) x → HoldsFrames m x ⊎ (x ≡ newly_accepted request)
     who x (inl i) = ⊎_elim (λ j. inl (inl j)) (λ p. inr p) (append_in m.book (newly_accepted request) x i)
     who x (inr i) = inl (inr i)
 
-    below : (x : Pending) → IsLiving m x → x.request.id.0 < suc m.next
+    below : (x : Pending) → HoldsFrames m x → x.request.id.0 < suc m.next
     below x i = let b = s.below x i in omega (arith, b)
 
     is_new : (x : Pending) → x ≡ newly_accepted request → x.request.id.0 ≡ m.next
     is_new x p = ap (λ (y : Pending). y.request.id.0) p ∙ new.id
 
-    clash : (a b : Pending) → IsLiving m a → b ≡ newly_accepted request → a.request.id.0 ≡ b.request.id.0 → ⊥
+    clash : (a b : Pending) → HoldsFrames m a → b ≡ newly_accepted request → a.request.id.0 ≡ b.request.id.0 → ⊥
     clash a b l p eq = let below = s.below a l in let id = is_new b p in omega (arith, below, id, eq)
 
     one : (a b : Pending) → Contains m.book a ⊎ (a ≡ newly_accepted request) → Contains m.book b ⊎ (b ≡ newly_accepted request) → a.request.id.0 ≡ b.request.id.0 → a ≡ b
@@ -297,7 +297,7 @@ keeps_accept m request s new = record {
     unlent x h = false_from_ne_true _ (λ t. let r = place_of x request.asked.frames.items t in
         new.unbroken (Frames (FrameLent r.0)) (frame_at request.asked.frames.items r.0, get_frame request.asked.frames.items r.0 r.1, subst (λ (y : Frame). IsSome (m.lent y)) (sym r.2) h))
 
-    lent : (x : Pending) → IsLiving m x ⊎ (x ≡ newly_accepted request) → IsLentAll (lend request m.lent) x.request
+    lent : (x : Pending) → HoldsFrames m x ⊎ (x ≡ newly_accepted request) → IsLentAll (lend request m.lent) x.request
     lent x (inl l) k lt =
         let f = frame_at x.request.asked.frames.items k in
         let e : m.lent f ≡ Some x.request.id = s.lent x l k lt in
@@ -312,14 +312,14 @@ keeps_accept m request s new = record {
         (frame_at request.asked.frames.items i, j, lt, get_frame request.asked.frames.items j (omega (arith, lt, below)) ∙ ap Some eq, get_frame request.asked.frames.items i below)
 
     room : is_reader request.asked.op ≡ true → request.asked.count ≤ 8 * length request.asked.frames.items
-    room r = ⊎_elim (λ e. enough request.asked.op request.asked.count (length request.asked.frames.items) e r) (λ ne. absurd (new.unbroken FrameCount ne)) (cases_eq (length request.asked.frames.items) (frames_for request.asked.op request.asked.count))
+    room r = ⊎_elim (λ e. enough request.asked.op request.asked.count (length request.asked.frames.items) e r) (λ ne. absurd (new.unbroken FrameCount ne)) (cases_eq (length request.asked.frames.items) (frame_count_for request.asked.op request.asked.count))
 
-    order : (e a : Pending) → MayStillMove (after_step m (Accept request)) e → IsLiving m a ⊎ (a ≡ newly_accepted request) → a.request.id.0 < e.request.id.0 → conflict (waiting a.request) (waiting e.request) ≡ true → ⊥
+    order : (e a : Pending) → MayStillMove (after_step m (Accept request)) e → HoldsFrames m a ⊎ (a ≡ newly_accepted request) → a.request.id.0 < e.request.id.0 → conflict (waiting a.request) (waiting e.request) ≡ true → ⊥
     order e a (inr i) (inl l) lt con = s.order e a (inr i) l lt con
     order e a (inr i) (inr p) lt con = let b = s.below e (inr i) in let n = is_new a p in omega (arith, b, n, lt)
     order e a (inl h) l lt con = inner (append_in m.book (newly_accepted request) e h.0) l
       where
-        inner : Contains m.book e ⊎ (e ≡ newly_accepted request) → IsLiving m a ⊎ (a ≡ newly_accepted request) → ⊥
+        inner : Contains m.book e ⊎ (e ≡ newly_accepted request) → HoldsFrames m a ⊎ (a ≡ newly_accepted request) → ⊥
         inner (inl i) (inl l) = s.order e a (inl (i, h.1)) l lt con
         inner (inl i) (inr p) = let b = s.below e (inl i) in let n = is_new a p in omega (arith, b, n, lt)
         inner (inr p) l = false≢true (ap (λ (y : Pending). y.issued) (sym p) ∙ h.1)

@@ -10,7 +10,7 @@ use Rattle.ata_types.specs.declared.refusal.Rule.TheVariants.{Frames}
 use Rattle.ata_types.specs.declared.memory.TheConstants.{DRIVER_FRAMES}
 use Rattle.block_machine.specs.Confined.{WasAccepted, HasFrame}
 use Rattle.block_machine.specs.State.{Accepted, Pending, Machine, frame_at}
-use Rattle.block_machine.specs.Steps.{Step, Accept, Answer, Release, May, IsLiving, after_step, stays, unlend, is_lent_to}
+use Rattle.block_machine.specs.Steps.{Step, Accept, Answer, Release, May, HoldsFrames, after_step, stays, unlend, is_lent_to}
 use Rattle.block_machine.specs.Left.{after, IsInitial, IsLegal}
 use Rattle.block_machine.specs.Histories.{IsReachable}
 use Rattle.block_machine.proofs.Accepts.{living_accepted, law_one_id_is_one_request}
@@ -70,8 +70,8 @@ lent_accepted start (step ∷ past) f id s legal h = ⊎_elim
     (lent_before (after start past) step f id legal.1 h)
 
 -- a frame that is lent to a request is one of its frames
-pub lent_own : (m : Machine) (f : Frame) (e : Pending) → IsReachable m → IsLiving m e → m.lent f ≡ Some e.request.id → HasFrame e.request f
+pub lent_own : (m : Machine) (f : Frame) (e : Pending) → IsReachable m → HoldsFrames m e → m.lent f ≡ Some e.request.id → HasFrame e.request f
 lent_own m f e r l h =
     let x = lent_accepted r.first r.past f e.request.id r.starts r.legal (ap (λ (n : Machine). n.lent f) (sym r.is) ∙ h) in
-    let mine = living_accepted r.first r.past r.starts r.legal e (subst (λ (n : Machine). IsLiving n e) r.is l) in
+    let mine = living_accepted r.first r.past r.starts r.legal e (subst (λ (n : Machine). HoldsFrames n e) r.is l) in
     subst (λ (o : Accepted). HasFrame o f) (law_one_id_is_one_request r.first r.past x.0 e.request x.1 mine x.2) x.3

@@ -11,7 +11,7 @@ use Rattle.block_machine.specs.declared.due.QueueMode.{QueueMode}
 use Rattle.block_machine.specs.declared.due.Unanswered.{Unanswered}
 use Rattle.block_machine.specs.Due.{IsDue, IsInOrder, is_plain, issued_count}
 use Rattle.block_machine.specs.State.{Accepted, Pending, Machine, frame_at, unanswered}
-use Rattle.block_machine.specs.Steps.{Step, Accept, Issue, Touch, End, Age, Again, Answer, Revoke, Release, Unplug, Replace, Store, Load, May, IsLiving, after_step, at, without, newly_issued, touch, mark_ended, requeued, older, newly_accepted, stays, unanswered_of}
+use Rattle.block_machine.specs.Steps.{Step, Accept, Issue, Touch, End, Age, Again, Answer, Revoke, Release, Unplug, Replace, Store, Load, May, HoldsFrames, after_step, at, without, newly_issued, touch, mark_ended, requeued, older, newly_accepted, stays, unanswered_count}
 use Rattle.block_machine.specs.Left.{after, IsLegal, IsInitial}
 use Rattle.block_machine.specs.Confined.{WasAccepted, WithinLimits}
 use Rattle.block_machine.proofs.Members.{contains_none, contains_here, contains_there, contains_cases, map_in, into_map, at_cases, without_in, append_in}
@@ -92,7 +92,7 @@ record IsCounted (e : Pending) : Type 0 where
   left : e.issued ≡ false → e.issues < 4
 
 abbrev AllCounted : Machine → Type 0
-AllCounted m = (e : Pending) → IsLiving m e → IsCounted e
+AllCounted m = (e : Pending) → HoldsFrames m e → IsCounted e
 
 -- a change of one request that keeps its count
 counted_at : (id : RequestId) (f : Pending → Pending) (es : List Pending) → ((o : Pending) → Contains es o → IsCounted o)
@@ -155,18 +155,18 @@ all_counted start (step ∷ past) s legal e l = counted_step (after start past) 
 
 -- The number of a client's unanswered requests.
 
-same_count : (c : ClientId) (f : Pending → Pending) (es : List Pending) → KeepsRequest f → unanswered_of (map f es) c ≡ unanswered_of es c
+same_count : (c : ClientId) (f : Pending → Pending) (es : List Pending) → KeepsRequest f → unanswered_count (map f es) c ≡ unanswered_count es c
 same_count c f es k = count_map (λ e. e.request.asked.client.0 == c.0) (λ e. e.request.asked.client.0 == c.0) f es (λ y h. ap (λ (r : Accepted). r.asked.client.0 == c.0) (k y))
 
-fewer_without : (c : ClientId) (id : RequestId) (es : List Pending) → unanswered_of (without id es) c ≤ unanswered_of es c
+fewer_without : (c : ClientId) (id : RequestId) (es : List Pending) → unanswered_count (without id es) c ≤ unanswered_count es c
 fewer_without c id [] = le_refl _
 fewer_without c id (x ∷ xs) = go (x.request.id.0 == id.0) (fewer_without c id xs)
   where
-    go : (b : Bool) → unanswered_of (without id xs) c ≤ unanswered_of xs c → unanswered_of (cond (not b) (x ∷ without id xs) (without id xs)) c ≤ unanswered_of (x ∷ xs) c
+    go : (b : Bool) → unanswered_count (without id xs) c ≤ unanswered_count xs c → unanswered_count (cond (not b) (x ∷ without id xs) (without id xs)) c ≤ unanswered_count (x ∷ xs) c
     go true a = omega (arith, a, count_cons (λ e. e.request.asked.client.0 == c.0) x xs)
     go false a = omega (arith, a, count_cons (λ e. e.request.asked.client.0 == c.0) x xs, count_cons (λ e. e.request.asked.client.0 == c.0) x (without id xs))
 
-few_step : (m : Machine) (step : Step) → May m step → (c : ClientId) → unanswered_of m.book c ≤ 16 → unanswered_of (after_step m step).book c ≤ 16
+few_step : (m : Machine) (step : Step) → May m step → (c : ClientId) → unanswered_count m.book c ≤ 16 → unanswered_count (after_step m step).book c ≤ 16
 few_step m (Accept r) may c le =
     let more = count_append (λ (e : Pending). e.request.asked.client.0 == c.0) m.book (newly_accepted r ∷ []) in
     let last = count_cons (λ (e : Pending). e.request.asked.client.0 == c.0) (newly_accepted r) [] in
@@ -174,7 +174,7 @@ few_step m (Accept r) may c le =
     (λ (t : (r.asked.client.0 == c.0) ≡ true).
     let one : ◌≡◌ {A = ℕ} (cond (r.asked.client.0 == c.0) 1 0) 1 = ap (λ (b : Bool). cond {A = ℕ} b 1 0) t in
     let same : r.asked.client ≡ c = ap (λ n. record { 0 = n }) (eqb-true r.asked.client.0 c.0 t) in
-    let few : unanswered_of m.book c < 16 = subst (λ (x : ClientId). unanswered_of m.book x < 16) same may.few in
+    let few : unanswered_count m.book c < 16 = subst (λ (x : ClientId). unanswered_count m.book x < 16) same may.few in
     omega (arith, more, last, one, few))
     (λ (f : (r.asked.client.0 == c.0) ≡ false).
     let none : ◌≡◌ {A = ℕ} (cond (r.asked.client.0 == c.0) 1 0) 0 = ap (λ (b : Bool). cond {A = ℕ} b 1 0) f in
@@ -188,8 +188,8 @@ few_step m (Again e) may c le = let a = same_count c (at e.request.id requeued) 
 few_step m (Answer e outcome) may c le = let a = fewer_without c e.request.id m.book in omega (arith, a, le)
 few_step m _ may c le = le
 
-few : (start : Machine) (h : List Step) → IsInitial start → IsLegal start h → (c : ClientId) → unanswered_of (after start h).book c ≤ 16
-few start [] s legal c = subst (λ (es : List Pending). unanswered_of es c ≤ 16) (sym s.book) (omega arith)
+few : (start : Machine) (h : List Step) → IsInitial start → IsLegal start h → (c : ClientId) → unanswered_count (after start h).book c ≤ 16
+few start [] s legal c = subst (λ (es : List Pending). unanswered_count es c ≤ 16) (sym s.book) (omega arith)
 few start (step ∷ past) s legal c = few_step (after start past) step legal.1 c (few start past s legal.0 c)
 
 -- Owners.

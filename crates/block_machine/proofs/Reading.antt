@@ -8,11 +8,11 @@ use Rattle.ata_types.specs.declared.request.RequestId.{RequestId}
 use Rattle.ata_types.specs.declared.request.Op.{Op}
 use Rattle.ata_types.specs.declared.request.Op.TheVariants.{Read, Write, Trim, Flush}
 use Rattle.ata_types.specs.declared.refusal.MemFault.TheVariants as fault
-use Rattle.block_machine.specs.Refusals.{IsOpen}
+use Rattle.block_machine.specs.Refusals.{MayAccessFrame}
 use Rattle.block_machine.specs.Due.{changes_sectors}
 use Rattle.block_machine.specs.State.{Block, Memory, Accepted, Pending, Machine, block_of, frame_at, sector_of, is_reader}
-use Rattle.block_machine.specs.Steps.{Step, Accept, Issue, Touch, End, Age, Again, Answer, Revoke, Release, Unplug, Replace, Store, Load, May, after_step, at, IsLiving, MayStillMove, newly_issued, touch, mark_ended, requeued, older, newly_accepted, put_bytes, memory_after}
-use Rattle.block_machine.specs.Left.{plug_count, IsTouch, touches, disk_number_read, Wrote, IsLastWritten, IsLeft, TellsSectors}
+use Rattle.block_machine.specs.Steps.{Step, Accept, Issue, Touch, End, Age, Again, Answer, Revoke, Release, Unplug, Replace, Store, Load, May, after_step, at, HoldsFrames, MayStillMove, newly_issued, touch, mark_ended, requeued, older, newly_accepted, put_bytes, memory_after}
+use Rattle.block_machine.specs.Left.{plug_count, IsTouch, touches, disk_number_read, Wrote, IsLastWritten, IsExpectedBlock, StepIsFaithful}
 use Rattle.block_machine.proofs.Members.{map_in, at_cases, without_in, append_in}
 use Rattle.block_machine.proofs.Sound.{Sound, KeepsRequest}
 use Rattle.block_machine.proofs.Keeps.{older_keeps, older_issued, older_touched, same_frame}
@@ -22,7 +22,7 @@ use Rattle.block_machine.proofs.Content.{AllSeen, Holds}
 -- the sector stands at its place as it was left
 abbrev pub IsGood : Machine → List Step → Machine → Accepted → ℕ → Type 0
 IsGood start h m request i =
-    (block : Block) × IsLeft start h request (request.asked.first.0 + i) block × ((b : ℕ) → b < 512 → block_of m.memory request.asked.frames.items i b ≡ block b)
+    (block : Block) × IsExpectedBlock start h request (request.asked.first.0 + i) block × ((b : ℕ) → b < 512 → block_of m.memory request.asked.frames.items i b ≡ block b)
 
 -- each sector that a read touched since its last issue is good
 abbrev pub AllGood : Machine → List Step → Machine → Type 0
@@ -98,7 +98,7 @@ put_same f at n b bytes memory lt =
     ∙ ap bytes (let e : at + b - at ≡ b = omega arith in e)
 
 -- places of different sectors, of one request or of two, don't meet
-place_apart : (m : Machine) → Sound m → (e o : Pending) → IsLiving m e → IsLiving m o → (i k b : ℕ) → i < 8 * length e.request.asked.frames.items → k < 8 * length o.request.asked.frames.items → b < 512
+place_apart : (m : Machine) → Sound m → (e o : Pending) → HoldsFrames m e → HoldsFrames m o → (i k b : ℕ) → i < 8 * length e.request.asked.frames.items → k < 8 * length o.request.asked.frames.items → b < 512
     → (e.request.id.0 ≡ o.request.id.0 → i ≡ k → ⊥)
     → frame_at e.request.asked.frames.items (i / 8) ≡ frame_at o.request.asked.frames.items (k / 8) → 512 * (i % 8) ≤ 512 * (k % 8) + b → 512 * (k % 8) + b < 512 * (i % 8) + 512 → ⊥
 place_apart m s e o le lo i k b li lk lb differ frame low high =
@@ -120,7 +120,7 @@ place_apart m s e o le lo i k b li lk lb differ frame low high =
     some_id {a} {b} p = let e : a ≡ b = cc in ap (λ (i : RequestId). i.0) e
 
 -- a touch leaves the places of other sectors alone
-pub memory_touch : (m : Machine) → Sound m → (e o : Pending) → MayStillMove m e → IsLiving m o → (i : ℕ) (block : Block) (k b : ℕ) → i < e.request.asked.count → k < 8 * length o.request.asked.frames.items → b < 512
+pub memory_touch : (m : Machine) → Sound m → (e o : Pending) → MayStillMove m e → HoldsFrames m o → (i : ℕ) (block : Block) (k b : ℕ) → i < e.request.asked.count → k < 8 * length o.request.asked.frames.items → b < 512
     → (is_reader e.request.asked.op ≡ true → e.request.id.0 ≡ o.request.id.0 → i ≡ k → ⊥)
     → block_of (memory_after e.request i block m.memory) o.request.asked.frames.items k b ≡ block_of m.memory o.request.asked.frames.items k b
 memory_touch m s e o r lo i block k b li lk lb differ = by_op (is_reader e.request.asked.op) refl
@@ -144,7 +144,7 @@ memory_own m e i block b t lb =
     ∙ put_same (frame_at e.request.asked.frames.items (i / 8)) (512 * (i % 8)) 512 b block m.memory lb
 
 -- a frame that a client may use is lent to none
-pub open_unlent : (m : Machine) (client : ClientId) (frame : Frame) (offset count : ℕ) → IsOpen m.owner m.lent client frame offset count → m.lent frame ≡ None
+pub open_unlent : (m : Machine) (client : ClientId) (frame : Frame) (offset count : ℕ) → MayAccessFrame m.owner m.lent client frame offset count → m.lent frame ≡ None
 open_unlent m client frame offset count free = none_from (m.lent frame) (free fault.FrameLent)
   where
     none_from : (o : Option RequestId) → (IsSome o → ⊥) → o ≡ None
@@ -152,7 +152,7 @@ open_unlent m client frame offset count free = none_from (m.lent frame) (free fa
     none_from (Some id) h = absurd (h refl)
 
 -- a store leaves lent frames alone
-pub memory_store : (m : Machine) → Sound m → (o : Pending) → IsLiving m o → (client : ClientId) (frame : Frame) (offset : ℕ) (bytes : List ℕ) → IsOpen m.owner m.lent client frame offset (length bytes) → (k b : ℕ) → k < 8 * length o.request.asked.frames.items
+pub memory_store : (m : Machine) → Sound m → (o : Pending) → HoldsFrames m o → (client : ClientId) (frame : Frame) (offset : ℕ) (bytes : List ℕ) → MayAccessFrame m.owner m.lent client frame offset (length bytes) → (k b : ℕ) → k < 8 * length o.request.asked.frames.items
     → block_of (put_bytes frame offset (length bytes) (slice_index bytes) m.memory) o.request.asked.frames.items k b ≡ block_of m.memory o.request.asked.frames.items k b
 memory_store m s o lo client frame offset bytes free k b lk =
     put_other frame (frame_at o.request.asked.frames.items (k / 8)) offset (512 * (k % 8) + b) (length bytes) (slice_index bytes) m.memory
@@ -203,7 +203,7 @@ traced_at m n id f b kt kj x hx i touched =
 traced_same : (m n : Machine) → n.book ≡ m.book → IsTraced m n
 traced_same m n b x hx i touched = (x, subst (λ (es : List Pending). Contains es x) b hx, refl, touched, λ h. h)
 
-touch_good : (start : Machine) (h : List Step) (m : Machine) (e : Pending) (i : ℕ) (block : Block) → TellsSectors m (Touch e i block) → Sound m → AllSeen m h → Holds start h m → MayStillMove m e → i < e.request.asked.count
+touch_good : (start : Machine) (h : List Step) (m : Machine) (e : Pending) (i : ℕ) (block : Block) → StepIsFaithful m (Touch e i block) → Sound m → AllSeen m h → Holds start h m → MayStillMove m e → i < e.request.asked.count
     → AllGood start h m → AllGood start (Touch e i block ∷ h) (after_step m (Touch e i block))
 touch_good start h m e i block told s seen holds r li good x hx reads k lt touched =
     let q = map_in (at e.request.id (touch i)) m.book x hx in
@@ -287,7 +287,7 @@ touch_good start h m e i block told s seen holds r li good x hx reads k lt touch
               g.1,
         )
 
-pub good_step : (start : Machine) (h : List Step) (m : Machine) (step : Step) → May m step → TellsSectors m step → Sound m → AllSeen m h → Holds start h m → AllGood start h m → AllGood start (step ∷ h) (after_step m step)
+pub good_step : (start : Machine) (h : List Step) (m : Machine) (step : Step) → May m step → StepIsFaithful m step → Sound m → AllSeen m h → Holds start h m → AllGood start h m → AllGood start (step ∷ h) (after_step m step)
 good_step start h m (Accept request) may told s seen holds g = quiet_good start h m (after_step m (Accept request)) (Accept request) s
     (λ x hx i t. ⊎_elim (λ p. (x, p, refl, t, λ q. q)) (λ p. absurd (false≢true (subst (λ (y : Pending). y.touched i ≡ true) p t))) (append_in m.book (newly_accepted request) x hx))
     (λ o ho i b li lb. refl) (λ id k. refl) (λ w k t. t) g

@@ -4,8 +4,8 @@ use Rattle.std.specs.List.{Contains}
 use Rattle.ata_types.specs.declared.request.Op.{Op}
 use Rattle.ata_types.specs.declared.request.Op.TheVariants.{Read}
 use Rattle.block_machine.specs.State.{Pending, Machine, is_reader}
-use Rattle.block_machine.specs.Steps.{Step, May, AllTouched, IsLiving}
-use Rattle.block_machine.specs.Left.{after, IsLegal, IsInitial, HoldsLeft, IsTouch, HasTouched, AllTellSectors}
+use Rattle.block_machine.specs.Steps.{Step, May, AllTouched, HoldsFrames}
+use Rattle.block_machine.specs.Left.{after, IsLegal, IsInitial, HoldsExpected, IsTouch, HasTouched, AllStepsFaithful}
 use Rattle.block_machine.proofs.Members.{contains_none}
 use Rattle.block_machine.proofs.Sound.{Sound}
 use Rattle.block_machine.proofs.Keeps.{keeps}
@@ -21,7 +21,7 @@ pub record Traced (start : Machine) (h : List Step) : Type 0 where
   pub holds : Holds start h (after start h)
   pub held : AllHeld (after start h)
 
-pub nobody : (m : Machine) → IsInitial m → (e : Pending) → IsLiving m e → ⊥
+pub nobody : (m : Machine) → IsInitial m → (e : Pending) → HoldsFrames m e → ⊥
 nobody m s e (inl i) = contains_none e (subst (λ (es : List Pending). Contains es e) s.book i)
 nobody m s e (inr i) = contains_none e (subst (λ (es : List Pending). Contains es e) s.kept i)
 
@@ -57,7 +57,7 @@ traced start (step ∷ past) s legal =
     }
 
 -- where the bytes that reads moved are their disks', what a read touched is good
-good_all : (start : Machine) (h : List Step) → IsInitial start → IsLegal start h → AllTellSectors start h → AllGood start h (after start h)
+good_all : (start : Machine) (h : List Step) → IsInitial start → IsLegal start h → AllStepsFaithful start h → AllGood start h (after start h)
 good_all start [] s legal told = λ e i r k lt t. absurd (nobody start s e (inl i))
 good_all start (step ∷ past) s legal told =
     let t = traced start past s legal.0 in
@@ -67,9 +67,9 @@ reads : (op : Op) → op ≡ Read → is_reader op ≡ true
 reads op e = ap is_reader e
 
 -- a read with all its sectors touched holds what was left
-pub law_read_holds_left : (start : Machine) (h : List Step) (e : Pending) → IsInitial start → IsLegal start h → AllTellSectors start h
-    → Contains (after start h).book e → AllTouched e → e.request.asked.op ≡ Read → HoldsLeft start h (after start h).memory e.request
-law_read_holds_left start h e s legal told here whole op = record {
+pub law_read_holds_expected : (start : Machine) (h : List Step) (e : Pending) → IsInitial start → IsLegal start h → AllStepsFaithful start h
+    → Contains (after start h).book e → AllTouched e → e.request.asked.op ≡ Read → HoldsExpected start h (after start h).memory e.request
+law_read_holds_expected start h e s legal told here whole op = record {
   sectors = λ i lt. (good_all start h s legal told e here (reads e.request.asked.op op) i lt (whole i lt)).1;
   rest = λ i b past room lb. (traced start h s legal).held e (inl here) i b (λ _. past) room lb;
 }

@@ -13,10 +13,10 @@ use Rattle.ata_types.specs.declared.request.Op.TheVariants.{Trim, Flush}
 use Rattle.ata_types.specs.declared.grant.GrantRow.{GrantRow}
 use Rattle.ata_types.specs.Grant.{Allows, Covers}
 use Rattle.ata_types.specs.declared.memory.TheConstants.{DRIVER_FRAMES}
-use Rattle.block_machine.specs.Rules.{DifferInName, HasRow, IsAllowedCount, frames_for}
+use Rattle.block_machine.specs.Rules.{DifferInName, HasRow, IsAllowedCount, frame_count_for}
 use Rattle.block_machine.specs.Refusals.{Situation, IsAcceptable}
 use Rattle.block_machine.specs.State.{Memory, Machine}
-use Rattle.block_machine.specs.Left.{IsRow, IsInitial}
+use Rattle.block_machine.specs.Left.{IsValidRow, IsInitial}
 use Rattle.block_machine.proofs.Fitting.{fit_acceptable}
 use Rattle.block_machine.proofs.Members.{contains_none, contains_cases}
 
@@ -78,7 +78,7 @@ its_row r h = ⊎_elim
     (row_cases r h)
 
 -- each may be given by a configuration, and they differ in name
-fits_row : (n : ℕ) → n ≤ 1 → IsRow (row n)
+fits_row : (n : ℕ) → n ≤ 1 → IsValidRow (row n)
 fits_row n few = record { client = (omega arith, omega arith); number = omega (arith, few); port = omega (arith, few); some = omega arith; below = omega arith }
 
 differ : AllPairs DifferInName two_rows
@@ -98,7 +98,7 @@ filled_starts memory = record {
   next = refl;
   few = omega arith;
   rows = differ;
-  configured = λ r h. ⊎_elim (λ p. subst IsRow (sym p) (fits_row 0 (omega arith))) (λ p. subst IsRow (sym p) (fits_row 1 (omega arith))) (row_cases r h);
+  configured = λ r h. ⊎_elim (λ p. subst IsValidRow (sym p) (fits_row 0 (omega arith))) (λ p. subst IsValidRow (sym p) (fits_row 1 (omega arith))) (row_cases r h);
   owned = λ f c e. within f (nat_le DRIVER_FRAMES f.0) (nat_lt f.0 (DRIVER_FRAMES + 100)) refl refl c e;
 }
   where
@@ -134,7 +134,7 @@ pub record IsFit (n : ℕ) (s : Situation) (r : Request) : Type 0 where
   pub allowed : Allows (row n).rights r.op
   pub count : IsAllowedCount r.op r.count
   pub covered : r.op ≢ Flush → Covers (row n) r.first.0 r.count
-  pub frames : length r.frames.items ≡ frames_for r.op r.count
+  pub frames : length r.frames.items ≡ frame_count_for r.op r.count
   pub single : length r.frames.items ≤ 1
   pub owned : (f : Frame) → slice_get r.frames.items 0 ≡ Some f → s.owner f ≡ Some client
   pub free : (f : Frame) → slice_get r.frames.items 0 ≡ Some f → s.lent f ≡ None

@@ -5,7 +5,7 @@ use Rattle.ata_types.specs.declared.request.Frame.{Frame}
 use Rattle.ata_types.specs.declared.request.RequestId.{RequestId}
 use Rattle.block_machine.specs.State.{Accepted, Pending, Machine, is_reader, frame_at, waiting}
 use Rattle.block_machine.specs.Due.{conflict}
-use Rattle.block_machine.specs.Steps.{IsLiving, MayStillMove}
+use Rattle.block_machine.specs.Steps.{HoldsFrames, MayStillMove}
 
 abbrev pub IsLentAll : (Frame → Option RequestId) → Accepted → Type 0
 IsLentAll lent request = (i : ℕ) → i < length request.asked.frames.items → lent (frame_at request.asked.frames.items i) ≡ Some request.id
@@ -14,15 +14,15 @@ abbrev pub IsDistinct : List Frame → Type 0
 IsDistinct frames = (i j : ℕ) → j < i → i < length frames → frame_at frames j ≡ frame_at frames i → ⊥
 
 pub record Sound (m : Machine) : Type 0 where
-  pub below : (e : Pending) → IsLiving m e → e.request.id.0 < m.next
+  pub below : (e : Pending) → HoldsFrames m e → e.request.id.0 < m.next
   pub one : (a b : Pending) → Contains m.book a → Contains m.book b → a.request.id.0 ≡ b.request.id.0 → a ≡ b
   pub kept_one : (a b : Pending) → Contains m.kept a → Contains m.kept b → a.request.id.0 ≡ b.request.id.0 → a ≡ b
   pub apart : (a b : Pending) → Contains m.book a → Contains m.kept b → a.request.id.0 ≡ b.request.id.0 → ⊥
-  pub lent : (e : Pending) → IsLiving m e → IsLentAll m.lent e.request
-  pub distinct : (e : Pending) → IsLiving m e → IsDistinct e.request.asked.frames.items
-  pub room : (e : Pending) → IsLiving m e → is_reader e.request.asked.op ≡ true → e.request.asked.count ≤ 8 * length e.request.asked.frames.items
+  pub lent : (e : Pending) → HoldsFrames m e → IsLentAll m.lent e.request
+  pub distinct : (e : Pending) → HoldsFrames m e → IsDistinct e.request.asked.frames.items
+  pub room : (e : Pending) → HoldsFrames m e → is_reader e.request.asked.op ≡ true → e.request.asked.count ≤ 8 * length e.request.asked.frames.items
   -- no earlier request that conflicts with a running one is left
-  pub order : (e a : Pending) → MayStillMove m e → IsLiving m a → a.request.id.0 < e.request.id.0 → conflict (waiting a.request) (waiting e.request) ≡ true → ⊥
+  pub order : (e a : Pending) → MayStillMove m e → HoldsFrames m a → a.request.id.0 < e.request.id.0 → conflict (waiting a.request) (waiting e.request) ≡ true → ⊥
 
 -- each member of the new list is a member of the old one, changed
 abbrev pub IsChanged : (Pending → Pending) → List Pending → List Pending → Type 0
@@ -40,12 +40,12 @@ pub record Carries (f g : Pending → Pending) (m n : Machine) : Type 0 where
   pub next : n.next ≡ m.next
   pub lent : (x : Frame) → n.lent x ≡ m.lent x
 
-pub lived : (f g : Pending → Pending) (m n : Machine) → Carries f g m n → (e : Pending) → IsLiving n e → (o : Pending) × IsLiving m o × (e.request ≡ o.request)
+pub lived : (f g : Pending → Pending) (m n : Machine) → Carries f g m n → (e : Pending) → HoldsFrames n e → (o : Pending) × HoldsFrames m o × (e.request ≡ o.request)
 lived f g m n c e (inl h) = let r = c.book e h in (r.0, inl r.1, ap (λ (x : Pending). x.request) r.2 ∙ c.f_keeps r.0)
 lived f g m n c e (inr h) = let r = c.kept e h in (r.0, inr r.1, ap (λ (x : Pending). x.request) r.2 ∙ c.g_keeps r.0)
 
 -- the order holds after a step that issues nothing
-pub order_carried : (f g : Pending → Pending) (m n : Machine) → Carries f g m n → ((e : Pending) → (f e).issued ≡ true → e.issued ≡ true) → Sound m → (e a : Pending) → MayStillMove n e → IsLiving n a → a.request.id.0 < e.request.id.0 → conflict (waiting a.request) (waiting e.request) ≡ true → ⊥
+pub order_carried : (f g : Pending → Pending) (m n : Machine) → Carries f g m n → ((e : Pending) → (f e).issued ≡ true → e.issued ≡ true) → Sound m → (e a : Pending) → MayStillMove n e → HoldsFrames n a → a.request.id.0 < e.request.id.0 → conflict (waiting a.request) (waiting e.request) ≡ true → ⊥
 order_carried f g m n c quiet s e a (inl h) l lt con =
     let r = c.book e h.0 in
     let q = lived f g m n c a l in
@@ -62,7 +62,7 @@ order_carried f g m n c quiet s e a (inr h) l lt con =
     (subst (λ (j : Accepted). conflict (waiting q.0.request) (waiting j) ≡ true) je (subst (λ (j : Accepted). conflict (waiting j) (waiting e.request) ≡ true) q.2 con))
 
 abbrev pub IsOrdered : Machine → Type 0
-IsOrdered n = (e a : Pending) → MayStillMove n e → IsLiving n a → a.request.id.0 < e.request.id.0 → conflict (waiting a.request) (waiting e.request) ≡ true → ⊥
+IsOrdered n = (e a : Pending) → MayStillMove n e → HoldsFrames n a → a.request.id.0 < e.request.id.0 → conflict (waiting a.request) (waiting e.request) ≡ true → ⊥
 
 pub carried : (f g : Pending → Pending) (m n : Machine) → Carries f g m n → IsOrdered n → Sound m → Sound n
 carried f g m n c o s = record {

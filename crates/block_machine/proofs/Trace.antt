@@ -5,7 +5,7 @@ use Rattle.std.specs.List.{Contains}
 use Rattle.ata_types.specs.declared.Port.{Port}
 use Rattle.block_machine.specs.State.{Block, DiskBytes, Accepted, Pending, Machine, waiting, sector_of}
 use Rattle.block_machine.specs.Due.{conflict, changes_sectors}
-use Rattle.block_machine.specs.Steps.{Step, Accept, Issue, Touch, End, Age, Again, Answer, Revoke, Release, Unplug, Replace, Store, Load, May, MayAccept, after_step, at, IsLiving, MayStillMove, newly_issued, touch, mark_ended, requeued, older, newly_accepted}
+use Rattle.block_machine.specs.Steps.{Step, Accept, Issue, Touch, End, Age, Again, Answer, Revoke, Release, Unplug, Replace, Store, Load, May, MayAccept, after_step, at, HoldsFrames, MayStillMove, newly_issued, touch, mark_ended, requeued, older, newly_accepted}
 use Rattle.block_machine.specs.Left.{IsAccept, plugs, plugged_disk, plug_count, bytes_when_plugged, IsTouch, touches, HasTouched, disk_number_read, Wrote, IsLastWritten}
 use Rattle.block_machine.proofs.Members.{contains_none, contains_cases, map_in, without_in, append_in}
 use Rattle.block_machine.proofs.Sound.{Sound, KeepsRequest}
@@ -18,7 +18,7 @@ moved f es k a h = let r = map_in f es a h in (r.0, r.1, ap (λ (x : Pending). x
 
 -- a request that lived before with the same request
 abbrev pub Before : Machine → Pending → Type 0
-Before m a = (o : Pending) × IsLiving m o × (a.request ≡ o.request)
+Before m a = (o : Pending) × HoldsFrames m o × (a.request ≡ o.request)
 
 in_book : (m : Machine) (a : Pending) → (o : Pending) × Contains m.book o × (a.request ≡ o.request) → Before m a
 in_book m a r = (r.0, inl r.1, r.2)
@@ -26,10 +26,10 @@ in_book m a r = (r.0, inl r.1, r.2)
 in_kept : (m : Machine) (a : Pending) → (o : Pending) × Contains m.kept o × (a.request ≡ o.request) → Before m a
 in_kept m a r = (r.0, inr r.1, r.2)
 
-same_before : (m : Machine) (a : Pending) → IsLiving m a → Before m a
+same_before : (m : Machine) (a : Pending) → HoldsFrames m a → Before m a
 same_before m a l = (a, l, refl)
 
-kept_then : (m : Machine) (e a : Pending) (b : Bool) → Contains m.book e → Contains (cond b (e ∷ m.kept) m.kept) a → IsLiving m a
+kept_then : (m : Machine) (e a : Pending) (b : Bool) → Contains m.book e → Contains (cond b (e ∷ m.kept) m.kept) a → HoldsFrames m a
 kept_then m e a true h i = ⊎_elim (λ p. inl (subst (λ (y : Pending). Contains m.book y) (sym p) h)) (λ j. inr j) (contains_cases e m.kept a i)
 kept_then m e a false h i = inr i
 
@@ -37,7 +37,7 @@ kept_then m e a false h i = inr i
 abbrev pub Comes : Machine → Step → Accepted → Type 0
 Comes m step r = IsAccept step r × MayAccept m r
 
-pub lives_before : (m : Machine) (step : Step) → May m step → (a : Pending) → IsLiving (after_step m step) a → Before m a ⊎ Comes m step a.request
+pub lives_before : (m : Machine) (step : Step) → May m step → (a : Pending) → HoldsFrames (after_step m step) a → Before m a ⊎ Comes m step a.request
 lives_before m (Accept request) may a (inl h) = ⊎_elim (λ i. inl (same_before m a (inl i))) (λ p. inr (ap (λ (y : Pending). y.request) (sym p), subst (λ (y : Pending). MayAccept m y.request) (sym p) may)) (append_in m.book (newly_accepted request) a h)
 lives_before m (Accept request) may a (inr h) = inl (same_before m a (inr h))
 lives_before m (Issue mode e) may a (inl h) = inl (in_book m a (moved (at e.request.id newly_issued) m.book (at_keeps e.request.id newly_issued (λ x. refl)) a h))
@@ -65,16 +65,16 @@ next_grows m (Accept request) = omega arith
 next_grows m _ = le_refl _
 
 -- one living request has each id
-pub living_one : (m : Machine) → Sound m → (a b : Pending) → IsLiving m a → IsLiving m b → a.request.id.0 ≡ b.request.id.0 → a ≡ b
+pub living_one : (m : Machine) → Sound m → (a b : Pending) → HoldsFrames m a → HoldsFrames m b → a.request.id.0 ≡ b.request.id.0 → a ≡ b
 living_one m s a b (inl i) (inl j) eq = s.one a b i j eq
 living_one m s a b (inl i) (inr j) eq = absurd (s.apart a b i j eq)
 living_one m s a b (inr i) (inl j) eq = absurd (s.apart b a j i (sym eq))
 living_one m s a b (inr i) (inr j) eq = s.kept_one a b i j eq
 
-pub lives_one : (m : Machine) → Sound m → (a b : Pending) → IsLiving m a → IsLiving m b → a.request.id.0 ≡ b.request.id.0 → a.request ≡ b.request
+pub lives_one : (m : Machine) → Sound m → (a b : Pending) → HoldsFrames m a → HoldsFrames m b → a.request.id.0 ≡ b.request.id.0 → a.request ≡ b.request
 lives_one m s a b i j eq = ap (λ (x : Pending). x.request) (living_one m s a b i j eq)
 
-pub runs_lives : (m : Machine) (e : Pending) → MayStillMove m e → IsLiving m e
+pub runs_lives : (m : Machine) (e : Pending) → MayStillMove m e → HoldsFrames m e
 runs_lives m e (inl h) = inl h.0
 runs_lives m e (inr h) = inr h
 
@@ -91,8 +91,8 @@ pub record Seen (m : Machine) (w : Accepted) (k : ℕ) : Type 0 where
   pub below : w.id.0 < m.next
   pub from : w.asked.first.0 ≤ k
   pub to : k < w.asked.first.0 + w.asked.count
-  pub one : (a : Pending) → IsLiving m a → a.request.id.0 ≡ w.id.0 → a.request ≡ w
-  pub order : (a : Pending) → IsLiving m a → a.request.id.0 < w.id.0 → conflict (waiting a.request) (waiting w) ≡ true → ⊥
+  pub one : (a : Pending) → HoldsFrames m a → a.request.id.0 ≡ w.id.0 → a.request ≡ w
+  pub order : (a : Pending) → HoldsFrames m a → a.request.id.0 < w.id.0 → conflict (waiting a.request) (waiting w) ≡ true → ⊥
 
 pub seen_step : (m : Machine) (step : Step) → May m step → (w : Accepted) (k : ℕ) → Seen m w k → Seen (after_step m step) w k
 seen_step m step may w k s = record {

@@ -12,7 +12,7 @@ use Rattle.block_machine.specs.Due.{IsDue, IsInOrder, waits_for, is_plain, is_ea
 use Rattle.block_machine.proofs.Members.{into_map}
 use Rattle.block_machine.proofs.Order.{In, Ordered, in_from, from_in, ordered_from}
 use Rattle.block_machine.proofs.Counting.{count_cons}
-use Rattle.block_machine.proofs.Dues.{in_order_one, law_issues_one_by_one}
+use Rattle.block_machine.proofs.Dues.{in_order_one, law_issue_keeps_others_due}
 use Rattle.block_machine.proofs.Keeps.{same_port}
 use Rattle.block_machine.proofs.DueTests.{same_test, due_test as tested}
 
@@ -121,7 +121,7 @@ law_due_after_issue mode port book e order due own =
         by false apart = and_left _ _ apart ∙ sym (and_left _ _ apart)
         by true mine =
             let here : x.port ≡ e.port = same_port x.port port (eqb-true x.port.0 port.0 mine) ∙ sym own in
-            let both = law_issues_one_by_one mode book e x order due old (λ is. eqb-false x.id.0 e.id.0 other (ap (λ (i : RequestId). i.0) is)) here in
+            let both = law_issue_keeps_others_due mode book e x order due old (λ is. eqb-false x.id.0 e.id.0 other (ap (λ (i : RequestId). i.0) is)) here in
             let n = tested mode (with_issued e.id book) x new in
             let o = tested mode book x old in
             ap (λ (b : Bool). (x.port.0 == port.0) && b) (same_test (is_due mode (with_issued e.id book) x) (is_due mode book x)

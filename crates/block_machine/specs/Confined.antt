@@ -13,7 +13,7 @@ use Rattle.ata_types.specs.declared.refusal.Rule.TheVariants.{Frames}
 use Rattle.block_machine.specs.Rules.{IsNamed, Breaks}
 use Rattle.block_machine.specs.Due.{changes_sectors}
 use Rattle.block_machine.specs.State.{Accepted, Pending, Machine, block_of, frame_at, sector_of, is_reader}
-use Rattle.block_machine.specs.Steps.{Step, Touch, Replace, Store, MayAccept, IsLiving, unanswered_of}
+use Rattle.block_machine.specs.Steps.{Step, Touch, Replace, Store, MayAccept, HoldsFrames, unanswered_count}
 use Rattle.block_machine.specs.Left.{after, IsAccept}
 
 -- a row of the client grants the request: its port, its operation, and, but for a flush, its sectors
@@ -71,13 +71,13 @@ FramesAreAsAccepted m r = (i b : ℕ) → (is_reader r.asked.op ≡ true → r.a
 -- most four times, and once at least where it is issued; its frames are its client's, and lent to it: so no frame is
 -- lent to two.
 pub record WithinLimits (m : Machine) : Type 0 where
-  pub few : (client : ClientId) → unanswered_of m.book client ≤ 16
+  pub few : (client : ClientId) → unanswered_count m.book client ≤ 16
   pub all : length m.book ≤ MOST_UNANSWERED
-  pub issues : (e : Pending) → IsLiving m e → e.issues ≤ 4
-  pub issued : (e : Pending) → IsLiving m e → e.issued ≡ true → 1 ≤ e.issues
-  pub lent : (e : Pending) → IsLiving m e → (i : ℕ) → i < length e.request.asked.frames.items
+  pub issues : (e : Pending) → HoldsFrames m e → e.issues ≤ 4
+  pub issued : (e : Pending) → HoldsFrames m e → e.issued ≡ true → 1 ≤ e.issues
+  pub lent : (e : Pending) → HoldsFrames m e → (i : ℕ) → i < length e.request.asked.frames.items
       → m.lent (frame_at e.request.asked.frames.items i) ≡ Some e.request.id
-  pub owned : (e : Pending) → IsLiving m e → (i : ℕ) → i < length e.request.asked.frames.items
+  pub owned : (e : Pending) → HoldsFrames m e → (i : ℕ) → i < length e.request.asked.frames.items
       → m.owner (frame_at e.request.asked.frames.items i) ≡ Some e.request.asked.client
 
 -- What may change a byte of a client's frame: a touch of a read that the frame is lent to, of the sector whose place

@@ -16,12 +16,12 @@ use Rattle.ata_types.specs.declared.request.Outcome.TheVariants as outcome
 use Rattle.ata_types.specs.declared.refusal.Refusal.{Refusal}
 use Rattle.ata_types.specs.declared.refusal.MemFault.{MemFault}
 use Rattle.block_machine.specs.Rules.{HasRow, IsUnder, without_row}
-use Rattle.block_machine.specs.Refusals.{Situation, IsAcceptable, IsFirstRefusal, IsOpen, IsFirstMemFault}
+use Rattle.block_machine.specs.Refusals.{Situation, IsAcceptable, IsFirstRefusal, MayAccessFrame, IsFirstMemFault}
 use Rattle.block_machine.specs.Due.{NoneDue}
-use Rattle.block_machine.specs.Ports.{Ports, AreFit, SamePort, SamePorts, SameDisk, Evidence, IsInterrupted, MayBecome, IsServiced, IsStuck}
+use Rattle.block_machine.specs.Ports.{Ports, PortsWellFormed, SamePort, SamePorts, SameDisk, Evidence, IsStoppedOrStuck, MayBecome, IsServiced, IsStuck}
 use Rattle.block_machine.specs.State.{Accepted, Pending, Machine, unanswered}
-use Rattle.block_machine.specs.Steps.{Step, Accept, Issue, Touch, End, Age, Again, Answer, Revoke, Release, Unplug, Replace, Store, Load, May, AllTouched, unanswered_of}
-use Rattle.block_machine.specs.Left.{after, IsInitial, HoldsLeft}
+use Rattle.block_machine.specs.Steps.{Step, Accept, Issue, Touch, End, Age, Again, Answer, Revoke, Release, Unplug, Replace, Store, Load, May, AllTouched, unanswered_count}
+use Rattle.block_machine.specs.Left.{after, IsInitial, HoldsExpected}
 
 -- machine and ports between two calls
 pub record AbstractState : Type 0 where
@@ -29,17 +29,17 @@ pub record AbstractState : Type 0 where
   pub ports : Ports
 
 -- what is asked of the server
-pub data Ask (D : Type 0) : Type 0 where
-  Submit : Request → Ask D
+pub data AbstractCall (D : Type 0) : Type 0 where
+  Submit : Request → AbstractCall D
   -- client, frame, offset, and the bytes or how many
-  StoreAt : ClientId → Frame → ℕ → List ℕ → Ask D
-  LoadAt : ClientId → Frame → ℕ → ℕ → Ask D
-  Service Tick Reset : Ask D
+  StoreAt : ClientId → Frame → ℕ → List ℕ → AbstractCall D
+  LoadAt : ClientId → Frame → ℕ → ℕ → AbstractCall D
+  Service Tick Reset : AbstractCall D
   -- a client's grant of this number is revoked
-  RevokeOf : ClientId → ℕ → Ask D
-  State : Port → Ask D
+  RevokeOf : ClientId → ℕ → AbstractCall D
+  State : Port → AbstractCall D
   -- the device is told to do this step of its own
-  Device : D → Ask D
+  Device : D → AbstractCall D
 
 -- what it says
 pub data CallResult : Type 0 where
@@ -58,7 +58,7 @@ pub data CallResult : Type 0 where
 
 -- a call: what it asked, what it said, the evidence, its steps, and what the ports are at its end
 pub record CallRecord (D : Type 0) : Type 0 where
-  pub ask : Ask D
+  pub ask : AbstractCall D
   pub said : CallResult
   pub evidence : Evidence
   pub steps : List Step
@@ -88,7 +88,7 @@ EndsUndone _ = ⊥
 -- The step is one that the server makes in a call that asks this. Requests are issued, or wait again, on ports that are
 -- ready at its end, and are issued in the mode that the port has then. A tick tells no fault, a reset tells neither
 -- faults nor that something was done, and a revocation answers Revoked alone.
-abbrev pub IsByServer : {D : Type 0} → Ask D → Ports → Step → Type 0
+abbrev pub IsByServer : {D : Type 0} → AbstractCall D → Ports → Step → Type 0
 IsByServer (Submit r) ports (Accept new) = new.asked ≡ r
 IsByServer (Submit r) ports (Issue mode e) = (ports.state e.request.port ≡ Ready) × (ports.mode e.request.port ≡ mode)
 IsByServer (StoreAt client frame at bytes) ports (Store c f o b) = (c ≡ client) × (f ≡ frame) × (o ≡ at) × (b ≡ bytes)
@@ -111,15 +111,15 @@ IsByServer (RevokeOf client number) ports (Issue mode e) = (ports.state e.reques
 IsByServer ask ports step = ⊥
 
 -- each step is the device's, or one of such a call
-abbrev pub AreStepsOfCall : {D : Type 0} → Ask D → Ports → List Step → Type 0
+abbrev pub AreStepsOfCall : {D : Type 0} → AbstractCall D → Ports → List Step → Type 0
 AreStepsOfCall ask ports [] = Unit {0}
 AreStepsOfCall ask ports (step ∷ before) = AreStepsOfCall ask ports before × (IsByDevice step
     ⊎ IsByServer ask ports step)
 
 -- all steps are the device's
-abbrev pub AllDevices : List Step → Type 0
-AllDevices [] = Unit {0}
-AllDevices (step ∷ before) = AllDevices before × IsByDevice step
+abbrev pub AllByDevice : List Step → Type 0
+AllByDevice [] = Unit {0}
+AllByDevice (step ∷ before) = AllByDevice before × IsByDevice step
 
 -- the requests that the steps accept
 abbrev pub accepts_of : List Step → List Accepted
@@ -134,11 +134,11 @@ answers_of (Answer e o ∷ before) = (e, o) ∷ answers_of before
 answers_of (step ∷ before) = answers_of before
 
 -- what clients stored, and what they were told
-abbrev pub transfers_of : List Step → List (List ℕ)
-transfers_of [] = []
-transfers_of (Store c f o bytes ∷ before) = bytes ∷ transfers_of before
-transfers_of (Load c f o bytes ∷ before) = bytes ∷ transfers_of before
-transfers_of (step ∷ before) = transfers_of before
+abbrev pub client_bytes_of : List Step → List (List ℕ)
+client_bytes_of [] = []
+client_bytes_of (Store c f o bytes ∷ before) = bytes ∷ client_bytes_of before
+client_bytes_of (Load c f o bytes ∷ before) = bytes ∷ client_bytes_of before
+client_bytes_of (step ∷ before) = client_bytes_of before
 
 -- the step is a tick
 abbrev pub is_age : Step → Bool
@@ -235,7 +235,7 @@ abbrev pub reply_of : Pending × Outcome → Reply
 reply_of answer = record { id = answer.0.request.id; client = answer.0.request.asked.client; outcome = answer.1 }
 
 -- the replies are those of the steps' answers, in that order
-pub record Tells (steps : List Step) (replies : List Reply) : Type 0 where
+pub record RepliesMatch (steps : List Step) (replies : List Reply) : Type 0 where
   pub answers : List (Pending × Outcome)
   pub same : IsPermutation answers (answers_of steps)
   pub ordered : AllPairs IsToldBefore answers
@@ -250,22 +250,22 @@ situation_of m = record {
   state = m.ports.state;
   sectors = m.ports.sectors;
   trims = m.ports.trims;
-  unanswered = unanswered_of m.machine.book;
+  unanswered = unanswered_count m.machine.book;
   next = m.machine.next;
 }
 
 -- no request of a ready port is due
-abbrev pub AllIssued : AbstractState → Type 0
-AllIssued m = (p : Port) → m.ports.state p ≡ Ready → NoneDue (m.ports.mode p) (map unanswered m.machine.book) p
+abbrev pub NoneDueWhereReady : AbstractState → Type 0
+NoneDueWhereReady m = (p : Port) → m.ports.state p ≡ Ready → NoneDue (m.ports.mode p) (map unanswered m.machine.book) p
 
 -- where a port isn't ready, none of its requests is unanswered
-abbrev pub IsEmptied : AbstractState → Port → Type 0
-IsEmptied m port = m.ports.state port ≢ Ready → (e : Pending) → Contains m.machine.book e → e.request.port ≢ port
+abbrev pub EmptyUnlessReady : AbstractState → Port → Type 0
+EmptyUnlessReady m port = m.ports.state port ≢ Ready → (e : Pending) → Contains m.machine.book e → e.request.port ≢ port
 
 -- a request that was unanswered when the call began, and still is, is on a port that shows serial and size as it did
 -- then
-abbrev pub KeepsDisks : AbstractState → AbstractState → Type 0
-KeepsDisks old new = (e o : Pending) → Contains new.machine.book e → Contains old.machine.book o
+abbrev pub UnansweredKeepDisk : AbstractState → AbstractState → Type 0
+UnansweredKeepDisk old new = (e o : Pending) → Contains new.machine.book e → Contains old.machine.book o
     → o.request.id ≡ e.request.id → SameDisk old.ports new.ports e.request.port
 
 -- a tick brings the age of an issued request of this ready port to three
@@ -295,7 +295,7 @@ AnswersEnded old steps port = (e : Pending) → Contains old.book e → e.reques
     → (done : Pending) × (done.request ≡ e.request) × Contains steps (Answer done outcome.Ok)
 
 -- Where a request is answered Unplugged, no request of its port is left unanswered, and none is answered PortDead.
-pub record UnplugsAll (steps : List Step) (new : Machine) : Type 0 where
+pub record AnswersAllUnplugged (steps : List Step) (new : Machine) : Type 0 where
   pub emptied : (e other : Pending) → Contains steps (Answer e outcome.Unplugged) → Contains new.book other
       → other.request.port ≢ e.request.port
   pub alike : (e other : Pending) → Contains steps (Answer e outcome.Unplugged)
@@ -303,8 +303,8 @@ pub record UnplugsAll (steps : List Step) (new : Machine) : Type 0 where
 
 -- Where a request is told Unplugged, its port is neither dead nor ready with serial and size as before: a tick, or a
 -- reset, lets requests go again where it finds the same disk.
-abbrev pub FindsAnother : List Step → Ports → Ports → Type 0
-FindsAnother steps old new = (e : Pending) → Contains steps (Answer e outcome.Unplugged)
+abbrev pub UnpluggedLostDisk : List Step → Ports → Ports → Type 0
+UnpluggedLostDisk steps old new = (e : Pending) → Contains steps (Answer e outcome.Unplugged)
     → (new.state e.request.port ≢ Dead) × (new.state e.request.port ≡ Ready → SameDisk old new e.request.port → ⊥)
 
 -- the state is one of a port in which a boot found a disk
@@ -315,8 +315,8 @@ ShowsDisk (Unfit cause) = Unit {0}
 ShowsDisk _ = ⊥
 
 -- Where the port shows a disk after the call, it had one when the call began, or one went or came in it.
-abbrev pub HadDisk : AbstractState → List Step → AbstractState → Port → Type 0
-HadDisk old steps new port = ShowsDisk (new.ports.state port)
+abbrev pub ShowsRealDisk : AbstractState → List Step → AbstractState → Port → Type 0
+ShowsRealDisk old steps new port = ShowsDisk (new.ports.state port)
     → (old.machine.present port ≡ true) ⊎ (list_any (changes_disk port) steps ≡ true)
 
 -- The tick comes first, and once, at the ports that are ready then.
@@ -337,16 +337,16 @@ pub record RestartsTimedOut (old : AbstractState) (evidence : Evidence) (steps :
   pub answer : (e : Pending) (o : Outcome) → Contains steps (Answer e o) → HasTimedOut old e.request.port
   pub ended : (port : Port) → HasTimedOut old port → AnswersEnded old.machine steps port
   pub anew : (port : Port) → HasTimedOut old port → NoneKeepsIssue steps new.machine port
-  pub interrupts : (port : Port) → HasTimedOut old port ↔ IsInterrupted evidence port
-  pub finds : FindsAnother steps old.ports new.ports
-  pub disk : (port : Port) → HasTimedOut old port → HadDisk old steps new port
+  pub interrupts : (port : Port) → HasTimedOut old port ↔ IsStoppedOrStuck evidence port
+  pub finds : UnpluggedLostDisk steps old.ports new.ports
+  pub disk : (port : Port) → HasTimedOut old port → ShowsRealDisk old steps new port
 
 -- The kept requests' frames are given back once, before the server does anything else.
 pub record ReleasesOnce (steps : List Step) : Type 0 where
   pub later : List Step
   pub earlier : List Step
   pub split : steps ≡ later ++ Release ∷ earlier
-  pub before : AllDevices earlier
+  pub before : AllByDevice earlier
   pub once : count_by is_release later ≡ 0
 
 -- a service answers the requests of a dead port PortDead
@@ -360,39 +360,39 @@ TellsDead old steps = (e : Pending) (o : Outcome) → Contains steps (Answer e o
 -- a disk only where one was in. (What it makes of trouble, the crate that knows the device says.)
 pub record AnswersService (old : AbstractState) (evidence : Evidence) (steps : List Step) (replies : List Reply)
     (new : AbstractState) : Type 0 where
-  pub tells : Tells steps replies
+  pub tells : RepliesMatch steps replies
   pub dead : TellsDead old steps
-  pub unplugs : UnplugsAll steps new.machine
-  pub issues : AllIssued new
-  pub emptied : (port : Port) → IsEmptied new port
+  pub unplugs : AnswersAllUnplugged steps new.machine
+  pub issues : NoneDueWhereReady new
+  pub emptied : (port : Port) → EmptyUnlessReady new port
   pub ended : (port : Port) → old.ports.state port ≡ Ready → AnswersEnded old.machine steps port
   pub becomes : (port : Port) → IsServiced old.ports evidence new.ports port
-  pub disk : (port : Port) → SamePort old.ports new.ports port ⊎ HadDisk old steps new port
+  pub disk : (port : Port) → SamePort old.ports new.ports port ⊎ ShowsRealDisk old steps new port
 
 -- What a tick says and does.
 pub record AnswersTick (old : AbstractState) (evidence : Evidence) (steps : List Step) (replies : List Reply)
     (new : AbstractState) : Type 0 where
-  pub tells : Tells steps replies
+  pub tells : RepliesMatch steps replies
   pub ages : AgesOnce old.ports steps
   pub restarts : RestartsTimedOut old evidence steps new
-  pub unplugs : UnplugsAll steps new.machine
-  pub issues : AllIssued new
-  pub emptied : (port : Port) → old.ports.state port ≡ Ready → IsEmptied new port
+  pub unplugs : AnswersAllUnplugged steps new.machine
+  pub issues : NoneDueWhereReady new
+  pub emptied : (port : Port) → old.ports.state port ≡ Ready → EmptyUnlessReady new port
 
 -- What a reset that ends says and does. Kept frames are given back first. Of each port no request keeps its issue, none
 -- is unanswered where it isn't ready then, one that is served has stopped, and one that shows a disk had it, or got it.
 pub record AnswersReset (old : AbstractState) (evidence : Evidence) (steps : List Step) (replies : List Reply)
     (new : AbstractState) : Type 0 where
-  pub tells : Tells steps replies
+  pub tells : RepliesMatch steps replies
   pub releases : ReleasesOnce steps
-  pub unplugs : UnplugsAll steps new.machine
-  pub finds : FindsAnother steps old.ports new.ports
-  pub issues : AllIssued new
-  pub emptied : (port : Port) → IsEmptied new port
+  pub unplugs : AnswersAllUnplugged steps new.machine
+  pub finds : UnpluggedLostDisk steps old.ports new.ports
+  pub issues : NoneDueWhereReady new
+  pub emptied : (port : Port) → EmptyUnlessReady new port
   pub becomes : (port : Port) → MayBecome old.ports evidence new.ports port
   pub anew : (port : Port) → NoneKeepsIssue steps new.machine port
   pub stopped : (port : Port) → old.ports.served port ≡ true → Contains evidence.stopped port
-  pub disk : (port : Port) → HadDisk old steps new port
+  pub disk : (port : Port) → ShowsRealDisk old steps new port
 
 -- What a revocation says and does. The row was there, and goes, and no other does. Of the unanswered requests exactly
 -- those are told Revoked that waited when the call began and were accepted under that grant; and nothing else is told
@@ -401,31 +401,34 @@ pub record AnswersRevoke (client : ClientId) (number : ℕ) (old : AbstractState
     (replies : List Reply) (new : AbstractState) : Type 0 where
   pub there : HasRow client number old.machine.rows
   pub rows : new.machine.rows ≡ without_row client number old.machine.rows
-  pub tells : Tells steps replies
+  pub tells : RepliesMatch steps replies
   pub told : (e : Pending) → Contains steps (Answer e outcome.Revoked) ↔ (Contains old.machine.book e
       × (e.issued ≡ false) × IsUnder client number e.request.asked.client e.request.asked.grant)
   pub same : SamePorts old.ports new.ports
-  pub issues : AllIssued new
+  pub issues : NoneDueWhereReady new
 
 -- What is said of a call agrees with its steps, and the call did what was asked.
-abbrev pub IsAnswered : {D : Type 0} → Ask D → CallResult → AbstractState → Evidence → List Step → AbstractState
+abbrev pub IsAnswered : {D : Type 0} → AbstractCall D → CallResult → AbstractState → Evidence → List Step
+    → AbstractState
     → Type 0
 IsAnswered (Submit r) (Submitted (Ok id)) old evidence steps new = IsAcceptable (situation_of old) r
-    × ((a : Accepted) × (accepts_of steps ≡ a ∷ []) × (a.id ≡ id)) × SamePorts old.ports new.ports × AllIssued new
+    × ((a : Accepted) × (accepts_of steps ≡ a ∷ []) × (a.id ≡ id)) × SamePorts old.ports new.ports
+    × NoneDueWhereReady new
 IsAnswered (Submit r) (Submitted (Err refusal)) old evidence steps new = IsFirstRefusal (situation_of old) r refusal
     × (steps ≡ []) × SamePorts old.ports new.ports
 IsAnswered (StoreAt client frame at bytes) (Stored None) old evidence steps new = SamePorts old.ports new.ports
-    × IsOpen old.machine.owner old.machine.lent client frame at (length bytes) × (transfers_of steps ≡ bytes ∷ [])
+    × MayAccessFrame old.machine.owner old.machine.lent client frame at (length bytes)
+    × (client_bytes_of steps ≡ bytes ∷ [])
 IsAnswered (StoreAt client frame at bytes) (Stored (Some fault)) old evidence steps new = SamePorts old.ports new.ports
     × IsFirstMemFault old.machine.owner old.machine.lent client frame at (length bytes) fault × (steps ≡ [])
 IsAnswered (LoadAt client frame at n) (Loaded (Ok bytes)) old evidence steps new = SamePorts old.ports new.ports
-    × IsOpen old.machine.owner old.machine.lent client frame at n × (transfers_of steps ≡ bytes ∷ [])
+    × MayAccessFrame old.machine.owner old.machine.lent client frame at n × (client_bytes_of steps ≡ bytes ∷ [])
 IsAnswered (LoadAt client frame at n) (Loaded (Err fault)) old evidence steps new = SamePorts old.ports new.ports
     × IsFirstMemFault old.machine.owner old.machine.lent client frame at n fault × (steps ≡ [])
 IsAnswered Service (Served replies) old evidence steps new = AnswersService old evidence steps replies new
 IsAnswered Tick (Served replies) old evidence steps new = AnswersTick old evidence steps replies new
 IsAnswered Reset (WasReset (Some replies)) old evidence steps new = AnswersReset old evidence steps replies new
-IsAnswered Reset (WasReset None) old evidence steps new = AllDevices steps
+IsAnswered Reset (WasReset None) old evidence steps new = AllByDevice steps
     × ((port : Port) → IsStuck old.ports evidence new.ports port)
 IsAnswered (RevokeOf client number) (WasRevoked (Some replies)) old evidence steps new =
     AnswersRevoke client number old steps replies new
@@ -433,7 +436,7 @@ IsAnswered (RevokeOf client number) (WasRevoked None) old evidence steps new =
     (HasRow client number old.machine.rows → ⊥) × (steps ≡ []) × SamePorts old.ports new.ports
 IsAnswered (State port) (Shown state) old evidence steps new = (state ≡ old.ports.state port) × (steps ≡ [])
     × SamePorts old.ports new.ports
-IsAnswered (Device step) (Stepped true) old evidence steps new = AllDevices steps × SamePorts old.ports new.ports
+IsAnswered (Device step) (Stepped true) old evidence steps new = AllByDevice steps × SamePorts old.ports new.ports
 IsAnswered (Device step) (Stepped false) old evidence steps new = (steps ≡ []) × SamePorts old.ports new.ports
 IsAnswered ask said old evidence steps new = ⊥
 
@@ -449,8 +452,8 @@ pub record Happens {D : Type 0} (old : AbstractState) (event : CallRecord D) : T
   pub belong : AreStepsOfCall event.ask event.ports event.steps
   pub last : IssuesLast event.steps
   pub lawful : AllLawful old event.evidence event.ports event.steps
-  pub fit : AreFit event.ports
-  pub disks : KeepsDisks old (abstract_after old event)
+  pub fit : PortsWellFormed event.ports
+  pub disks : UnansweredKeepDisk old (abstract_after old event)
   pub answered : IsAnswered event.ask event.said old event.evidence event.steps (abstract_after old event)
 
 -- the moment after a run of events
@@ -460,13 +463,13 @@ abstract_after_all first (event ∷ past) = abstract_after (abstract_after_all f
 
 -- each event of the run happened at the moment that the events before it left
 abbrev pub IsRun : {D : Type 0} → AbstractState → List (CallRecord D) → Type 0
-IsRun first [] = IsInitial first.machine × AreFit first.ports
+IsRun first [] = IsInitial first.machine × PortsWellFormed first.ports
 IsRun first (event ∷ past) = IsRun first past × Happens (abstract_after_all first past) event
 
 -- ---- what a run gives
 
 -- what a call makes of it that the adapter didn't end a reset: this is so until a service, or a reset that ends
-abbrev pub StaysStuck : {D : Type 0} → Ask D → CallResult → Type 0 → Type 0
+abbrev pub StaysStuck : {D : Type 0} → AbstractCall D → CallResult → Type 0 → Type 0
 StaysStuck Reset (WasReset None) was = Unit {0}
 StaysStuck Reset said was = ⊥
 StaysStuck Service said was = ⊥
@@ -511,5 +514,5 @@ WasGiven id client (event ∷ past) =
 abbrev pub EveryReadHolds : {D : Type 0} → AbstractState → List (CallRecord D) → Type 0
 EveryReadHolds {D} first run = (later earlier : List (CallRecord D)) (event : CallRecord D)
     (late early : List Step) (read : Pending) → run ≡ later ++ event ∷ earlier
-    → event.steps ≡ late ++ Answer read outcome.Ok ∷ early → read.request.asked.op ≡ Read → HoldsLeft first.machine
+    → event.steps ≡ late ++ Answer read outcome.Ok ∷ early → read.request.asked.op ≡ Read → HoldsExpected first.machine
     (early ++ steps_of earlier) (abstract_after_all first (event ∷ earlier)).machine.memory read.request

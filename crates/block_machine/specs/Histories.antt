@@ -5,7 +5,7 @@
 -- stands, and after it disks and frames hold what the machine's do, and the ports are as the event says.
 use Rattle.std.specs.Prelude.{◌≡◌, List, [], ◌∷◌, map}
 use Rattle.block_machine.specs.State.{Machine}
-use Rattle.block_machine.specs.Ports.{AreFit}
+use Rattle.block_machine.specs.Ports.{PortsWellFormed}
 use Rattle.block_machine.specs.Steps.{Step}
 use Rattle.block_machine.specs.Left.{after, IsInitial, IsLegal}
 use Rattle.block_machine.specs.Events.{AbstractState, CallRecord, AllMay, Happens, abstract_after}
@@ -32,7 +32,8 @@ events_of past = map (λ h. h.event) past
 -- calls that happened one after the other, from what a new server left on
 abbrev pub IsHistory : {D E : Type 0} → (JointState D → Type 0) → (JointState D → Happening D E → Type 0) → JointState D
     → List (Happening D E) → Type 0
-IsHistory Begins Relation first [] = (IsInitial first.abstract.machine × AreFit first.abstract.ports) × Begins first
+IsHistory Begins Relation first [] = (IsInitial first.abstract.machine × PortsWellFormed first.abstract.ports)
+    × Begins first
 IsHistory Begins Relation first (h ∷ past) =
     IsHistory Begins Relation first past × Happens (now first past).abstract h.event × Relation (now first past) h
 

@@ -10,7 +10,7 @@ use Rattle.ata_types.specs.declared.grant.GrantRow.{GrantRow}
 use Rattle.ata_types.specs.declared.memory.TheConstants.{DRIVER_FRAMES, MOST_FRAMES}
 use Rattle.block_machine.specs.Rules.{DifferInName}
 use Rattle.block_machine.specs.Due.{changes_sectors}
-use Rattle.block_machine.specs.State.{Block, DiskBytes, Memory, Accepted, Machine, block_of, sector_of, written_by}
+use Rattle.block_machine.specs.State.{Block, DiskBytes, Memory, Accepted, Machine, block_of, sector_of, block_written}
 use Rattle.block_machine.specs.Steps.{Step, Accept, Issue, Touch, End, Replace, May, HasHeld, after_step}
 
 -- the machine after a history of steps
@@ -25,7 +25,7 @@ IsLegal start (step ∷ past) = IsLegal start past × May (after start past) ste
 
 -- A grant as a configuration may give it: to a client from 1 to 8, under a number from 0 to 63, on a port from 0 to 3,
 -- of one sector at least, all of them below 2^48.
-pub record IsRow (row : GrantRow) : Type 0 where
+pub record IsValidRow (row : GrantRow) : Type 0 where
   pub client : (1 ≤ row.client.0) × (row.client.0 ≤ 8)
   pub number : row.number ≤ 63
   pub port : row.port.0 ≤ 3
@@ -42,7 +42,7 @@ pub record IsInitial (m : Machine) : Type 0 where
   pub next : m.next ≡ 1
   pub few : length m.rows ≤ 64
   pub rows : AllPairs DifferInName m.rows
-  pub configured : (row : GrantRow) → Contains m.rows row → IsRow row
+  pub configured : (row : GrantRow) → Contains m.rows row → IsValidRow row
   pub owned : (frame : Frame) (client : ClientId) → m.owner frame ≡ Some client
       → (1 ≤ client.0) × (client.0 ≤ 8) × (DRIVER_FRAMES ≤ frame.0) × (frame.0 < MOST_FRAMES)
 
@@ -127,18 +127,19 @@ pub record Wrote (port : Port) (k n before : ℕ) (history : List Step) (writer 
 abbrev pub IsLastWritten : Machine → Port → ℕ → ℕ → ℕ → List Step → Block → Type 0
 IsLastWritten start port k n before history block = ((writer : Accepted) × Wrote port k n before history writer
     × ((other : Accepted) → Wrote port k n before history other → other.id.0 ≤ writer.id.0)
-    × (block ≡ written_by writer.asked.op writer.held (k - writer.asked.first.0)))
+    × (block ≡ block_written writer.asked.op writer.held (k - writer.asked.first.0)))
     ⊎ (((writer : Accepted) → Wrote port k n before history writer → ⊥)
     × (block ≡ bytes_when_plugged start port n history k))
 
 -- what the writes and trims accepted before this read left on sector k, on the disk that the read last found there
-abbrev pub IsLeft : Machine → List Step → Accepted → ℕ → Block → Type 0
-IsLeft start history read k block = IsLastWritten start read.port k
+abbrev pub IsExpectedBlock : Machine → List Step → Accepted → ℕ → Block → Type 0
+IsExpectedBlock start history read k block = IsLastWritten start read.port k
     (disk_number_read read k history) read.id.0 history block
 
 -- The read has in this memory, sector by sector, what is left; the rest of its frames is as it was at acceptance.
-pub record HoldsLeft (start : Machine) (history : List Step) (memory : Memory) (read : Accepted) : Type 0 where
-  pub sectors : (i : ℕ) → i < read.asked.count → (block : Block) × IsLeft start history read (sector_of read i) block
+pub record HoldsExpected (start : Machine) (history : List Step) (memory : Memory) (read : Accepted) : Type 0 where
+  pub sectors : (i : ℕ) → i < read.asked.count → (block : Block)
+      × IsExpectedBlock start history read (sector_of read i) block
       × ((b : ℕ) → b < 512 → block_of memory read.asked.frames.items i b ≡ block b)
   pub rest : (i b : ℕ) → read.asked.count ≤ i → i < 8 * length read.asked.frames.items → b < 512
       → block_of memory read.asked.frames.items i b ≡ read.held i b
@@ -147,13 +148,14 @@ pub record HoldsLeft (start : Machine) (history : List Step) (memory : Memory) (
 -- some moment since a flush was last ended on it, or, if none was, since it was first in: what its cache held may be
 -- lost (FLUSH CACHE EXT, ACS-3). (A disk over a store that doesn't tell what it holds may move any bytes, and come back
 -- with any.)
-abbrev pub TellsSectors : Machine → Step → Type 0
-TellsSectors old (Touch e i block) = e.request.asked.op ≡ Read
+abbrev pub StepIsFaithful : Machine → Step → Type 0
+StepIsFaithful old (Touch e i block) = e.request.asked.op ≡ Read
     → (b : ℕ) → b < 512 → block b ≡ old.disks e.request.port (sector_of e.request i) b
-TellsSectors old (Replace port id size disk) = id ≡ old.disk_ids port → (k : ℕ) → k < size → HasHeld old port k (disk k)
-TellsSectors old _ = Unit {0}
+StepIsFaithful old (Replace port id size disk) = id ≡ old.disk_ids port → (k : ℕ) → k < size
+    → HasHeld old port k (disk k)
+StepIsFaithful old _ = Unit {0}
 
 -- so it is with each step of the history
-abbrev pub AllTellSectors : Machine → List Step → Type 0
-AllTellSectors start [] = Unit {0}
-AllTellSectors start (step ∷ past) = AllTellSectors start past × TellsSectors (after start past) step
+abbrev pub AllStepsFaithful : Machine → List Step → Type 0
+AllStepsFaithful start [] = Unit {0}
+AllStepsFaithful start (step ∷ past) = AllStepsFaithful start past × StepIsFaithful (after start past) step

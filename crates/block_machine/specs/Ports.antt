@@ -20,15 +20,15 @@ pub record Ports : Type 0 where
   pub mode : Port → QueueMode
 
 -- a port has 1 to 32 usable slots, and one where commands aren't queued
-abbrev pub IsMode : QueueMode → Type 0
-IsMode mode = (1 ≤ mode.usable) × (mode.usable ≤ 32) × (mode.queued ≡ false → mode.usable ≡ 1)
+abbrev pub IsValidMode : QueueMode → Type 0
+IsValidMode mode = (1 ≤ mode.usable) × (mode.usable ≤ 32) × (mode.queued ≡ false → mode.usable ≡ 1)
 
 -- What ports are between any two calls: at most four are served, and there are nine causes to be unfit. (A mode is
 -- known of a ready port alone: the disk's own page tells it.)
-pub record AreFit (ports : Ports) : Type 0 where
+pub record PortsWellFormed (ports : Ports) : Type 0 where
   pub few : (port : Port) → ports.served port ≡ true → port.0 < 4
   pub absent : (port : Port) → ports.served port ≡ false → ports.state port ≡ Absent
-  pub slots : (port : Port) → ports.state port ≡ Ready → IsMode (ports.mode port)
+  pub slots : (port : Port) → ports.state port ≡ Ready → IsValidMode (ports.mode port)
   pub causes : (port : Port) (cause : ℕ) → ports.state port ≡ Unfit cause → (1 ≤ cause) × (cause ≤ 9)
 
 -- the port is what it was
@@ -74,8 +74,8 @@ pub record Evidence : Type 0 where
   pub stuck : List Port
 
 -- the port was stopped, or got stuck
-abbrev pub IsInterrupted : Evidence → Port → Type 0
-IsInterrupted evidence port = Contains evidence.stopped port ⊎ Contains evidence.stuck port
+abbrev pub IsStoppedOrStuck : Evidence → Port → Type 0
+IsStoppedOrStuck evidence port = Contains evidence.stopped port ⊎ Contains evidence.stuck port
 
 -- What a call that looks at the port, or boots it, may make of it: a port is served as it was; it is dead after the
 -- call exactly where it got stuck in it; and one that isn't ready remembers the disk that it was last ready with.
@@ -88,7 +88,8 @@ pub record MayBecome (old : Ports) (evidence : Evidence) (new : Ports) (port : P
 -- another becomes what a call that looks at it may make of it, and is what it was unless it was stopped, or got stuck.
 abbrev pub IsServiced : Ports → Evidence → Ports → Port → Type 0
 IsServiced old evidence new port = (old.state port ≡ Dead → SamePort old new port)
-    × (old.state port ≢ Dead → MayBecome old evidence new port × (SamePort old new port ⊎ IsInterrupted evidence port))
+    × (old.state port ≢ Dead → MayBecome old evidence new port
+    × (SamePort old new port ⊎ IsStoppedOrStuck evidence port))
 
 -- What a reset that was stuck makes of it: a served port is dead, for which there is evidence, and remembers its disk.
 abbrev pub IsStuck : Ports → Evidence → Ports → Port → Type 0

@@ -66,8 +66,8 @@ mem_rank FrameLent = (2, 0)
 mem_rank OutsideFrame = (3, 0)
 
 -- no cause applies to the access
-abbrev pub IsOpen : (Frame → Option ClientId) → (Frame → Option RequestId) → ClientId → Frame → ℕ → ℕ → Type 0
-IsOpen owner lent client frame at n = (fault : MemFault) → MemApplies owner lent client frame at n fault → ⊥
+abbrev pub MayAccessFrame : (Frame → Option ClientId) → (Frame → Option RequestId) → ClientId → Frame → ℕ → ℕ → Type 0
+MayAccessFrame owner lent client frame at n = (fault : MemFault) → MemApplies owner lent client frame at n fault → ⊥
 
 -- the cause applies to the access, and none before it
 abbrev pub IsFirstMemFault : (Frame → Option ClientId) → (Frame → Option RequestId) → ClientId → Frame → ℕ → ℕ

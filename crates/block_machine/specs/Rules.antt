@@ -53,10 +53,10 @@ IsAllowedCount Trim n = (1 ≤ n) × (n ≤ 4194240)
 IsAllowedCount Flush n = n ≡ 0
 
 -- how many frames the operation has for so many sectors: one for eight, rounded up, where bytes are moved
-abbrev pub frames_for : Op → ℕ → ℕ
-frames_for Read n = (n + 7) / 8
-frames_for Write n = (n + 7) / 8
-frames_for _ n = 0
+abbrev pub frame_count_for : Op → ℕ → ℕ
+frame_count_for Read n = (n + 7) / 8
+frame_count_for Write n = (n + 7) / 8
+frame_count_for _ n = 0
 
 -- the frame at place i isn't the client's: another client's, or nobody's
 abbrev pub IsForeignAt : (Frame → Option ClientId) → ClientId → List Frame → ℕ → Type 0
@@ -84,7 +84,7 @@ Breaks rows owner lent r NoRight = (row : GrantRow) × IsNamed rows r row × (Al
 Breaks rows owner lent r BadCount = IsAllowedCount r.op r.count → ⊥
 Breaks rows owner lent r OutsideGrant = (r.op ≢ Flush)
     × ((row : GrantRow) × IsNamed rows r row × (Covers row r.first.0 r.count → ⊥))
-Breaks rows owner lent r FrameCount = length r.frames.items ≢ frames_for r.op r.count
+Breaks rows owner lent r FrameCount = length r.frames.items ≢ frame_count_for r.op r.count
 Breaks rows owner lent r (Frames fault) = HasFault owner lent r.client r.frames.items fault
 
 -- In which order causes are told: by number, and where it is about a frame, by the frame's place.

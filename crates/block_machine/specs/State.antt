@@ -102,6 +102,6 @@ is_reader Read = true
 is_reader _ = false
 
 -- what a writer puts on its sector number i: its own bytes, or zeros
-abbrev pub written_by : Op → (ℕ → Block) → ℕ → Block
-written_by Write held i b = held i b
-written_by _ held i b = 0
+abbrev pub block_written : Op → (ℕ → Block) → ℕ → Block
+block_written Write held i b = held i b
+block_written _ held i b = 0

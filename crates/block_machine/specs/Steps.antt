@@ -12,9 +12,9 @@ use Rattle.ata_types.specs.declared.grant.GrantRow.{GrantRow}
 use Rattle.ata_types.specs.declared.refusal.Rule.{Rule}
 use Rattle.block_machine.specs.declared.due.QueueMode.{QueueMode}
 use Rattle.block_machine.specs.Rules.{IsNamed, Breaks, HasRow, without_row}
-use Rattle.block_machine.specs.Refusals.{IsOpen}
+use Rattle.block_machine.specs.Refusals.{MayAccessFrame}
 use Rattle.block_machine.specs.Due.{IsDue, is_flush, changes_sectors}
-use Rattle.block_machine.specs.State.{Block, DiskBytes, Memory, Accepted, Pending, Machine, block_of, frame_at, sector_of, unanswered, is_reader, written_by}
+use Rattle.block_machine.specs.State.{Block, DiskBytes, Memory, Accepted, Pending, Machine, block_of, frame_at, sector_of, unanswered, is_reader, block_written}
 
 -- A step. A pending request in it is the one that the step finds.
 pub data Step : Type 0 where
@@ -103,7 +103,7 @@ put_bytes frame offset n bytes memory f b =
 -- what a touch of sector number i leaves on the disks: a writer's own bytes, or zeros
 abbrev pub disks_after : Accepted → ℕ → (Port → DiskBytes) → Port → DiskBytes
 disks_after r i disks =
-    if changes_sectors r.asked.op then put_sector r.port (sector_of r i) (written_by r.asked.op r.held i) disks
+    if changes_sectors r.asked.op then put_sector r.port (sector_of r i) (block_written r.asked.op r.held i) disks
     else disks
 
 -- and what it overwrites is put aside, the newest first: a disk may lose what its cache holds
@@ -164,16 +164,16 @@ abbrev pub MayStillMove : Machine → Pending → Type 0
 MayStillMove m e = (Contains m.book e × (e.issued ≡ true)) ⊎ Contains m.kept e
 
 -- unanswered, or kept: its frames are lent to it
-abbrev pub IsLiving : Machine → Pending → Type 0
-IsLiving m e = Contains m.book e ⊎ Contains m.kept e
+abbrev pub HoldsFrames : Machine → Pending → Type 0
+HoldsFrames m e = Contains m.book e ⊎ Contains m.kept e
 
 -- each sector of the request was touched since its last issue
 abbrev pub AllTouched : Pending → Type 0
 AllTouched e = (i : ℕ) → i < e.request.asked.count → e.touched i ≡ true
 
 -- how many unanswered requests the client has
-abbrev pub unanswered_of : List Pending → ClientId → ℕ
-unanswered_of book client = count_by (λ e. e.request.asked.client.0 == client.0) book
+abbrev pub unanswered_count : List Pending → ClientId → ℕ
+unanswered_count book client = count_by (λ e. e.request.asked.client.0 == client.0) book
 
 -- A request that is accepted has the next id, breaks no rule, goes to its row's port, and has what its frames hold.
 -- A client has at most 16 unanswered requests, and ids fit 64 bits.
@@ -182,12 +182,12 @@ pub record MayAccept (m : Machine) (r : Accepted) : Type 0 where
   pub id_left : m.next < 2 ^ 64
   pub unbroken : (rule : Rule) → Breaks m.rows m.owner m.lent r.asked rule → ⊥
   pub port : (row : GrantRow) → IsNamed m.rows r.asked row → r.port ≡ row.port
-  pub few : unanswered_of m.book r.asked.client < 16
+  pub few : unanswered_count m.book r.asked.client < 16
   pub held : r.held ≡ block_of m.memory r.asked.frames.items
 
 -- no kept request is left on the port: one may still touch sectors out of turn
-abbrev pub NoneKept : Machine → Port → Type 0
-NoneKept m port = (e : Pending) → Contains m.kept e → e.request.port ≢ port
+abbrev pub NoneQuarantined : Machine → Port → Type 0
+NoneQuarantined m port = (e : Pending) → Contains m.kept e → e.request.port ≢ port
 
 -- the grant under which the request was accepted wasn't revoked
 abbrev pub HasGrant : Machine → Pending → Type 0
@@ -218,7 +218,8 @@ HasHeld m port k block =
 -- judged at the end of its call too, where what stands behind it is known.)
 abbrev pub May : Machine → Step → Type 0
 May m (Accept r) = MayAccept m r
-May m (Issue mode e) = Contains m.book e × IsDue mode (map unanswered m.book) (unanswered e) × NoneKept m e.request.port
+May m (Issue mode e) = Contains m.book e × IsDue mode (map unanswered m.book) (unanswered e)
+    × NoneQuarantined m e.request.port
     × HasGrant m e
 May m (Touch e i block) = MayStillMove m e × (i < e.request.asked.count) × (m.present e.request.port ≡ true)
     × (sector_of e.request i < m.sizes e.request.port) × MovesOwn e.request i block
@@ -230,6 +231,6 @@ May m (Revoke client number) = HasRow client number m.rows
 May m Release = Unit {0}
 May m (Unplug port) = m.present port ≡ true
 May m (Replace port id size disk) = (m.present port ≡ false) × (id ≡ m.disk_ids port → size ≡ m.sizes port)
-May m (Store client frame offset bytes) = IsOpen m.owner m.lent client frame offset (length bytes)
-May m (Load client frame offset bytes) = IsOpen m.owner m.lent client frame offset (length bytes)
+May m (Store client frame offset bytes) = MayAccessFrame m.owner m.lent client frame offset (length bytes)
+May m (Load client frame offset bytes) = MayAccessFrame m.owner m.lent client frame offset (length bytes)
     × ((b : ℕ) → b < length bytes → slice_index bytes b ≡ m.memory frame (offset + b))

@@ -14,12 +14,12 @@ ghost use Rattle.ata_types.specs.declared.request.Op.TheVariants.{Read};
 ghost use Rattle.block_machine.specs.declared.due.QueueMode.{QueueMode};
 ghost use Rattle.block_machine.specs.declared.due.Unanswered.{Unanswered};
 ghost use Rattle.block_machine.specs.Due.{IsDue, IsInOrder, is_plain, issued_count, is_due, ahead, due_ahead, free_slots, with_issued, with_waiting, without_request, of_port, due_of, AreAllDueInOrder};
-ghost use Rattle.block_machine.specs.Ports.{Ports, AreFit};
-ghost use Rattle.block_machine.specs.Refusals.{Situation, IsAcceptable, IsOpen};
+ghost use Rattle.block_machine.specs.Ports.{Ports, PortsWellFormed};
+ghost use Rattle.block_machine.specs.Refusals.{Situation, IsAcceptable, MayAccessFrame};
 ghost use Rattle.block_machine.specs.Rules.{Names};
 ghost use Rattle.block_machine.specs.State.{Block, Accepted, Pending, Machine, unanswered};
-ghost use Rattle.block_machine.specs.Steps.{Step, Touch, End, Issue, Again, Answer, Age, after_step, May, MayAccept, IsLiving, AllTouched};
-ghost use Rattle.block_machine.specs.Left.{IsInitial, IsLegal, AllTellSectors, HoldsLeft, after};
+ghost use Rattle.block_machine.specs.Steps.{Step, Touch, End, Issue, Again, Answer, Age, after_step, May, MayAccept, HoldsFrames, AllTouched};
+ghost use Rattle.block_machine.specs.Left.{IsInitial, IsLegal, AllStepsFaithful, HoldsExpected, after};
 ghost use Rattle.block_machine.specs.Confined.{IsGranted, IsConfined, FramesAreAsAccepted, HasFrame, KeepsRules, WasAccepted, WithinLimits};
 ghost use Rattle.block_machine.specs.Events.{AbstractState, CallRecord, AllMay, IsRun, EveryReadHolds, abstract_after_all, steps_of};
 ghost use Rattle.block_machine.specs.Histories.{IsReachable};
@@ -29,16 +29,16 @@ ghost use Rattle.block_machine.specs.Histories.{IsReachable};
 /// is as it was when it was accepted.
 pub fn law_every_read_holds<D>()
     ensures { (first : AbstractState) (run : List (CallRecord D)) → IsRun first run
-        → AllTellSectors first.machine (steps_of run)
+        → AllStepsFaithful first.machine (steps_of run)
         → EveryReadHolds first run }
 {}
 
 /// After every history, a read with all its sectors touched since its last issue has what is left.
-pub fn law_read_holds_left()
+pub fn law_read_holds_expected()
     ensures { (start : Machine) (history : List Step) (read : Pending) → IsInitial start
         → IsLegal start history
-        → AllTellSectors start history → Contains (after start history).book read → AllTouched read
-        → read.request.asked.op ≡ Read → HoldsLeft start history
+        → AllStepsFaithful start history → Contains (after start history).book read → AllTouched read
+        → read.request.asked.op ≡ Read → HoldsExpected start history
         (after start history).memory read.request }
 {}
 
@@ -69,7 +69,7 @@ pub fn law_runs_are_legal<D>()
 
 /// Steps go on from what earlier ones left: after some, and then others, the machine is as after them all, which may
 /// come where each part may. So a machine that is reached leads to others that are.
-pub fn law_steps_go_on()
+pub fn law_step_lists_compose()
     ensures joined { (m : Machine) (late early : List Step) → after m (late ++ early) ≡ after (after m early) late }
     ensures may { (m : Machine) (late early : List Step) → AllMay m early → AllMay (after m early) late
         → AllMay m (late ++ early) }
@@ -96,7 +96,7 @@ pub fn law_ended_is_issued()
 
 /// A frame that is lent to a request which is unanswered or kept is one of its own.
 pub fn law_lent_frame_is_its_own()
-    ensures { (m : Machine) (frame : Frame) (e : Pending) → IsReachable m → IsLiving m e
+    ensures { (m : Machine) (frame : Frame) (e : Pending) → IsReachable m → HoldsFrames m e
         → m.lent frame ≡ Some e.request.id → HasFrame e.request frame }
 {}
 
@@ -122,10 +122,10 @@ pub fn law_accepted_is_granted()
 {}
 
 /// Each request that is unanswered or kept was accepted.
-pub fn law_living_was_accepted()
+pub fn law_holder_was_accepted()
     ensures { (start : Machine) (history : List Step) (e : Pending) → IsInitial start
         → IsLegal start history
-        → IsLiving (after start history) e → WasAccepted start history e.request }
+        → HoldsFrames (after start history) e → WasAccepted start history e.request }
 {}
 
 /// A frame that is lent is lent to an accepted request, and is one of its own.
@@ -147,7 +147,7 @@ pub fn law_one_id_is_one_request()
 pub fn law_frames_keep_bytes()
     ensures { (start : Machine) (history : List Step) (e : Pending) → IsInitial start
         → IsLegal start history
-        → IsLiving (after start history) e → FramesAreAsAccepted (after start history) e.request }
+        → HoldsFrames (after start history) e → FramesAreAsAccepted (after start history) e.request }
 {}
 
 /// In a machine that is reached a client and a number name one row at most.
@@ -161,13 +161,13 @@ pub fn law_frames_are_their_clients()
     ensures acceptable { (s : Situation) (r : Request) → IsAcceptable s r
         → All (λ frame. s.owner frame ≡ Some r.client) r.frames.items }
     ensures open { (owner : Frame → Option ClientId) (lent : Frame → Option RequestId) (client : ClientId)
-        (frame : Frame) (offset count : ℕ) → IsOpen owner lent client frame offset count
+        (frame : Frame) (offset count : ℕ) → MayAccessFrame owner lent client frame offset count
         → owner frame ≡ Some client }
 {}
 
 /// A port that is ready is served, and one of the first four.
 pub fn law_ready_ports_are_served()
-    ensures { (ports : Ports) (port : Port) → AreFit ports → ports.state port ≡ Ready
+    ensures { (ports : Ports) (port : Port) → PortsWellFormed ports → ports.state port ≡ Ready
         → (ports.served port ≡ true) × (port.0 < 4) }
 {}
 
@@ -191,7 +191,7 @@ pub fn law_due_finds_slot()
 {}
 
 /// Once a due request is issued, another request of its port is due exactly where it was due before.
-pub fn law_issues_one_by_one()
+pub fn law_issue_keeps_others_due()
     ensures { (mode : QueueMode) (book : List Unanswered) (r other : Unanswered) → IsInOrder book
         → IsDue mode book r
         → Contains book other → other.id ≢ r.id → other.port ≡ r.port
@@ -262,7 +262,7 @@ pub fn law_plain_ports_take_one()
 {}
 
 /// Which requests of a port are due depends on the port's own requests.
-pub fn law_own_requests_count()
+pub fn law_due_depends_on_own_port()
     ensures list { (mode : QueueMode) (port : Port) (book other : List Unanswered)
         → of_port port book ≡ of_port port other → due_of mode port book ≡ due_of mode port other }
     ensures one { (mode : QueueMode) (port : Port) (book other : List Unanswered) (r : Unanswered)

@@ -10,16 +10,16 @@ use Rattle.ata_types.specs.declared.refusal.Refusal.TheVariants.{Rule, IdsSpent}
 use Rattle.ata_types.specs.declared.request.Frame.{Frame}
 use Rattle.ata_types.specs.declared.request.Request.{Request}
 use Rattle.ata_types.specs.declared.request.RequestId.{RequestId}
-use Rattle.block_machine.specs.Left.{IsRow}
+use Rattle.block_machine.specs.Left.{IsValidRow}
 use Rattle.block_machine.specs.Refusals.{IsAcceptable}
 use Rattle.block_machine.specs.declared.due.QueueMode.{QueueMode}
 use Rattle.block_machine.specs.Rules.{BreaksNone, HasNoFault, IsNamed}
 use Rattle.dma_frames.specs.Table.{LendsOnly, Table, owner_of, lent_to}
 use Rattle.host_boot.specs.Taken.{probe_result_of}
 use Rattle.host_boot.specs.declared.ProbeResult.{ProbeResult}
-use Rattle.request_queue.specs.Entries.{Held, unanswered_entries}
+use Rattle.request_queue.specs.Entries.{BookEntry, unanswered_entries}
 use Rattle.server_history.specs.Served.{Accepts, IssuesAll, accepted_as, accepting}
-use Rattle.server_history.specs.Server.{ServerState, InCallInvariant, mode_in, no_slots, server_situation, state_of}
+use Rattle.server_history.specs.Server.{ServerState, InCallInvariant, mode_in, no_slots, admission_context, state_of}
 use Rattle.server_history.proofs.plain_calls.AcceptableRequests.{has_room, on_ready}
 use Rattle.slots.specs.Uses.{PortSlots}
 use Rattle.block_server.specs.Calls.{IsFor}
@@ -27,7 +27,7 @@ use Rattle.port_driver.specs.Ports.{HasFoundPort}
 
 -- ---- what is asked of the calls
 
-module _ (s : ServerState) (r : Request) (acc : IsAcceptable (server_situation s) r) where
+module _ (s : ServerState) (r : Request) (acc : IsAcceptable (admission_context s) r) where
   pub next_fits : s.last + 1 < 2 ^ 64
   next_fits = elim (cases_lt (s.last + 1) (2 ^ 64)) [ inl low ↦ low | inr high ↦ absurd (acc IdsSpent high) ]
 
@@ -45,21 +45,21 @@ module _ (s : ServerState) (r : Request) (acc : IsAcceptable (server_situation s
     ready = on_ready s r acc is.0 is.1 port is.2
 
     pub low : port.0 < 4
-    low = let its = (All-contains IsRow s.grants is.0 k.rows is.1.0).port in let same = ap (λ (p : Port). p.0) is.2 in omega (arith, its, same)
+    low = let its = (All-contains IsValidRow s.grants is.0 k.rows is.1.0).port in let same = ap (λ (p : Port). p.0) is.2 in omega (arith, its, same)
 
     -- ---- what the server then is
 
     -- It was put last into the book, and these frames lent to it.
-    module _ (keeps : (s : ServerState) (port : Port) (r : Request) (row : GrantRow) (id : RequestId) (table : Table) → InCallInvariant s → IsAcceptable (server_situation s) r
+    module _ (keeps : (s : ServerState) (port : Port) (r : Request) (row : GrantRow) (id : RequestId) (table : Table) → InCallInvariant s → IsAcceptable (admission_context s) r
         → IsNamed s.grants r row → row.port ≡ port → id.0 ≡ s.last + 1 → LendsOnly s.table table r.frames.items (Some id) → InCallInvariant (accepting port r id table s))
         (id : RequestId) (id_is : id.0 ≡ s.last + 1) (frames : List Frame) (frames_are : frames ≡ r.frames.items)
-        (table : Table) (lent : LendsOnly s.table table frames (Some id)) (loan : List Frame) (loan_is : loan ≡ frames)
-        (book : List Held) (book_is : book ≡ s.book ++ record { entry = (accepted_as port r id).entry; frames = loan } ∷ []) where
+        (table : Table) (lent : LendsOnly s.table table frames (Some id))
+        (book : List BookEntry) (book_is : book ≡ s.book ++ record { entry = (accepted_as port r id).entry; frames = frames } ∷ []) where
       its_lent : LendsOnly s.table table r.frames.items (Some id)
       its_lent = subst (λ (fs : List Frame). LendsOnly s.table table fs (Some id)) frames_are lent
 
       pub its_book : s.book ++ accepted_as port r id ∷ [] ≡ book
-      its_book = sym (book_is ∙ ap (λ (fs : List Frame). s.book ++ record { entry = (accepted_as port r id).entry; frames = fs } ∷ []) (loan_is ∙ frames_are))
+      its_book = sym (book_is ∙ ap (λ (fs : List Frame). s.book ++ record { entry = (accepted_as port r id).entry; frames = fs } ∷ []) frames_are)
 
       pub lends : (slots : PortSlots) → slice_index_or s.slots port.0 no_slots ≡ slots → (mode : QueueMode) → mode_in s port ≡ mode → (found : ProbeResult) → probe_result_of s.ports port.0 ≡ found → HasFoundPort (accepting port r id table s) s.device book slots port mode found
       lends slots are mode mode_is found found_is = record {

@@ -7,7 +7,7 @@ use Rattle.adapter.specs.Device.{Device}
 use Rattle.block_machine.specs.declared.due.QueueMode.{QueueMode}
 use Rattle.dma_frames.specs.Loan.{Lending}
 use Rattle.hba_regs.specs.Bits.{bit}
-use Rattle.host_boot.specs.Resets.{Resets, StaysReset}
+use Rattle.host_boot.specs.Resets.{Resets, ResetStaysPending}
 use Rattle.host_boot.specs.Taken.{TakesOver, probe_result_of}
 use Rattle.host_boot.specs.declared.Host.{Host}
 use Rattle.host_boot.specs.declared.ProbeResult.{ProbeResult}
@@ -16,11 +16,11 @@ use Rattle.identify.specs.declared.wanted.Wanted.{Wanted}
 use Rattle.slots.specs.Uses.{PortSlots, use_at}
 use Rattle.server_history.specs.Kept.{IsKeptIn, TakesBack}
 use Rattle.server_history.specs.Resets.{IsReinitialized}
-use Rattle.server_history.specs.Server.{ServerState, kept_at, last_disk_of, mode_at, mode_found, plain_mode, remembered_at, slots_at, used_for}
-use Rattle.server_history.specs.Stalled.{ResetGetsStuck, stuck_found}
+use Rattle.server_history.specs.Server.{ServerState, quarantined_at, last_disk_of, mode_at, probed_mode, plain_mode, remembered_at, slots_at, used_for}
+use Rattle.server_history.specs.StuckServer.{ResetGetsStuck, stuck_found}
 use Rattle.block_server.specs.FourPorts.{EachBecomes, BeginsAsHostFound, by_port, port_in, without_loans}
 use Rattle.block_server.specs.Seen.{with_ports}
-use Rattle.port_driver.specs.Parts.{BeginsAnew, no_port}
+use Rattle.port_driver.specs.Parts.{NotesProbeResult, no_port}
 use Rattle.port_driver.specs.declared.served_port.ServedPort.{ServedPort}
 use Rattle.port_driver.specs.declared.served_port.Shared.{Shared}
 
@@ -70,7 +70,7 @@ same_field field old new four_old four each =
     (λ number low. get_or-map field new number no_port ∙ each number (omega (arith, low, long_new, four)) ∙ sym (get_or-map field old number no_port))
 
 module _ (found : ℕ → ProbeResult) (mode : ℕ → QueueMode) (old new : List ServedPort) (four_old : length old ≡ 4) (four : length new ≡ 4)
-    (each : (number : ℕ) → number < 4 → BeginsAnew (found number) (mode number) (port_in old number) (port_in new number)) where
+    (each : (number : ℕ) → number < 4 → NotesProbeResult (found number) (mode number) (port_in old number) (port_in new number)) where
   pub its_found : (number : ℕ) → number < 4 → probe_result_of (by_port (λ p. p.found) new) number ≡ found number
   its_found number low = get_or-map (λ (p : ServedPort). p.found) new number no_port ∙ ap (λ (p : ServedPort). p.found) (each number low).fields
 
@@ -111,14 +111,14 @@ module _ (found : ℕ → ProbeResult) (mode : ℕ → QueueMode) (old new : Lis
 -- ---- the adapter didn't end its reset
 
 module _ (s : ServerState) (before device : Device) (shared : Shared) (old new : List ServedPort) (four_old : length old ≡ 4)
-    (stuck : EachBecomes (λ number was now. BeginsAnew (stuck_found was.found) plain_mode was now) old new) where
+    (stuck : EachBecomes (λ number was now. NotesProbeResult (stuck_found was.found) plain_mode was now) old new) where
   abbrev found : ℕ → ProbeResult
   found number = stuck_found (port_in old number).found
 
   abbrev mode : ℕ → QueueMode
   mode number = plain_mode
 
-  pub gets_stuck : StaysReset before device → ResetGetsStuck (with_ports s before shared old) (with_ports s device shared new)
+  pub gets_stuck : ResetStaysPending before device → ResetGetsStuck (with_ports s before shared old) (with_ports s device shared new)
   gets_stuck stays = record {
     stays = stays;
     found = λ number. ⊎_elim
@@ -147,7 +147,7 @@ module _ (host : Host) (four_host : length host.ports ≡ 4) (old new : List Ser
   abbrev pub mode_by : ℕ → QueueMode
   mode_by number = (port_in new number).mode
 
-  pub each : (number : ℕ) → number < 4 → BeginsAnew (found_by number) (mode_by number) (port_in old number) (port_in new number)
+  pub each : (number : ℕ) → number < 4 → NotesProbeResult (found_by number) (mode_by number) (port_in old number) (port_in new number)
   each number low = (taken.each number low).anew
 
   pub found_host : by_port (λ p. p.found) new ≡ host.ports
@@ -157,7 +157,7 @@ module _ (host : Host) (four_host : length host.ports ≡ 4) (old new : List Ser
       ext_get_or Unserved (by_port (λ p. p.found) new) host.ports (long ∙ taken.four ∙ sym four_host)
       (λ number low. its_found found_by mode_by old new four_old taken.four each number (omega (arith, low, long, four)))
 
-  pub modes_follow : (cap : ℕ) → host.slots ≡ cap / 256 % 32 + 1 → host.queued ≡ bit cap 30 → (number : ℕ) → number < 4 → mode_at (by_port (λ p. p.mode) new) number ≡ mode_found cap (probe_result_of host.ports number)
+  pub modes_follow : (cap : ℕ) → host.slots ≡ cap / 256 % 32 + 1 → host.queued ≡ bit cap 30 → (number : ℕ) → number < 4 → mode_at (by_port (λ p. p.mode) new) number ≡ probed_mode cap (probe_result_of host.ports number)
   modes_follow cap slots queued number low = its_mode found_by mode_by old new four_old taken.four each number low ∙ (taken.each number low).mode cap slots queued
 
 -- again, after a reset
@@ -188,7 +188,7 @@ module _ (s : ServerState) (before idle device : Device) (first later : Shared) 
   abbrev m : ℕ → QueueMode
   m = mode_by host four_host mid new four_mid taken
 
-  e : (number : ℕ) → number < 4 → BeginsAnew (f number) (m number) (port_in mid number) (port_in new number)
+  e : (number : ℕ) → number < 4 → NotesProbeResult (f number) (m number) (port_in mid number) (port_in new number)
   e = each host four_host mid new four_mid taken
 
   pub takes_again : Resets before idle → TakesBack first.table.value later.table.value (IsKeptIn (by_port (λ p. p.kept) old)) → TakesOver (by_port (λ p. p.wanted) mid) host idle device → later.book ≡ first.book
@@ -198,7 +198,7 @@ module _ (s : ServerState) (before idle device : Device) (first later : Shared) 
     resets = resets;
     back = back;
     unkept = λ number.
-        ap (λ (lists : List (List Lending)). kept_at lists number) (same_kept f m mid new four_mid taken.four e)
+        ap (λ (lists : List (List Lending)). quarantined_at lists number) (same_kept f m mid new four_mid taken.four e)
         ∙ get_or-map (λ (p : ServedPort). p.kept) mid number no_port ∙ ap (λ (p : ServedPort). p.kept) (mid_is number);
     four_kept = length-map new (λ (p : ServedPort). p.kept) ∙ taken.four;
     host = host;

@@ -15,21 +15,21 @@ use Rattle.adapter.specs.Idle.{IsIdle}
 use Rattle.adapter.specs.Rules.{IsOn}
 use Rattle.adapter.specs.declared.access.DeviceStep.{DeviceStep}
 use Rattle.adapter.specs.declared.tape.Entry.{Entry}
-use Rattle.refinement.specs.Acts.{InSlots}
+use Rattle.refinement.specs.Acts.{DriverSlots}
 use Rattle.refinement.specs.Facts.{IsDisturbance, RunsWell, Undisturbed}
 use Rattle.refinement.specs.Slots.{ServesRequest}
-use Rattle.block_machine.specs.Events.{Ask, CallResult, Service as AskService, Tick, Reset, RevokeOf, WasRevoked, AbstractState, EveryReadHolds, IsAnswered, HasTimedOut, IsRun, WasIssued, abstract_after, steps_of}
+use Rattle.block_machine.specs.Events.{AbstractCall, CallResult, Service as AskService, Tick, Reset, RevokeOf, WasRevoked, AbstractState, EveryReadHolds, IsAnswered, HasTimedOut, IsRun, WasIssued, abstract_after, steps_of}
 use Rattle.block_machine.specs.Histories.{Happening, JointState, events_of, now}
-use Rattle.block_machine.specs.Ports.{AreFit, Evidence, Ports}
+use Rattle.block_machine.specs.Ports.{PortsWellFormed, Evidence, Ports}
 use Rattle.block_machine.specs.State.{Pending}
 use Rattle.block_machine.specs.Steps.{AllTouched, Answer, Step}
 use Rattle.durability.specs.Durable.{EveryPlugFinds}
 use Rattle.driver_history.specs.Heeding.{HeedsAt}
-use Rattle.driver_history.specs.Claims.{AnswerRests, GoesWellFor, IsFaultFreeOutcome, IsHealthyFor}
+use Rattle.driver_history.specs.Claims.{AnswerJustified, GoesWellFor, IsFaultFreeOutcome, IsHealthyFor}
 use Rattle.driver_history.specs.Evidence.{StaysHealthy}
 use Rattle.driver_history.specs.Histories.{IsDriverHistory}
-use Rattle.driver_history.specs.Holds.{HoldsAt, HoldsOf, NoneWaits}
-use Rattle.driver_history.specs.Moves.{KeepsMoves}
+use Rattle.driver_history.specs.Holds.{DriverInvariant, PortStateInvariant, HasNoUnanswered}
+use Rattle.driver_history.specs.Moves.{MovesConfined}
 use Rattle.configuration.specs.declared.Config.{Config}
 use Rattle.host_boot.specs.Taken.{probe_result_of, wanted_of, StandsBehind, TakesOver}
 use Rattle.host_boot.specs.declared.ProbeResult.{ProbeResult}
@@ -39,9 +39,9 @@ use Rattle.identify.specs.declared.DiskInfo.{DiskInfo}
 use Rattle.identify.specs.declared.wanted.Wanted.{Wanted}
 use Rattle.server_history.specs.Histories.{ExtendsHistory, LeadsToServer}
 use Rattle.server_history.specs.Server.{is_served, ports_of, state_of}
-use Rattle.block_server.specs.Clients.{ConfinesMoves, EachAfter, HoldsBetween, MatchesTape, IsInState, IsSeenAt, OutlivesUnplugs}
+use Rattle.block_server.specs.Clients.{ConfinesMoves, AllAdded, BetweenCallsInvariant, MatchesTape, PortStateIsJustified, IsSeenAt, FlushesSurviveReplug}
 use Rattle.block_server.specs.Made.{IsInitialServer}
-use Rattle.block_server.specs.Promise.{IsServedWell, IsToldWell, Simulates, ServesPorts}
+use Rattle.block_server.specs.Promise.{IsServedWell, IsFaultFreeAnswer, Simulates, KeepsPortPromise}
 use Rattle.block_server.specs.Running.{ask_of, machine_result_of}
 use Rattle.block_server.specs.View.{ServerView, server_of, visible_of}
 use Rattle.arrayvec.specs.ArrayVec.{ArrayVec}
@@ -60,10 +60,10 @@ pub record HistoryLaws : Type 0 where
       → IsDriverHistory wanted first (h ∷ past) → IsHealthyFor (now first past) h port → GoesWellFor (now first past) h port
   pub rest : (wanted : List Wanted) (first : JointState Device) (past : List (Happening Device DeviceStep)) (h : Happening Device DeviceStep)
       (history : IsDriverHistory wanted first (h ∷ past)) → (e : Pending) (told : Outcome) → Contains h.event.steps (Answer e told)
-      → AnswerRests (now first past) h history.2.accesses e told
+      → AnswerJustified (now first past) h history.2.accesses e told
   pub moves : (wanted : List Wanted) (first : JointState Device) (past : List (Happening Device DeviceStep)) (h : Happening Device DeviceStep)
       → IsDriverHistory wanted first (h ∷ past)
-      → KeepsMoves first.abstract.machine (steps_of (events_of past)) h.event.steps (now first past).device h.device
+      → MovesConfined first.abstract.machine (steps_of (events_of past)) h.event.steps (now first past).device h.device
   pub run : (wanted : List Wanted) (first : JointState Device) (past : List (Happening Device DeviceStep)) → IsDriverHistory wanted first past
       → IsRun first.abstract (events_of past)
   pub reads : (wanted : List Wanted) (first : JointState Device) (past : List (Happening Device DeviceStep)) → IsDriverHistory wanted first past
@@ -82,11 +82,11 @@ abbrev Calls : Type 0
 Calls = List (Happening Device DeviceStep)
 
 module _ (Is : Calls → Happening Device DeviceStep → Type 0) (past one : Calls) where
-  each_joined : (two : Calls) → EachAfter Is past one → EachAfter Is (one ++ past) two → EachAfter Is past (two ++ one)
+  each_joined : (two : Calls) → AllAdded Is past one → AllAdded Is (one ++ past) two → AllAdded Is past (two ++ one)
   each_joined [] a b = a
   each_joined (h ∷ two) a b = (each_joined two a b.0, subst (λ (l : Calls). Is l h) (sym (append_assoc two one past)) b.1)
 
-  each_parted : (two : Calls) → EachAfter Is past (two ++ one) → EachAfter Is past one × EachAfter Is (one ++ past) two
+  each_parted : (two : Calls) → AllAdded Is past (two ++ one) → AllAdded Is past one × AllAdded Is (one ++ past) two
   each_parted [] a = (a, tt)
   each_parted (h ∷ two) a =
       let rest = each_parted two a.0 in
@@ -103,8 +103,8 @@ Spares first port before h = (h.event.ask ≢ Reset) × (h.event.ask ≡ Tick �
 
 -- ---- between two calls
 
-module _ (wanted : Wanted) (s : InSlots) (i : JointState Device) (port : Port) where
-  in_state : (served : Bool) (state : PortState) → i.abstract.ports.state port ≡ state → HoldsOf wanted s i port served state → IsInState wanted i port served state
+module _ (wanted : Wanted) (s : DriverSlots) (i : JointState Device) (port : Port) where
+  in_state : (served : Bool) (state : PortState) → i.abstract.ports.state port ≡ state → PortStateInvariant wanted s i port served state → PortStateIsJustified wanted i port served state
   in_state false state e h = sym e ∙ h.absent
   in_state true Ready e h = (h.on, h.info, h.disk, h.shows)
   in_state true Dead e h = h.why
@@ -112,7 +112,7 @@ module _ (wanted : Wanted) (s : InSlots) (i : JointState Device) (port : Port) w
   in_state true Foreign e h = h.ends
   in_state true (Unfit cause) e h = h.ends
 
-  none_waits : (served : Bool) (state : PortState) → HoldsOf wanted s i port served state → state ≢ Ready → IsOn i.device → NoneWaits i.abstract.machine port
+  none_waits : (served : Bool) (state : PortState) → PortStateInvariant wanted s i port served state → state ≢ Ready → IsOn i.device → HasNoUnanswered i.abstract.machine port
   none_waits false state h unready on = h.waits
   none_waits true Ready h unready on = absurd (unready refl)
   none_waits true Dead h unready on = h.waits on
@@ -120,7 +120,7 @@ module _ (wanted : Wanted) (s : InSlots) (i : JointState Device) (port : Port) w
   none_waits true Foreign h unready on = h.waits
   none_waits true (Unfit cause) h unready on = h.waits
 
-holds_between : (wanted : List Wanted) (i : JointState Device) → HoldsAt wanted i → HoldsBetween wanted i
+holds_between : (wanted : List Wanted) (i : JointState Device) → DriverInvariant wanted i → BetweenCallsInvariant wanted i
 holds_between wanted i (s, h) = record {
   served = h.served;
   state = λ port low. in_state (wanted_of wanted port.0) s i port (i.abstract.ports.served port) (i.abstract.ports.state port) refl (h.port port low);
@@ -130,12 +130,12 @@ holds_between wanted i (s, h) = record {
   sectors = h.knows.agrees.sectors;
 }
 
-holds_now : (wanted : List Wanted) (first : JointState Device) (past : Calls) → IsDriverHistory wanted first past → HoldsAt wanted (now first past)
+holds_now : (wanted : List Wanted) (first : JointState Device) (past : Calls) → IsDriverHistory wanted first past → DriverInvariant wanted (now first past)
 holds_now wanted first [] history = history.1.0
 holds_now wanted first (h ∷ past) history = history.2.holds
 
 -- the tape after calls is the tape before with more
-grows : (wanted : List Wanted) (first : JointState Device) (past added : Calls) → EachAfter (MatchesTape wanted first) past added
+grows : (wanted : List Wanted) (first : JointState Device) (past added : Calls) → AllAdded (MatchesTape wanted first) past added
     → (gained : List Entry) × ((now first (added ++ past)).device.tape ≡ (now first past).device.tape ++ gained)
 grows wanted first past [] each = ([], sym (append-nil (now first past).device.tape))
 grows wanted first past (h ∷ added) each =
@@ -179,9 +179,9 @@ parts port old mid new one two first second u =
 
 -- ---- what is told where nothing goes wrong
 
-told_well : (ask : Ask DeviceStep) (said : CallResult) (old : AbstractState) (evidence : Evidence) (steps : List Step) (new : AbstractState) (e : Pending) (told : Outcome)
+told_well : (ask : AbstractCall DeviceStep) (said : CallResult) (old : AbstractState) (evidence : Evidence) (steps : List Step) (new : AbstractState) (e : Pending) (told : Outcome)
     → IsAnswered ask said old evidence steps new → Contains steps (Answer e told) → IsFaultFreeOutcome ask told
-    → (told ≡ Ok → WasIssued old.machine e.request.id × (e.issued ≡ true) × AllTouched e × (e.ended ≡ true)) → IsToldWell ask old.machine e told
+    → (told ≡ Ok → WasIssued old.machine e.request.id × (e.issued ≡ true) × AllTouched e × (e.ended ≡ true)) → IsFaultFreeAnswer ask old.machine e told
 told_well (RevokeOf client number) (WasRevoked (Some replies)) old evidence steps new e told answered here calm rests = (calm, ((answered.told e).0 (subst (λ (o : Outcome). Contains steps (Answer e o)) calm here)).1)
 told_well (RevokeOf client number) (WasRevoked None) old evidence steps new e told answered here calm rests =
     absurd (All-contains (λ _. ⊥) [] (Answer e told) (All-nil (λ _. ⊥)) (subst (λ (list : List Step). Contains list (Answer e told)) answered.1 here))
@@ -200,15 +200,15 @@ module _ (laws : HistoryLaws) where
           same = goes.spared.same;
           answers = λ e told here own. told_well h.event.ask h.event.said old.abstract h.event.evidence h.event.steps (abstract_after old.abstract h.event) e told history.1.answered here
               (goes.spared.told e told here own)
-              (λ ok. subst (AnswerRests old h history.2.accesses e) ok (laws.rest wanted first past h history e told here));
+              (λ ok. subst (AnswerJustified old h history.2.accesses e) ok (laws.rest wanted first past h history e told here));
           ended = λ asks.
-              (subst (λ (ask : Ask DeviceStep). HeedsAt port ask old.abstract h.event.evidence h.event.steps (abstract_after old.abstract h.event)) asks heeds healthy.ready).ended;
+              (subst (λ (ask : AbstractCall DeviceStep). HeedsAt port ask old.abstract h.event.evidence h.event.steps (abstract_after old.abstract h.event)) asks heeds healthy.ready).ended;
           issues = goes.issues;
         },
       )
 
   all_backed : (wanted : List Wanted) (first : JointState Device) (past added : Calls) → IsDriverHistory wanted first (added ++ past)
-      → EachAfter (MatchesTape wanted first) past added
+      → AllAdded (MatchesTape wanted first) past added
   all_backed wanted first past [] history = tt
   all_backed wanted first past (h ∷ added) history =
       let device = history.2.backed in (
@@ -274,7 +274,7 @@ module _ (laws : HistoryLaws) where
         record {
           added = h ∷ [];
           clients = record {
-            asks = ap (λ (a : Ask DeviceStep). a ∷ []) x.1;
+            asks = ap (λ (a : AbstractCall DeviceStep). a ∷ []) x.1;
             says = ap (λ (a : CallResult). a ∷ []) x.2;
             wanted = wanted;
             from = seen_at device old first past leads;
@@ -324,10 +324,10 @@ module _ (laws : HistoryLaws) where
             backed = all_backed new.wanted first past (two ++ one) leads.history;
           };
           moves = all_confined new.wanted first past (two ++ one) leads.history;
-          disks = subst (OutlivesUnplugs first) whole b.disks;
+          disks = subst (FlushesSurviveReplug first) whole b.disks;
           driver = record {
             leads = leads;
-            serves = each_joined (ServesPorts first) past one two a.driver.serves b.driver.serves;
+            serves = each_joined (KeepsPortPromise first) past one two a.driver.serves b.driver.serves;
             healthy = λ port ready stays spared.
                 let started = grows mid.wanted first past one a.clients.backed in
                 let ended = grows new.wanted first (one ++ past) two b.clients.backed in
@@ -348,8 +348,8 @@ module _ (law : ReadyRunWell) {A : Type 0} (device : A → Device) (config : Con
       → Undisturbed port.0 (device adapter) (device s.adapter) → RunsWell ((device s.adapter).port port.0)
   begins_well idle made ready calm = by (probe_result_of s.ports port.0) refl ready
     where
-      fit : AreFit (ports_of (server_of device s))
-      fit = subst AreFit made.begun.1.stands.ports_are made.begun.1.history.0.1
+      fit : PortsWellFormed (ports_of (server_of device s))
+      fit = subst PortsWellFormed made.begun.1.stands.ports_are made.begun.1.history.0.1
 
       -- no port is told as ready that was found otherwise
       unready : (state : PortState) → probe_result_of s.ports port.0 ≡ Unready state → state ≡ Ready → ⊥

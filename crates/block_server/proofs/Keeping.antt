@@ -7,67 +7,67 @@ use Rattle.std.proofs.lemmas.List.Elements.{All-contains, Contains-append_cases,
 use Rattle.ata_types.specs.declared.request.Frame.{Frame}
 use Rattle.dma_frames.specs.Loan.{Lending}
 use Rattle.dma_frames.specs.Table.{Table, lent_to}
-use Rattle.server_history.specs.Kept.{IsKeptIn, LoansEndInTurn, MayGoBack, TakesBack}
-use Rattle.request_queue.specs.Entries.{GivesBack, Held, HasItsFrames}
-use Rattle.server_history.specs.Server.{AreOfTwo, IsLentOut, ServerState, kept_at}
+use Rattle.server_history.specs.Kept.{IsKeptIn, LoansEndInTurn, MayGiveBack, TakesBack}
+use Rattle.request_queue.specs.Entries.{GivesBack, BookEntry, HasItsFrames}
+use Rattle.server_history.specs.Server.{DifferInRequest, IsLentOut, ServerState, quarantined_at}
 
 -- ---- port by port
 
 -- the loans of the ports below this number
 abbrev pub loans_below : List (List Lending) → ℕ → List Lending
 loans_below kept zero = []
-loans_below kept (suc count) = loans_below kept count ++ kept_at kept count
+loans_below kept (suc count) = loans_below kept count ++ quarantined_at kept count
 
 -- each of them is of such a port
 abbrev IsBelow : List (List Lending) → ℕ → Lending → Type 0
-IsBelow kept count loan = (port : ℕ) × (port < count) × Contains (kept_at kept port) loan
+IsBelow kept count loan = (port : ℕ) × (port < count) × Contains (quarantined_at kept port) loan
 
 of_port : (kept : List (List Lending)) (count : ℕ) (loan : Lending) → Contains (loans_below kept count) loan → IsBelow kept count loan
 of_port kept zero loan here = absurd (let low = here.1 in omega (arith, low))
 of_port kept (suc count) loan here = ⊎_elim
     (λ (there : Contains (loans_below kept count) loan). let below = of_port kept count loan there in (below.0, (let low = below.1 in omega (arith, low)), below.2))
-    (λ (its : Contains (kept_at kept count) loan). (count, omega arith, its))
-    (Contains-append_cases (loans_below kept count) (kept_at kept count) loan here)
+    (λ (its : Contains (quarantined_at kept count) loan). (count, omega arith, its))
+    (Contains-append_cases (loans_below kept count) (quarantined_at kept count) loan here)
 
 is_below : (kept : List (List Lending)) (count : ℕ) (loan : Lending) → IsBelow kept count loan → Contains (loans_below kept count) loan
 is_below kept zero loan below = absurd (let low = below.1 in omega (arith, low))
 is_below kept (suc count) loan below = ⊎_elim
-    (λ (less : below.0 < count). Contains-append_left (loans_below kept count) (kept_at kept count) loan (is_below kept count loan (below.0, less, below.2)))
+    (λ (less : below.0 < count). Contains-append_left (loans_below kept count) (quarantined_at kept count) loan (is_below kept count loan (below.0, less, below.2)))
     (λ (most : count ≤ below.0).
     let same : below.0 ≡ count = (let low = below.1 in omega (arith, low, most)) in
-    Contains-append_right (loans_below kept count) (kept_at kept count) loan (subst (λ (p : ℕ). Contains (kept_at kept p) loan) same below.2))
+    Contains-append_right (loans_below kept count) (quarantined_at kept count) loan (subst (λ (p : ℕ). Contains (quarantined_at kept p) loan) same below.2))
     (cases_lt below.0 count)
 
-module _ (law : LoansEndInTurn) (first now : List (List Lending)) (table mid : Table) (count : ℕ) (may : MayGoBack table first) (back : TakesBack table mid (Contains (loans_below first count)))
-    (here : kept_at now count ≡ kept_at first count) where
+module _ (law : LoansEndInTurn) (first now : List (List Lending)) (table mid : Table) (count : ℕ) (may : MayGiveBack table first) (back : TakesBack table mid (Contains (loans_below first count)))
+    (here : quarantined_at now count ≡ quarantined_at first count) where
   -- the next port's loans are lent out still
-  its_out : All (IsLentOut mid) (kept_at first count)
+  its_out : All (IsLentOut mid) (quarantined_at first count)
   its_out k d small =
-      let b : Lending = get_or (kept_at first count) k d in
-      let there : Contains (kept_at first count) b = (k, small, get_or_default (kept_at first count) k b d small) in
+      let b : Lending = get_or (quarantined_at first count) k d in
+      let there : Contains (quarantined_at first count) b = (k, small, get_or_default (quarantined_at first count) k b d small) in
       law.stays table mid (loans_below first count) b back
       (λ loan ended.
       let below = of_port first count loan ended in
-      (All-contains (IsLentOut table) (kept_at first below.0) loan (may.lent below.0) below.2, may.apart below.0 count loan b (let low = below.1 in omega (arith, low)) below.2 there))
+      (All-contains (IsLentOut table) (quarantined_at first below.0) loan (may.lent below.0) below.2, may.apart below.0 count loan b (let low = below.1 in omega (arith, low)) below.2 there))
       (may.lent count k d small)
 
-  pub next_out : All (IsLentOut mid) (kept_at now count)
+  pub next_out : All (IsLentOut mid) (quarantined_at now count)
   next_out = subst (All (IsLentOut mid)) (sym here) its_out
 
-  pub next_two : AllPairs AreOfTwo (kept_at now count)
-  next_two = subst (AllPairs AreOfTwo) (sym here) (may.two count)
+  pub next_two : AllPairs DifferInRequest (quarantined_at now count)
+  next_two = subst (AllPairs DifferInRequest) (sym here) (may.two count)
 
-  pub next_back : (new : Table) → TakesBack mid new (Contains (kept_at now count)) → TakesBack table new (Contains (loans_below first (count + 1)))
+  pub next_back : (new : Table) → TakesBack mid new (Contains (quarantined_at now count)) → TakesBack table new (Contains (loans_below first (count + 1)))
   next_back new given =
       let above : suc count ≡ count + 1 = omega arith in
       subst (λ (n : ℕ). TakesBack table new (Contains (loans_below first n))) above
-      (law.both table mid new (loans_below first count) (kept_at first count) back its_out (subst (λ (loans : List Lending). TakesBack mid new (Contains loans)) here given))
+      (law.both table mid new (loans_below first count) (quarantined_at first count) back its_out (subst (λ (loans : List Lending). TakesBack mid new (Contains loans)) here given))
 
 -- Ports below this number have no loans left, and the others have theirs.
 pub record BackSoFar (first now : List (List Lending)) (table mid : Table) (count : ℕ) : Type 0 where
   pub four : length now ≡ 4
-  pub empty : (port : ℕ) → port < count → kept_at now port ≡ []
-  pub left : (port : ℕ) → count ≤ port → kept_at now port ≡ kept_at first port
+  pub empty : (port : ℕ) → port < count → quarantined_at now port ≡ []
+  pub left : (port : ℕ) → count ≤ port → quarantined_at now port ≡ quarantined_at first port
   pub back : TakesBack table mid (Contains (loans_below first count))
 
 pub none_so_far : (first : List (List Lending)) (table : Table) → length first ≡ 4 → BackSoFar first first table table 0
@@ -78,12 +78,12 @@ none_so_far first table four = record {
   back = record { owners = refl; none = λ loan f ended here. absurd (let low = ended.1 in omega (arith, low)); others = λ f apart. refl };
 }
 
-pub next_so_far : LoansEndInTurn → (first now : List (List Lending)) (table mid new : Table) (count : ℕ) → MayGoBack table first → BackSoFar first now table mid count → count < 4
-    → TakesBack mid new (Contains (kept_at now count)) → BackSoFar first (set now count []) table new (count + 1)
+pub next_so_far : LoansEndInTurn → (first now : List (List Lending)) (table mid new : Table) (count : ℕ) → MayGiveBack table first → BackSoFar first now table mid count → count < 4
+    → TakesBack mid new (Contains (quarantined_at now count)) → BackSoFar first (set now count []) table new (count + 1)
 next_so_far law first now table mid new count may so_far low given = record {
   four = length-set now count [] ∙ so_far.four;
   empty = λ port less. ⊎_elim
-      (λ (same : port ≡ count). ap (λ (p : ℕ). kept_at (set now count []) p) same ∙ get_or-set_same now count [] [] (let four = so_far.four in omega (arith, four, low)))
+      (λ (same : port ≡ count). ap (λ (p : ℕ). quarantined_at (set now count []) p) same ∙ get_or-set_same now count [] [] (let four = so_far.four in omega (arith, four, low)))
       (λ (ne : port ≢ count). get_or-set_other now count port [] [] ne ∙ so_far.empty port (omega (arith, less, ne)))
       (cases_eq port count);
   left = λ port high. get_or-set_other now count port [] [] (omega (arith, high)) ∙ so_far.left port (omega (arith, high));
@@ -92,7 +92,7 @@ next_so_far law first now table mid new count may so_far low given = record {
 
 module _ (first now : List (List Lending)) (table mid : Table) (count : ℕ) (so_far : BackSoFar first now table mid count) (four : length first ≡ 4) (all : 4 ≤ count) where
   -- a port past the fourth has none
-  none_past : (port : ℕ) → 4 ≤ port → kept_at first port ≡ []
+  none_past : (port : ℕ) → 4 ≤ port → quarantined_at first port ≡ []
   none_past port high = get_or_past first port [] (omega (arith, four, high))
 
   pub all_taken : TakesBack table mid (IsKeptIn first)
@@ -112,17 +112,17 @@ module _ (first now : List (List Lending)) (table mid : Table) (count : ℕ) (so
 
 -- what a law says of a server's kept loans
 pub record KeptLaws (s : ServerState) : Type 0 where
-  pub lent : (port : ℕ) → All (IsLentOut s.table) (kept_at s.kept port)
-  pub two : (port : ℕ) → AllPairs AreOfTwo (kept_at s.kept port)
-  pub one : (port other : ℕ) (a b : Lending) → Contains (kept_at s.kept port) a → Contains (kept_at s.kept other) b → a.request ≡ b.request → (port ≡ other) × (a ≡ b)
-  pub answered : (port : ℕ) (loan : Lending) (e : Held) → Contains (kept_at s.kept port) loan → Contains s.book e → e.entry.id ≢ loan.request
+  pub lent : (port : ℕ) → All (IsLentOut s.table) (quarantined_at s.kept port)
+  pub two : (port : ℕ) → AllPairs DifferInRequest (quarantined_at s.kept port)
+  pub one : (port other : ℕ) (a b : Lending) → Contains (quarantined_at s.kept port) a → Contains (quarantined_at s.kept other) b → a.request ≡ b.request → (port ≡ other) × (a ≡ b)
+  pub answered : (port : ℕ) (loan : Lending) (e : BookEntry) → Contains (quarantined_at s.kept port) loan → Contains s.book e → e.entry.id ≢ loan.request
 
 -- what is kept may be given back once what is lent to the book's requests was
-pub may_go_back : (s : ServerState) (new : Table) → KeptLaws s → All (HasItsFrames s.table) s.book → GivesBack s.table new s.book → MayGoBack new s.kept
+pub may_go_back : (s : ServerState) (new : Table) → KeptLaws s → All (HasItsFrames s.table) s.book → GivesBack s.table new s.book → MayGiveBack new s.kept
 may_go_back s new laws stands given = record {
   lent = λ port k d small i f inside.
-      let b : Lending = get_or (kept_at s.kept port) k d in
-      let here : Contains (kept_at s.kept port) b = (k, small, get_or_default (kept_at s.kept port) k b d small) in
+      let b : Lending = get_or (quarantined_at s.kept port) k d in
+      let here : Contains (quarantined_at s.kept port) b = (k, small, get_or_default (quarantined_at s.kept port) k b d small) in
       given.others (get_or b.frames i f) (λ e there own.
       let both : Some e.entry.id ≡ Some b.request = sym (All-contains (λ (g : Frame). lent_to s.table g ≡ Some e.entry.id) e.frames (get_or b.frames i f) (All-contains (HasItsFrames s.table) s.book e stands there) own)
       ∙ laws.lent port k d small i f inside in

@@ -9,7 +9,7 @@ use Rattle.ata_types.specs.declared.request.ClientId.{ClientId}
 use Rattle.ata_types.specs.declared.request.Frame.{Frame}
 use Rattle.ata_types.specs.declared.memory.TheConstants.{DRIVER_FRAMES}
 use Rattle.block_machine.specs.Rules.{DifferInName}
-use Rattle.block_machine.specs.Left.{IsRow}
+use Rattle.block_machine.specs.Left.{IsValidRow}
 use Rattle.dma_frames.specs.Loan.{Lending}
 use Rattle.dma_frames.specs.Table.{ExtentHasFrame, FrameExtent, owner_of, lent_to}
 use Rattle.grants.specs.Rows.{SameRows}
@@ -21,14 +21,14 @@ use Rattle.host_boot.specs.declared.ProbeResult.{ProbeResult}
 use Rattle.host_boot.specs.declared.ProbeResult.TheVariants.{Unserved}
 use Rattle.identify.specs.declared.wanted.Wanted.{Wanted}
 use Rattle.configuration.specs.Plan.{HasClientFrames, IsClient, IsPlan, IsServedGrant, PlanView}
-use Rattle.server_history.specs.Server.{IsNewServer, ServerState, kept_at, last_disk_of, mode_at, mode_found, no_slots, remembered_at, used_for}
+use Rattle.server_history.specs.Server.{IsNewServer, ServerState, quarantined_at, last_disk_of, mode_at, probed_mode, no_slots, remembered_at, used_for}
 use Rattle.block_server.specs.FourPorts.{EachBecomes, BeginsAsHostFound, by_port, port_in}
-use Rattle.port_driver.specs.Parts.{BeginsAnew}
+use Rattle.port_driver.specs.Parts.{NotesProbeResult}
 use Rattle.port_driver.specs.declared.served_port.ServedPort.{ServedPort}
 use Rattle.block_server.proofs.Becoming as becoming
 
 -- a row of a plan is one that a configuration may give
-row_is : (plan : PlanView) (row : GrantRow) → IsServedGrant plan.wanted row → IsRow row
+row_is : (plan : PlanView) (row : GrantRow) → IsServedGrant plan.wanted row → IsValidRow row
 row_is plan row g = record { client = (g.client.0, g.client.1); number = g.number; port = g.port; some = g.some; below = g.sectors }
 
 -- each of so many is the same
@@ -39,10 +39,10 @@ at_replicate n x place = ⊎_elim
     (cases_lt place n)
 
 -- and no loan of the four ports is kept
-none_kept : (kept : List (List Lending)) → kept ≡ [] ∷ [] ∷ [] ∷ [] ∷ [] → (length kept ≡ 4) × ((port : ℕ) → kept_at kept port ≡ [])
-none_kept kept is = (ap length is, λ port. ap (λ (lists : List (List Lending)). kept_at lists port) is ∙ empty port)
+none_kept : (kept : List (List Lending)) → kept ≡ [] ∷ [] ∷ [] ∷ [] ∷ [] → (length kept ≡ 4) × ((port : ℕ) → quarantined_at kept port ≡ [])
+none_kept kept is = (ap length is, λ port. ap (λ (lists : List (List Lending)). quarantined_at lists port) is ∙ empty port)
   where
-    empty : (port : ℕ) → kept_at ([] ∷ [] ∷ [] ∷ [] ∷ []) port ≡ []
+    empty : (port : ℕ) → quarantined_at ([] ∷ [] ∷ [] ∷ [] ∷ []) port ≡ []
     empty zero = refl
     empty (suc zero) = refl
     empty (suc (suc zero)) = refl
@@ -52,7 +52,7 @@ none_kept kept is = (ap length is, λ port. ap (λ (lists : List (List Lending))
 module _ (s : ServerState) (host : Host) (plan : PlanView) (is : IsPlan plan) (rows : SameRows plan.grants s.grants)
     (only : (f : Frame) (client : ClientId) → owner_of s.table f ≡ Some client → (run : FrameExtent) × Contains plan.owners run × ExtentHasFrame run f × (run.0 ≡ client))
     (room : 4096 * plan.frames ≤ s.device.size) where
-  planned : (row : GrantRow) → Contains s.grants row → IsRow row
+  planned : (row : GrantRow) → Contains s.grants row → IsValidRow row
   planned row here = row_is plan row (All-contains (IsServedGrant plan.wanted) plan.grants row is.grants (rows.1 row here))
 
   within : (frame : Frame) (client : ClientId) → owner_of s.table frame ≡ Some client → (DRIVER_FRAMES ≤ frame.0) × (frame.0 < plan.frames) × IsClient client
@@ -64,7 +64,7 @@ module _ (s : ServerState) (host : Host) (plan : PlanView) (is : IsPlan plan) (r
 
   pub new_fits : AllPairs DifferInName s.grants → length s.grants ≤ 64 → ((frame : Frame) → lent_to s.table frame ≡ None) → s.ports ≡ host.ports → length host.ports ≡ 4
       → length s.remembered ≡ 4 → ((port : ℕ) → remembered_at s.remembered port ≡ None)
-      → length s.kept ≡ 4 → ((port : ℕ) → kept_at s.kept port ≡ []) → length s.slots ≡ 4 → length s.modes ≡ 4 → ((port : ℕ) → port < 4 → length (get_or s.slots port no_slots).places ≡ 32) → ((port : ℕ) → port < 4 → mode_at s.modes port ≡ mode_found s.device.cap (probe_result_of s.ports port))
+      → length s.kept ≡ 4 → ((port : ℕ) → quarantined_at s.kept port ≡ []) → length s.slots ≡ 4 → length s.modes ≡ 4 → ((port : ℕ) → port < 4 → length (get_or s.slots port no_slots).places ≡ 32) → ((port : ℕ) → port < 4 → mode_at s.modes port ≡ probed_mode s.device.cap (probe_result_of s.ports port))
       → ((port : ℕ) → port < 4 → (get_or s.slots port no_slots).usable ≡ (mode_at s.modes port).usable)
       → ((port slot : ℕ) → used_for s.slots port slot ≡ None) → s.book ≡ [] → s.last ≡ 0 → IsNewServer host s
   new_fits names few free ports four four_remembered forgotten four_kept unkept four_slots four_modes places modes usable unused book last = record {
@@ -100,11 +100,11 @@ pub record NewPorts (host : Host) (wanted_disks : List Wanted) (ports : List Ser
   pub four_remembered : length (by_port (λ p. p.remembered) ports) ≡ 4
   pub forgotten : (port : ℕ) → remembered_at (by_port (λ p. p.remembered) ports) port ≡ None
   pub four_kept : length (by_port (λ p. p.kept) ports) ≡ 4
-  pub unkept : (port : ℕ) → kept_at (by_port (λ p. p.kept) ports) port ≡ []
+  pub unkept : (port : ℕ) → quarantined_at (by_port (λ p. p.kept) ports) port ≡ []
   pub four_slots : length (by_port (λ p. p.slots) ports) ≡ 4
   pub four_modes : length (by_port (λ p. p.mode) ports) ≡ 4
   pub places : (port : ℕ) → port < 4 → length (get_or (by_port (λ p. p.slots) ports) port no_slots).places ≡ 32
-  pub modes : (cap : ℕ) → host.slots ≡ cap / 256 % 32 + 1 → host.queued ≡ bit cap 30 → (port : ℕ) → port < 4 → mode_at (by_port (λ p. p.mode) ports) port ≡ mode_found cap (probe_result_of host.ports port)
+  pub modes : (cap : ℕ) → host.slots ≡ cap / 256 % 32 + 1 → host.queued ≡ bit cap 30 → (port : ℕ) → port < 4 → mode_at (by_port (λ p. p.mode) ports) port ≡ probed_mode cap (probe_result_of host.ports port)
   pub usable : (port : ℕ) → port < 4 → (get_or (by_port (λ p. p.slots) ports) port no_slots).usable ≡ (mode_at (by_port (λ p. p.mode) ports) port).usable
   pub unused : (port slot : ℕ) → used_for (by_port (λ p. p.slots) ports) port slot ≡ None
 
@@ -121,7 +121,7 @@ module _ (host : Host) (four_host : length host.ports ≡ 4) (wanted_disks : Lis
   abbrev m : ℕ → QueueMode
   m = becoming.mode_by host four_host first ports four_first taken
 
-  e : (number : ℕ) → number < 4 → BeginsAnew (f number) (m number) (port_in first number) (port_in ports number)
+  e : (number : ℕ) → number < 4 → NotesProbeResult (f number) (m number) (port_in first number) (port_in ports number)
   e = becoming.each host four_host first ports four_first taken
 
   pub new_ports : NewPorts host wanted_disks ports
@@ -136,7 +136,7 @@ module _ (host : Host) (four_host : length host.ports ≡ 4) (wanted_disks : Lis
             ∙ (λ i. last_disk_of (probe_result_of (found i) port) (remembered_at (forgotten i) port))
             ∙ ap (λ (one : ProbeResult). last_disk_of one (remembered_at (replicate 4 None) port)) (at_replicate 4 Unserved port) ∙ at_replicate 4 None port;
         four_kept = length-map ports (λ (p : ServedPort). p.kept) ∙ taken.four;
-        unkept = λ port. ap (λ (all : List (List Lending)). kept_at all port) lists ∙ (none_kept kept none).1 port;
+        unkept = λ port. ap (λ (all : List (List Lending)). quarantined_at all port) lists ∙ (none_kept kept none).1 port;
         four_slots = length-map ports (λ (p : ServedPort). p.slots) ∙ taken.four;
         four_modes = length-map ports (λ (p : ServedPort). p.mode) ∙ taken.four;
         places = becoming.its_places f m first ports four_first taken.four e;

@@ -11,7 +11,7 @@ use Rattle.ata_types.specs.declared.Port.{Port}
 use Rattle.block_machine.specs.declared.due.QueueMode.{QueueMode}
 use Rattle.block_machine.specs.declared.due.Unanswered.{Unanswered}
 use Rattle.block_machine.specs.Due.{IsDue, NoneDue, ahead, conflict, due_of, free_slots, waits_for, is_unblocked, is_due, is_earlier_on_port, is_plain, issued_count}
-use Rattle.request_queue.specs.Entries.{Held, asks, asks_of}
+use Rattle.request_queue.specs.Entries.{BookEntry, asks, asks_of}
 
 -- ---- tests
 
@@ -133,7 +133,7 @@ pub none_of_them : (mode : QueueMode) (port : Port) (book : List Unanswered) →
 none_of_them mode port book are none = empty (due_of mode port book) (λ x has. let is = are x has in none x is.0 is.1)
 
 -- the ids of a book are below the next one
-pub all_earlier : (book : List Held) (last : ℕ) (r : Unanswered) → r.id.0 ≡ last + 1 → All (λ e. e.entry.id.0 ≤ last) book → EachOf (λ x. nat_lt r.id.0 x.id.0 ≡ false) (asks_of book)
+pub all_earlier : (book : List BookEntry) (last : ℕ) (r : Unanswered) → r.id.0 ≡ last + 1 → All (λ e. e.entry.id.0 ≤ last) book → EachOf (λ x. nat_lt r.id.0 x.id.0 ≡ false) (asks_of book)
 all_earlier [] last r is all = tt
 all_earlier (e ∷ book) last r is all = (
   le-ltb r.id.0 e.entry.id.0 (let first = all zero e (omega arith) in omega (arith, is, first)),
@@ -141,5 +141,5 @@ all_earlier (e ∷ book) last r is all = (
 )
 
 -- what is asked, with one more at the end
-pub asks_more : (book : List Held) (e : Held) → asks_of (book ++ e ∷ []) ≡ asks_of book ++ asks e.entry ∷ []
-asks_more book e = map-append (λ (x : Held). asks x.entry) book (e ∷ [])
+pub asks_more : (book : List BookEntry) (e : BookEntry) → asks_of (book ++ e ∷ []) ≡ asks_of book ++ asks e.entry ∷ []
+asks_more book e = map-append (λ (x : BookEntry). asks x.entry) book (e ∷ [])

@@ -12,7 +12,7 @@ use Rattle.block_machine.specs.Refusals.{Applies, IsAcceptable, IsFirstRefusal}
 use Rattle.block_machine.specs.Rules.{IsNamed, BreaksNone}
 use Rattle.dma_frames.specs.Table.{owner_of, lent_to}
 use Rattle.request_queue.specs.Entries.{unanswered_entries}
-use Rattle.server_history.specs.Server.{ServerState, ports_of, server_situation}
+use Rattle.server_history.specs.Server.{ServerState, ports_of, admission_context}
 use Rattle.block_server.proofs.Ruling as ruling
 
 -- what is told of a trim that its port doesn't take tells of each other request that it isn't so
@@ -30,7 +30,7 @@ module _ (s : ServerState) (r : Request) (none : BreaksNone s.grants (owner_of s
   below : {B : Type 0} (n m : ℕ) → m ≤ n → n < m → B
   below n m le lt = absurd (omega (arith, le, lt))
 
-  none_nine : ruling.NoneBelow (server_situation s) r 9
+  none_nine : ruling.NoneBelow (admission_context s) r 9
   none_nine = record {
     rules = none;
     ready = λ h. below 9 9 (omega arith) h;
@@ -40,17 +40,17 @@ module _ (s : ServerState) (r : Request) (none : BreaksNone s.grants (owner_of s
     ids = λ h. below 13 9 (omega arith) h;
   }
 
-  pub not_ready : (state : PortState) → state ≡ (ports_of s).state row.port → (state ≡ Ready → ⊥) → IsFirstRefusal (server_situation s) r (PortNotReady state)
-  not_ready state state_is other = ruling.not_ready_first (server_situation s) r state (other, (row, named, sym state_is)) none_nine
+  pub not_ready : (state : PortState) → state ≡ (ports_of s).state row.port → (state ≡ Ready → ⊥) → IsFirstRefusal (admission_context s) r (PortNotReady state)
+  not_ready state state_is other = ruling.not_ready_first (admission_context s) r state (other, (row, named, sym state_is)) none_nine
 
   module _ (ready : (ports_of s).state row.port ≡ Ready) where
-    always_ready : (state : PortState) → Applies (server_situation s) r (PortNotReady state) → ⊥
+    always_ready : (state : PortState) → Applies (admission_context s) r (PortNotReady state) → ⊥
     always_ready state applies =
         let its = applies.1 in
         applies.0 (sym its.2 ∙ ap (λ (x : GrantRow). (ports_of s).state x.port) (the_same its.0 its.1) ∙ ready)
 
-    pub outside_disk : ((r.op ≢ Flush) × ((ports_of s).sectors row.port < r.first.0 + r.count)) → IsFirstRefusal (server_situation s) r OutsideDisk
-    outside_disk leaves = ruling.outside_disk_first (server_situation s) r (leaves.0, (row, named, leaves.1)) (record {
+    pub outside_disk : ((r.op ≢ Flush) × ((ports_of s).sectors row.port < r.first.0 + r.count)) → IsFirstRefusal (admission_context s) r OutsideDisk
+    outside_disk leaves = ruling.outside_disk_first (admission_context s) r (leaves.0, (row, named, leaves.1)) (record {
       rules = none;
       ready = λ _. always_ready;
       disk = λ h. below 10 10 (omega arith) h;
@@ -60,11 +60,11 @@ module _ (s : ServerState) (r : Request) (none : BreaksNone s.grants (owner_of s
     })
 
     module _ (inside : ((r.op ≢ Flush) × ((ports_of s).sectors row.port < r.first.0 + r.count)) → ⊥) where
-      never_outside : Applies (server_situation s) r OutsideDisk → ⊥
+      never_outside : Applies (admission_context s) r OutsideDisk → ⊥
       never_outside applies = inside (applies.0, subst (λ (x : GrantRow). (ports_of s).sectors x.port < r.first.0 + r.count) (the_same applies.1.0 applies.1.1) applies.1.2)
 
-      pub trim_unsupported : r.op ≡ Trim → (ports_of s).trims row.port ≡ false → IsFirstRefusal (server_situation s) r TrimUnsupported
-      trim_unsupported trims none_trims = ruling.trim_unsupported_first (server_situation s) r (trims, (row, named, λ (does : IsTrue ((ports_of s).trims row.port)). absurd (true≢false (sym does ∙ none_trims)))) (record {
+      pub trim_unsupported : r.op ≡ Trim → (ports_of s).trims row.port ≡ false → IsFirstRefusal (admission_context s) r TrimUnsupported
+      trim_unsupported trims none_trims = ruling.trim_unsupported_first (admission_context s) r (trims, (row, named, λ (does : IsTrue ((ports_of s).trims row.port)). absurd (true≢false (sym does ∙ none_trims)))) (record {
         rules = none;
         ready = λ _. always_ready;
         disk = λ _. never_outside;
@@ -74,11 +74,11 @@ module _ (s : ServerState) (r : Request) (none : BreaksNone s.grants (owner_of s
       })
 
       module _ (trims : r.op ≡ Trim → (ports_of s).trims row.port ≡ true) where
-        never_trim : Applies (server_situation s) r TrimUnsupported → ⊥
+        never_trim : Applies (admission_context s) r TrimUnsupported → ⊥
         never_trim applies = applies.1.2 (subst (λ (x : GrantRow). IsTrue ((ports_of s).trims x.port)) (sym (the_same applies.1.0 applies.1.1)) (trims applies.0))
 
-        pub client_full : 16 ≤ unanswered_entries s.book r.client.0 → IsFirstRefusal (server_situation s) r ClientFull
-        client_full full = ruling.client_full_first (server_situation s) r full (record {
+        pub client_full : 16 ≤ unanswered_entries s.book r.client.0 → IsFirstRefusal (admission_context s) r ClientFull
+        client_full full = ruling.client_full_first (admission_context s) r full (record {
           rules = none;
           ready = λ _. always_ready;
           disk = λ _. never_outside;
@@ -88,8 +88,8 @@ module _ (s : ServerState) (r : Request) (none : BreaksNone s.grants (owner_of s
         })
 
         module _ (room : unanswered_entries s.book r.client.0 < 16) where
-          pub ids_spent : 2 ^ 64 ≤ s.last + 1 → IsFirstRefusal (server_situation s) r IdsSpent
-          ids_spent spent = ruling.ids_spent_first (server_situation s) r spent (record {
+          pub ids_spent : 2 ^ 64 ≤ s.last + 1 → IsFirstRefusal (admission_context s) r IdsSpent
+          ids_spent spent = ruling.ids_spent_first (admission_context s) r spent (record {
             rules = none;
             ready = λ _. always_ready;
             disk = λ _. never_outside;
@@ -98,8 +98,8 @@ module _ (s : ServerState) (r : Request) (none : BreaksNone s.grants (owner_of s
             ids = λ h. below 13 13 (omega arith) h;
           })
 
-          pub none_applies : s.last + 1 < 2 ^ 64 → IsAcceptable (server_situation s) r
-          none_applies left = ruling.acceptable (server_situation s) r (record {
+          pub none_applies : s.last + 1 < 2 ^ 64 → IsAcceptable (admission_context s) r
+          none_applies left = ruling.acceptable (admission_context s) r (record {
             rules = none;
             ready = λ _. always_ready;
             disk = λ _. never_outside;

@@ -12,11 +12,11 @@ use Rattle.host_boot.specs.Taken.{probe_result_of}
 use Rattle.host_boot.specs.declared.ProbeResult.{ProbeResult}
 use Rattle.host_boot.specs.declared.ProbeResult.TheVariants.{Ready, Unready, Unserved}
 use Rattle.identify.specs.declared.DiskInfo.{DiskInfo}
-use Rattle.server_history.specs.Kept.{MayGoBack}
-use Rattle.server_history.specs.Resets.{IssuePorts, SettlePorts, SettlesPort}
+use Rattle.server_history.specs.Kept.{MayGiveBack}
+use Rattle.server_history.specs.Resets.{IssuePorts, ResolvePorts, ResolvesPort}
 use Rattle.server_history.specs.Served.{IssuesAll, IssuesEach, IssuesOne}
-use Rattle.server_history.specs.Server.{AreOfTwo, ServerState, InCallInvariant, IsLentOut, kept_at}
-use Rattle.server_history.specs.Stalled.{BookInvariant}
+use Rattle.server_history.specs.Server.{DifferInRequest, ServerState, InCallInvariant, IsLentOut, quarantined_at}
+use Rattle.server_history.specs.StuckServer.{ServerInvariant}
 use Rattle.port_driver.specs.Parts.{HasPortAndShared}
 use Rattle.port_driver.specs.Ports.{HasFoundPort}
 use Rattle.port_driver.specs.declared.served_port.ServedPort.{ServedPort}
@@ -25,14 +25,14 @@ use Rattle.port_driver.specs.declared.served_port.Shared.{Shared}
 -- ---- port by port
 
 -- one port's requests were resolved, and then those of the ports after it
-pub one_settled : (found : List ProbeResult) (number : ℕ) → number < length found → (s mid new : ServerState) (its later : List Reply) → SettlesPort (port_at number) its s mid
-    → SettlePorts (number + 1) (drop (number + 1) found) later mid new → SettlePorts number (drop number found) (its ++ later) s new
+pub one_settled : (found : List ProbeResult) (number : ℕ) → number < length found → (s mid new : ServerState) (its later : List Reply) → ResolvesPort (port_at number) its s mid
+    → ResolvePorts (number + 1) (drop (number + 1) found) later mid new → ResolvePorts number (drop number found) (its ++ later) s new
 one_settled found number low s mid new its later one rest =
-    subst (λ (left : List ProbeResult). SettlePorts number left (its ++ later) s new) (sym (drop_more found number Unserved low)) (mid, its, later, refl, one, rest)
+    subst (λ (left : List ProbeResult). ResolvePorts number left (its ++ later) s new) (sym (drop_more found number Unserved low)) (mid, its, later, refl, one, rest)
 
 -- after the last there is none
-pub none_to_settle : (found : List ProbeResult) (number : ℕ) → length found ≤ number → (s : ServerState) → SettlePorts number (drop number found) [] s s
-none_to_settle found number all s = subst (λ (left : List ProbeResult). SettlePorts number left [] s s) (sym (drop_all number found all)) (refl, refl)
+pub none_to_settle : (found : List ProbeResult) (number : ℕ) → length found ≤ number → (s : ServerState) → ResolvePorts number (drop number found) [] s s
+none_to_settle found number all s = subst (λ (left : List ProbeResult). ResolvePorts number left [] s s) (sym (drop_all number found all)) (refl, refl)
 
 -- ---- what is due
 
@@ -75,6 +75,6 @@ found_one s device shared port p kept has = record {
 -- ---- the whole
 
 -- what is kept may be given back
-pub may_go : (s : ServerState) (b : BookInvariant s) → ((port : ℕ) → All (IsLentOut s.table) (kept_at s.kept port)) → ((port : ℕ) → AllPairs AreOfTwo (kept_at s.kept port))
-    → ((port other : ℕ) (x y : Lending) → Contains (kept_at s.kept port) x → Contains (kept_at s.kept other) y → x.request ≡ y.request → (port ≡ other) × (x ≡ y)) → MayGoBack s.table s.kept
+pub may_go : (s : ServerState) (b : ServerInvariant s) → ((port : ℕ) → All (IsLentOut s.table) (quarantined_at s.kept port)) → ((port : ℕ) → AllPairs DifferInRequest (quarantined_at s.kept port))
+    → ((port other : ℕ) (x y : Lending) → Contains (quarantined_at s.kept port) x → Contains (quarantined_at s.kept other) y → x.request ≡ y.request → (port ≡ other) × (x ≡ y)) → MayGiveBack s.table s.kept
 may_go s b lent two one = record { lent = lent; two = two; apart = λ port other x y ne here there same. ne (one port other x y here there same).0 }

@@ -7,15 +7,15 @@ use Rattle.ata_types.specs.declared.request.ClientId.{ClientId}
 use Rattle.ata_types.specs.declared.request.Outcome.TheVariants.{Revoked}
 use Rattle.ata_types.specs.declared.request.Reply.{Reply}
 use Rattle.adapter.specs.Device.{Device}
-use Rattle.block_machine.specs.Left.{IsRow}
+use Rattle.block_machine.specs.Left.{IsValidRow}
 use Rattle.block_machine.specs.Rules.{Names, without_row}
 use Rattle.dma_frames.specs.Loan.{Lending}
 use Rattle.dma_frames.specs.Table.{Table}
-use Rattle.request_queue.specs.Entries.{Held, all_marked_under, waits_under}
-use Rattle.request_queue.specs.Dispositions.{AnswersAlike}
+use Rattle.request_queue.specs.Entries.{BookEntry, all_marked_under, waits_under}
+use Rattle.request_queue.specs.Dispositions.{CompletesAllWith}
 use Rattle.server_history.specs.Revoked.{RevokesGrant}
 use Rattle.server_history.specs.Served.{IssuesAll}
-use Rattle.server_history.specs.Server.{InCallInvariant, ServerState, kept_at}
+use Rattle.server_history.specs.Server.{InCallInvariant, ServerState, quarantined_at}
 use Rattle.slots.specs.Uses.{PortSlots}
 use Rattle.port_driver.specs.Dispositions.{holding}
 use Rattle.port_driver.specs.Parts.{HasPortAt}
@@ -27,26 +27,26 @@ abbrev pub TakesRow : List GrantRow → ClientId → ℕ → GrantRow → List G
 TakesRow rows client number row left = Contains rows row × Names client number row × (left ≡ without_row client number rows)
 
 -- the requests that wait in this book were told so, by replies that came after these
-abbrev pub AreTold : ClientId → ℕ → List Held → Table → List Reply → List Held → Table → List Reply → Type 0
+abbrev pub AreTold : ClientId → ℕ → List BookEntry → Table → List Reply → List BookEntry → Table → List Reply → Type 0
 AreTold client number book table before later then replies = (kept : List Lending) → (its : List Reply) × (replies ≡ before ++ its)
-    × AnswersAlike (waits_under client number) Revoked its (holding book table kept) (holding later then kept)
+    × CompletesAllWith (waits_under client number) Revoked its (holding book table kept) (holding later then kept)
 
 module _ (s : ServerState) (client : ClientId) (number : ℕ) (row : GrantRow) (grants : List GrantRow) (takes : TakesRow s.grants client number row grants)
-    (marked : List Held) (marked_is : marked ≡ all_marked_under client number s.book) (table : Table) (table_is : table ≡ s.table) (before : List Reply) (none : before ≡ [])
-    (book : List Held) (then : Table) (replies : List Reply) (told : AreTold client number marked table before book then replies) where
+    (marked : List BookEntry) (marked_is : marked ≡ all_marked_under client number s.book) (table : Table) (table_is : table ≡ s.table) (before : List Reply) (none : before ≡ [])
+    (book : List BookEntry) (then : Table) (replies : List Reply) (told : AreTold client number marked table before book then replies) where
   -- the server once they are
   abbrev pub mid : ServerState
   mid = record s { grants = grants; table = then; book = book }
 
   abbrev kept : List Lending
-  kept = kept_at s.kept row.port.0
+  kept = quarantined_at s.kept row.port.0
 
-  pub answered : AnswersAlike (waits_under client number) Revoked replies (holding (all_marked_under client number s.book) s.table kept) (holding book then kept)
+  pub answered : CompletesAllWith (waits_under client number) Revoked replies (holding (all_marked_under client number s.book) s.table kept) (holding book then kept)
   answered =
       let its = told kept in
-      subst (λ (r : List Reply). AnswersAlike (waits_under client number) Revoked r (holding (all_marked_under client number s.book) s.table kept) (holding book then kept)) (sym (its.1 ∙ ap (λ (b : List Reply). b ++ its.0) none))
-      (subst (λ (b : List Held). AnswersAlike (waits_under client number) Revoked its.0 (holding b s.table kept) (holding book then kept)) marked_is
-      (subst (λ (t : Table). AnswersAlike (waits_under client number) Revoked its.0 (holding marked t kept) (holding book then kept)) table_is its.2))
+      subst (λ (r : List Reply). CompletesAllWith (waits_under client number) Revoked r (holding (all_marked_under client number s.book) s.table kept) (holding book then kept)) (sym (its.1 ∙ ap (λ (b : List Reply). b ++ its.0) none))
+      (subst (λ (b : List BookEntry). CompletesAllWith (waits_under client number) Revoked its.0 (holding b s.table kept) (holding book then kept)) marked_is
+      (subst (λ (t : Table). CompletesAllWith (waits_under client number) Revoked its.0 (holding marked t kept) (holding book then kept)) table_is its.2))
 
   abbrev pub revokes : RevokesGrant client number replies s mid
   revokes = record {
@@ -57,13 +57,13 @@ module _ (s : ServerState) (client : ClientId) (number : ℕ) (row : GrantRow) (
 
   module _ (k : InCallInvariant s) (goes_on : InCallInvariant mid) where
     pub low : row.port.0 < 4
-    low = let its = (All-contains IsRow s.grants row k.rows takes.0).port in omega (arith, its)
+    low = let its = (All-contains IsValidRow s.grants row k.rows takes.0).port in omega (arith, its)
 
     -- the port has what issuing asks
     pub lends : (p : ServedPort) → HasPortAt s row.port.0 p → HasFoundPort mid s.device book p.slots row.port p.mode p.found
     lends p has = record { kept = goes_on; found_is = has.found_is; device_is = refl; book_is = refl; slots_are = has.slots_are; mode_is = has.mode_is }
 
     -- and then what is due was issued
-    pub issued : (place : ℕ) → place ≡ row.port.0 → (new : Device) (later : List Held) (slots : PortSlots) → IssuesAll row.port mid (with_port_slots mid new later slots row.port)
+    pub issued : (place : ℕ) → place ≡ row.port.0 → (new : Device) (later : List BookEntry) (slots : PortSlots) → IssuesAll row.port mid (with_port_slots mid new later slots row.port)
         → IssuesAll row.port mid (record mid { device = new; slots = set s.slots place slots; book = later })
     issued place is new later slots issues = subst (λ (n : ℕ). IssuesAll row.port mid (record mid { device = new; slots = set s.slots n slots; book = later })) (sym is) issues

@@ -2,7 +2,7 @@
 use Rattle.std.proofs.Common.{Bool, true, false, ◌≡◌, ◌∙◌, ap, refl, subst, sym}
 use Rattle.adapter.specs.Device.{Device}
 use Rattle.server_history.specs.Server.{ServerState, SettledInvariant}
-use Rattle.server_history.specs.Stalled.{StuckInvariant}
+use Rattle.server_history.specs.StuckServer.{StuckInvariant}
 use Rattle.server_history.specs.Histories.{InvariantBy}
 use Rattle.block_server.specs.View.{ServerView, server_of}
 

@@ -13,8 +13,8 @@ use Rattle.refinement.specs.Relation.{port_at}
 use Rattle.host_boot.specs.declared.ProbeResult.{ProbeResult}
 use Rattle.host_boot.specs.declared.ProbeResult.TheVariants.{Unserved, Ready, Unready}
 use Rattle.ata_types.specs.declared.call.AdapterStuck.{AdapterStuck}
-use Rattle.request_queue.specs.Entries.{Held}
-use Rattle.server_history.specs.Resets.{IssuePorts, SettlePorts}
+use Rattle.request_queue.specs.Entries.{BookEntry}
+use Rattle.server_history.specs.Resets.{IssuePorts, ResolvePorts}
 use Rattle.server_history.specs.Served.{IssuesEach}
 use Rattle.server_history.specs.Server.{ServerState}
 use Rattle.server_history.specs.Turns.{ServesPort, EachPortTakesTurn, TicksPort, ProbesUnready, a_tick_older}
@@ -40,7 +40,7 @@ turns Such Other such other port (Unready state ∷ rest) replies old new (mid, 
     turns Such Other such other (port + 1) rest replies mid new more ∙ other (port_at port) old mid does
 turns Such Other such other port (Unserved ∷ rest) replies old new t = turns Such Other such other (port + 1) rest replies old new t
 
-settles : (port : ℕ) (found : List ProbeResult) (replies : List Reply) (old new : ServerState) → SettlePorts port found replies old new → SameWanted old new
+settles : (port : ℕ) (found : List ProbeResult) (replies : List Reply) (old new : ServerState) → ResolvePorts port found replies old new → SameWanted old new
 settles port [] replies old new s = ap (λ (s : ServerState). s.wanted) s.1
 settles port (found ∷ rest) replies old new (mid, its, later, are, does, more) =
     settles (port + 1) rest later mid new more ∙ ap (λ (s : ServerState). s.wanted) does.server
@@ -55,7 +55,7 @@ issues port (Ready info ∷ rest) old new (mid, one, more) = issues (port + 1) r
 issues port (Unready state ∷ rest) old new more = issues (port + 1) rest old new more
 issues port (Unserved ∷ rest) old new more = issues (port + 1) rest old new more
 
-ticks_port : (book : List Held) (port : Port) (replies : List Reply) (old new : ServerState) → TicksPort book port replies old new → SameWanted old new
+ticks_port : (book : List BookEntry) (port : Port) (replies : List Reply) (old new : ServerState) → TicksPort book port replies old new → SameWanted old new
 ticks_port book port replies old new t = ⊎_elim (λ error_handled. error_handled.3.others.wanted) (λ rests. ap (λ (s : ServerState). s.wanted) rests.2) t
 
 same_port : (port : Port) (old new : ServerState) → new ≡ old → SameWanted old new

@@ -16,7 +16,7 @@ use Rattle.adapter.specs.Asked.{Asked}
 use Rattle.adapter.specs.Device.{Device}
 use Rattle.adapter.specs.Steps.{Steps}
 use Rattle.adapter.specs.declared.access.DeviceStep.{DeviceStep}
-use Rattle.block_machine.specs.Refusals.{IsAcceptable, IsFirstRefusal, IsOpen, IsFirstMemFault}
+use Rattle.block_machine.specs.Refusals.{IsAcceptable, IsFirstRefusal, MayAccessFrame, IsFirstMemFault}
 use Rattle.block_machine.specs.Rules.{IsNamed}
 use Rattle.block_server.specs.View.{ServerView, server_of}
 use Rattle.dma_frames.specs.Table.{owner_of, lent_to}
@@ -25,8 +25,8 @@ use Rattle.block_machine.specs.Due.{due_of}
 use Rattle.request_queue.specs.Entries.{IsAnyOverdue, asks_of}
 use Rattle.server_history.specs.Served.{Accepts, accepting}
 use Rattle.server_history.specs.Turns.{ServePorts, Ticks, a_tick_older}
-use Rattle.server_history.specs.Resets.{SettlePorts}
-use Rattle.server_history.specs.Server.{ServerState, mode_in, server_situation}
+use Rattle.server_history.specs.Resets.{ResolvePorts}
+use Rattle.server_history.specs.Server.{ServerState, mode_in, admission_context}
 
 -- only the adapter is another
 abbrev pub SameServer : {A : Type 0} → ServerView A → ServerView A → Type 0
@@ -40,7 +40,7 @@ IsFor rows r port = (row : GrantRow) × IsNamed rows r row × (row.port ≡ port
 -- no access was made. The adapter is on, as before.
 pub record AcceptsRequest {A : Type 0} (device : A → Device) (old new : ServerView A) (r : Request)
     (id : RequestId) : Type 0 where
-  pub acceptable : IsAcceptable (server_situation (server_of device old)) r
+  pub acceptable : IsAcceptable (admission_context (server_of device old)) r
   pub port : Port
   pub accepts : Accepts port r id (server_of device old) (server_of device new)
   pub stuck : new.stuck ≡ old.stuck
@@ -51,14 +51,14 @@ pub record AcceptsRequest {A : Type 0} (device : A → Device) (old new : Server
 abbrev pub Submits : {A : Type 0} → (A → Device) → ServerView A → ServerView A → Request → Result RequestId Refusal
     → Type 0
 Submits device old new r (Ok id) = AcceptsRequest device old new r id
-Submits device old new r (Err refusal) = IsFirstRefusal (server_situation (server_of device old)) r refusal
+Submits device old new r (Err refusal) = IsFirstRefusal (admission_context (server_of device old)) r refusal
     × (new ≡ old)
 
 -- Each ready port was served, and each other one that is served was probed, in rising number. Since a reset that got
 -- stuck, all requests were told what their ports are: dead.
 abbrev pub ServicesBy : Bool → List ProbeResult → List Reply → ServerState → ServerState → Type 0
 ServicesBy false ports replies old new = ServePorts 0 ports replies old new
-ServicesBy true ports replies old new = SettlePorts 0 ports replies old new
+ServicesBy true ports replies old new = ResolvePorts 0 ports replies old new
 
 -- So a service does; it doesn't end a reset.
 abbrev pub Services : {A : Type 0} → (A → Device) → ServerView A → ServerView A → List Reply → Type 0
@@ -84,7 +84,7 @@ pub record TicksServer {A : Type 0} (device : A → Device) (old new : ServerVie
 abbrev pub LoadsFrame : {A : Type 0} → (A → Device) → ServerView A → ServerView A → ClientId → Frame → ℕ → List ℕ
     → List ℕ → Result (Unit {0}) MemFault → Type 0
 LoadsFrame device old new client frame offset before bytes (Ok done) =
-    IsOpen (owner_of old.table) (lent_to old.table) client frame offset (length before)
+    MayAccessFrame (owner_of old.table) (lent_to old.table) client frame offset (length before)
     × Loads (FRAME_BYTES * frame.0 + offset) bytes (device old.adapter) (device new.adapter) × SameServer old new
 LoadsFrame device old new client frame offset before bytes (Err fault) =
     IsFirstMemFault (owner_of old.table) (lent_to old.table) client frame offset (length before) fault
@@ -96,7 +96,7 @@ LoadsFrame device old new client frame offset before bytes (Err fault) =
 abbrev pub StoresFrame : {A : Type 0} → (A → Device) → ServerView A → ServerView A → ClientId → Frame → ℕ → List ℕ
     → Result (Unit {0}) MemFault → Type 0
 StoresFrame device old new client frame offset bytes (Ok done) =
-    IsOpen (owner_of old.table) (lent_to old.table) client frame offset (length bytes)
+    MayAccessFrame (owner_of old.table) (lent_to old.table) client frame offset (length bytes)
     × Stores (FRAME_BYTES * frame.0 + offset) bytes (device old.adapter) (device new.adapter) × SameServer old new
 StoresFrame device old new client frame offset bytes (Err fault) =
     IsFirstMemFault (owner_of old.table) (lent_to old.table) client frame offset (length bytes) fault × (new ≡ old)

@@ -12,26 +12,26 @@ use Rattle.adapter.specs.Rules.{IsOn}
 use Rattle.adapter.specs.declared.access.DeviceStep.{DeviceStep}
 use Rattle.adapter.specs.declared.tape.Entry.{Entry}
 use Rattle.refinement.specs.Relation.{IsDiskOf, SameMemory, SameSectors}
-use Rattle.refinement.specs.Tape.{PutsInDisks, TellsAmong}
-use Rattle.block_machine.specs.Events.{Ask, CallResult, EveryReadHolds, IsEmptied, IsRun, steps_of}
+use Rattle.refinement.specs.Tape.{PutsInDisks, TellsDeviceSteps}
+use Rattle.block_machine.specs.Events.{AbstractCall, CallResult, EveryReadHolds, EmptyUnlessReady, IsRun, steps_of}
 use Rattle.block_machine.specs.Histories.{Happening, JointState, events_of, now}
 use Rattle.durability.specs.Durable.{EveryPlugFinds}
 use Rattle.driver_history.specs.Holds.{ShowsDiskInfo}
-use Rattle.driver_history.specs.Moves.{KeepsMoves}
+use Rattle.driver_history.specs.Moves.{MovesConfined}
 use Rattle.host_boot.specs.Taken.{IsServed, wanted_of}
 use Rattle.identify.specs.Wanted.{serial_of}
 use Rattle.identify.specs.declared.DiskInfo.{DiskInfo}
 use Rattle.identify.specs.declared.wanted.Wanted.{Wanted}
-use Rattle.port_boot.specs.States.{EndsAs, HasFitDisk}
+use Rattle.port_boot.specs.States.{BacksState, HasFitDisk}
 
 -- Each of these calls, the newest first, which came after that history, is of this kind.
-abbrev pub EachAfter : {X : Type 0} → (List X → X → Type 0) → List X → List X → Type 0
-EachAfter Is past [] = Unit {0}
-EachAfter Is past (h ∷ added) = EachAfter Is past added × Is (added ++ past) h
+abbrev pub AllAdded : {X : Type 0} → (List X → X → Type 0) → List X → List X → Type 0
+AllAdded Is past [] = Unit {0}
+AllAdded Is past (h ∷ added) = AllAdded Is past added × Is (added ++ past) h
 
 -- What can be seen of a server: the device behind its adapter, the disks that are wanted in its ports, its grants, by
 -- frame the owner and the request that it is lent to, and the states of its ports.
-pub record Visible : Type 0 where
+pub record ObservedState : Type 0 where
   pub device : Device
   pub wanted : List Wanted
   pub rows : List GrantRow
@@ -40,7 +40,7 @@ pub record Visible : Type 0 where
   pub state : Port → PortState
 
 -- so the server is seen at the instant
-pub record IsSeenAt (v : Visible) (i : JointState Device) : Type 0 where
+pub record IsSeenAt (v : ObservedState) (i : JointState Device) : Type 0 where
   pub device_is : i.device ≡ v.device
   pub rows : i.abstract.machine.rows ≡ v.rows
   pub owner : (frame : Frame) → i.abstract.machine.owner frame ≡ v.owner frame
@@ -54,22 +54,23 @@ pub record IsSeenAt (v : Visible) (i : JointState Device) : Type 0 where
 -- there are and what else requests are checked by. Absent, unfit and foreign ones are stopped, for what was read last
 -- or for that page. Of a dead one an engine was awaited in vain; or the adapter isn't on, since its last reset wasn't
 -- seen to end (PxSSTS, PxTFD, PxSIG, PxCMD: AHCI 1.3.1, 3.3; IDENTIFY DEVICE: ACS-3, 7.12).
-abbrev pub IsInState : Wanted → JointState Device → Port → Bool → PortState → Type 0
-IsInState wanted i p false state = state ≡ Absent
-IsInState wanted i p true Ready = IsOn i.device × (info : DiskInfo) × HasFitDisk (serial_of wanted) p.0 i.device info
+abbrev pub PortStateIsJustified : Wanted → JointState Device → Port → Bool → PortState → Type 0
+PortStateIsJustified wanted i p false state = state ≡ Absent
+PortStateIsJustified wanted i p true Ready = IsOn i.device × (info : DiskInfo)
+    × HasFitDisk (serial_of wanted) p.0 i.device info
     × ShowsDiskInfo i.abstract.ports p i.device.cap info
-IsInState wanted i p true Dead = EndsAs (serial_of wanted) Dead p.0 i.device ⊎ (IsOn i.device → ⊥)
-IsInState wanted i p true state = EndsAs (serial_of wanted) state p.0 i.device
+PortStateIsJustified wanted i p true Dead = BacksState (serial_of wanted) Dead p.0 i.device ⊎ (IsOn i.device → ⊥)
+PortStateIsJustified wanted i p true state = BacksState (serial_of wanted) state p.0 i.device
 
 -- What holds between two calls. Of ports 0 to 3 those are served in which a disk is wanted and which the adapter has;
 -- each is in its state for a reason; and on one that isn't ready no request waits, unless the adapter isn't on.
 -- Clients' frames hold what the machine's do. The disk of each port is the machine's; and where the adapter's disks
 -- tell their sectors, these hold the same.
-pub record HoldsBetween (wanted : List Wanted) (i : JointState Device) : Type 0 where
+pub record BetweenCallsInvariant (wanted : List Wanted) (i : JointState Device) : Type 0 where
   pub served : (p : Port) → p.0 < 4 → (i.abstract.ports.served p ≡ true) ↔ IsServed (wanted_of wanted p.0) p.0 i.device
   pub state : (p : Port) → p.0 < 4
-      → IsInState (wanted_of wanted p.0) i p (i.abstract.ports.served p) (i.abstract.ports.state p)
-  pub waits : (p : Port) → p.0 < 4 → IsOn i.device → IsEmptied i.abstract p
+      → PortStateIsJustified (wanted_of wanted p.0) i p (i.abstract.ports.served p) (i.abstract.ports.state p)
+  pub waits : (p : Port) → p.0 < 4 → IsOn i.device → EmptyUnlessReady i.abstract p
   pub memory : SameMemory i.abstract.machine i.device.memory
   pub disk : (port : ℕ) → IsDiskOf i.abstract.machine (i.device.port port) port
   pub sectors : i.device.telling ≡ true → (port : ℕ) → SameSectors i.abstract.machine (i.device.port port).disk port
@@ -83,10 +84,10 @@ pub record MatchesTape (wanted : List Wanted) (first : JointState Device) (past 
     (h : Happening Device DeviceStep) : Type 0 where
   pub gained : List Entry
   pub tape : h.device.tape ≡ (now first past).device.tape ++ gained
-  pub tells : TellsAmong (now first past).abstract.machine gained h.event.steps
+  pub tells : TellsDeviceSteps (now first past).abstract.machine gained h.event.steps
   pub plugged : (p : ℕ) → (disks : List Disk) × PutsInDisks p disks h.event.steps
       × ((h.device.port p).plugged ≡ ((now first past).device.port p).plugged ++ disks)
-  pub holds : HoldsBetween wanted (now first (h ∷ past))
+  pub holds : BetweenCallsInvariant wanted (now first (h ∷ past))
 
 -- What is promised to clients of calls, the newest first, that asked that and said this, one after another, after a
 -- history from where the server was made. With them the history is a run of the block machine, which leads to the
@@ -94,7 +95,7 @@ pub record MatchesTape (wanted : List Wanted) (first : JointState Device) (past 
 -- tell their sectors. The device stands behind its steps in each of the calls, and before and after it there holds what
 -- holds between calls; the disks that are wanted stay so.
 pub record ServesClients (first : JointState Device) (past added : List (Happening Device DeviceStep))
-    (old new : Visible) (asked : List (Ask DeviceStep)) (said : List CallResult) : Type 0 where
+    (old new : ObservedState) (asked : List (AbstractCall DeviceStep)) (said : List CallResult) : Type 0 where
   pub asks : map (λ h. h.event.ask) (reverse added) ≡ asked
   pub says : map (λ h. h.event.said) (reverse added) ≡ said
   pub wanted : new.wanted ≡ old.wanted
@@ -102,19 +103,20 @@ pub record ServesClients (first : JointState Device) (past added : List (Happeni
   pub to : IsSeenAt new (now first (added ++ past))
   pub run : IsRun first.abstract (events_of (added ++ past))
   pub reads : first.device.telling ≡ true → EveryReadHolds first.abstract (events_of (added ++ past))
-  pub begins : HoldsBetween old.wanted (now first past)
-  pub backed : EachAfter (MatchesTape new.wanted first) past added
+  pub begins : BetweenCallsInvariant old.wanted (now first past)
+  pub backed : AllAdded (MatchesTape new.wanted first) past added
 
 -- What is promised of moves of data, which follows: in each of these calls moves and clears keep to their places, of
 -- requests that were accepted when they broke no rule.
 abbrev pub ConfinesMoves : JointState Device → List (Happening Device DeviceStep) → List (Happening Device DeviceStep)
     → Type 0
-ConfinesMoves first past added = EachAfter (λ before h. KeepsMoves first.abstract.machine (steps_of (events_of before))
+ConfinesMoves first past added = AllAdded (λ before h. MovesConfined first.abstract.machine
+    (steps_of (events_of before))
     h.event.steps (now first before).device h.device) past added
 
 -- What is promised to clients of disks that are pulled out. Of a write or trim that was answered Ok before a flush of
 -- its port was accepted that was answered Ok, too, with its disk in from the acceptance of the write to the answer of
 -- the flush, and no other one put in since: where that disk comes back it has, in each sector of it, the bytes that it
 -- put there, or those of a write or trim accepted later, where the adapter's disks tell their sectors.
-pub record OutlivesUnplugs (first : JointState Device) (calls : List (Happening Device DeviceStep)) : Type 0 where
+pub record FlushesSurviveReplug (first : JointState Device) (calls : List (Happening Device DeviceStep)) : Type 0 where
   pub finds : first.device.telling ≡ true → EveryPlugFinds first.abstract.machine (steps_of (events_of calls))

@@ -3,8 +3,8 @@ use Rattle.std.specs.Prelude.{ℕ, ◌≡◌, ◌<◌, ◌+◌, ◌/◌, ◌%◌
 use Rattle.host_boot.specs.Taken.{probe_result_of}
 use Rattle.host_boot.specs.declared.Host.{Host}
 use Rattle.hba_regs.specs.Bits.{bit}
-use Rattle.server_history.specs.Server.{mode_found}
-use Rattle.port_driver.specs.Parts.{BeginsAnew, no_port}
+use Rattle.server_history.specs.Server.{probed_mode}
+use Rattle.port_driver.specs.Parts.{NotesProbeResult, no_port}
 use Rattle.port_driver.specs.declared.served_port.ServedPort.{ServedPort}
 
 -- the port of this number
@@ -26,6 +26,6 @@ pub record EachBecomes (Such : ℕ → ServedPort → ServedPort → Type 0) (ol
 
 -- the port of this number was found by the host, and takes commands as adapter and disk can
 pub record BeginsAsHostFound (host : Host) (number : ℕ) (old new : ServedPort) : Type 0 where
-  pub anew : BeginsAnew (probe_result_of host.ports number) new.mode old new
+  pub anew : NotesProbeResult (probe_result_of host.ports number) new.mode old new
   pub mode : (cap : ℕ) → host.slots ≡ cap / 256 % 32 + 1 → host.queued ≡ bit cap 30
-      → new.mode ≡ mode_found cap (probe_result_of host.ports number)
+      → new.mode ≡ probed_mode cap (probe_result_of host.ports number)

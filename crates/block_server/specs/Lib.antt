@@ -4,7 +4,7 @@ pub mod FourPorts
 pub mod Seen
 pub mod Made
 pub mod Calls
-pub mod Sayings
+pub mod CallResults
 pub mod Running
 pub mod Promise
 pub mod Resetting

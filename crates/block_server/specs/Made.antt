@@ -7,22 +7,22 @@ use Rattle.ata_types.specs.declared.request.Frame.{Frame}
 use Rattle.adapter.specs.Device.{Device}
 use Rattle.adapter.specs.Idle.{IsIdle}
 use Rattle.block_server.specs.View.{ServerView, server_of}
-use Rattle.configuration.specs.Rules.{MeetsAll, IsFirstUnmet}
+use Rattle.configuration.specs.Rules.{LacksEveryFault, IsLeastFault}
 use Rattle.configuration.specs.declared.Config.{Config}
 use Rattle.dma_frames.specs.Table.{FrameExtent, owner_of, lent_to, ExtentHasFrame}
 use Rattle.grants.specs.Rows.{SameRows}
 use Rattle.host_boot.specs.Taken.{TakesOver}
 use Rattle.host_boot.specs.declared.Host.{Host}
 use Rattle.configuration.specs.Plan.{PlanView, IsPlan, IsPlanOf}
-use Rattle.server_history.specs.Histories.{HasBegun}
-use Rattle.server_history.specs.Server.{SettledInvariant, kept_at, remembered_at, used_for}
+use Rattle.server_history.specs.Histories.{StartsHistory}
+use Rattle.server_history.specs.Server.{SettledInvariant, quarantined_at, remembered_at, used_for}
 use Rattle.block_server.specs.declared.types.ServerError.{ServerError}
 use Rattle.block_server.specs.declared.types.ServerError.TheVariants.{BadConfig, NoMemory}
 
 -- The adapter is idle; and where the configuration is sound, it has the frames.
 pub record IsReadyFor (config : Config) (d : Device) : Type 0 where
   pub idle : IsIdle d
-  pub room : MeetsAll config → FRAME_BYTES * config.frames ≤ d.size
+  pub room : LacksEveryFault config → FRAME_BYTES * config.frames ≤ d.size
 
 -- The server has what the configuration's plan says: its grants, its owners, and the disks that it asks for. The
 -- adapter was taken over. No disk is remembered, nothing is asked, nothing lent, no loan
@@ -45,15 +45,15 @@ pub record IsInitialServer {A : Type 0} (device : A → Device) (config : Config
   pub ports : s.ports ≡ host.ports
   pub forgotten : (port : ℕ) → remembered_at s.remembered port ≡ None
   pub taken : TakesOver plan.wanted host (device adapter) (device s.adapter)
-  pub unkept : (port : ℕ) → kept_at s.kept port ≡ []
+  pub unkept : (port : ℕ) → quarantined_at s.kept port ≡ []
   pub book : s.book ≡ []
   pub last : s.last ≡ 0
   pub stuck : s.stuck ≡ false
   pub unused : (port slot : ℕ) → used_for s.slots port slot ≡ None
   pub settled : SettledInvariant (server_of device s)
-  pub begun : HasBegun (server_of device s)
+  pub begun : StartsHistory (server_of device s)
 
 -- why no server is made
 abbrev pub Refuses : Config → ServerError → Type 0
-Refuses config (BadConfig kind) = IsFirstUnmet config kind
-Refuses config NoMemory = MeetsAll config
+Refuses config (BadConfig kind) = IsLeastFault config kind
+Refuses config NoMemory = LacksEveryFault config

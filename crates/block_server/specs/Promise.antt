@@ -13,39 +13,39 @@ use Rattle.adapter.specs.Device.{Device}
 use Rattle.adapter.specs.declared.access.DeviceStep.{DeviceStep}
 use Rattle.refinement.specs.Facts.{RunsWell}
 use Rattle.refinement.specs.Slots.{ServesRequest}
-use Rattle.block_machine.specs.Events.{CallRecord, Ask, AbstractState, Reset, RevokeOf, Service, Tick, AnswersEnded, HasTimedOut, WasIssued, abstract_after}
+use Rattle.block_machine.specs.Events.{CallRecord, AbstractCall, AbstractState, Reset, RevokeOf, Service, Tick, AnswersEnded, HasTimedOut, WasIssued, abstract_after}
 use Rattle.block_machine.specs.Histories.{Happening, JointState, now}
 use Rattle.block_machine.specs.Ports.{SamePort}
 use Rattle.block_machine.specs.State.{Machine, Pending}
 use Rattle.block_machine.specs.Steps.{Answer, AllTouched}
 use Rattle.driver_history.specs.Claims.{GoesWellFor, IsHealthyFor}
 use Rattle.driver_history.specs.Evidence.{StaysHealthy}
-use Rattle.driver_history.specs.Histories.{Issues}
+use Rattle.driver_history.specs.Histories.{IssuesAllDue}
 use Rattle.host_boot.specs.Taken.{probe_result_of}
 use Rattle.server_history.specs.Histories.{LeadsToServer}
 use Rattle.server_history.specs.Server.{state_of}
-use Rattle.block_server.specs.Clients.{ConfinesMoves, EachAfter, OutlivesUnplugs, ServesClients}
+use Rattle.block_server.specs.Clients.{ConfinesMoves, AllAdded, FlushesSurviveReplug, ServesClients}
 use Rattle.block_server.specs.Running.{ask_of, machine_result_of}
 use Rattle.block_server.specs.View.{ServerView, server_of, visible_of}
 
 -- What is told where nothing goes wrong. A call that revokes a grant tells Revoked, of requests that aren't issued
 -- (which ones: `AnswersRevoke`). Each other one tells Ok, of a request that was issued when the call began, of which
 -- each sector was moved or cleared since its last issue, and which was ended.
-abbrev pub IsToldWell : Ask DeviceStep → Machine → Pending → Outcome → Type 0
-IsToldWell (RevokeOf client number) old e told = (told ≡ outcome.Revoked) × (e.issued ≡ false)
-IsToldWell ask old e told = (told ≡ outcome.Ok) × WasIssued old e.request.id × (e.issued ≡ true) × AllTouched e
+abbrev pub IsFaultFreeAnswer : AbstractCall DeviceStep → Machine → Pending → Outcome → Type 0
+IsFaultFreeAnswer (RevokeOf client number) old e told = (told ≡ outcome.Revoked) × (e.issued ≡ false)
+IsFaultFreeAnswer ask old e told = (told ≡ outcome.Ok) × WasIssued old e.request.id × (e.issued ≡ true) × AllTouched e
     × (e.ended ≡ true)
 
 -- What a call is to the clients of a port that is ready and stays healthy, with no register in it. The port is what it
--- was, with the same disk. What is answered there is told as where nothing goes wrong (`IsToldWell`); a service answers
--- each request that had ended when it began. And of the port's unanswered requests a submit, a service and a
+-- was, with the same disk. What is answered there is told as where nothing goes wrong (`IsFaultFreeAnswer`); a service
+-- answers each request that had ended when it began. And of the port's unanswered requests a submit, a service and a
 -- revocation issue exactly those that are due once all else is done.
 pub record ServesClientsOf (port : Port) (old : AbstractState) (call : CallRecord DeviceStep) : Type 0 where
   pub same : SamePort old.ports call.ports port
   pub answers : (e : Pending) (told : Outcome) → Contains call.steps (Answer e told) → e.request.port ≡ port
-      → IsToldWell call.ask old.machine e told
+      → IsFaultFreeAnswer call.ask old.machine e told
   pub ended : call.ask ≡ Service → AnswersEnded old.machine call.steps port
-  pub issues : Issues call.ask call.steps (abstract_after old call).machine call.ports port
+  pub issues : IssuesAllDue call.ask call.steps (abstract_after old call).machine call.ports port
 
 -- The call goes well for the port, with its engine running all the time and after it, and serves the port's clients.
 abbrev pub IsServedWell : Port → JointState Device → Happening Device DeviceStep → Type 0
@@ -53,7 +53,7 @@ IsServedWell port old h = GoesWellFor old h port × ServesClientsOf port old.abs
 
 -- In a call after these ones, a service answers each request of a port that is ready when it begins of which the bits
 -- of PxCI and PxSACT were clear then; and each port is served well that the call is healthy for.
-pub record ServesPorts (first : JointState Device) (past : List (Happening Device DeviceStep))
+pub record KeepsPortPromise (first : JointState Device) (past : List (Happening Device DeviceStep))
     (h : Happening Device DeviceStep) : Type 0 where
   pub seen : (port : Port) (slot : ℕ) (id : RequestId) → h.event.ask ≡ Service
       → (now first past).abstract.ports.state port ≡ Ready
@@ -73,13 +73,13 @@ pub record ServesPorts (first : JointState Device) (past : List (Happening Devic
 pub record DrivesDevice {A : Type 0} (device : A → Device) (first : JointState Device)
     (past added : List (Happening Device DeviceStep)) (old new : ServerView A) : Type 0 where
   pub leads : LeadsToServer first (added ++ past) (server_of device new)
-  pub serves : EachAfter (ServesPorts first) past added
+  pub serves : AllAdded (KeepsPortPromise first) past added
   pub healthy : (port : Port) → state_of (probe_result_of old.ports port.0) ≡ Ready
       → StaysHealthy port.0 (device old.adapter) (device new.adapter)
-      → EachAfter (λ before h. (h.event.ask ≢ Reset)
+      → AllAdded (λ before h. (h.event.ask ≢ Reset)
       × (h.event.ask ≡ Tick → HasTimedOut (now first before).abstract port → ⊥))
       past added
-      → EachAfter (λ before h. IsServedWell port (now first before) h) past added
+      → AllAdded (λ before h. IsServedWell port (now first before) h) past added
       × (state_of (probe_result_of new.ports port.0) ≡ Ready) × RunsWell ((device new.adapter).port port.0)
 
 -- After a history that leads to the server before them, the calls of a list, which said this, add theirs: with what is
@@ -91,7 +91,7 @@ pub record KeepsPromise {A : Type 0} (device : A → Device) (first : JointState
   pub clients : ServesClients first past added (visible_of device old) (visible_of device new) (map ask_of calls)
       (map machine_result_of said)
   pub moves : ConfinesMoves first past added
-  pub disks : OutlivesUnplugs first (added ++ past)
+  pub disks : FlushesSurviveReplug first (added ++ past)
   pub driver : DrivesDevice device first past added old new
 
 -- So it is after each such history. (There is one since the server was made: `begun` of `IsInitialServer`; and with the

@@ -8,12 +8,12 @@ use Rattle.ata_types.specs.declared.call.CallResult.{CallResult}
 use Rattle.ata_types.specs.declared.call.CallResult.TheVariants as said
 use Rattle.ata_types.specs.declared.request.Reply.{Reply}
 use Rattle.adapter.specs.declared.access.DeviceStep.{DeviceStep}
-use Rattle.block_machine.specs.Events.{Ask, Submit as AskSubmit, StoreAt, LoadAt, Service as AskService, Tick as AskTick, Reset as AskReset, RevokeOf, State as AskState, Device as AskDevice, Submitted, Loaded, Served, WasReset, WasRevoked, Shown, Stepped}
+use Rattle.block_machine.specs.Events.{AbstractCall, Submit as AskSubmit, StoreAt, LoadAt, Service as AskService, Tick as AskTick, Reset as AskReset, RevokeOf, State as AskState, Device as AskDevice, Submitted, Loaded, Served, WasReset, WasRevoked, Shown, Stepped}
 use Rattle.block_machine.specs.Events as machine
 use Rattle.server_history.specs.Histories.{store_said}
 
 -- the call of a list, as the machine is asked; a load is of `MOST_CALL_BYTES` at most
-abbrev pub ask_of : Call DeviceStep → Ask DeviceStep
+abbrev pub ask_of : Call DeviceStep → AbstractCall DeviceStep
 ask_of (Submit r) = AskSubmit r
 ask_of (ClientStore client frame offset bytes) = StoreAt client frame offset bytes.items
 ask_of (ClientLoad client frame offset count) = LoadAt client frame offset (min count MOST_CALL_BYTES)

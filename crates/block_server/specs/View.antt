@@ -9,10 +9,10 @@ use Rattle.host_boot.specs.Taken.{probe_result_of}
 use Rattle.host_boot.specs.declared.ProbeResult.{ProbeResult}
 use Rattle.identify.specs.declared.DiskInfo.{DiskInfo}
 use Rattle.identify.specs.declared.wanted.Wanted.{Wanted}
-use Rattle.request_queue.specs.Entries.{Held}
+use Rattle.request_queue.specs.Entries.{BookEntry}
 use Rattle.server_history.specs.Server.{ServerState, state_of}
 use Rattle.slots.specs.Uses.{PortSlots}
-use Rattle.block_server.specs.Clients.{Visible}
+use Rattle.block_server.specs.Clients.{ObservedState}
 
 pub record ServerView (A : Type 0) : Type 0 where
   pub adapter : A
@@ -28,7 +28,7 @@ pub record ServerView (A : Type 0) : Type 0 where
   pub slots : List PortSlots
   pub kept : List (List Lending)
   -- the unanswered requests of all ports, in order of acceptance
-  pub book : List Held
+  pub book : List BookEntry
   -- the id that was handed out last, or 0
   pub last : ℕ
   -- whether the last reset got stuck
@@ -51,7 +51,7 @@ server_of device s = record {
 }
 
 -- what can be seen of it
-abbrev pub visible_of : {A : Type 0} → (A → Device) → ServerView A → Visible
+abbrev pub visible_of : {A : Type 0} → (A → Device) → ServerView A → ObservedState
 visible_of device s = record {
   device = device s.adapter;
   wanted = s.wanted;

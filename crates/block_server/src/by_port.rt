@@ -6,7 +6,7 @@ ghost use Rattle.host_boot.specs.declared.ProbeResult.TheVariants.{Unserved};
 ghost use Rattle.refinement.specs.Relation.{port_at};
 ghost use Rattle.request_queue.specs.Entries.{IsAnyOverdue, IsOverdue, is_among};
 ghost use Rattle.server_history.specs.ErrorHandling.{AreUnused};
-ghost use Rattle.server_history.specs.Server.{kept_at, plain_mode};
+ghost use Rattle.server_history.specs.Server.{quarantined_at, plain_mode};
 ghost use Rattle.server_history.specs.Turns.{is_ready};
 
 use ata_types::{PORTS, Port};
@@ -23,7 +23,7 @@ fn none_of_two(alloc: Global) -> Result<(Quarantine, Quarantine), AllocError>
     match Quarantine::new(alloc) {
         Ok(second) => Ok((first, second)),
         Err(error) => {
-            first.end();
+            first.destroy();
             Err(error)
         }
     }
@@ -37,8 +37,8 @@ pub(crate) fn none_kept(alloc: Global) -> Result<[Quarantine; PORTS], AllocError
     match none_of_two(alloc) {
         Ok((third, fourth)) => Ok([first, second, third, fourth]),
         Err(error) => {
-            first.end();
-            second.end();
+            first.destroy();
+            second.destroy();
             Err(error)
         }
     }
@@ -46,13 +46,13 @@ pub(crate) fn none_kept(alloc: Global) -> Result<[Quarantine; PORTS], AllocError
 
 /// Ends the lists, which have no loans.
 pub(crate) fn end_all(kept: [Quarantine; PORTS])
-    requires { (port : ℕ) → kept_at kept port ≡ [] }
+    requires { (port : ℕ) → quarantined_at kept port ≡ [] }
 {
     let [first, second, third, fourth] = kept;
-    first.end();
-    second.end();
-    third.end();
-    fourth.end();
+    first.destroy();
+    second.destroy();
+    third.destroy();
+    fourth.destroy();
 }
 
 /// Ports of which these disks are wanted, and that keep these loans. None is served yet: each takes plain commands, and
@@ -95,10 +95,10 @@ pub(crate) fn into_loans(ports: [ServedPort; PORTS]) -> [Quarantine; PORTS]
 {
     let [first, second, third, fourth] = ports;
     [
-        first.into_kept(),
-        second.into_kept(),
-        third.into_kept(),
-        fourth.into_kept(),
+        first.into_quarantine(),
+        second.into_quarantine(),
+        third.into_quarantine(),
+        fourth.into_quarantine(),
     ]
 }
 

@@ -17,12 +17,13 @@ ghost use Rattle.block_server.specs.Promise.{Simulates};
 ghost use Rattle.block_server.specs.Made.{IsInitialServer};
 ghost use Rattle.block_server.specs.Running.{ask_of, machine_result_of};
 ghost use Rattle.block_server.specs.View.{ServerView, server_of};
-ghost use Rattle.block_server.specs.Costs.{MOST_OF_NEW, MOST_OF_RESET, MOST_OF_REVOKE, MOST_OF_SERVICE, MOST_OF_SUBMIT, MOST_OF_TICK};
+ghost use Rattle.block_server.specs.Costs.{MOST_NEW_ACCESSES, MOST_RESET_ACCESSES, MOST_REVOKE_ACCESSES, MOST_SERVICE_ACCESSES, MOST_SUBMIT_ACCESSES, MOST_TICK_ACCESSES};
 
 use adapter::Stepped;
 use driver_history::laws::{
-    law_answers_rest, law_healthy_calls_go_well, law_histories_are_runs,
-    law_moves_keep_to_their_places, law_plugs_find, law_reads_hold, law_seen_are_answered,
+    law_answers_justified, law_clear_bits_are_answered, law_healthy_calls_go_well,
+    law_histories_are_runs, law_moves_keep_to_their_places, law_reads_hold,
+    law_replugs_keep_flushed_writes,
 };
 use host_boot::laws::law_what_was_taken_over_may_be_served;
 
@@ -42,13 +43,13 @@ pub fn law_runs_keep_their_promise<A: Stepped>()
         (said more : List (CallResult (ArrayVec Reply))) → Simulates A.device old mid calls said
         → Simulates A.device mid new further more → Simulates A.device old new (calls ++ further) (said ++ more) }
 {
-    law_seen_are_answered();
+    law_clear_bits_are_answered();
     law_healthy_calls_go_well();
-    law_answers_rest();
+    law_answers_justified();
     law_moves_keep_to_their_places();
     law_histories_are_runs();
     law_reads_hold();
-    law_plugs_find();
+    law_replugs_keep_flushed_writes();
 }
 
 /// A port that is ready when its server is made runs well then, where nothing went wrong on it since the adapter was
@@ -63,11 +64,11 @@ pub fn law_new_servers_run_well<A: Stepped>()
 }
 
 /// How many accesses the calls make at most, in numbers: by the 64 readings of a wait, 32 slots and four ports.
-pub fn law_most_accesses_are()
-    ensures new { MOST_OF_NEW ≡ 1632 }
-    ensures submit { MOST_OF_SUBMIT ≡ 4 }
-    ensures service { MOST_OF_SERVICE ≡ 2728 }
-    ensures tick { MOST_OF_TICK ≡ 2152 }
-    ensures reset { MOST_OF_RESET ≡ 2209 }
-    ensures revoke { MOST_OF_REVOKE ≡ 128 }
+pub fn law_most_accesses_in_numbers()
+    ensures new { MOST_NEW_ACCESSES ≡ 1632 }
+    ensures submit { MOST_SUBMIT_ACCESSES ≡ 4 }
+    ensures service { MOST_SERVICE_ACCESSES ≡ 2728 }
+    ensures tick { MOST_TICK_ACCESSES ≡ 2152 }
+    ensures reset { MOST_RESET_ACCESSES ≡ 2209 }
+    ensures revoke { MOST_REVOKE_ACCESSES ≡ 128 }
 {}

@@ -19,6 +19,6 @@ mod sayings;
 mod server;
 mod types;
 
-pub use sayings::Sayings;
+pub use sayings::CallResults;
 pub use server::Server;
 pub use types::{RunStopped, ServerError};

@@ -5,25 +5,25 @@ ghost use Rattle.ata_types.specs.declared.request.Reply.{Reply};
 ghost use Rattle.port_driver.specs.Costs.{ISSUES_ACCESSES};
 ghost use Rattle.block_server.specs.FourPorts.{EachBecomes, BeginsAsHostFound, by_port, without_loans};
 ghost use Rattle.block_server.specs.Seen.{with_ports};
-ghost use Rattle.port_driver.specs.Parts.{BeginsAnew};
-ghost use Rattle.server_history.specs.Kept.{IsKeptIn, MayGoBack, TakesBack};
-ghost use Rattle.server_history.specs.Resets.{IssuePorts, MaySettle, SettlePorts};
+ghost use Rattle.port_driver.specs.Parts.{NotesProbeResult};
+ghost use Rattle.server_history.specs.Kept.{IsKeptIn, MayGiveBack, TakesBack};
+ghost use Rattle.server_history.specs.Resets.{IssuePorts, MayResolve, ResolvePorts};
 ghost use Rattle.server_history.specs.Server.{InCallInvariant, ServerState, plain_mode};
-ghost use Rattle.server_history.specs.Stalled.{stuck_found};
+ghost use Rattle.server_history.specs.StuckServer.{stuck_found};
 
 use adapter::Adapter;
 use ata_types::{MOST_UNANSWERED, PORTS, Port, Replies};
 use dma_frames::FrameTable;
 use host_boot::Host;
-use port_driver::{ServedPort, Shared, mode_found};
+use port_driver::{ServedPort, Shared, probed_mode};
 use server_history::laws::{
-    law_a_port_goes_on_after_its_errors, law_loans_end_in_turn, law_requests_keep,
+    law_a_port_goes_on_after_its_errors, law_loans_end_in_turn, law_requests_preserve_invariant,
 };
-use server_history::stalled::law_resolving_goes_on;
+use server_history::stuck_server::law_may_resolve_persists;
 
 /// Gives back the loans that are kept of all ports: their frames are lent to none.
 pub(crate) fn give_all_back(ports: &mut [ServedPort; PORTS], table: &mut FrameTable)
-    requires { MayGoBack table.old (by_port (λ p. p.kept) ports.old) }
+    requires { MayGiveBack table.old (by_port (λ p. p.kept) ports.old) }
     ensures ports { ports.new ≡ map without_loans ports.old }
     ensures back { TakesBack table.old table.new (IsKeptIn (by_port (λ p. p.kept) ports.old)) }
 {
@@ -35,7 +35,7 @@ pub(crate) fn give_all_back(ports: &mut [ServedPort; PORTS], table: &mut FrameTa
 
 /// Notes that a reset of the adapter got stuck: each port that is served is dead.
 pub(crate) fn note_stuck_reset(ports: &mut [ServedPort; PORTS])
-    ensures { EachBecomes (λ number old new. BeginsAnew (stuck_found old.found) plain_mode old new) ports.old
+    ensures { EachBecomes (λ number old new. NotesProbeResult (stuck_found old.found) plain_mode old new) ports.old
         ports.new }
 {
     for number in 0..PORTS {
@@ -44,14 +44,14 @@ pub(crate) fn note_stuck_reset(ports: &mut [ServedPort; PORTS])
 }
 
 /// Notes what each port was found to be once the adapter was taken over, and how it takes commands then.
-pub(crate) fn begin_anew(ports: &mut [ServedPort; PORTS], host: &Host)
+pub(crate) fn note_probe_result(ports: &mut [ServedPort; PORTS], host: &Host)
     requires { length host.now.ports ≡ 4 }
     ensures { EachBecomes (BeginsAsHostFound host.now) ports.old ports.new }
 {
     for number in 0..PORTS {
         let found = host.ports[number];
-        let mode = mode_found(host.slots, host.queued, &found);
-        ports[number].begin_anew(found, mode);
+        let mode = probed_mode(host.slots, host.queued, &found);
+        ports[number].note_probe_result(found, mode);
     }
 }
 
@@ -62,16 +62,16 @@ pub(crate) fn resolve_ports(
     shared: &mut Shared,
     replies: &mut Replies,
 )
-    requires settle { (s : ServerState) × MaySettle (with_ports s s.device shared.old ports.old) }
+    requires settle { (s : ServerState) × MayResolve (with_ports s s.device shared.old ports.old) }
     requires room { length replies.old.items + length shared.old.book ≤ MOST_UNANSWERED }
-    ensures settles { (s : ServerState) → MaySettle (with_ports s s.device shared.old ports.old)
+    ensures settles { (s : ServerState) → MayResolve (with_ports s s.device shared.old ports.old)
         → (its : List Reply) × (replies.new.items ≡ replies.old.items ++ its)
-        × SettlePorts 0 (by_port (λ p. p.found) ports.old) its
+        × ResolvePorts 0 (by_port (λ p. p.found) ports.old) its
         (with_ports s s.device shared.old ports.old) (with_ports s s.device shared.new ports.new) }
     ensures found { by_port (λ p. p.found) ports.new
         ≡ by_port (λ p. p.found) ports.old }
 {
-    law_resolving_goes_on();
+    law_may_resolve_persists();
     for number in 0..PORTS {
         ports[number].resolve_after_reset(shared, Port(number as u8), replies);
     }
@@ -91,7 +91,7 @@ pub(crate) fn issue_ports<A: Adapter>(
     ensures cost { MakesAtMost (PORTS * ISSUES_ACCESSES) (A.access_count adapter.old) (A.access_count adapter.new) }
 {
     law_a_port_goes_on_after_its_errors();
-    law_requests_keep();
+    law_requests_preserve_invariant();
     for number in 0..PORTS {
         ports[number].issue_where_ready(adapter, &mut shared.book, Port(number as u8));
     }

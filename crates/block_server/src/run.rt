@@ -1,10 +1,10 @@
 // Calls from a list.
 ghost use Rattle.std.specs.Prelude.{◌≡◌, ◌<◌, ◌≤◌, ◌+◌, OnOk, IfErr, IsOk, IsSome, length, take, min, vec_len};
 ghost use Rattle.std.specs.Vec.{vec_capacity};
-ghost use Rattle.block_server.specs.Sayings.{said_in, with_replies};
+ghost use Rattle.block_server.specs.CallResults.{results_in, with_replies};
 
 use crate::laws::law_runs_keep_their_promise;
-use crate::{RunStopped, Sayings, Server};
+use crate::{CallResults, RunStopped, Server};
 use adapter::{Adapter, DeviceStep, Stepped};
 use arrayvec::ArrayVec;
 use ata_types::{Call, CallResult, ClientId, Frame, MOST_CALL_BYTES, MemFault, Replies};
@@ -46,7 +46,7 @@ impl<A: Stepped> Server<A> {
     ghost use Rattle.block_server.specs.View.{server_of};
     ghost use Rattle.server_history.specs.Histories.{ExtendsHistory};
     ghost use Rattle.adapter.specs.Counted.{MakesAtMost};
-    ghost use Rattle.block_server.specs.Costs.{most_of, most_of_all};
+    ghost use Rattle.block_server.specs.Costs.{most_accesses_of, most_accesses_of_all};
 
     /// Makes the call. What a service, a tick, a reset that ends, or a revocation of a grant that is there answered is
     /// all that `replies` has then; of what it has after another call nothing is told.
@@ -54,7 +54,7 @@ impl<A: Stepped> Server<A> {
         ensures adds { ExtendsHistory (server_of A.device self.old) (server_of A.device self.new) (ask_of call.now)
             (machine_result_of (with_replies result replies.new.items)) }
         ensures wanted { self.new.wanted ≡ self.old.wanted }
-        ensures cost { MakesAtMost (most_of call.now)
+        ensures cost { MakesAtMost (most_accesses_of call.now)
             (A.access_count self.old.adapter) (A.access_count self.new.adapter) }
     {
         match call {
@@ -92,16 +92,20 @@ impl<A: Stepped> Server<A> {
 
     /// Makes the calls in order, and puts what each said at the end of `out`. Room for it is made before each call;
     /// where memory for that is refused, the calls before `at` are done, and no other. Room that there was stays.
-    pub fn run(&mut self, calls: &[Call<DeviceStep>], out: &mut Sayings) -> Result<(), RunStopped>
-        ensures done { OnOk result (RunsAsPromised A.device self.old self.new calls.now (said_in out.old)
-            (said_in out.new)) }
+    pub fn run(
+        &mut self,
+        calls: &[Call<DeviceStep>],
+        out: &mut CallResults,
+    ) -> Result<(), RunStopped>
+        ensures done { OnOk result (RunsAsPromised A.device self.old self.new calls.now (results_in out.old)
+            (results_in out.new)) }
         ensures stopped { IfErr result (λ e. e.at < length calls.now) }
         ensures ample { vec_len out.old.earlier + length calls.now ≤ vec_capacity out.old.earlier → IsOk result }
         ensures begun { IfErr result (λ e. RunsAsPromised A.device self.old self.new (take e.at calls.now)
-            (said_in out.old) (said_in out.new)) }
+            (results_in out.old) (results_in out.new)) }
         ensures last { OnOk result (1 ≤ length calls.now → IsSome out.new.last) }
         ensures room { vec_capacity out.old.earlier ≤ vec_capacity out.new.earlier }
-        ensures cost { MakesAtMost (most_of_all calls.now)
+        ensures cost { MakesAtMost (most_accesses_of_all calls.now)
             (A.access_count self.old.adapter) (A.access_count self.new.adapter) }
     {
         law_runs_keep_their_promise::<A>();

@@ -1,7 +1,7 @@
 // What calls from a list said.
 ghost use Rattle.std.specs.Prelude.{◌≡◌, ◌<◌, ◌≤◌, ◌+◌, ◌++◌, ◌∷◌, [], None, Some, IfOk, IsOk, MatchOption, OnOk, vec_len};
 ghost use Rattle.std.specs.Vec.{vec_capacity};
-ghost use Rattle.block_server.specs.Sayings.{said_in, with_replies};
+ghost use Rattle.block_server.specs.CallResults.{results_in, with_replies};
 
 use ata_types::{CallResult, Replies, Reply};
 use std::alloc::{AllocError, Global};
@@ -29,7 +29,7 @@ fn said_with(said: CallResult<()>, replies: Replies) -> CallResult
 /// it, and so do its replies, with room for all. They are made in their place, and not moved until another call comes.
 /// (That room has some KB, and a list of one call is what `play` makes for each line.)
 #[derive(Drop)]
-pub struct Sayings {
+pub struct CallResults {
     earlier: Vec<CallResult>,
     pub(crate) last: Option<CallResult<()>>,
     /// Where `last` is of a service, a tick, a reset that ended, or a revocation of a grant that was there, what it
@@ -37,12 +37,12 @@ pub struct Sayings {
     pub(crate) replies: Replies,
 }
 
-impl Sayings {
+impl CallResults {
     /// Nothing was said, and there is room for nothing.
-    pub fn new(alloc: Global) -> Sayings
-        ensures { said_in result ≡ [] }
+    pub fn new(alloc: Global) -> CallResults
+        ensures { results_in result ≡ [] }
     {
-        Sayings {
+        CallResults {
             earlier: Vec::new(alloc),
             last: None,
             replies: Replies::new(),
@@ -51,7 +51,7 @@ impl Sayings {
 
     /// Makes room for what so many calls say.
     pub fn reserve(&mut self, calls: usize) -> Result<(), AllocError>
-        ensures said { said_in self.new ≡ said_in self.old }
+        ensures said { results_in self.new ≡ results_in self.old }
         ensures len { vec_len self.new.earlier ≡ vec_len self.old.earlier }
         ensures ok { OnOk result (vec_len self.new.earlier + calls ≤ vec_capacity self.new.earlier) }
         ensures capacity { vec_capacity self.old.earlier ≤ vec_capacity self.new.earlier }
@@ -62,7 +62,7 @@ impl Sayings {
 
     /// Nothing was said. The room stays.
     pub fn clear(&mut self)
-        ensures said { said_in self.new ≡ [] }
+        ensures said { results_in self.new ≡ [] }
         ensures len { vec_len self.new.earlier ≡ 0 }
         ensures capacity { vec_capacity self.new.earlier ≡ vec_capacity self.old.earlier }
     {
@@ -110,7 +110,7 @@ impl Sayings {
     /// Gets ready for what another call says.
     pub(crate) fn go_on(&mut self)
         requires { vec_len self.old.earlier < vec_capacity self.old.earlier }
-        ensures earlier { self.new.earlier.items ≡ said_in self.old }
+        ensures earlier { self.new.earlier.items ≡ results_in self.old }
         ensures last { self.new.last ≡ None }
         ensures len { vec_len self.new.earlier ≤ vec_len self.old.earlier + 1 }
         ensures capacity { vec_capacity self.new.earlier ≡ vec_capacity self.old.earlier }
@@ -122,12 +122,12 @@ impl Sayings {
 
     /// All that was said, in one list. Memory for what the last call said may be refused.
     pub fn into_list(self) -> Result<Vec<CallResult>, AllocError>
-        ensures { IfOk result (λ list. list.items ≡ said_in self) }
+        ensures { IfOk result (λ list. list.items ≡ results_in self) }
     {
         let mut said = self;
         said.reserve(1)?;
         said.go_on();
-        let Sayings { earlier, .. } = said;
+        let CallResults { earlier, .. } = said;
         Ok(earlier)
     }
 }

@@ -9,7 +9,9 @@ use crate::by_port::{
     end_all, into_loans, none_kept, overdue_ports, ready_ports, unserved_ports, wanted_disks,
 };
 use crate::limits::{CLIENT_PLACES, leaves_disk};
-use crate::resetting::{begin_anew, give_all_back, issue_ports, note_stuck_reset, resolve_ports};
+use crate::resetting::{
+    give_all_back, issue_ports, note_probe_result, note_stuck_reset, resolve_ports,
+};
 use adapter::{Adapter, DeviceStep, Stepped};
 use ata_types::{
     AdapterStuck, MOST_UNANSWERED, Op, PORTS, Port, PortState, Range, Refusal, Replies, Request,
@@ -25,13 +27,15 @@ use port_driver::{ServedPort, Shared};
 use request_queue::laws::law_the_book_stays_in_order;
 use request_queue::{Book, PendingRequest};
 use server_history::laws::{
-    law_a_new_server_has_begun, law_acceptances_add, law_device_steps_add, law_refusals_add,
-    law_requests_get_older, law_requests_keep, law_services_add, law_ticks_add,
+    law_a_new_server_has_begun, law_acceptances_extend_history, law_aging_keeps_invariant,
+    law_device_steps_extend_history, law_refusals_extend_history, law_requests_preserve_invariant,
+    law_services_extend_history, law_ticks_extend_history,
 };
-use server_history::resets::{law_a_reset_server_goes_on, law_resets_add};
-use server_history::stalled::{
-    law_book_invariant_holds, law_quarantined_loans_are_lent, law_stuck_resets_add,
-    law_stuck_servers_admit_none, law_stuck_services_add, law_stuck_ticks_add,
+use server_history::resets::{law_a_reset_server_goes_on, law_resets_extend_history};
+use server_history::stuck_server::{
+    law_quarantined_loans_are_lent, law_server_invariant_holds, law_stuck_resets_extend_history,
+    law_stuck_servers_admit_none, law_stuck_services_extend_history,
+    law_stuck_ticks_extend_history,
 };
 use std::alloc::Global;
 use std::marker::Model;
@@ -68,14 +72,14 @@ impl<A: Adapter> Server<A> {
     ghost use Rattle.block_server.specs.Calls.{AcceptsRequest, IsFor, Submits, Services, TicksServer};
     ghost use Rattle.block_server.specs.Made.{IsReadyFor, IsInitialServer, Refuses};
     ghost use Rattle.block_server.specs.View.{server_of};
-    ghost use Rattle.configuration.specs.Rules.{MeetsAll};
+    ghost use Rattle.configuration.specs.Rules.{LacksEveryFault};
     ghost use Rattle.host_boot.specs.Taken.{probe_result_of};
     ghost use Rattle.server_history.specs.Histories.{ExtendsHistory};
     ghost use Rattle.block_server.specs.Resetting.{DoesReset, reset_said};
-    ghost use Rattle.server_history.specs.Server.{last_disk_of, remembered_at, server_situation, state_of, last_sectors_of, trims_of};
+    ghost use Rattle.server_history.specs.Server.{last_disk_of, remembered_at, admission_context, state_of, last_sectors_of, trims_of};
     ghost use Rattle.ata_types.specs.declared.PortState.TheVariants.{Ready};
     ghost use Rattle.adapter.specs.Counted.{MakesAtMost};
-    ghost use Rattle.block_server.specs.Costs.{MOST_OF_NEW, MOST_OF_RESET, MOST_OF_SERVICE, MOST_OF_SUBMIT, MOST_OF_TICK};
+    ghost use Rattle.block_server.specs.Costs.{MOST_NEW_ACCESSES, MOST_RESET_ACCESSES, MOST_SERVICE_ACCESSES, MOST_SUBMIT_ACCESSES, MOST_TICK_ACCESSES};
 
     /// A server of an idle adapter, by a configuration: who owns which frames, which grants there are, and which disks
     /// are wanted. Each port is booted in which a disk is wanted; nothing is asked yet.
@@ -86,9 +90,9 @@ impl<A: Adapter> Server<A> {
     pub fn new(alloc: Global, config: &Config, mut adapter: A) -> Result<Self, (ServerError, A)>
         requires ready { IsReadyFor config.now (A.device adapter) }
         ensures made { IfOk result (IsInitialServer A.device config.now adapter) }
-        ensures sound { OnOk result (MeetsAll config.now) }
+        ensures sound { OnOk result (LacksEveryFault config.now) }
         ensures refused { IfErr result (λ e. Refuses config.now e.0 × (e.1 ≡ adapter)) }
-        ensures cost { IfOk result (λ server. MakesAtMost MOST_OF_NEW
+        ensures cost { IfOk result (λ server. MakesAtMost MOST_NEW_ACCESSES
             (A.access_count adapter) (A.access_count server.adapter)) }
     {
         let plan = match Plan::of(config) {
@@ -111,7 +115,7 @@ impl<A: Adapter> Server<A> {
         };
         let mut ports = unserved_ports(plan.wanted(), kept);
         let host = take_over(&mut adapter, plan.wanted());
-        begin_anew(&mut ports, &host);
+        note_probe_result(&mut ports, &host);
         law_a_new_server_has_begun();
         Ok(Server {
             adapter,
@@ -146,7 +150,7 @@ impl<A: Adapter> Server<A> {
         ensures adds { ExtendsHistory (server_of A.device self.now) (server_of A.device self.now) (State port)
             (Shown result) }
     {
-        law_refusals_add();
+        law_refusals_extend_history();
         let _ = &self.adapter;
         match self.found(port) {
             ProbeResult::Unserved => PortState::Absent,
@@ -193,9 +197,10 @@ impl<A: Adapter> Server<A> {
 
     /// The first cause to refuse the request, if there is one; else the port that it is for.
     fn admit(&self, r: &Request) -> Result<Port, Refusal>
-        ensures admitted { IfOk result (λ port. IsAcceptable (server_situation (server_of A.device self.now)) r.now
+        ensures admitted { IfOk result (λ port. IsAcceptable (admission_context (server_of A.device self.now)) r.now
             × IsFor self.now.grants r.now port) }
-        ensures refused { IfErr result (λ refusal. IsFirstRefusal (server_situation (server_of A.device self.now)) r.now
+        ensures refused { IfErr result (λ refusal. IsFirstRefusal
+            (admission_context (server_of A.device self.now)) r.now
             refusal) }
     {
         if let Err(rule) = decide(r, &self.grants, &self.shared.table) {
@@ -226,19 +231,19 @@ impl<A: Adapter> Server<A> {
     /// Puts the request last into the book, lends it its frames, and issues what is due on its port then.
     fn accept(&mut self, r: &Request, port: Port) -> RequestId
         requires on { self.old.stuck ≡ false }
-        requires acceptable { IsAcceptable (server_situation (server_of A.device self.old)) r.now }
+        requires acceptable { IsAcceptable (admission_context (server_of A.device self.old)) r.now }
         requires port { IsFor self.old.grants r.now port }
         ensures on { self.new.stuck ≡ false }
         ensures accepts { AcceptsRequest A.device self.old self.new r.now result }
         ensures adds { ExtendsHistory (server_of A.device self.old) (server_of A.device self.new) (Submit r.now)
             (Submitted (Ok result)) }
-        ensures cost { MakesAtMost MOST_OF_SUBMIT (A.access_count self.old.adapter) (A.access_count self.new.adapter) }
+        ensures cost { MakesAtMost MOST_SUBMIT_ACCESSES (A.access_count self.old.adapter)
+            (A.access_count self.new.adapter) }
     {
-        law_requests_keep();
-        law_acceptances_add();
+        law_requests_preserve_invariant();
+        law_acceptances_extend_history();
         law_due_is_exact();
         let id = RequestId(self.last + 1);
-        let loan = self.shared.table.lend(r.client, r.frames.as_slice(), id);
         let entry = PendingRequest {
             id,
             client: r.client,
@@ -254,7 +259,8 @@ impl<A: Adapter> Server<A> {
             age: 0,
             revoked: false,
         };
-        self.shared.book.accept(entry, loan);
+        let table = &mut self.shared.table;
+        self.shared.book.accept(entry, r.frames.as_slice(), table);
         self.last = id.0;
         let its = &mut self.ports[usize::from(port.0)];
         its.issue_due(&mut self.adapter, &mut self.shared.book, port);
@@ -267,9 +273,10 @@ impl<A: Adapter> Server<A> {
         ensures submits { Submits A.device self.old self.new r.now result }
         ensures adds { ExtendsHistory (server_of A.device self.old) (server_of A.device self.new) (Submit r.now)
             (Submitted result) }
-        ensures cost { MakesAtMost MOST_OF_SUBMIT (A.access_count self.old.adapter) (A.access_count self.new.adapter) }
+        ensures cost { MakesAtMost MOST_SUBMIT_ACCESSES (A.access_count self.old.adapter)
+            (A.access_count self.new.adapter) }
     {
-        law_refusals_add();
+        law_refusals_extend_history();
         law_stuck_servers_admit_none();
         let _ = &self.adapter;
         let port = self.admit(r)?;
@@ -297,7 +304,8 @@ impl<A: Adapter> Server<A> {
         ensures services { Services A.device self.old self.new result.items }
         ensures adds { ExtendsHistory (server_of A.device self.old) (server_of A.device self.new) Service
             (Served result.items) }
-        ensures cost { MakesAtMost MOST_OF_SERVICE (A.access_count self.old.adapter) (A.access_count self.new.adapter) }
+        ensures cost { MakesAtMost MOST_SERVICE_ACCESSES (A.access_count self.old.adapter)
+            (A.access_count self.new.adapter) }
     {
         let mut replies = Replies::new();
         self.service_into(&mut replies);
@@ -309,9 +317,10 @@ impl<A: Adapter> Server<A> {
         ensures services { Services A.device self.old self.new replies.new.items }
         ensures adds { ExtendsHistory (server_of A.device self.old) (server_of A.device self.new) Service
             (Served replies.new.items) }
-        ensures cost { MakesAtMost MOST_OF_SERVICE (A.access_count self.old.adapter) (A.access_count self.new.adapter) }
+        ensures cost { MakesAtMost MOST_SERVICE_ACCESSES (A.access_count self.old.adapter)
+            (A.access_count self.new.adapter) }
     {
-        law_services_add();
+        law_services_extend_history();
         law_the_book_stays_in_order();
         replies.clear();
         if self.stuck {
@@ -337,8 +346,8 @@ impl<A: Adapter> Server<A> {
             (Served replies.new.items) }
         ensures cost { MakesAtMost 0 (A.access_count self.old.adapter) (A.access_count self.new.adapter) }
     {
-        law_book_invariant_holds();
-        law_stuck_services_add();
+        law_server_invariant_holds();
+        law_stuck_services_extend_history();
         law_the_book_stays_in_order();
         resolve_ports(&mut self.ports, &mut self.shared, replies);
     }
@@ -360,7 +369,8 @@ impl<A: Adapter> Server<A> {
         ensures ticks { TicksServer A.device self.old self.new result.items }
         ensures adds { ExtendsHistory (server_of A.device self.old) (server_of A.device self.new) Tick
             (Served result.items) }
-        ensures cost { MakesAtMost MOST_OF_TICK (A.access_count self.old.adapter) (A.access_count self.new.adapter) }
+        ensures cost { MakesAtMost MOST_TICK_ACCESSES (A.access_count self.old.adapter)
+            (A.access_count self.new.adapter) }
     {
         let mut replies = Replies::new();
         self.tick_into(&mut replies);
@@ -372,11 +382,12 @@ impl<A: Adapter> Server<A> {
         ensures ticks { TicksServer A.device self.old self.new replies.new.items }
         ensures adds { ExtendsHistory (server_of A.device self.old) (server_of A.device self.new) Tick
             (Served replies.new.items) }
-        ensures cost { MakesAtMost MOST_OF_TICK (A.access_count self.old.adapter) (A.access_count self.new.adapter) }
+        ensures cost { MakesAtMost MOST_TICK_ACCESSES (A.access_count self.old.adapter)
+            (A.access_count self.new.adapter) }
     {
-        law_requests_get_older();
-        law_ticks_add();
-        law_stuck_ticks_add();
+        law_aging_keeps_invariant();
+        law_ticks_extend_history();
+        law_stuck_ticks_extend_history();
         law_the_book_stays_in_order();
         replies.clear();
         if self.stuck {
@@ -419,7 +430,8 @@ impl<A: Adapter> Server<A> {
         ensures adds_stuck { IfErr result
             (λ why. ExtendsHistory (server_of A.device self.old) (server_of A.device self.new)
             Reset (WasReset None)) }
-        ensures cost { MakesAtMost MOST_OF_RESET (A.access_count self.old.adapter) (A.access_count self.new.adapter) }
+        ensures cost { MakesAtMost MOST_RESET_ACCESSES (A.access_count self.old.adapter)
+            (A.access_count self.new.adapter) }
     {
         let mut replies = Replies::new();
         self.reset_into(&mut replies)?;
@@ -431,13 +443,14 @@ impl<A: Adapter> Server<A> {
         ensures resets { DoesReset A.device self.old self.new replies.new.items result }
         ensures adds { ExtendsHistory (server_of A.device self.old) (server_of A.device self.new) Reset
             (reset_said result replies.new.items) }
-        ensures cost { MakesAtMost MOST_OF_RESET (A.access_count self.old.adapter) (A.access_count self.new.adapter) }
+        ensures cost { MakesAtMost MOST_RESET_ACCESSES (A.access_count self.old.adapter)
+            (A.access_count self.new.adapter) }
     {
-        law_book_invariant_holds();
+        law_server_invariant_holds();
         law_quarantined_loans_are_lent();
         law_a_reset_server_goes_on();
-        law_resets_add();
-        law_stuck_resets_add();
+        law_resets_extend_history();
+        law_stuck_resets_extend_history();
         law_the_book_stays_in_order();
         replies.clear();
         if let Err(stuck) = reset(&mut self.adapter) {
@@ -447,7 +460,7 @@ impl<A: Adapter> Server<A> {
         }
         give_all_back(&mut self.ports, &mut self.shared.table);
         let host = take_over(&mut self.adapter, &wanted_disks(&self.ports));
-        begin_anew(&mut self.ports, &host);
+        note_probe_result(&mut self.ports, &host);
         self.stuck = false;
         resolve_ports(&mut self.ports, &mut self.shared, replies);
         issue_ports(&mut self.ports, &mut self.adapter, &mut self.shared);
@@ -458,7 +471,7 @@ impl<A: Adapter> Server<A> {
     pub fn close(self) -> A
         ensures { result ≡ self.adapter }
     {
-        law_book_invariant_holds();
+        law_server_invariant_holds();
         law_quarantined_loans_are_lent();
         let Server {
             adapter,
@@ -490,7 +503,7 @@ impl<A: Stepped> Server<A> {
             (Stepped result) }
         ensures cost { MakesAtMost 0 (A.access_count self.old.adapter) (A.access_count self.new.adapter) }
     {
-        law_device_steps_add();
+        law_device_steps_extend_history();
         self.adapter.step(step)
     }
 }

@@ -17,41 +17,41 @@ use Rattle.blockd.specs.declared.fault.BlockdError.{BlockdError}
 use Rattle.blockd.specs.declared.fault.BlockdError.TheVariants.{Config, Image, Script, Unwritten}
 use Rattle.blockd.specs.declared.fault.BlockdError.TheVariants as fault
 use Rattle.blockd.specs.declared.program.Inputs.{Inputs}
-use Rattle.blockd.specs.declared.program.Unread.{Unread}
-use Rattle.blockd.specs.declared.program.Unread.TheVariants.{NoMemory, Refused}
+use Rattle.blockd.specs.declared.program.FileError.{FileError}
+use Rattle.blockd.specs.declared.program.FileError.TheVariants.{NoMemory, Refused}
 
 -- ---- its files
 
 -- the fault that is told where a file can't be had: this one, unless memory was refused
-abbrev pub fault_of : Unread → BlockdError → BlockdError
+abbrev pub fault_of : FileError → BlockdError → BlockdError
 fault_of NoMemory _ = fault.NoMemory
 fault_of Refused told = told
 
-module _ {H : Type 0} (reads : H → H → List ℕ → Result (Vec ℕ) Unread → Type 0)
-    (opens : H → H → List ℕ → Result FileStore Unread → Type 0) (args : Args) where
+module _ {H : Type 0} (reads : H → H → List ℕ → Result (Vec ℕ) FileError → Type 0)
+    (opens : H → H → List ℕ → Result FileStore FileError → Type 0) (args : Args) where
   -- what the run is made of, where the image could be opened
-  abbrev pub made : (config script : Vec ℕ) → Result FileStore Unread → Result Inputs BlockdError
+  abbrev pub made : (config script : Vec ℕ) → Result FileStore FileError → Result Inputs BlockdError
   made config script (Ok image) = Ok (record { config = config; script = script; image = image })
   made config script (Err why) = Err (fault_of why Image)
 
   -- once the script was read, the image is opened
-  abbrev pub LoadsImage : (old new : H) → Vec ℕ → Result (Vec ℕ) Unread → Result Inputs BlockdError → Type 0
+  abbrev pub LoadsImage : (old new : H) → Vec ℕ → Result (Vec ℕ) FileError → Result Inputs BlockdError → Type 0
   LoadsImage old new config (Ok script) result =
-      (image : Result FileStore Unread) × opens old new (string_bytes args.image) image
+      (image : Result FileStore FileError) × opens old new (string_bytes args.image) image
       × (result ≡ made config script image)
   LoadsImage old new config (Err why) result = (new ≡ old) × (result ≡ Err (fault_of why Script))
 
   -- once the configuration was read, the script is
-  abbrev pub LoadsScript : (old new : H) → Result (Vec ℕ) Unread → Result Inputs BlockdError → Type 0
+  abbrev pub LoadsScript : (old new : H) → Result (Vec ℕ) FileError → Result Inputs BlockdError → Type 0
   LoadsScript old new (Ok config) result =
-      (script : Result (Vec ℕ) Unread) × (read : H) × reads old read (string_bytes args.script) script
+      (script : Result (Vec ℕ) FileError) × (read : H) × reads old read (string_bytes args.script) script
       × LoadsImage read new config script result
   LoadsScript old new (Err why) result = (new ≡ old) × (result ≡ Err (fault_of why (Config 0)))
 
   -- The host was asked for the files that the words name: the configuration, then the script, then the image, as far as
   -- each could be had.
   abbrev pub Loads : (old new : H) → Result Inputs BlockdError → Type 0
-  Loads old new result = (config : Result (Vec ℕ) Unread) × (read : H)
+  Loads old new result = (config : Result (Vec ℕ) FileError) × (read : H)
       × reads old read (string_bytes args.config) config × LoadsScript read new config result
 
 -- ---- its run

@@ -8,7 +8,7 @@
 
 use command_line::{Args, ArgsFault};
 use fault::BlockdError;
-use program::{FileSource, Inputs, Unread, disks_over, load, run_script};
+use program::{FileError, FileSource, Inputs, disks_over, load, run_script};
 use sector_store::FileStore;
 use std::fs::{self, File, Files};
 use std::io::{self, BufWriter, IsTerminal, Read};
@@ -64,20 +64,20 @@ struct System<'a, R> {
     kept: Vec<File>,
 }
 
-impl From<io::Error> for Unread {
-    fn from(error: io::Error) -> Unread {
+impl From<io::Error> for FileError {
+    fn from(error: io::Error) -> FileError {
         if error.kind() == io::ErrorKind::OutOfMemory {
-            Unread::NoMemory
+            FileError::NoMemory
         } else {
-            Unread::Refused
+            FileError::Refused
         }
     }
 }
 
 impl<R> System<'_, R> {
     /// Keeps a file open.
-    fn keep(&mut self, file: File) -> Result<(), Unread> {
-        self.kept.push(file).map_err(|_full| Unread::NoMemory)
+    fn keep(&mut self, file: File) -> Result<(), FileError> {
+        self.kept.push(file).map_err(|_full| FileError::NoMemory)
     }
 }
 
@@ -86,7 +86,7 @@ impl<R: AllocGlobal + Files<File = File>> FileSource for System<'_, R> {
 
     ghost opens = { λ _ _ _ _. Unit {0} };
 
-    fn read(&mut self, name: &str) -> Result<Vec<u8>, Unread> {
+    fn read(&mut self, name: &str) -> Result<Vec<u8>, FileError> {
         let mut file = fs::open(self.rt, name)?;
         let mut bytes = Vec::new(self.rt.alloc());
         file.read_to_end(&mut bytes)?;
@@ -97,7 +97,7 @@ impl<R: AllocGlobal + Files<File = File>> FileSource for System<'_, R> {
         Ok(bytes)
     }
 
-    fn open(&mut self, name: &str) -> Result<FileStore, Unread> {
+    fn open(&mut self, name: &str) -> Result<FileStore, FileError> {
         Ok(FileStore::open(self.rt.alloc(), self.rt, name)?)
     }
 }

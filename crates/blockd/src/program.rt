@@ -5,7 +5,7 @@ ghost use Rattle.std.specs.Io.KnownBytes.{Keeps};
 ghost use Rattle.std.specs.declared.result.Result.{Result as ResultOf};
 ghost use Rattle.sector_store.specs.declared.file.FileStore.{FileStore as FileStoreOf};
 ghost use Rattle.blockd.specs.Program.{AreDisksOver, Loads, RunsScript, TellsEnd, fault_of};
-ghost use Rattle.blockd.specs.declared.program.Unread.{Unread as UnreadOf};
+ghost use Rattle.blockd.specs.declared.program.FileError.{FileError as UnreadOf};
 
 use crate::command_line::Args;
 use crate::fault::{BlockdError, outcome};
@@ -19,21 +19,21 @@ const BLANK_SECTORS: u32 = 2048;
 
 /// Why a file can't be had.
 #[derive(Clone, Copy, Debug, PartialEq, Eq)]
-pub enum Unread {
+pub enum FileError {
     /// Memory was refused.
     NoMemory,
     /// The system doesn't give it.
     Refused,
 }
 
-impl Unread {
+impl FileError {
     /// The fault that is told of it: this one, unless memory was refused.
     fn fault(self, fault: BlockdError) -> BlockdError
         ensures { result ≡ fault_of self fault }
     {
         match self {
-            Unread::NoMemory => BlockdError::NoMemory,
-            Unread::Refused => fault,
+            FileError::NoMemory => BlockdError::NoMemory,
+            FileError::Refused => fault,
         }
     }
 }
@@ -46,11 +46,11 @@ pub trait FileSource {
     ghost opens: { Self → Self → List ℕ → ResultOf FileStoreOf UnreadOf → Type 0 };
 
     /// The bytes of a file.
-    fn read(&mut self, name: &str) -> Result<Vec<u8>, Unread>
+    fn read(&mut self, name: &str) -> Result<Vec<u8>, FileError>
         ensures { reads self.old self.new name.now result };
 
     /// A file, as an image.
-    fn open(&mut self, name: &str) -> Result<FileStore, Unread>
+    fn open(&mut self, name: &str) -> Result<FileStore, FileError>
         ensures { opens self.old self.new name.now result };
 }
 

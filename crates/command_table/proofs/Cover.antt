@@ -9,7 +9,7 @@ use Rattle.adapter.specs.declared.command.Prd.{Prd}
 use Rattle.adapter.specs.Decoding.{pieces, piece_addresses, IsWholePieces}
 use Rattle.adapter.specs.Encoding.{IsAllowedPrd}
 use Rattle.command_table.specs.Places.{place_of, places_of, frame_number}
-use Rattle.command_table.specs.Runs.{IsLongestRun, CoversRun, AreJoined, frames_in}
+use Rattle.command_table.specs.Runs.{IsLongestRun, CoversRun, PrdsCoverFrames, frame_count_in}
 
 -- the frames hold so many bytes, and the last of them at least one
 pub record Fits (frames : List Frame) (bytes : ℕ) : Type 0 where
@@ -18,7 +18,7 @@ pub record Fits (frames : List Frame) (bytes : ℕ) : Type 0 where
 
 module _ (frames : List Frame) (bytes : ℕ) (e : Prd) (fits : Fits frames bytes) (c : CoversRun frames bytes e) where
   -- where frames follow, the PRD's are covered wholly
-  size_is : e.bytes ≡ min bytes (4096 * frames_in e)
+  size_is : e.bytes ≡ min bytes (4096 * frame_count_in e)
   size_is = c.size
 
   pub some_bytes : 0 < e.bytes
@@ -27,17 +27,17 @@ module _ (frames : List Frame) (bytes : ℕ) (e : Prd) (fits : Fits frames bytes
   pub few_bytes : e.bytes ≤ 4096 * length frames
   few_bytes = let s = size_is in let w = c.run.within in omega (arith, s, w)
 
-  pub fits_on : Fits (drop (frames_in e) frames) (bytes - e.bytes)
+  pub fits_on : Fits (drop (frame_count_in e) frames) (bytes - e.bytes)
   fits_on =
       let s = size_is in let w = c.run.within in let l = fits.last in let h = fits.within in
-      let d : length (drop (frames_in e) frames) ≡ length frames - frames_in e = length-drop (frames_in e) frames in
+      let d : length (drop (frame_count_in e) frames) ≡ length frames - frame_count_in e = length-drop (frame_count_in e) frames in
       record { within = omega (arith, s, w, l, h, d); last = omega (arith, s, w, l, h, d) }
 
-pub all_allowed : (es : List Prd) (frames : List Frame) (bytes : ℕ) → Fits frames bytes → bytes % 2 ≡ 0 → length frames ≤ 1024 → AreJoined frames bytes es → All IsAllowedPrd es
+pub all_allowed : (es : List Prd) (frames : List Frame) (bytes : ℕ) → Fits frames bytes → bytes % 2 ≡ 0 → length frames ≤ 1024 → PrdsCoverFrames frames bytes es → All IsAllowedPrd es
 all_allowed [] frames bytes fits even few j = All-nil IsAllowedPrd
 all_allowed (e ∷ es) frames bytes fits even few j =
     let s = j.0.size in
-    let d : length (drop (frames_in e) frames) ≡ length frames - frames_in e = length-drop (frames_in e) frames in
+    let d : length (drop (frame_count_in e) frames) ≡ length frames - frame_count_in e = length-drop (frame_count_in e) frames in
     All-cons IsAllowedPrd e es
     (record {
       even_address = let a = j.0.address in omega (arith, a);
@@ -47,7 +47,7 @@ all_allowed (e ∷ es) frames bytes fits even few j =
     })
     (all_allowed es _ _ (fits_on frames bytes e fits j.0) (omega (arith, s, even)) (omega (arith, d, few)) j.1)
 
-pub all_whole : (es : List Prd) (frames : List Frame) (bytes : ℕ) → bytes % 512 ≡ 0 → AreJoined frames bytes es → All IsWholePieces es
+pub all_whole : (es : List Prd) (frames : List Frame) (bytes : ℕ) → bytes % 512 ≡ 0 → PrdsCoverFrames frames bytes es → All IsWholePieces es
 all_whole [] frames bytes whole j = All-nil IsWholePieces
 all_whole (e ∷ es) frames bytes whole j =
     let s = j.0.size in
@@ -85,13 +85,13 @@ run_pieces frames a s n (suc m) j a-is rising fits =
     rw (frame, piece, ← here, more, rest, next) refl
 
 module _ (frames : List Frame) where
-  cover_from : (es : List Prd) (s left : ℕ) → left % 512 ≡ 0 → Fits (drop s frames) left → AreJoined (drop s frames) left es
+  cover_from : (es : List Prd) (s left : ℕ) → left % 512 ≡ 0 → Fits (drop s frames) left → PrdsCoverFrames (drop s frames) left es
       → pieces es ≡ map (place_of frames) (range_with_len (8 * s) (left / 512))
   cover_from [] s left whole fits j =
       let none : left / 512 ≡ 0 = let z = j.1 in omega (arith, z) in
       rw none refl
   cover_from (e ∷ es) s left whole fits j =
-      let n : ℕ = frames_in e in
+      let n : ℕ = frame_count_in e in
       let size = j.0.size in
       let some = j.0.run.some in
       let number : (k : ℕ) → frame_number (drop s frames) k ≡ frame_number frames (s + k) = λ (k : ℕ). ap (λ (f : Frame). f.0) (get_or-drop s frames k (record { 0 = 0 })) in
@@ -100,7 +100,7 @@ module _ (frames : List Frame) where
       let rising : (k : ℕ) → k < n → frame_number frames (s + k) ≡ frame_number frames s + k = λ (k : ℕ) (lt : k < n). sym (number k) ∙ (j.0.run.rising k lt ∙ ap (λ (x : ℕ). x + k) start) in
       let address : e.address ≡ 4096 * frame_number frames s = j.0.address ∙ ap (λ (x : ℕ). 4096 * x) start in
       let later : pieces es ≡ map (place_of frames) (range_with_len (8 * (s + n)) ((left - e.bytes) / 512)) =
-      cover_from es (s + n) (left - e.bytes) (omega (arith, size, whole)) (subst (λ (fs : List Frame). Fits fs (left - e.bytes)) (drop-drop n s frames) (fits_on (drop s frames) left e fits j.0)) (subst (λ (fs : List Frame). AreJoined fs (left - e.bytes) es) (drop-drop n s frames) j.1) in
+      cover_from es (s + n) (left - e.bytes) (omega (arith, size, whole)) (subst (λ (fs : List Frame). Fits fs (left - e.bytes)) (drop-drop n s frames) (fits_on (drop s frames) left e fits j.0)) (subst (λ (fs : List Frame). PrdsCoverFrames fs (left - e.bytes) es) (drop-drop n s frames) j.1) in
       let first : e.address + 512 * 0 ≡ e.address = omega arith in
       let front_at : 8 * s + 0 ≡ 8 * s = omega arith in
       let front : piece_addresses e.address (e.bytes / 512) ≡ map (place_of frames) (range_with_len (8 * s) (e.bytes / 512)) =
@@ -113,7 +113,7 @@ module _ (frames : List Frame) where
       ∙ (sym (map-append (place_of frames) (range_with_len (8 * s) (e.bytes / 512)) (range_with_len (8 * (s + n)) ((left - e.bytes) / 512)))
       ∙ ap (map (place_of frames)) whole_run))
 
-pub joined_cover : (frames : List Frame) (bytes : ℕ) (es : List Prd) → Fits frames bytes → AreJoined frames bytes es → bytes % 512 ≡ 0
+pub joined_cover : (frames : List Frame) (bytes : ℕ) (es : List Prd) → Fits frames bytes → PrdsCoverFrames frames bytes es → bytes % 512 ≡ 0
     → pieces es ≡ places_of frames (bytes / 512)
 joined_cover frames bytes es fits j whole = cover_from frames es 0 bytes whole fits j
 
@@ -136,18 +136,18 @@ longest frames from n within some rising ends =
 -- one PRD more, of the longest run of the frames that are left
 pub joined_more : (frames : List Frame) (covered left count : ℕ) (e : Prd) (es : List Prd) → covered < length frames → 4096 * (length frames - covered) < left + 4096
     → IsLongestRun (drop covered frames) count → e.address ≡ 4096 * frame_number frames covered → e.bytes ≡ min left (4096 * count)
-    → AreJoined (drop (covered + count) frames) (left - e.bytes) es → AreJoined (drop covered frames) left (e ∷ es)
+    → PrdsCoverFrames (drop (covered + count) frames) (left - e.bytes) es → PrdsCoverFrames (drop covered frames) left (e ∷ es)
 joined_more frames covered left count e es lt last run address size rest =
     let d : length (drop covered frames) ≡ length frames - covered = length-drop covered frames in
     let w = run.within in
-    let all : frames_in e ≡ count = omega (arith, d, w, size, last) in
+    let all : frame_count_in e ≡ count = omega (arith, d, w, size, last) in
     let base : covered + 0 ≡ covered = omega arith in
     let first : frame_number (drop covered frames) 0 ≡ frame_number frames covered = ap (λ (f : Frame). f.0) (get_or-drop covered frames 0 (record { 0 = 0 })) ∙ ap (frame_number frames) base in
-    let back : drop (covered + count) frames ≡ drop (frames_in e) (drop covered frames) = sym (drop-drop count covered frames) ∙ ap (λ (n : ℕ). drop n (drop covered frames)) (sym all) in (
+    let back : drop (covered + count) frames ≡ drop (frame_count_in e) (drop covered frames) = sym (drop-drop count covered frames) ∙ ap (λ (n : ℕ). drop n (drop covered frames)) (sym all) in (
       record {
         run = subst (IsLongestRun (drop covered frames)) (sym all) run;
         address = address ∙ ap (λ (x : ℕ). 4096 * x) (sym first);
         size = size ∙ ap (λ (n : ℕ). min left (4096 * n)) (sym all);
       },
-      subst (λ (fs : List Frame). AreJoined fs (left - e.bytes) es) back rest,
+      subst (λ (fs : List Frame). PrdsCoverFrames fs (left - e.bytes) es) back rest,
     )

@@ -9,7 +9,7 @@ use Rattle.ata_types.specs.declared.limits.TheConstants.{MOST_REQUEST_FRAMES}
 use Rattle.hba_regs.specs.declared.reg.Reg.{Reg}
 use Rattle.adapter.specs.Access.{Access, Stores}
 use Rattle.adapter.specs.Access.Access.{Reading, Writing, Loading, Storing}
-use Rattle.adapter.specs.Commands.{IsMeaning, Meaning, command_of, pieces_moved, reads_memory}
+use Rattle.adapter.specs.Commands.{IsMeaning, Meaning, command_of, piece_count, reads_memory}
 use Rattle.adapter.specs.Decoding.{IsWholePieces, pieces}
 use Rattle.adapter.specs.Device.{Device}
 use Rattle.adapter.specs.Memory.{patched, bytes_at}
@@ -18,14 +18,14 @@ use Rattle.adapter.specs.Encoding.{EncodesCommand, EncodesHeader, EncodesPrd}
 use Rattle.adapter.specs.declared.command.Command.{Command}
 use Rattle.adapter.specs.declared.command.Operation.{Operation}
 use Rattle.adapter.specs.declared.command.Prd.{Prd}
-use Rattle.refinement.specs.Driven.{AnyAccess, IsRelated, IsDrivenBy, IsSimulated, IsOf, NoneWrites}
+use Rattle.refinement.specs.Driven.{AnyAccess, IsRelated, IsDrivenBy, IsSimulated, SparesOtherPorts, NoneWrites}
 use Rattle.refinement.specs.Links.{SameAdapter}
-use Rattle.refinement.specs.Driver.{LeavesFree, MayStore, MissesTable}
+use Rattle.refinement.specs.Driver.{KeepsTables, MayStore, MissesTable}
 use Rattle.refinement.specs.Places.{list_of, scratch_of, table_of}
 use Rattle.refinement.specs.Slots.{SlotStates, SlotDecodesTo}
 use Rattle.command_table.specs.Bytes.{part}
 use Rattle.command_table.specs.Laws.{Laws}
-use Rattle.command_table.specs.Laws.AccessKind.{Tables, TablesAndBlock}
+use Rattle.command_table.specs.Laws.AccessPurpose.{Tables, TablesAndBlock}
 use Rattle.command_table.specs.Written.{IsTableFor, IsHeader, IsInTable, IsStoreWithBlock, IsTableStore, IsUnused}
 use Rattle.command_table.specs.Places.{places_of}
 use Rattle.command_table.proofs.Saying.{table_says}
@@ -48,7 +48,7 @@ store_free laws uses d port slot at bytes a room below small free here =
     (may_store uses port slot at bytes below small free here)
 
 -- no such access is of a register
-pub table_is_of : (port : Port) (at slot : ℕ) (access : Access) → IsTableStore at slot access → IsOf port access
+pub table_is_of : (port : Port) (at slot : ℕ) (access : Access) → IsTableStore at slot access → SparesOtherPorts port access
 table_is_of port at slot (Storing place bytes) here = tt
 table_is_of port at slot (Loading place bytes) here = tt
 table_is_of port at slot (Reading r v) here = absurd here
@@ -76,7 +76,7 @@ module _ (laws : Laws) (port slot : ℕ) (below : port < 4) (small : slot < 32) 
   store_size = (laws.adapter (Storing at bytes) old new call).size
 
   module _ (on : IsOn old) (uses : SlotStates) (free : IsUnused port slot uses) (a : IsRelated uses old) where
-    pub store_left : LeavesFree uses (record old { memory = patched old.memory at bytes }) new
+    pub store_left : KeepsTables uses (record old { memory = patched old.memory at bytes }) new
     store_left = laws.stores uses a.machine old new a.reached a.knows.agrees on.no_reset at bytes call
 
     pub store_agrees : IsRelated uses new
@@ -178,7 +178,7 @@ with_block laws port old mid new table block =
 
 -- the table of a command to which one block goes, from the port's scratch frame
 pub table_for_block : (m : Meaning) (command : Command) (prds : List Prd) (port frame : ℕ) → frame ≡ PORT_FRAMES * port + SCRATCH_FRAME → IsMeaning m → command ≡ command_of m.operation 0 m.first m.count →
-    pieces_moved m.operation m.count ≡ 1 → All IsWholePieces prds → pieces prds ≡ places_of (record { 0 = frame } ∷ []) 1 → IsTableFor 0 command prds m (scratch_of port ∷ [])
+    piece_count m.operation m.count ≡ 1 → All IsWholePieces prds → pieces prds ≡ places_of (record { 0 = frame } ∷ []) 1 → IsTableFor 0 command prds m (scratch_of port ∷ [])
 table_for_block m command prds port frame same meaning fields one whole places = record {
   meaning = meaning;
   fields = fields;

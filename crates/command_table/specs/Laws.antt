@@ -10,7 +10,7 @@ use Rattle.adapter.specs.Memory.{bytes_at, patched}
 use Rattle.adapter.specs.Rules.{IsOn, IsStable, IsUnowned}
 use Rattle.block_machine.specs.Histories.{IsReachable}
 use Rattle.block_machine.specs.State.{Machine}
-use Rattle.refinement.specs.Driver.{LeavesFree, MayStore, MissesTable}
+use Rattle.refinement.specs.Driver.{KeepsTables, MayStore, MissesTable}
 use Rattle.refinement.specs.Laws.{FragmentLaws}
 use Rattle.refinement.specs.Links.{SameAdapter}
 use Rattle.refinement.specs.Places.{list_of}
@@ -19,15 +19,15 @@ use Rattle.refinement.specs.Slots.{SlotDecodesTo, SlotStates}
 use Rattle.command_table.specs.Written.{IsStoreWithBlock, IsTableStore, IsUnused}
 
 -- header and table of a slot of a port are stored; or these of its slot 0, and a block
-pub data AccessKind : Type 0 where
-  Tables : (port slot : ℕ) → AccessKind
-  TablesAndBlock : (port : ℕ) → AccessKind
+pub data AccessPurpose : Type 0 where
+  Tables : (port slot : ℕ) → AccessPurpose
+  TablesAndBlock : (port : ℕ) → AccessPurpose
 
-abbrev pub may_of : AccessKind → Access → Type 0
+abbrev pub may_of : AccessPurpose → Access → Type 0
 may_of (Tables port slot) = IsTableStore port slot
 may_of (TablesAndBlock port) = IsStoreWithBlock port 0
 
-abbrev pub fits_of : AccessKind → SlotStates → Type 0
+abbrev pub fits_of : AccessPurpose → SlotStates → Type 0
 fits_of (Tables port slot) = IsUnused port slot
 fits_of (TablesAndBlock port) = IsUnused port 0
 
@@ -52,13 +52,13 @@ pub record Laws : Type 0 where
       → at + n ≤ d.size → MayStore uses at n → IsStable (IsUnowned at n) d
   pub stores : (uses : SlotStates) (m : Machine) (old new : Device) → IsReachable m → StateRelation uses m old
       → old.hr ≡ false → (at : ℕ) (bytes : List ℕ) → Stores at bytes old new
-      → LeavesFree uses (record old { memory = patched old.memory at bytes }) new
-  pub told : (uses : SlotStates) (old new : Device) → LeavesFree uses old new → (port slot : ℕ) (c : Meaning)
+      → KeepsTables uses (record old { memory = patched old.memory at bytes }) new
+  pub told : (uses : SlotStates) (old new : Device) → KeepsTables uses old new → (port slot : ℕ) (c : Meaning)
       (places : List ℕ) → port < 4 → slot < 32 → SlotDecodesTo old.memory (list_of port) port slot c places
       → SlotDecodesTo new.memory (list_of port) port slot c places
   pub beside : (uses : SlotStates) (at : ℕ) (bytes : List ℕ) (old new : Device)
-      → LeavesFree uses (record old { memory = patched old.memory at bytes }) new → (port slot : ℕ) (c : Meaning)
+      → KeepsTables uses (record old { memory = patched old.memory at bytes }) new → (port slot : ℕ) (c : Meaning)
       (places : List ℕ) → port < 4 → slot < 32 → MissesTable port slot at (length bytes)
       → SlotDecodesTo old.memory (list_of port) port slot c places
       → SlotDecodesTo new.memory (list_of port) port slot c places
-  pub fragments : FragmentLaws AccessKind may_of fits_of
+  pub fragments : FragmentLaws AccessPurpose may_of fits_of

@@ -24,17 +24,18 @@ pub record IsLongestRun (frames : List Frame) (n : ℕ) : Type 0 where
 
 -- How many frames the PRD covers, the last of them perhaps in part. (A request has 128 frames at most, so a PRD has 512
 -- KiB at most: AHCI allows 4 MiB.)
-abbrev pub frames_in : Prd → ℕ
-frames_in e = (e.bytes + (FRAME_BYTES - 1)) / FRAME_BYTES
+abbrev pub frame_count_in : Prd → ℕ
+frame_count_in e = (e.bytes + (FRAME_BYTES - 1)) / FRAME_BYTES
 
 -- The PRD covers the longest run of the first frames: all of it, or what is left of so many bytes.
 pub record CoversRun (frames : List Frame) (bytes : ℕ) (e : Prd) : Type 0 where
-  pub run : IsLongestRun frames (frames_in e)
+  pub run : IsLongestRun frames (frame_count_in e)
   pub address : e.address ≡ FRAME_BYTES * frame_number frames 0
-  pub size : e.bytes ≡ min bytes (FRAME_BYTES * frames_in e)
+  pub size : e.bytes ≡ min bytes (FRAME_BYTES * frame_count_in e)
 
 -- The PRDs cover so many bytes of the frames, in order: each the longest run of those that are left. There is at most
 -- one such list.
-abbrev pub AreJoined : List Frame → ℕ → List Prd → Type 0
-AreJoined frames bytes [] = (frames ≡ []) × (bytes ≡ 0)
-AreJoined frames bytes (e ∷ es) = CoversRun frames bytes e × AreJoined (drop (frames_in e) frames) (bytes - e.bytes) es
+abbrev pub PrdsCoverFrames : List Frame → ℕ → List Prd → Type 0
+PrdsCoverFrames frames bytes [] = (frames ≡ []) × (bytes ≡ 0)
+PrdsCoverFrames frames bytes (e ∷ es) = CoversRun frames bytes e
+    × PrdsCoverFrames (drop (frame_count_in e) frames) (bytes - e.bytes) es

@@ -1,11 +1,11 @@
 // What laws of the crates below say of stores of tables, for this crate's proofs. Nothing comes of calling it.
 ghost use Rattle.command_table.specs.Laws.{Laws};
 
-use adapter::laws::law_memory_keeps_bytes;
+use adapter::laws::law_memory_reads_back;
 use refinement::facts::law_adapter_stays;
 use refinement::kinds::law_fragments;
 use refinement::laws::{
-    law_bytes_to_store_are_free, law_free_slots_are_left, law_what_is_told_is_left,
+    law_bytes_to_store_are_free, law_free_slots_are_left, law_stored_commands_stay,
 };
 use std::marker::Brand;
 
@@ -13,10 +13,10 @@ use std::marker::Brand;
 pub fn law_base()
     ensures { Laws }
 {
-    law_memory_keeps_bytes();
+    law_memory_reads_back();
     law_adapter_stays();
     law_bytes_to_store_are_free();
     law_free_slots_are_left();
-    law_what_is_told_is_left();
+    law_stored_commands_stay();
     law_fragments::<Brand>();
 }

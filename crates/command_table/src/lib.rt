@@ -9,7 +9,7 @@ ghost use Rattle.std.specs.Prelude.{◌≡◌, ℕ, List, [], ◌∷◌, ◌+◌
 ghost use Rattle.byteorder.specs.Endian.{little_from};
 ghost use Rattle.adapter.specs.Decoding.{pieces, IsWholePieces};
 ghost use Rattle.adapter.specs.Encoding.{AreZero, EncodesHeader, EncodesPrd, IsAllowedPrd};
-ghost use Rattle.adapter.specs.Commands.{IsMeaning, Meaning, command_of, pieces_moved, reads_memory};
+ghost use Rattle.adapter.specs.Commands.{IsMeaning, Meaning, command_of, piece_count, reads_memory};
 ghost use Rattle.adapter.specs.Memory.{bytes_at};
 ghost use Rattle.adapter.specs.Rules.{IsUnowned, IsOn, IsStable};
 ghost use Rattle.adapter.specs.declared.command.Operation.{Operation};
@@ -19,7 +19,7 @@ ghost use Rattle.refinement.specs.Places.{list_of, scratch_of};
 ghost use Rattle.refinement.specs.Slots.{SlotDecodesTo};
 ghost use Rattle.command_table.specs.Written.{FitsTable, IsStoreWithBlock, IsTable, IsTableFor, IsTableStore, IsUnused, MayWriteTable, StoresTable};
 ghost use Rattle.command_table.specs.Places.{places_of};
-ghost use Rattle.command_table.specs.Runs.{AreJoined, FillFrames, IsLongestRun};
+ghost use Rattle.command_table.specs.Runs.{PrdsCoverFrames, FillFrames, IsLongestRun};
 ghost use Rattle.command_table.specs.Bytes.{StoresBytes};
 ghost use Rattle.adapter.specs.Counted.{MakesAtMost};
 ghost use Rattle.command_table.specs.Costs.{BLOCK_ACCESSES, TABLE_ACCESSES};
@@ -89,7 +89,7 @@ fn prd_bytes(prd: &Prd) -> [u8; 16]
 /// by one, so of 512 KiB at most (AHCI 1.3.1, 4.2.3.3, allows 4 MiB). The last one covers the rest of the bytes.
 pub fn prds(frames: &[Frame], bytes: u32) -> ArrayVec<Prd, MOST_REQUEST_FRAMES>
     requires fill { FillFrames frames.now bytes }
-    ensures joined { AreJoined frames.now bytes result.items }
+    ensures joined { PrdsCoverFrames frames.now bytes result.items }
     ensures number { length result.items ≤ length frames.now }
     ensures allowed { All IsAllowedPrd result.items }
     ensures whole { bytes % 512 ≡ 0 → All IsWholePieces result.items }
@@ -103,7 +103,7 @@ pub fn prds(frames: &[Frame], bytes: u32) -> ArrayVec<Prd, MOST_REQUEST_FRAMES>
 pub fn prds_in<const ROOM: usize>(frames: &[Frame], bytes: u32) -> ArrayVec<Prd, ROOM>
     requires fill { FillFrames frames.now bytes }
     requires room { length frames.now ≤ ROOM }
-    ensures joined { AreJoined frames.now bytes result.items }
+    ensures joined { PrdsCoverFrames frames.now bytes result.items }
     ensures number { length result.items ≤ length frames.now }
     ensures allowed { All IsAllowedPrd result.items }
     ensures whole { bytes % 512 ≡ 0 → All IsWholePieces result.items }
@@ -235,7 +235,7 @@ pub fn write_table_with_block<A: Adapter>(
     ensures followed { IsSimulated (IsStoreWithBlock port.0 0) (IsUnused port.0 0) (A.device adapter.old)
         (A.device adapter.new) }
     ensures says { (m : Meaning) → IsMeaning m → command.now ≡ command_of m.operation 0 m.first m.count
-        → pieces_moved m.operation m.count ≡ 1 → SlotDecodesTo (A.device adapter.new).memory (list_of port.0) port.0 0 m
+        → piece_count m.operation m.count ≡ 1 → SlotDecodesTo (A.device adapter.new).memory (list_of port.0) port.0 0 m
         (scratch_of port.0 ∷ []) }
     ensures block { bytes_at (A.device adapter.new).memory (scratch_of port.0) 512 ≡ block.now }
     ensures cost { MakesAtMost BLOCK_ACCESSES (A.access_count adapter.old) (A.access_count adapter.new) }

@@ -12,13 +12,13 @@ use Rattle.adapter.specs.Decoding.{IsWholePieces}
 use Rattle.adapter.specs.Trim.{consecutive, trim_sectors}
 use Rattle.adapter.specs.declared.command.Command.{Command}
 use Rattle.adapter.specs.declared.command.Operation.TheVariants as operation
-use Rattle.refinement.specs.Driven.{RelatesWith, IsBitOf, IsSimulated}
+use Rattle.refinement.specs.Driven.{RelatesWith, IsSoleBit, IsSimulated}
 use Rattle.refinement.specs.Places.{list_of, scratch_of}
 use Rattle.refinement.specs.Slots.{SlotDecodesTo}
 use Rattle.command_table.specs.Written.{IsStoreWithBlock, IsTableFor, IsTableStore, IsUnused}
 use Rattle.commands.specs.Issuing.{IsArmedFor}
 use Rattle.commands.specs.Tasks.{RunsItsList}
-use Rattle.commands.specs.PlainTasks.{flush_meaning, trim_meaning}
+use Rattle.commands.specs.PlainTasks.{flush_task, trim_task}
 
 abbrev pub flush : Meaning
 flush = record { operation = operation.Flush; first = 0; count = 0 }
@@ -39,8 +39,8 @@ pub is_trim : IsMeaning trim
 is_trim = record { ranged = λ e. absurd cc; not_ranged = λ _. (refl, refl) }
 
 module _ (port : Port) (range : Range) (frames : List Frame) (own : ℕ) (old mid : Device) (on : IsOn old) (there : HasPort old port.0) (agreed : RelatesWith (IsUnused port.0 0) old)
-    (may : RunsItsList port.0 old) (mid_on : IsOn mid) (alone : IsBitOf 0 own) where
-  pub armed_flush : IsSimulated (IsTableStore port.0 0) (IsUnused port.0 0) old mid → SlotDecodesTo mid.memory (list_of port.0) port.0 0 flush [] → IsArmedFor port 0 (flush_meaning range) frames own old mid
+    (may : RunsItsList port.0 old) (mid_on : IsOn mid) (alone : IsSoleBit 0 own) where
+  pub armed_flush : IsSimulated (IsTableStore port.0 0) (IsUnused port.0 0) old mid → SlotDecodesTo mid.memory (list_of port.0) port.0 0 flush [] → IsArmedFor port 0 (flush_task range) frames own old mid
   armed_flush stores told = record {
     on = on;
     there = there;
@@ -60,7 +60,7 @@ module _ (port : Port) (range : Range) (frames : List Frame) (own : ℕ) (old mi
   }
 
   pub armed_trim : IsSimulated (IsStoreWithBlock port.0 0) (IsUnused port.0 0) old mid → SlotDecodesTo mid.memory (list_of port.0) port.0 0 trim (scratch_of port.0 ∷ []) →
-      trim_sectors (bytes_at mid.memory (scratch_of port.0) 512) ≡ consecutive range.first.0 range.count → IsArmedFor port 0 (trim_meaning range) frames own old mid
+      trim_sectors (bytes_at mid.memory (scratch_of port.0) 512) ≡ consecutive range.first.0 range.count → IsArmedFor port 0 (trim_task range) frames own old mid
   armed_trim stores told block = record {
     on = on;
     there = there;

@@ -22,25 +22,25 @@ use Rattle.adapter.specs.Rules.{IsOn, HasPort, MayWrite, IsStable}
 use Rattle.adapter.specs.Steps.{Steps}
 use Rattle.adapter.specs.declared.command.Operation.{Operation}
 use Rattle.block_machine.specs.Due.{is_plain}
-use Rattle.block_machine.specs.Events.{AllDevices, AllMay}
+use Rattle.block_machine.specs.Events.{AllByDevice, AllMay}
 use Rattle.block_machine.specs.Histories.{IsReachable, IsSimulatedBySteps}
 use Rattle.block_machine.specs.Left.{after}
 use Rattle.block_machine.specs.State.{Accepted, Pending, Machine}
 use Rattle.block_machine.specs.Steps.{Step, Issue, May}
 use Rattle.block_machine.specs.declared.due.QueueMode.{QueueMode}
-use Rattle.refinement.specs.Acts.{Act, InSlots, IsActDone, AreActsDone, ActsReach, at_slots, accesses_of, act_steps}
+use Rattle.refinement.specs.Acts.{Act, DriverSlots, IsActDone, AreActsDone, ActsReach, driver_state, accesses_of, act_steps}
 use Rattle.refinement.specs.Relation.{StateRelation, port_at}
-use Rattle.refinement.specs.Driven.{AnyAccess, AreDevices, IsBitOf, IsDrivenBy, IsSimulated, IsOf, LeavesPort, NoneWrites}
-use Rattle.refinement.specs.Driver.{DriverState, DriverRelation, ByDevice, DriverAdvances, EndsWith, IsPrepared, LeavesFree, MissesTable, serving}
+use Rattle.refinement.specs.Driven.{AnyAccess, OnlyDeviceActs, IsSoleBit, IsDrivenBy, IsSimulated, SparesOtherPorts, LeavesPort, NoneWrites}
+use Rattle.refinement.specs.Driver.{DriverState, DriverRelation, ByDevice, DriverAdvances, EndsInStep, IsPrepared, KeepsTables, MissesTable, serving}
 use Rattle.refinement.specs.Follows.{SimulatesSteps}
-use Rattle.refinement.specs.Links.{SameAdapter, SparesRegister}
+use Rattle.refinement.specs.Links.{SameAdapter, DoesNotWrite}
 use Rattle.refinement.specs.Places.{list_of}
 use Rattle.refinement.specs.Readying.{IsStored, IsReadied}
 use Rattle.refinement.specs.Slots.{SlotState, Free, Armed, Own, Serves, SlotStates, put, Means, HasTrimBlock, SlotDecodesTo, IsArmed, RelatesSlot}
 use Rattle.refinement.specs.Started.{ClearsNoStart}
 use Rattle.command_table.specs.Written.{IsStoreWithBlock, IsUnused}
 use Rattle.commands.specs.Issuing.{IsArmedFor, IsIssued}
-use Rattle.commands.specs.Tasks.{Arms, HasBlockOf, IsStoreFor, StoresThenWrites, IsIssuing, IsOnItsWay, IsTaskOf, MayServe, IssuesAtEnd, RunsItsList, addresses_of, meaning_of, task_operation, with_serving, writes_of}
+use Rattle.commands.specs.Tasks.{Arms, HasBlockOf, IsStoreFor, StoresThenWrites, IsIssuing, IsBeingIssued, IsTaskOf, MayServe, IssuesAtEnd, RunsItsList, addresses_of, meaning_of, task_operation, with_serving, writes_of}
 use Rattle.commands.specs.declared.ncq.Task.{Task}
 use Rattle.commands.proofs.Telling.{task_block, task_means}
 
@@ -63,18 +63,18 @@ does_then (access ∷ accesses) then old mid new (one, does, more) rest = (one, 
 
 -- accesses of another port leave the port to the device
 abbrev LeavesOthers : Type 0
-LeavesOthers = (port : Port) (q : ℕ) (old new : Device) → q ≢ port.0 → IsOn old → IsDrivenBy (IsOf port) old new → LeavesPort (old.port q) (new.port q)
+LeavesOthers = (port : Port) (q : ℕ) (old new : Device) → q ≢ port.0 → IsOn old → IsDrivenBy (SparesOtherPorts port) old new → LeavesPort (old.port q) (new.port q)
 
 -- any accesses leave the adapter what it is
 abbrev LeavesAdapter : Type 0
 LeavesAdapter = (old new : Device) → IsDrivenBy AnyAccess old new → SameAdapter old new
 
 -- no store is of a register
-with_block_is_of : (at_slots : Port) (port slot : ℕ) (access : Access) → IsStoreWithBlock port slot access → IsOf at_slots access
-with_block_is_of at_slots port slot (Storing place bytes) here = tt
-with_block_is_of at_slots port slot (Loading place bytes) here = tt
-with_block_is_of at_slots port slot (Reading q v) here = absurd (elim here [ inl x ↦ x | inr x ↦ x ])
-with_block_is_of at_slots port slot (Writing q v) here = absurd (elim here [ inl x ↦ x | inr x ↦ x ])
+with_block_is_of : (driver_state : Port) (port slot : ℕ) (access : Access) → IsStoreWithBlock port slot access → SparesOtherPorts driver_state access
+with_block_is_of driver_state port slot (Storing place bytes) here = tt
+with_block_is_of driver_state port slot (Loading place bytes) here = tt
+with_block_is_of driver_state port slot (Reading q v) here = absurd (elim here [ inl x ↦ x | inr x ↦ x ])
+with_block_is_of driver_state port slot (Writing q v) here = absurd (elim here [ inl x ↦ x | inr x ↦ x ])
 
 -- what is stored for a task is header and table, or a block
 pub store_for : (op : Op) (port slot : ℕ) (access : Access) → IsStoreFor op port slot access → IsStoreWithBlock port slot access
@@ -83,10 +83,10 @@ store_for Read port slot access here = inl here
 store_for Write port slot access here = inl here
 store_for Flush port slot access here = inl here
 
-pub store_is_of : (op : Op) (at_slots : Port) (port slot : ℕ) (access : Access) → IsStoreFor op port slot access → IsOf at_slots access
-store_is_of op at_slots port slot access here = with_block_is_of at_slots port slot access (store_for op port slot access here)
+pub store_is_of : (op : Op) (driver_state : Port) (port slot : ℕ) (access : Access) → IsStoreFor op port slot access → SparesOtherPorts driver_state access
+store_is_of op driver_state port slot access here = with_block_is_of driver_state port slot access (store_for op port slot access here)
 
-with_block_spares : (port slot : ℕ) (r : Reg) (access : Access) → IsStoreWithBlock port slot access → SparesRegister r access
+with_block_spares : (port slot : ℕ) (r : Reg) (access : Access) → IsStoreWithBlock port slot access → DoesNotWrite r access
 with_block_spares port slot r (Storing place bytes) here = tt
 with_block_spares port slot r (Loading place bytes) here = tt
 with_block_spares port slot r (Reading q v) here = tt
@@ -101,7 +101,7 @@ module _ (port : Port) (slot : ℕ) (op : Op) (old mid : Device) (stores : IsSim
   stores_left left on = left (record { 0 = port.0 + 1 }) port.0 old mid (λ (e : port.0 ≡ port.0 + 1). omega (arith, e)) on (record {
     accesses = stores.driven.accesses;
     all = stores.driven.all;
-    only = all_as (IsStoreFor op port.0 slot) (IsOf (record { 0 = port.0 + 1 })) (store_is_of op (record { 0 = port.0 + 1 }) port.0 slot) stores.driven.accesses stores.driven.only;
+    only = all_as (IsStoreFor op port.0 slot) (SparesOtherPorts (record { 0 = port.0 + 1 })) (store_is_of op (record { 0 = port.0 + 1 }) port.0 slot) stores.driven.accesses stores.driven.only;
   })
 
   pub stores_same : LeavesAdapter → SameAdapter old mid
@@ -135,30 +135,30 @@ pub record Laws : Type 0 where
   pub same : (access : Access) (old new : Device) → Does access old new → SameAdapter old new
   pub on : (access : Access) (old new : Device) → IsOn old → ((v : ℕ) → access ≡ Writing Ghc v → (bit v 31 ≡ true) × (bit v 0 ≡ false)) → Does access old new → IsOn new
   pub access : (k later : DriverState) (m : Machine) (access : Access) → IsSimulatedBySteps DriverRelation k later (ByDevice k.device later.device) → IsReachable m → DriverRelation m k
-      → Does access k.device later.device → (steps : List Step) × AllDevices steps × IsActDone k m (record { access = Some access; steps = steps; later = later })
-  pub ends : (k later : DriverState) (m : Machine) (access : Access) (step : Step) → (e : EndsWith k m step later) → Does access k.device later.device
+      → Does access k.device later.device → (steps : List Step) × AllByDevice steps × IsActDone k m (record { access = Some access; steps = steps; later = later })
+  pub ends : (k later : DriverState) (m : Machine) (access : Access) (step : Step) → (e : EndsInStep k m step later) → Does access k.device later.device
       → IsActDone k m (record { access = Some access; steps = step ∷ e.steps; later = later })
   pub more : (early late : List Act) (a b c : DriverState) (m : Machine) → AreActsDone early a m b → AreActsDone late b (after m (act_steps early)) c → AreActsDone (early ++ late) a m c
   pub accesses : (early late : List Act) → accesses_of (early ++ late) ≡ accesses_of early ++ accesses_of late
   pub steps : (early late : List Act) → act_steps (early ++ late) ≡ act_steps late ++ act_steps early
   pub goes : (acts : List Act) (k later : DriverState) (m : Machine) → DriverRelation m k → AreActsDone acts k m later → DriverAdvances k m (act_steps acts) later
   pub reached : (k later : DriverState) (m : Machine) (steps : List Step) → IsReachable m → DriverAdvances k m steps later → IsReachable (after m steps)
-  pub device : (late early : List Step) → AllDevices late → AllDevices early → AllDevices (late ++ early)
-  pub due : (m : Machine) (steps : List Step) → IsReachable m → AllDevices steps → AllMay m steps → (mode : QueueMode) (e : Pending) → May m (Issue mode e)
+  pub device : (late early : List Step) → AllByDevice late → AllByDevice early → AllByDevice (late ++ early)
+  pub due : (m : Machine) (steps : List Step) → IsReachable m → AllByDevice steps → AllMay m steps → (mode : QueueMode) (e : Pending) → May m (Issue mode e)
       → May (after m steps) (Issue mode e)
   pub arming : (k : DriverState) (port : Port) (slot v : ℕ) (new : Device) → k.device.hr ≡ false → k.uses port.0 slot ≡ Free → (k.device.port port.0).st ≡ true → bit v slot ≡ true
       → ((other : ℕ) → other ≢ slot → bit v other ≡ false) → Writes (Px port Sact) v k.device new
       → IsSimulatedBySteps DriverRelation k (record k { uses = put k.uses port.0 slot Armed; device = new }) (ByDevice k.device new)
   pub issuing : (k : DriverState) (m : Machine) (port : Port) (slot : ℕ) (mode : QueueMode) (e : Pending) (v : ℕ) (new : Device) → IsReachable m → DriverRelation m k → k.device.hr ≡ false
-      → IsPrepared k.uses m k.device port.0 slot mode e v → Writes (Px port Ci) v k.device new → EndsWith k m (Issue mode e) (serving k port.0 slot e.request.id new)
+      → IsPrepared k.uses m k.device port.0 slot mode e v → Writes (Px port Ci) v k.device new → EndsInStep k m (Issue mode e) (serving k port.0 slot e.request.id new)
   pub arms : (uses : SlotStates) (m : Machine) (port : Port) (slot : ℕ) (c : Meaning) (places : List ℕ) (v : ℕ) (old new : Device) → IsReachable m → StateRelation uses m old → old.hr ≡ false
       → is_queued c.operation ≡ true → uses port.0 slot ≡ Free → bit v slot ≡ true → Writes (Px port Sact) v old new → IsStored old port.0 slot c places
       → IsReadied (put uses port.0 slot Armed) new port.0 slot c places
   pub plain : (uses : SlotStates) (d : Device) (port slot : ℕ) (c : Meaning) (places : List ℕ) → is_queued c.operation ≡ false → uses port slot ≡ Free → IsStored d port slot c places
       → IsReadied uses d port slot c places
   pub stays : (uses : SlotStates) (m : Machine) (port : Port) (slot : ℕ) (c : Meaning) (places : List ℕ) (access : Access) (old new : Device) → IsReachable m → StateRelation uses m old
-      → old.hr ≡ false → ClearsNoStart port access → SparesRegister (Px port Clb) access
-      → ((at_slots : ℕ) (bytes : List ℕ) → access ≡ Storing at_slots bytes → MissesTable port.0 slot at_slots (length bytes)) → Does access old new → IsStored old port.0 slot c places
+      → old.hr ≡ false → ClearsNoStart port access → DoesNotWrite (Px port Clb) access
+      → ((driver_state : ℕ) (bytes : List ℕ) → access ≡ Storing driver_state bytes → MissesTable port.0 slot driver_state (length bytes)) → Does access old new → IsStored old port.0 slot c places
       → IsStored new port.0 slot c places
   pub permitted : (uses : SlotStates) (m : Machine) (d : Device) (port : Port) (slot : ℕ) (c : Meaning) (places : List ℕ) (v : ℕ) → IsReachable m → StateRelation uses m d → IsOn d
       → HasPort d port.0 → slot ≤ d.cap / 256 % 32 → IsReadied uses d port.0 slot c places → bit v slot ≡ true → ((k : ℕ) → k ≢ slot → bit v k ≡ false)
@@ -168,8 +168,8 @@ pub record Laws : Type 0 where
       → Means port slot e.request c places → is_queued c.operation ≡ not (is_plain mode e.request.asked.op)
       → HasTrimBlock e.request.asked.op d.memory port e.request → bit v slot ≡ true → ((k : ℕ) → k ≢ slot → bit v k ≡ false) → IsPrepared uses m d port slot mode e v
   pub follows : (uses : SlotStates) (m : Machine) (old new : Device) → IsReachable m → StateRelation uses m old → Steps old new → SimulatesSteps uses m old new
-  pub leaves : (uses : SlotStates) (m : Machine) (old new : Device) → IsReachable m → StateRelation uses m old → old.hr ≡ false → (r : Reg) (v : ℕ) → Writes r v old new → LeavesFree uses old new
-  pub block : (uses : SlotStates) (old new : Device) → LeavesFree uses old new → (port : ℕ) (r : Accepted) → port < 4 → ((o : Operation) → uses port 0 ≡ Own o → ⊥) → HasTrimBlock r.asked.op old.memory port r
+  pub leaves : (uses : SlotStates) (m : Machine) (old new : Device) → IsReachable m → StateRelation uses m old → old.hr ≡ false → (r : Reg) (v : ℕ) → Writes r v old new → KeepsTables uses old new
+  pub block : (uses : SlotStates) (old new : Device) → KeepsTables uses old new → (port : ℕ) (r : Accepted) → port < 4 → ((o : Operation) → uses port 0 ≡ Own o → ⊥) → HasTrimBlock r.asked.op old.memory port r
       → HasTrimBlock r.asked.op new.memory port r
   pub put_here : (uses : SlotStates) (port slot : ℕ) (u : SlotState) → put uses port slot u port slot ≡ u
   pub put_others : (uses : SlotStates) (port slot : ℕ) (u : SlotState) (other_port other_slot : ℕ) → (other_port ≡ port → other_slot ≡ slot → ⊥)
@@ -177,7 +177,7 @@ pub record Laws : Type 0 where
 
 -- ---- a slot is armed, or left alone
 
-abbrev with_armed : Bool → Port → ℕ → InSlots → InSlots
+abbrev with_armed : Bool → Port → ℕ → DriverSlots → DriverSlots
 with_armed true port slot s = record s { uses = put s.uses port.0 slot Armed }
 with_armed false port slot s = s
 
@@ -190,21 +190,21 @@ abbrev IsUnissued : SlotState → Type 0
 IsUnissued u = (u ≡ Free) ⊎ (u ≡ Armed)
 
 -- Acts with these accesses lead to an armed slot, or to one that is free still. The device alone makes steps, and other slots go on as they are used.
-record Reaches (port : Port) (slot : ℕ) (queued : Bool) (accesses : List Access) (s : InSlots) (m : Machine) (from armed : Device) : Type 0 where
+record Reaches (port : Port) (slot : ℕ) (queued : Bool) (accesses : List Access) (s : DriverSlots) (m : Machine) (from armed : Device) : Type 0 where
   acts : List Act
-  done : AreActsDone acts (at_slots s from) m (at_slots (with_armed queued port slot s) armed)
+  done : AreActsDone acts (driver_state s from) m (driver_state (with_armed queued port slot s) armed)
   accesses_are : accesses_of acts ≡ accesses
-  device : AllDevices (act_steps acts)
+  device : AllByDevice (act_steps acts)
   own : All (λ act. IsUnissued (act.later.uses port.0 slot)) acts
   others : (q k : ℕ) → (q ≡ port.0 → k ≡ slot → ⊥) → All (λ act. act.later.uses q k ≡ s.uses q k) acts
 
 module _ (laws : Laws) where
-  module _ (port : Port) (slot own : ℕ) (alone : IsBitOf slot own) (mid armed : Device) (on : IsOn mid) (started : (mid.port port.0).st ≡ true) where
-    armed_from : (queued : Bool) → Arms queued port own mid armed → (s : InSlots) (m : Machine) → IsReachable m → DriverRelation m (at_slots s mid) → s.uses port.0 slot ≡ Free →
+  module _ (port : Port) (slot own : ℕ) (alone : IsSoleBit slot own) (mid armed : Device) (on : IsOn mid) (started : (mid.port port.0).st ≡ true) where
+    armed_from : (queued : Bool) → Arms queued port own mid armed → (s : DriverSlots) (m : Machine) → IsReachable m → DriverRelation m (driver_state s mid) → s.uses port.0 slot ≡ Free →
         Reaches port slot queued (arming_of port queued own) s m mid armed
     armed_from true arms s m reached knows free =
-        let later : DriverState = at_slots (with_armed true port slot s) armed in
-        let x = laws.access (at_slots s mid) later m (Writing (Px port Sact) own) (laws.arming (at_slots s mid) port slot own armed on.no_reset free started alone.here alone.alone arms) reached knows arms in
+        let later : DriverState = driver_state (with_armed true port slot s) armed in
+        let x = laws.access (driver_state s mid) later m (Writing (Px port Sact) own) (laws.arming (driver_state s mid) port slot own armed on.no_reset free started alone.here alone.alone arms) reached knows arms in
         let act : Act = record { access = Some (Writing (Px port Sact) own); steps = x.0; later = later } in
         record {
           acts = act ∷ [];
@@ -216,7 +216,7 @@ module _ (laws : Laws) where
         }
     armed_from false arms s m reached knows free = record {
       acts = [];
-      done = ap (λ (d : Device). at_slots s d) arms;
+      done = ap (λ (d : Device). driver_state s d) arms;
       accesses_are = refl;
       device = tt;
       own = All-nil (λ a. IsUnissued (a.later.uses port.0 slot));
@@ -231,21 +231,21 @@ module _ (laws : Laws) where
     armed_same true arms = let z = laws.same (Writing (Px port Sact) own) mid armed arms in (z.pi, z.cap)
     armed_same false arms = (ap (λ (d : Device). d.pi) arms, ap (λ (d : Device). d.cap) arms)
 
-    armed_readied : (c : Meaning) (places : List ℕ) (queued : Bool) → is_queued c.operation ≡ queued → Arms queued port own mid armed → (s : InSlots) (m : Machine) → IsReachable m →
-        DriverRelation m (at_slots s mid) → s.uses port.0 slot ≡ Free → IsStored mid port.0 slot c places → IsReadied (with_armed queued port slot s).uses armed port.0 slot c places
+    armed_readied : (c : Meaning) (places : List ℕ) (queued : Bool) → is_queued c.operation ≡ queued → Arms queued port own mid armed → (s : DriverSlots) (m : Machine) → IsReachable m →
+        DriverRelation m (driver_state s mid) → s.uses port.0 slot ≡ Free → IsStored mid port.0 slot c places → IsReadied (with_armed queued port slot s).uses armed port.0 slot c places
     armed_readied c places true is arms s m reached knows free stored =
         laws.arms s.uses m port slot c places own mid armed reached knows.agrees on.no_reset is free alone.here arms stored
     armed_readied c places false is arms s m reached knows free stored =
         laws.plain s.uses armed port.0 slot c places is free (subst (λ (d : Device). IsStored d port.0 slot c places) (sym arms) stored)
 
     -- a trim isn't queued, so its block is as it was
-    block_then : (op : Op) (range : Range) (at_slots : ℕ) (queued : Bool) → is_queued (task_operation queued op) ≡ queued → Arms queued port own mid armed → HasBlockOf op range at_slots mid.memory →
-        HasBlockOf op range at_slots armed.memory
-    block_then Trim range at_slots true kind arms block = absurd cc
-    block_then Trim range at_slots false kind arms block = subst (λ (d : Device). HasBlockOf Trim range at_slots d.memory) (sym arms) block
-    block_then Read range at_slots queued kind arms block = tt
-    block_then Write range at_slots queued kind arms block = tt
-    block_then Flush range at_slots queued kind arms block = tt
+    block_then : (op : Op) (range : Range) (driver_state : ℕ) (queued : Bool) → is_queued (task_operation queued op) ≡ queued → Arms queued port own mid armed → HasBlockOf op range driver_state mid.memory →
+        HasBlockOf op range driver_state armed.memory
+    block_then Trim range driver_state true kind arms block = absurd cc
+    block_then Trim range driver_state false kind arms block = subst (λ (d : Device). HasBlockOf Trim range driver_state d.memory) (sym arms) block
+    block_then Read range driver_state queued kind arms block = tt
+    block_then Write range driver_state queued kind arms block = tt
+    block_then Flush range driver_state queued kind arms block = tt
 
   -- ---- a slot that was armed serves
 
@@ -266,9 +266,9 @@ module _ (laws : Laws) where
     put_twice : put (put uses p k Armed) p k (Serves id) ≡ put uses p k (Serves id)
     put_twice = λ i q j. put_twice_at q j i
 
-  served : (queued : Bool) (port : Port) (slot : ℕ) (s : InSlots) (id : RequestId) (armed new : Device) →
-      serving (at_slots (with_armed queued port slot s) armed) port.0 slot id new ≡ at_slots (with_serving port slot id s) new
-  served true port slot s id armed new = ap (λ (uses : SlotStates). at_slots (record s { uses = uses }) new) (put_twice s.uses port.0 slot id)
+  served : (queued : Bool) (port : Port) (slot : ℕ) (s : DriverSlots) (id : RequestId) (armed new : Device) →
+      serving (driver_state (with_armed queued port slot s) armed) port.0 slot id new ≡ driver_state (with_serving port slot id s) new
+  served true port slot s id armed new = ap (λ (uses : SlotStates). driver_state (record s { uses = uses }) new) (put_twice s.uses port.0 slot id)
   served false port slot s id armed new = refl
 
   -- ---- the whole
@@ -284,26 +284,26 @@ module _ (laws : Laws) where
     block_armed = block_then port slot own b.alone b.mid armed b.mid_on stored.started r.op r.range port.0 r.queued b.kind b.arms b.block
 
     -- from a machine that agrees, acts lead to the armed slot, which is ready for PxCI
-    record Stage (s : InSlots) (m : Machine) : Type 0 where
+    record Stage (s : DriverSlots) (m : Machine) : Type 0 where
       reaches : Reaches port slot r.queued (b.stores.driven.accesses ++ arming_of port r.queued own) s m old armed
-      goes : DriverAdvances (at_slots s old) m (act_steps reaches.acts) (at_slots (with_armed r.queued port slot s) armed)
+      goes : DriverAdvances (driver_state s old) m (act_steps reaches.acts) (driver_state (with_armed r.queued port slot s) armed)
       reached : IsReachable (after m (act_steps reaches.acts))
       readied : IsReadied (with_armed r.queued port slot s).uses armed port.0 slot (meaning_of r) (addresses_of port.0 r.op r.range.count frames)
 
-    stage : (s : InSlots) (m : Machine) → IsReachable m → DriverRelation m (at_slots s old) → s.uses port.0 slot ≡ Free → Stage s m
-    stage s m reached knows free = record { reaches = reaches; goes = goes; reached = laws.reached (at_slots s old) later m (act_steps reaches.acts) reached goes; readied = readied }
+    stage : (s : DriverSlots) (m : Machine) → IsReachable m → DriverRelation m (driver_state s old) → s.uses port.0 slot ≡ Free → Stage s m
+    stage s m reached knows free = record { reaches = reaches; goes = goes; reached = laws.reached (driver_state s old) later m (act_steps reaches.acts) reached goes; readied = readied }
       where
         later : DriverState
-        later = at_slots (with_armed r.queued port slot s) armed
+        later = driver_state (with_armed r.queued port slot s) armed
 
-        x : ActsReach b.stores.driven.accesses (at_slots s old) m (at_slots s b.mid) (AreDevices (IsStoreFor r.op port.0 slot) s.uses)
+        x : ActsReach b.stores.driven.accesses (driver_state s old) m (driver_state s b.mid) (OnlyDeviceActs (IsStoreFor r.op port.0 slot) s.uses)
         x = b.stores.comes s m reached knows free
 
-        g : DriverAdvances (at_slots s old) m (act_steps x.acts) (at_slots s b.mid)
-        g = laws.goes x.acts (at_slots s old) (at_slots s b.mid) m knows x.done
+        g : DriverAdvances (driver_state s old) m (act_steps x.acts) (driver_state s b.mid)
+        g = laws.goes x.acts (driver_state s old) (driver_state s b.mid) m knows x.done
 
         mid_reached : IsReachable (after m (act_steps x.acts))
-        mid_reached = laws.reached (at_slots s old) (at_slots s b.mid) m (act_steps x.acts) reached g
+        mid_reached = laws.reached (driver_state s old) (driver_state s b.mid) m (act_steps x.acts) reached g
 
         y : Reaches port slot r.queued (arming_of port r.queued own) s (after m (act_steps x.acts)) b.mid armed
         y = armed_from port slot own b.alone b.mid armed b.mid_on stored.started r.queued b.arms s (after m (act_steps x.acts)) mid_reached g.knows free
@@ -314,10 +314,10 @@ module _ (laws : Laws) where
         reaches : Reaches port slot r.queued (b.stores.driven.accesses ++ arming_of port r.queued own) s m old armed
         reaches = record {
           acts = x.acts ++ y.acts;
-          done = laws.more x.acts y.acts (at_slots s old) (at_slots s b.mid) later m x.done y.done;
+          done = laws.more x.acts y.acts (driver_state s old) (driver_state s b.mid) later m x.done y.done;
           accesses_are = laws.accesses x.acts y.acts
               ∙ (ap (λ (early : List Access). early ++ accesses_of y.acts) x.accesses_are ∙ ap (λ (late : List Access). b.stores.driven.accesses ++ late) y.accesses_are);
-          device = subst AllDevices (sym (laws.steps x.acts y.acts)) (laws.device (act_steps y.acts) (act_steps x.acts) y.device x.tells.only);
+          device = subst AllByDevice (sym (laws.steps x.acts y.acts)) (laws.device (act_steps y.acts) (act_steps x.acts) y.device x.tells.only);
           own = let P : Act → Type 0 = λ act. IsUnissued (act.later.uses port.0 slot) in
               All-append P x.acts y.acts
               (all_as (λ act. act.later.uses port.0 ≡ s.uses port.0) P (λ act same. inl (ap (λ (f : ℕ → SlotState). f slot) same ∙ free)) x.acts (kept port)) y.own;
@@ -327,8 +327,8 @@ module _ (laws : Laws) where
               (all_as (λ act. act.later.uses q ≡ s.uses q) P (λ act same. ap (λ (f : ℕ → SlotState). f k) same) x.acts (kept (port_at q))) (y.others q k other);
         }
 
-        goes : DriverAdvances (at_slots s old) m (act_steps reaches.acts) later
-        goes = laws.goes reaches.acts (at_slots s old) later m knows reaches.done
+        goes : DriverAdvances (driver_state s old) m (act_steps reaches.acts) later
+        goes = laws.goes reaches.acts (driver_state s old) later m knows reaches.done
 
         readied : IsReadied (with_armed r.queued port slot s).uses armed port.0 slot (meaning_of r) (addresses_of port.0 r.op r.range.count frames)
         readied =
@@ -336,7 +336,7 @@ module _ (laws : Laws) where
             s (after m (act_steps x.acts)) mid_reached g.knows free stored
 
     -- the machine that the caller knows of
-    abbrev s0 : InSlots
+    abbrev s0 : DriverSlots
     s0 = record { uses = b.agreed.0; parked = b.agreed.2.parked }
 
     known_stage : Stage s0 b.agreed.2.machine
@@ -363,10 +363,10 @@ module _ (laws : Laws) where
       arming_only false = All-nil (IsIssuing port slot)
 
       is_issuing : (access : Access) → IsStoreWithBlock port.0 slot access → IsIssuing port slot access
-      is_issuing (Storing at_slots bytes) here = here
+      is_issuing (Storing driver_state bytes) here = here
       is_issuing (Reading q v) here = absurd (elim here [ inl x ↦ x | inr x ↦ x ])
       is_issuing (Writing q v) here = absurd (elim here [ inl x ↦ x | inr x ↦ x ])
-      is_issuing (Loading at_slots bytes) here = absurd (elim here [ inl x ↦ x | inr x ↦ x ])
+      is_issuing (Loading driver_state bytes) here = absurd (elim here [ inl x ↦ x | inr x ↦ x ])
 
       abbrev accesses : List Access
       accesses = (b.stores.driven.accesses ++ arming_of port r.queued own) ++ Writing (Px port Ci) own ∷ []
@@ -407,17 +407,17 @@ module _ (laws : Laws) where
         head : is_plain mode e.request.asked.op ≡ true → slot ≡ 0
         head plain = is.head (is.kind ∙ ap not (sym (ap (is_plain mode) is.operation) ∙ plain))
 
-        comes : (s : InSlots) (m : Machine) → IsReachable m → DriverRelation m (at_slots s old) → MayServe port slot mode e s m →
-            ActsReach accesses (at_slots s old) m (at_slots (with_serving port slot e.request.id s) new) (IssuesAtEnd port slot mode e s.uses)
+        comes : (s : DriverSlots) (m : Machine) → IsReachable m → DriverRelation m (driver_state s old) → MayServe port slot mode e s m →
+            ActsReach accesses (driver_state s old) m (driver_state (with_serving port slot e.request.id s) new) (IssuesAtEnd port slot mode e s.uses)
         comes s m reached knows fits = record {
           acts = x.reaches.acts ++ act ∷ [];
-          done = laws.more x.reaches.acts (act ∷ []) (at_slots s old) before later m x.reaches.done (last, refl);
+          done = laws.more x.reaches.acts (act ∷ []) (driver_state s old) before later m x.reaches.done (last, refl);
           accesses_are = laws.accesses x.reaches.acts (act ∷ []) ∙ ap (λ (early : List Access). early ++ Writing (Px port Ci) own ∷ []) x.reaches.accesses_are;
           tells = record {
             before = ends.steps ++ act_steps x.reaches.acts;
             device = laws.device ends.steps (act_steps x.reaches.acts) ends.only x.reaches.device;
             last = laws.steps x.reaches.acts (act ∷ []);
-            own = let P : Act → Type 0 = λ a. IsOnItsWay e.request.id (a.later.uses port.0 slot) in
+            own = let P : Act → Type 0 = λ a. IsBeingIssued e.request.id (a.later.uses port.0 slot) in
                 All-append P x.reaches.acts (act ∷ [])
                 (all_as (λ a. IsUnissued (a.later.uses port.0 slot)) P (λ a u. ⊎_elim (λ free. inl free) (λ is_armed. inr (inl is_armed)) u) x.reaches.acts x.reaches.own)
                 (All-cons P act [] (inr (inr (laws.put_here s.uses port.0 slot (Serves e.request.id)))) (All-nil P));
@@ -428,10 +428,10 @@ module _ (laws : Laws) where
         }
           where
             before : DriverState
-            before = at_slots (with_armed r.queued port slot s) armed
+            before = driver_state (with_armed r.queued port slot s) armed
 
             later : DriverState
-            later = at_slots (with_serving port slot e.request.id s) new
+            later = driver_state (with_serving port slot e.request.id s) new
 
             x : Stage s m
             x = stage s m reached knows fits.0
@@ -446,8 +446,8 @@ module _ (laws : Laws) where
                 (task_block port slot r frames mode e is armed.memory block_armed)
                 b.alone.here b.alone.alone
 
-            ends : EndsWith before m2 (Issue mode e) later
-            ends = subst (λ (k : DriverState). EndsWith before m2 (Issue mode e) k) (served r.queued port slot s e.request.id armed new)
+            ends : EndsInStep before m2 (Issue mode e) later
+            ends = subst (λ (k : DriverState). EndsInStep before m2 (Issue mode e) k) (served r.queued port slot s e.request.id armed new)
                 (laws.issuing before m2 port slot mode e own new x.reached x.goes.knows on_armed.no_reset prepared call)
 
             act : Act
@@ -472,7 +472,7 @@ module _ (laws : Laws) where
       stored_then =
           let x = known_stage in
           laws.stays (with_armed r.queued port slot s0).uses (after b.agreed.2.machine (act_steps x.reaches.acts)) port slot (meaning_of r) (addresses_of port.0 r.op r.range.count frames)
-          (Writing (Px port Ci) own) armed new x.reached x.goes.knows.agrees on_armed.no_reset (λ v e. absurd cc) (λ e. absurd cc) (λ at_slots bytes e. absurd cc) call x.readied.stored
+          (Writing (Px port Ci) own) armed new x.reached x.goes.knows.agrees on_armed.no_reset (λ v e. absurd cc) (λ e. absurd cc) (λ driver_state bytes e. absurd cc) call x.readied.stored
 
       -- a trim's block stands still: no command of the driver's own is in slot 0
       block_by : (op : Op) → r.op ≡ op → HasBlockOf op r.range port.0 armed.memory → HasBlockOf op r.range port.0 new.memory
@@ -484,7 +484,7 @@ module _ (laws : Laws) where
           uses : SlotStates
           uses = (with_armed r.queued port slot s0).uses
 
-          leaves : LeavesFree uses armed new
+          leaves : KeepsTables uses armed new
           leaves =
               laws.leaves uses (after b.agreed.2.machine (act_steps known_stage.reaches.acts)) armed new known_stage.reached known_stage.goes.knows.agrees on_armed.no_reset (Px port Ci) own call
 

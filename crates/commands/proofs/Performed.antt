@@ -18,30 +18,30 @@ use Rattle.block_machine.specs.Left.{after}
 use Rattle.block_machine.specs.State.{Machine, Pending}
 use Rattle.block_machine.specs.Steps.{Step, Issue}
 use Rattle.block_machine.specs.declared.due.QueueMode.{QueueMode}
-use Rattle.refinement.specs.Acts.{Act, AreActsDone, ActsReach, InSlots, Performs, at_slots, act_steps}
-use Rattle.refinement.specs.Driven.{AnyUse, IsRelated, IsSimulated, IsOf, SendsNone}
-use Rattle.refinement.specs.Driver.{EndsWith, DriverAdvances, IsBacked, DriverState, DriverRelation}
+use Rattle.refinement.specs.Acts.{Act, AreActsDone, ActsReach, DriverSlots, Performs, driver_state, act_steps}
+use Rattle.refinement.specs.Driven.{AnyUse, IsRelated, IsSimulated, SparesOtherPorts, GainsNoMove}
+use Rattle.refinement.specs.Driver.{EndsInStep, DriverAdvances, IsBacked, DriverState, DriverRelation}
 use Rattle.refinement.specs.Slots.{Own, SlotState, op_of}
-use Rattle.commands.specs.Masks.{ReadsDone, IsFinding}
-use Rattle.commands.specs.Tasks.{IsIssuing, IsOnItsWay, IssuesAtEnd, IssuesTask, IsTaskOf, MayServe, with_serving}
+use Rattle.commands.specs.Masks.{ReadsDone, ReadsCiOrSact}
+use Rattle.commands.specs.Tasks.{IsIssuing, IsBeingIssued, IssuesAtEnd, IssuesTask, IsTaskOf, MayServe, with_serving}
 use Rattle.commands.specs.declared.ncq.Task.{Task}
 use Rattle.commands.proofs.Issued.{all_as}
 
 -- ---- of one port
 
-reading_own : (port : Port) (r : PortReg) (place : Reg) (v : ℕ) → place ≡ Px port r → IsOf port (Reading place v)
-reading_own port r place v e = subst (λ (w : Reg). IsOf port (Reading w v)) (sym e) refl
+reading_own : (port : Port) (r : PortReg) (place : Reg) (v : ℕ) → place ≡ Px port r → SparesOtherPorts port (Reading place v)
+reading_own port r place v e = subst (λ (w : Reg). SparesOtherPorts port (Reading w v)) (sym e) refl
 
-writing_own : (port : Port) (r : PortReg) (place : Reg) (v : ℕ) → place ≡ Px port r → IsOf port (Writing place v)
-writing_own port r place v e = subst (λ (w : Reg). IsOf port (Writing w v)) (sym e) refl
+writing_own : (port : Port) (r : PortReg) (place : Reg) (v : ℕ) → place ≡ Px port r → SparesOtherPorts port (Writing place v)
+writing_own port r place v e = subst (λ (w : Reg). SparesOtherPorts port (Writing w v)) (sym e) refl
 
-pub issuing_of : (port : Port) (slot : ℕ) (access : Access) → IsIssuing port slot access → IsOf port access
+pub issuing_of : (port : Port) (slot : ℕ) (access : Access) → IsIssuing port slot access → SparesOtherPorts port access
 issuing_of port slot (Writing r v) here = ⊎_elim (λ e. writing_own port _ r v e) (λ e. writing_own port _ r v e) here.0
 issuing_of port slot (Storing place bytes) here = tt
 issuing_of port slot (Reading r v) here = absurd here
 issuing_of port slot (Loading place bytes) here = absurd here
 
-pub finding_of : (port : Port) (access : Access) → IsFinding port access → IsOf port access
+pub finding_of : (port : Port) (access : Access) → ReadsCiOrSact port access → SparesOtherPorts port access
 finding_of port (Reading r v) here = ⊎_elim (λ e. reading_own port _ r v e) (λ e. reading_own port _ r v e) here
 finding_of port (Writing r v) here = absurd here
 finding_of port (Storing place bytes) here = absurd here
@@ -54,7 +54,7 @@ pub record Laws : Type 0 where
   pub goes : (acts : List Act) (k later : DriverState) (m : Machine) → DriverRelation m k → AreActsDone acts k m later → DriverAdvances k m (act_steps acts) later
   pub reached : (k later : DriverState) (m : Machine) (steps : List Step) → IsReachable m → DriverAdvances k m steps later → IsReachable (after m steps)
   pub silent : (acts : List Act) (k later : DriverState) (m : Machine) (port : ℕ) (o : Operation) → op_of o ≡ None → IsReachable m → DriverRelation m k → (k.uses port 0 ≡ Own o → ⊥)
-      → All (λ act. act.later.uses port 0 ≡ Own o → ⊥) acts → AreActsDone acts k m later → SendsNone port o k.device later.device
+      → All (λ act. act.later.uses port 0 ≡ Own o → ⊥) acts → AreActsDone acts k m later → GainsNoMove port o k.device later.device
 
 pub performs : (port : Port) (slot : ℕ) (r : Task) (frames : List Frame) (mode : QueueMode) (e : Pending) (old new : Device) → (i : IssuesTask port slot r frames old new)
     → IsTaskOf port slot r frames mode e
@@ -62,24 +62,24 @@ pub performs : (port : Port) (slot : ℕ) (r : Task) (frames : List Frame) (mode
 performs port slot r frames mode e old new i is = record { does = i.driven.all; comes = i.comes mode e is }
 
 -- a slot on its way has no command of the driver's own
-not_own : (id : RequestId) (o : Operation) (u : SlotState) → IsOnItsWay id u → u ≡ Own o → ⊥
+not_own : (id : RequestId) (o : Operation) (u : SlotState) → IsBeingIssued id u → u ≡ Own o → ⊥
 not_own id o u (inl e) own = absurd cc
 not_own id o u (inr (inl e)) own = absurd cc
 not_own id o u (inr (inr e)) own = absurd cc
 
-module _ (laws : Laws) (port : Port) (slot : ℕ) (r : Task) (frames : List Frame) (mode : QueueMode) (e : Pending) (old new : Device) (s : InSlots) (m : Machine)
-    (i : IssuesTask port slot r frames old new) (is : IsTaskOf port slot r frames mode e) (reached : IsReachable m) (knows : DriverRelation m (at_slots s old)) (fits : MayServe port slot mode e s m) where
+module _ (laws : Laws) (port : Port) (slot : ℕ) (r : Task) (frames : List Frame) (mode : QueueMode) (e : Pending) (old new : Device) (s : DriverSlots) (m : Machine)
+    (i : IssuesTask port slot r frames old new) (is : IsTaskOf port slot r frames mode e) (reached : IsReachable m) (knows : DriverRelation m (driver_state s old)) (fits : MayServe port slot mode e s m) where
   later : DriverState
-  later = at_slots (with_serving port slot e.request.id s) new
+  later = driver_state (with_serving port slot e.request.id s) new
 
-  x : ActsReach i.driven.accesses (at_slots s old) m later (IssuesAtEnd port slot mode e s.uses)
+  x : ActsReach i.driven.accesses (driver_state s old) m later (IssuesAtEnd port slot mode e s.uses)
   unfolding later
   x = i.comes mode e is s m reached knows fits
 
-  g : DriverAdvances (at_slots s old) m (act_steps x.acts) later
-  g = laws.goes x.acts (at_slots s old) later m knows x.done
+  g : DriverAdvances (driver_state s old) m (act_steps x.acts) later
+  g = laws.goes x.acts (driver_state s old) later m knows x.done
 
-  pub ends : EndsWith (at_slots s old) m (Issue mode e) (at_slots (with_serving port slot e.request.id s) new)
+  pub ends : EndsInStep (driver_state s old) m (Issue mode e) (driver_state (with_serving port slot e.request.id s) new)
   unfolding later
   ends = record {
     steps = x.tells.before;
@@ -91,11 +91,11 @@ module _ (laws : Laws) (port : Port) (slot : ℕ) (r : Task) (frames : List Fram
 
   pub agrees : IsRelated (with_serving port slot e.request.id s).uses new
   unfolding later
-  agrees = record { machine = after m (act_steps x.acts); parked = s.parked; reached = laws.reached (at_slots s old) later m (act_steps x.acts) reached g; knows = g.knows }
+  agrees = record { machine = after m (act_steps x.acts); parked = s.parked; reached = laws.reached (driver_state s old) later m (act_steps x.acts) reached g; knows = g.knows }
 
-  pub silent : (q : ℕ) (o : Operation) → op_of o ≡ None → (s.uses q 0 ≡ Own o → ⊥) → SendsNone q o old new
+  pub silent : (q : ℕ) (o : Operation) → op_of o ≡ None → (s.uses q 0 ≡ Own o → ⊥) → GainsNoMove q o old new
   unfolding later
-  silent q o own not = laws.silent x.acts (at_slots s old) later m q o own reached knows not (never (cases_eq q port.0) (cases_eq 0 slot)) x.done
+  silent q o own not = laws.silent x.acts (driver_state s old) later m q o own reached knows not (never (cases_eq q port.0) (cases_eq 0 slot)) x.done
     where
       P : Act → Type 0
       P act = act.later.uses q 0 ≡ Own o → ⊥
@@ -105,14 +105,14 @@ module _ (laws : Laws) (port : Port) (slot : ℕ) (r : Task) (frames : List Fram
 
       never : (q ≡ port.0) ⊎ (q ≡ port.0 → ⊥) → (0 ≡ slot) ⊎ (0 ≡ slot → ⊥) → All P x.acts
       never (inl at_port) (inl at_slot) =
-          all_as (λ act. IsOnItsWay e.request.id (act.later.uses port.0 slot)) P
+          all_as (λ act. IsBeingIssued e.request.id (act.later.uses port.0 slot)) P
           (λ act way is_own. not_own e.request.id o (act.later.uses port.0 slot) way (sym (ap (λ (n : ℕ). act.later.uses n slot) at_port) ∙ (sym (ap (act.later.uses q) at_slot) ∙ is_own))) x.acts x.tells.own
       never (inr other) slots = beside (λ a b. other a)
       never (inl at_port) (inr other) = beside (λ a b. other b)
 
 -- ---- finding
 
-pub finding_followed : (port : Port) (mask done : ℕ) (old new : Device) → ReadsDone port mask done old new → IsSimulated (IsFinding port) AnyUse old new
+pub finding_followed : (port : Port) (mask done : ℕ) (old new : Device) → ReadsDone port mask done old new → IsSimulated (ReadsCiOrSact port) AnyUse old new
 finding_followed port mask done old new f = record {
   driven = f.driven;
   comes = λ s m reached knows any.

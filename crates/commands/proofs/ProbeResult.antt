@@ -13,34 +13,34 @@ use Rattle.adapter.specs.Device.{DevicePort, Device}
 use Rattle.adapter.specs.Kept.{Keeps}
 use Rattle.adapter.specs.Rules.{IsOn}
 use Rattle.adapter.specs.Steps.{Steps}
-use Rattle.block_machine.specs.Events.{AllDevices}
+use Rattle.block_machine.specs.Events.{AllByDevice}
 use Rattle.block_machine.specs.Histories.{IsReachable, IsSimulatedBySteps}
 use Rattle.block_machine.specs.Left.{after}
 use Rattle.block_machine.specs.State.{Machine}
-use Rattle.block_machine.specs.Steps.{Step, NoneKept}
-use Rattle.refinement.specs.Acts.{Act, InSlots, IsActDone, ActsReach, at_slots}
+use Rattle.block_machine.specs.Steps.{Step, NoneQuarantined}
+use Rattle.refinement.specs.Acts.{Act, DriverSlots, IsActDone, ActsReach, driver_state}
 use Rattle.refinement.specs.Relation.{StateRelation}
 use Rattle.refinement.specs.Driver.{DriverState, DriverRelation, ByDevice, DriverAdvances}
 use Rattle.refinement.specs.Facts.{EndedIn, IsSlotClear}
 use Rattle.refinement.specs.Links.{LeavesControls}
 use Rattle.refinement.specs.Slots.{Serves, SlotStates}
-use Rattle.commands.specs.Masks.{AreClear, ReadsDone, FindsEnds, IsFinding, SeesClear}
+use Rattle.commands.specs.Masks.{IsDoneMask, ReadsDone, FindsEnds, ReadsCiOrSact, SeesClear}
 use Rattle.commands.proofs.Issued.{changed_here}
 
 -- what laws of the crates below say
 pub record Laws : Type 0 where
   pub access : (k later : DriverState) (m : Machine) (access : Access) → IsSimulatedBySteps DriverRelation k later (ByDevice k.device later.device) → IsReachable m → DriverRelation m k
-      → Does access k.device later.device → (steps : List Step) × AllDevices steps × IsActDone k m (record { access = Some access; steps = steps; later = later })
+      → Does access k.device later.device → (steps : List Step) × AllByDevice steps × IsActDone k m (record { access = Some access; steps = steps; later = later })
   pub on : (access : Access) (old new : Device) → IsOn old → ((v : ℕ) → access ≡ Writing Ghc v → (bit v 31 ≡ true) × (bit v 0 ≡ false)) → Does access old new → IsOn new
   pub controls : (port : Port) (access : Access) (old new : Device) → old.hr ≡ false → Does access old new → LeavesControls access port (old.port port.0) (new.port port.0)
   pub ends : (uses : SlotStates) (m : Machine) (d : Device) (port : Port) (slot : ℕ) (id : RequestId) → StateRelation uses m d → uses port.0 slot ≡ Serves id → (d.port port.0).st ≡ true
       → (d.port port.0).ci slot ≡ false → (d.port port.0).sact slot ≡ false → IsSlotClear (d.port port.0) slot × EndedIn m port id
   pub reached : (k later : DriverState) (m : Machine) (steps : List Step) → IsReachable m → DriverAdvances k m steps later → IsReachable (after m steps)
-  pub device : (late early : List Step) → AllDevices late → AllDevices early → AllDevices (late ++ early)
+  pub device : (late early : List Step) → AllByDevice late → AllByDevice early → AllByDevice (late ++ early)
   pub after_both : (m : Machine) (late early : List Step) → after m (late ++ early) ≡ after (after m early) late
   pub reading : (k : DriverState) (r : Reg) (v : ℕ) (new : Device) → Reads r v k.device new → IsSimulatedBySteps DriverRelation k (record k { device = new }) (ByDevice k.device new)
   pub keeps : (old new : Device) → Steps old new → Keeps old new
-  pub kept : (m : Machine) (steps : List Step) (port : Port) → AllDevices steps → NoneKept m port → NoneKept (after m steps) port
+  pub kept : (m : Machine) (steps : List Step) (port : Port) → AllByDevice steps → NoneQuarantined m port → NoneQuarantined (after m steps) port
 
 -- clear bits of the mask
 all_clear : (a b c : Bool) → a && not b && not c ≡ true → (b ≡ false) × (c ≡ false)
@@ -56,7 +56,7 @@ are_clear true true c x y z = absurd cc
 are_clear false b c x y z = absurd cc
 
 module _ (laws : Laws) (port : Port) (mask done issued active : ℕ) (old mid new : Device) (on : IsOn old) (first : Reads (Px port Ci) issued old mid)
-    (second : Reads (Px port Sact) active mid new) (clear : AreClear mask issued active done) where
+    (second : Reads (Px port Sact) active mid new) (clear : IsDoneMask mask issued active done) where
   mid_on : IsOn mid
   mid_on = laws.on (Reading (Px port Ci) issued) old mid on (λ v e. absurd cc) first
 
@@ -99,7 +99,7 @@ module _ (laws : Laws) (port : Port) (mask done issued active : ℕ) (old mid ne
   abbrev accesses : List Access
   accesses = Reading (Px port Ci) issued ∷ Reading (Px port Sact) active ∷ []
 
-  comes : (s : InSlots) (m : Machine) → IsReachable m → DriverRelation m (at_slots s old) → Unit {0} → ActsReach accesses (at_slots s old) m (at_slots s new) (FindsEnds port done old new s m)
+  comes : (s : DriverSlots) (m : Machine) → IsReachable m → DriverRelation m (driver_state s old) → Unit {0} → ActsReach accesses (driver_state s old) m (driver_state s new) (FindsEnds port done old new s m)
   comes s m reached knows any = record {
     acts = one ∷ two ∷ [];
     done = (x.2, (y.2, refl));
@@ -118,18 +118,18 @@ module _ (laws : Laws) (port : Port) (mask done issued active : ℕ) (old mid ne
       P : Act → Type 0
       P act = act.later.uses ≡ s.uses
 
-      x : (steps : List Step) × AllDevices steps × IsActDone (at_slots s old) m (record { access = Some (Reading (Px port Ci) issued); steps = steps; later = at_slots s mid })
-      x = laws.access (at_slots s old) (at_slots s mid) m (Reading (Px port Ci) issued) (laws.reading (at_slots s old) (Px port Ci) issued mid first) reached knows first
+      x : (steps : List Step) × AllByDevice steps × IsActDone (driver_state s old) m (record { access = Some (Reading (Px port Ci) issued); steps = steps; later = driver_state s mid })
+      x = laws.access (driver_state s old) (driver_state s mid) m (Reading (Px port Ci) issued) (laws.reading (driver_state s old) (Px port Ci) issued mid first) reached knows first
 
-      y : (steps : List Step) × AllDevices steps × IsActDone (at_slots s mid) (after m x.0) (record { access = Some (Reading (Px port Sact) active); steps = steps; later = at_slots s new })
-      y = laws.access (at_slots s mid) (at_slots s new) (after m x.0) (Reading (Px port Sact) active) (laws.reading (at_slots s mid) (Px port Sact) active new second)
-          (laws.reached (at_slots s old) (at_slots s mid) m x.0 reached x.2.goes) x.2.goes.knows second
+      y : (steps : List Step) × AllByDevice steps × IsActDone (driver_state s mid) (after m x.0) (record { access = Some (Reading (Px port Sact) active); steps = steps; later = driver_state s new })
+      y = laws.access (driver_state s mid) (driver_state s new) (after m x.0) (Reading (Px port Sact) active) (laws.reading (driver_state s mid) (Px port Sact) active new second)
+          (laws.reached (driver_state s old) (driver_state s mid) m x.0 reached x.2.goes) x.2.goes.knows second
 
       one : Act
-      one = record { access = Some (Reading (Px port Ci) issued); steps = x.0; later = at_slots s mid }
+      one = record { access = Some (Reading (Px port Ci) issued); steps = x.0; later = driver_state s mid }
 
       two : Act
-      two = record { access = Some (Reading (Px port Sact) active); steps = y.0; later = at_slots s new }
+      two = record { access = Some (Reading (Px port Sact) active); steps = y.0; later = driver_state s new }
 
   finds : ReadsDone port mask done old new
   finds = record {
@@ -138,8 +138,8 @@ module _ (laws : Laws) (port : Port) (mask done issued active : ℕ) (old mid ne
     driven = record {
       accesses = accesses;
       all = (mid, first, (new, second, refl));
-      only = All-cons (IsFinding port) (Reading (Px port Ci) issued) (Reading (Px port Sact) active ∷ []) (inl refl)
-          (All-cons (IsFinding port) (Reading (Px port Sact) active) [] (inr refl) (All-nil (IsFinding port)));
+      only = All-cons (ReadsCiOrSact port) (Reading (Px port Ci) issued) (Reading (Px port Sact) active ∷ []) (inl refl)
+          (All-cons (ReadsCiOrSact port) (Reading (Px port Sact) active) [] (inr refl) (All-nil (ReadsCiOrSact port)));
     };
     reads = refl;
     tells = clear;

@@ -13,27 +13,27 @@ use Rattle.adapter.specs.Decoding.{DecodesTo, piece_addresses}
 use Rattle.block_machine.specs.Confined.{WasAccepted}
 use Rattle.block_machine.specs.Due.{is_plain}
 use Rattle.block_machine.specs.Left.{IsLegal, IsInitial, after}
-use Rattle.block_machine.specs.Rules.{frames_for}
+use Rattle.block_machine.specs.Rules.{frame_count_for}
 use Rattle.block_machine.specs.State.{Accepted, Machine, Pending}
 use Rattle.block_machine.specs.Steps.{Issue, May, Step}
 use Rattle.block_machine.specs.declared.due.QueueMode.{QueueMode}
 use Rattle.refinement.specs.Driver.{IsPrepared, idle}
 use Rattle.refinement.specs.Slots.{ArePlaces, op_of}
-use Rattle.refinement.specs.Witness.{PreparedIsKnown, prepared_read}
+use Rattle.refinement.specs.Witness.{PreparedReadWitness, prepared_read}
 use Rattle.commands.specs.Tasks.{IsFitTransfer}
 use Rattle.commands.specs.Witness.{FirstMayBeIssued}
 use Rattle.commands.specs.declared.ncq.Task.{Task}
 
 -- a request that was accepted has as many frames as it needs
-frames_fit : (start : Machine) (history : List Step) (r : Accepted) → WasAccepted start history r → length r.asked.frames.items ≡ frames_for r.asked.op r.asked.count
+frames_fit : (start : Machine) (history : List Step) (r : Accepted) → WasAccepted start history r → length r.asked.frames.items ≡ frame_count_for r.asked.op r.asked.count
 frames_fit start [] r was = absurd was
 frames_fit start (step ∷ past) r was = ⊎_elim
-    (λ first. ⊎_elim (λ same. same) (λ other. absurd (first.1.unbroken FrameCount other)) (cases_eq (length r.asked.frames.items) (frames_for r.asked.op r.asked.count)))
+    (λ first. ⊎_elim (λ same. same) (λ other. absurd (first.1.unbroken FrameCount other)) (cases_eq (length r.asked.frames.items) (frame_count_for r.asked.op r.asked.count)))
     (λ before. frames_fit start past r before)
     was
 
 -- given what the laws say of the first read, and of requests that are issued
-module _ (known : PreparedIsKnown) (one : (memory : ℕ → ℕ) (list slot : ℕ) (m n : Meaning) (xs ys : List ℕ) → DecodesTo memory list slot m xs → DecodesTo memory list slot n ys → (m ≡ n) × (xs ≡ ys))
+module _ (known : PreparedReadWitness) (one : (memory : ℕ → ℕ) (list slot : ℕ) (m n : Meaning) (xs ys : List ℕ) → DecodesTo memory list slot m xs → DecodesTo memory list slot n ys → (m ≡ n) × (xs ≡ ys))
     (says : DecodesTo first_read_device.memory 0 0 (read_of 100 8) (piece_addresses 0x64000 8))
     (issued : (start : Machine) (history : List Step) (mode : QueueMode) (e : Pending) → IsInitial start → IsLegal start history → May (after start history) (Issue mode e) → WasAccepted start history e.request) where
   prepared : IsPrepared (idle prepared_read).uses known.machine prepared_read 0 0 known.mode known.request 1
@@ -63,7 +63,7 @@ module _ (known : PreparedIsKnown) (one : (memory : ℕ → ℕ) (list slot : �
   number_is =
       frames_fit known.reached.first known.reached.past request
       (issued known.reached.first known.reached.past known.mode known.request known.reached.starts known.reached.legal (subst (λ (m : Machine). May m (Issue known.mode known.request)) known.reached.is prepared.may))
-      ∙ ap (λ (op : Op). frames_for op request.asked.count) read_is
+      ∙ ap (λ (op : Op). frame_count_for op request.asked.count) read_is
 
   is_plain_read : is_plain known.mode request.asked.op ≡ true
   is_plain_read = is_true (is_plain known.mode request.asked.op) (sym (ap (λ (m : Meaning). is_queued m.operation) same.0) ∙ prepared.kind)

@@ -8,12 +8,12 @@ use Rattle.ata_types.specs.declared.request.Op.TheVariants.{Trim}
 use Rattle.adapter.specs.Commands.{is_queued}
 use Rattle.adapter.specs.Device.{Device}
 use Rattle.adapter.specs.Rules.{IsOn, HasPort}
-use Rattle.refinement.specs.Driven.{RelatesWith, IsBitOf, IsSimulated}
+use Rattle.refinement.specs.Driven.{RelatesWith, IsSoleBit, IsSimulated}
 use Rattle.refinement.specs.Places.{list_of}
 use Rattle.refinement.specs.Readying.{IsStored}
 use Rattle.refinement.specs.Slots.{SlotDecodesTo}
 use Rattle.command_table.specs.Written.{IsUnused}
-use Rattle.commands.specs.Tasks.{Arms, HasBlockOf, IsStoreFor, IssuesTask, RunsItsList, addresses_of, meaning_of}
+use Rattle.commands.specs.Tasks.{Arms, HasBlockOf, IsFitTransfer, IsStoreFor, IssuesTask, RunsItsList, addresses_of, meaning_of}
 use Rattle.commands.specs.declared.ncq.Task.{Task}
 
 -- A command may be issued in the port's slot: the slot is unused, memory has the driver's areas, and the port runs,
@@ -24,6 +24,14 @@ pub record MayIssueTask (port : Port) (slot : ℕ) (d : Device) : Type 0 where
   pub room : DRIVER_BYTES ≤ d.size
   pub agreed : RelatesWith (IsUnused port.0 slot) d
   pub may : RunsItsList port.0 d
+
+-- A transfer's command may be issued in the port's slot: the slot is one that the adapter has (AHCI 1.3.1, 3.1.1,
+-- CAP.NCS), and the transfer fits its frames.
+pub record MayIssueTransfer (port : Port) (slot : ℕ) (r : Task) (frames : List Frame) (d : Device) : Type 0 where
+  pub may : MayIssueTask port slot d
+  pub small : slot < 32
+  pub usable : slot ≤ d.cap / 256 % 32
+  pub fits : IsFitTransfer r frames
 
 -- A task's command might be issued in the slot, queued if the task is, and a trim's in slot 0; what it needs was
 -- stored: header and table, which say it, and a trim's block, which names its sectors; and the slot's bit of PxSACT was
@@ -44,7 +52,7 @@ pub record IsArmedFor (port : Port) (slot : ℕ) (r : Task) (frames : List Frame
   pub told : SlotDecodesTo mid.memory (list_of port.0) port.0 slot (meaning_of r)
       (addresses_of port.0 r.op r.range.count frames)
   pub block : HasBlockOf r.op r.range port.0 mid.memory
-  pub alone : IsBitOf slot own
+  pub alone : IsSoleBit slot own
   pub arms : Arms r.queued port own mid armed
 
 -- What the write of PxCI makes of it.

@@ -8,33 +8,33 @@ use Rattle.hba_regs.specs.declared.reg.PortReg.TheVariants.{Ci, Sact}
 use Rattle.adapter.specs.Access.{Access}
 use Rattle.adapter.specs.Access.Access.{Reading}
 use Rattle.adapter.specs.Device.{Device}
-use Rattle.block_machine.specs.Events.{AllDevices}
+use Rattle.block_machine.specs.Events.{AllByDevice}
 use Rattle.block_machine.specs.Left.{after}
 use Rattle.block_machine.specs.State.{Machine}
-use Rattle.block_machine.specs.Steps.{NoneKept}
-use Rattle.refinement.specs.Acts.{Act, InSlots, ActsReachWith, act_steps}
+use Rattle.block_machine.specs.Steps.{NoneQuarantined}
+use Rattle.refinement.specs.Acts.{Act, DriverSlots, ActsReachWith, act_steps}
 use Rattle.refinement.specs.Driven.{IsDrivenBy}
 use Rattle.refinement.specs.Facts.{EndedIn}
 use Rattle.refinement.specs.Slots.{Serves, IsOver}
 
 -- it reads PxCI or PxSACT
-abbrev pub IsFinding : Port → Access → Type 0
-IsFinding port (Reading r v) = (r ≡ Px port Ci) ⊎ (r ≡ Px port Sact)
-IsFinding port access = ⊥
+abbrev pub ReadsCiOrSact : Port → Access → Type 0
+ReadsCiOrSact port (Reading r v) = (r ≡ Px port Ci) ⊎ (r ≡ Px port Sact)
+ReadsCiOrSact port access = ⊥
 
 -- The device alone makes steps, and each slot goes on as it is used. Where ST was one, the command of each slot that is
 -- done and serves a request is over, and the request has ended. And no request of the port was kept meanwhile.
-pub record FindsEnds (port : Port) (done : ℕ) (old new : Device) (s : InSlots) (m : Machine)
+pub record FindsEnds (port : Port) (done : ℕ) (old new : Device) (s : DriverSlots) (m : Machine)
     (acts : List Act) : Type 0 where
-  pub device : AllDevices (act_steps acts)
+  pub device : AllByDevice (act_steps acts)
   pub used : All (λ act. act.later.uses ≡ s.uses) acts
   pub ended : (old.port port.0).st ≡ true → (slot : ℕ) (id : RequestId) → slot < 32 → bit done slot ≡ true
       → s.uses port.0 slot ≡ Serves id → IsOver (new.port port.0) slot × EndedIn (after m (act_steps acts)) port id
-  pub kept : NoneKept m port → NoneKept (after m (act_steps acts)) port
+  pub kept : NoneQuarantined m port → NoneQuarantined (after m (act_steps acts)) port
 
 -- the bits of the mask that are clear in what was read of PxCI and of PxSACT
-abbrev pub AreClear : ℕ → ℕ → ℕ → ℕ → Type 0
-AreClear mask issued active done = (slot : ℕ) → slot < 32 → bit done slot ≡ bit mask slot && not (bit issued slot) &&
+abbrev pub IsDoneMask : ℕ → ℕ → ℕ → ℕ → Type 0
+IsDoneMask mask issued active done = (slot : ℕ) → slot < 32 → bit done slot ≡ bit mask slot && not (bit issued slot) &&
     not (bit active slot)
 
 -- PxCI is read, and then PxSACT, and nothing else is done. A slot of the mask is done where its bits were clear in
@@ -42,9 +42,9 @@ AreClear mask issued active done = (slot : ℕ) → slot < 32 → bit done slot 
 pub record ReadsDone (port : Port) (mask done : ℕ) (old new : Device) : Type 0 where
   pub issued : ℕ
   pub active : ℕ
-  pub driven : IsDrivenBy (IsFinding port) old new
+  pub driven : IsDrivenBy (ReadsCiOrSact port) old new
   pub reads : driven.accesses ≡ Reading (Px port Ci) issued ∷ Reading (Px port Sact) active ∷ []
-  pub tells : AreClear mask issued active done
+  pub tells : IsDoneMask mask issued active done
   pub comes : ActsReachWith driven.accesses (λ s m. Unit {0}) (λ s. s) (FindsEnds port done old new) old new
 
 -- a slot of the mask whose bits were clear when the call began is done

@@ -5,9 +5,9 @@ use Rattle.ata_types.specs.declared.request.Op.TheVariants.{Trim, Flush}
 use Rattle.commands.specs.declared.ncq.Task.{Task}
 
 -- the disk's cache is written back, whatever range the request names
-abbrev pub flush_meaning : Range → Task
-flush_meaning range = record { op = Flush; range = range; queued = false }
+abbrev pub flush_task : Range → Task
+flush_task range = record { op = Flush; range = range; queued = false }
 
 -- these sectors are forgotten
-abbrev pub trim_meaning : Range → Task
-trim_meaning range = record { op = Trim; range = range; queued = false }
+abbrev pub trim_task : Range → Task
+trim_task range = record { op = Trim; range = range; queued = false }

@@ -19,12 +19,12 @@ use Rattle.adapter.specs.Trim.{consecutive, trim_sectors}
 use Rattle.adapter.specs.declared.command.Operation.{Operation}
 use Rattle.adapter.specs.declared.command.Operation.TheVariants as operation
 use Rattle.block_machine.specs.Due.{is_plain}
-use Rattle.block_machine.specs.Events.{AllDevices}
+use Rattle.block_machine.specs.Events.{AllByDevice}
 use Rattle.block_machine.specs.State.{Pending, Machine}
 use Rattle.block_machine.specs.Steps.{Step, Issue, May}
 use Rattle.block_machine.specs.declared.due.QueueMode.{QueueMode}
-use Rattle.refinement.specs.Acts.{Act, InSlots, ActsReachWith, act_steps}
-use Rattle.refinement.specs.Driven.{IsBitOf, IsDrivenBy}
+use Rattle.refinement.specs.Acts.{Act, DriverSlots, ActsReachWith, act_steps}
+use Rattle.refinement.specs.Driven.{IsSoleBit, IsDrivenBy}
 use Rattle.refinement.specs.Places.{list_of, scratch_of}
 use Rattle.refinement.specs.Slots.{SlotState, Free, Armed, Serves, SlotStates, put}
 use Rattle.command_table.specs.Written.{IsStoreWithBlock, IsTableStore}
@@ -112,7 +112,7 @@ IsStoreFor _ port slot access = IsTableStore port slot access
 
 -- It stores the slot's header or table, or a block, or writes PxSACT or PxCI with the slot's bit alone.
 abbrev pub IsIssuing : Port → ℕ → Access → Type 0
-IsIssuing port slot (Writing r v) = ((r ≡ Px port Sact) ⊎ (r ≡ Px port Ci)) × IsBitOf slot v
+IsIssuing port slot (Writing r v) = ((r ≡ Px port Sact) ⊎ (r ≡ Px port Ci)) × IsSoleBit slot v
 IsIssuing port slot (Storing at bytes) = IsStoreWithBlock port.0 slot (Storing at bytes)
 IsIssuing port slot access = ⊥
 
@@ -131,29 +131,29 @@ pub record StoresThenWrites (port : Port) (slot : ℕ) (r : Task) (accesses : Li
   pub stores : List Access
   pub only : All (IsStoreFor r.op port.0 slot) stores
   pub own : ℕ
-  pub alone : IsBitOf slot own
+  pub alone : IsSoleBit slot own
   pub order : accesses ≡ stores ++ writes_of port r.queued own
 
 -- the slot is free, and the request is due
-abbrev pub MayServe : Port → ℕ → QueueMode → Pending → InSlots → Machine → Type 0
+abbrev pub MayServe : Port → ℕ → QueueMode → Pending → DriverSlots → Machine → Type 0
 MayServe port slot mode e s m = (s.uses port.0 slot ≡ Free) × May m (Issue mode e)
 
 -- the slot serves the request
-abbrev pub with_serving : Port → ℕ → RequestId → InSlots → InSlots
+abbrev pub with_serving : Port → ℕ → RequestId → DriverSlots → DriverSlots
 with_serving port slot id s = record s { uses = put s.uses port.0 slot (Serves id) }
 
 -- on its way from being free to serving this request
-abbrev pub IsOnItsWay : RequestId → SlotState → Type 0
-IsOnItsWay id u = (u ≡ Free) ⊎ ((u ≡ Armed) ⊎ (u ≡ Serves id))
+abbrev pub IsBeingIssued : RequestId → SlotState → Type 0
+IsBeingIssued id u = (u ≡ Free) ⊎ ((u ≡ Armed) ⊎ (u ≡ Serves id))
 
 -- The device makes steps, and last of all the request is issued. The slot is put to no other use meanwhile, and each
 -- other one is used after each act as before the first.
 pub record IssuesAtEnd (port : Port) (slot : ℕ) (mode : QueueMode) (e : Pending) (uses : SlotStates)
     (acts : List Act) : Type 0 where
   pub before : List Step
-  pub device : AllDevices before
+  pub device : AllByDevice before
   pub last : act_steps acts ≡ Issue mode e ∷ before
-  pub own : All (λ act. IsOnItsWay e.request.id (act.later.uses port.0 slot)) acts
+  pub own : All (λ act. IsBeingIssued e.request.id (act.later.uses port.0 slot)) acts
   pub others : (q k : ℕ) → (q ≡ port.0 → k ≡ slot → ⊥) → All (λ act. act.later.uses q k ≡ uses q k) acts
 
 -- Such accesses led there, in this order. And from each machine that agrees with the slot free, and on which a request

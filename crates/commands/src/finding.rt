@@ -7,28 +7,28 @@ ghost use Rattle.hba_regs.specs.declared.reg.PortReg.TheVariants.{Ci, Sact};
 ghost use Rattle.adapter.specs.Access.{Reads};
 ghost use Rattle.adapter.specs.Device.{Device};
 ghost use Rattle.adapter.specs.Rules.{IsOn};
-ghost use Rattle.commands.specs.Masks.{AreClear, ReadsDone, SeesClear};
+ghost use Rattle.commands.specs.Masks.{IsDoneMask, ReadsDone, SeesClear};
 
-use adapter::laws::law_steps_keep;
+use adapter::laws::law_steps_guarantee;
 use refinement::acts::law_acts_are_done;
 use refinement::facts::{law_adapter_stays, law_controls_stay, law_ended_is_clear};
 use refinement::laws::{
-    law_going_composes, law_histories_go_on, law_reading_is_followed, law_steps_spare_the_book,
+    law_advances_compose, law_histories_compose, law_reading_is_followed, law_steps_spare_the_book,
 };
 
 /// PxCI and then PxSACT are read: they tell what is done.
 pub fn law_reading_finds_done()
     ensures { (port : Port) (mask done issued active : ℕ) (old mid new : Device) → IsOn old
-        → Reads (Px port Ci) issued old mid → Reads (Px port Sact) active mid new → AreClear mask issued active done
+        → Reads (Px port Ci) issued old mid → Reads (Px port Sact) active mid new → IsDoneMask mask issued active done
         → ReadsDone port mask done old new × SeesClear port mask done old }
 {
     law_acts_are_done();
     law_adapter_stays();
     law_controls_stay();
     law_ended_is_clear();
-    law_going_composes();
-    law_histories_go_on();
+    law_advances_compose();
+    law_histories_compose();
     law_reading_is_followed();
-    law_steps_keep();
+    law_steps_guarantee();
     law_steps_spare_the_book();
 }

@@ -12,7 +12,7 @@ ghost use Rattle.adapter.specs.Trim.{consecutive, trim_sectors};
 ghost use Rattle.adapter.specs.declared.command.Operation.TheVariants as operation;
 ghost use Rattle.commands.specs.Issuing.{IsIssued, MayIssueTask};
 ghost use Rattle.commands.specs.Block.{IsCut, entry_first, entry_length, first_of, length_of};
-ghost use Rattle.commands.specs.PlainTasks.{flush_meaning, trim_meaning};
+ghost use Rattle.commands.specs.PlainTasks.{flush_task, trim_task};
 ghost use Rattle.adapter.specs.Counted.{MakesAtMost};
 ghost use Rattle.command_table.specs.Costs.{BLOCK_ACCESSES, TABLE_ACCESSES};
 
@@ -105,7 +105,7 @@ fn trim_command() -> Command
 pub fn issue_flush<A: Adapter>(adapter: &mut A, port: Port)
     requires may { MayIssueTask port 0 (A.device adapter.old) }
     ensures issued { (range : Range) (frames : List Frame)
-        → IsIssued port 0 (flush_meaning range) frames (A.device adapter.old) (A.device adapter.new) }
+        → IsIssued port 0 (flush_task range) frames (A.device adapter.old) (A.device adapter.new) }
     ensures cost { MakesAtMost (TABLE_ACCESSES + 1) (A.access_count adapter.old) (A.access_count adapter.new) }
 {
     law_writing_issues();
@@ -120,7 +120,7 @@ pub fn issue_trim<A: Adapter>(adapter: &mut A, port: Port, range: &Range)
     requires may { MayIssueTask port 0 (A.device adapter.old) }
     requires count { range.now.count ≤ 4194240 }
     requires sectors { 0 < range.now.count → range.now.first.0 + range.now.count ≤ 2 ^ 48 }
-    ensures issued { (frames : List Frame) → IsIssued port 0 (trim_meaning range.now) frames (A.device adapter.old)
+    ensures issued { (frames : List Frame) → IsIssued port 0 (trim_task range.now) frames (A.device adapter.old)
         (A.device adapter.new) }
     ensures cost { MakesAtMost (BLOCK_ACCESSES + 1) (A.access_count adapter.old) (A.access_count adapter.new) }
 {

@@ -12,33 +12,34 @@ ghost use Rattle.block_machine.specs.Histories.{IsReachable};
 ghost use Rattle.block_machine.specs.State.{Machine, Pending};
 ghost use Rattle.block_machine.specs.Steps.{Issue};
 ghost use Rattle.block_machine.specs.declared.due.QueueMode.{QueueMode};
-ghost use Rattle.refinement.specs.Acts.{InSlots, Performs, at_slots};
-ghost use Rattle.refinement.specs.Driven.{AnyUse, IsRelated, IsSimulated, IsOf, SendsNone};
-ghost use Rattle.refinement.specs.Driver.{EndsWith, DriverRelation};
+ghost use Rattle.refinement.specs.Acts.{DriverSlots, Performs, driver_state};
+ghost use Rattle.refinement.specs.Driven.{AnyUse, IsRelated, IsSimulated, SparesOtherPorts, GainsNoMove};
+ghost use Rattle.refinement.specs.Driver.{EndsInStep, DriverRelation};
 ghost use Rattle.refinement.specs.Slots.{Own, op_of};
 ghost use Rattle.commands.specs.Issuing.{IsArmedFor, IsIssued};
-ghost use Rattle.commands.specs.Masks.{ReadsDone, IsFinding};
+ghost use Rattle.commands.specs.Masks.{ReadsDone, ReadsCiOrSact};
 ghost use Rattle.commands.specs.Tasks.{IsIssuing, IssuesAtEnd, IssuesTask, IsTaskOf, MayServe, with_serving};
 ghost use Rattle.commands.specs.Witness.{FirstMayBeIssued};
 ghost use Rattle.commands.specs.declared.ncq.Task.{Task};
 
-use adapter::laws::{law_a_first_read_exists, law_saying_is_one};
+use adapter::laws::{law_a_first_read_exists, law_decoding_is_unique};
 use block_machine::laws::law_issues_keep_the_rules;
-use refinement::acts::{law_acts_are_done, law_acts_compose, law_acts_give};
+use refinement::acts::{law_acts_advance_driver, law_acts_are_done, law_acts_compose};
 use refinement::facts::law_adapter_stays;
 use refinement::fragments::law_other_ports_are_left;
 use refinement::laws::{
-    law_a_prepared_read_agrees, law_arming_is_followed, law_device_is_followed, law_due_stays,
-    law_free_slots_are_left, law_going_composes, law_histories_go_on, law_issuing_is_followed,
-    law_putting_is_of_one_slot, law_what_is_told_is_left,
+    law_a_prepared_read_agrees, law_advances_compose, law_arming_is_followed,
+    law_device_is_followed, law_due_stays, law_free_slots_are_left, law_histories_compose,
+    law_issuing_is_followed, law_putting_is_of_one_slot, law_stored_commands_stay,
 };
 use refinement::readying::{law_readied_is_issued, law_readied_stays};
 
-/// No call touches a register of another port, nor another port's bit of IS: so what is said of such accesses (`IsOf`)
-/// is so of each.
+/// No call touches a register of another port, nor another port's bit of IS: so what is said of such accesses
+/// (`SparesOtherPorts`) is so of each.
 pub fn law_calls_are_of_one_port()
-    ensures issuing { (port : Port) (slot : ℕ) (access : Access) → IsIssuing port slot access → IsOf port access }
-    ensures finding { (port : Port) (access : Access) → IsFinding port access → IsOf port access }
+    ensures issuing { (port : Port) (slot : ℕ) (access : Access) → IsIssuing port slot access
+        → SparesOtherPorts port access }
+    ensures finding { (port : Port) (access : Access) → ReadsCiOrSact port access → SparesOtherPorts port access }
 {}
 
 /// Once all is stored that a task's command needs, and its slot is armed, the slot's bit of PxCI may be written, and
@@ -50,20 +51,20 @@ pub fn law_writing_issues()
 {
     law_acts_are_done();
     law_acts_compose();
-    law_acts_give();
+    law_acts_advance_driver();
     law_adapter_stays();
     law_arming_is_followed();
     law_device_is_followed();
     law_due_stays();
     law_free_slots_are_left();
-    law_going_composes();
-    law_histories_go_on();
+    law_advances_compose();
+    law_histories_compose();
     law_issuing_is_followed();
     law_other_ports_are_left();
     law_putting_is_of_one_slot();
     law_readied_is_issued();
     law_readied_stays();
-    law_what_is_told_is_left();
+    law_stored_commands_stay();
 }
 
 /// Issuing a task is a part of a call, in the one form of all. From a machine that agrees with the slot free, and on
@@ -78,32 +79,33 @@ pub fn law_issuing_performs()
         (λ s m. IssuesAtEnd port slot mode e s.uses) old new }
     ensures ends { (port : Port) (slot : ℕ) (r : Task) (frames : List Frame) (mode : QueueMode) (e : Pending)
         (old new : Device)
-        (s : InSlots) (m : Machine) → IssuesTask port slot r frames old new → IsTaskOf port slot r frames mode e
+        (s : DriverSlots) (m : Machine) → IssuesTask port slot r frames old new → IsTaskOf port slot r frames mode e
         → IsReachable m
-        → DriverRelation m (at_slots s old) → MayServe port slot mode e s m
-        → EndsWith (at_slots s old) m (Issue mode e) (at_slots (with_serving port slot e.request.id s) new) }
+        → DriverRelation m (driver_state s old) → MayServe port slot mode e s m
+        → EndsInStep (driver_state s old) m (Issue mode e) (driver_state (with_serving port slot e.request.id s) new) }
     ensures agrees { (port : Port) (slot : ℕ) (r : Task) (frames : List Frame) (mode : QueueMode) (e : Pending)
         (old new : Device)
-        (s : InSlots) (m : Machine) → IssuesTask port slot r frames old new → IsTaskOf port slot r frames mode e
+        (s : DriverSlots) (m : Machine) → IssuesTask port slot r frames old new → IsTaskOf port slot r frames mode e
         → IsReachable m
-        → DriverRelation m (at_slots s old) → MayServe port slot mode e s m
+        → DriverRelation m (driver_state s old) → MayServe port slot mode e s m
         → IsRelated (with_serving port slot e.request.id s).uses
         new }
     ensures silent { (port : Port) (slot : ℕ) (r : Task) (frames : List Frame) (mode : QueueMode) (e : Pending)
         (old new : Device)
-        (s : InSlots) (m : Machine) → IssuesTask port slot r frames old new → IsTaskOf port slot r frames mode e
+        (s : DriverSlots) (m : Machine) → IssuesTask port slot r frames old new → IsTaskOf port slot r frames mode e
         → IsReachable m
-        → DriverRelation m (at_slots s old) → MayServe port slot mode e s m → (q : ℕ) (o : Operation) → op_of o ≡ None
-        → (s.uses q 0 ≡ Own o → ⊥) → SendsNone q o old new }
+        → DriverRelation m (driver_state s old) → MayServe port slot mode e s m → (q : ℕ) (o : Operation)
+        → op_of o ≡ None
+        → (s.uses q 0 ≡ Own o → ⊥) → GainsNoMove q o old new }
 {
-    law_acts_give();
-    law_going_composes();
+    law_acts_advance_driver();
+    law_advances_compose();
 }
 
 /// What is found done is a fragment that is followed, with each slot used as it was.
 pub fn law_finding_is_followed()
     ensures { (port : Port) (mask done : ℕ) (old new : Device) → ReadsDone port mask done old new
-        → IsSimulated (IsFinding port) AnyUse old new }
+        → IsSimulated (ReadsCiOrSact port) AnyUse old new }
 {}
 
 /// There is an adapter on which a plain transfer may be issued in slot 0, so that the clauses on issuing speak of
@@ -112,7 +114,7 @@ pub fn law_a_transfer_may_be_issued()
     ensures { FirstMayBeIssued }
 {
     law_a_prepared_read_agrees();
-    law_saying_is_one();
+    law_decoding_is_unique();
     law_a_first_read_exists();
     law_issues_keep_the_rules();
 }

@@ -8,11 +8,11 @@
 ghost use Rattle.std.specs.Prelude.{◌≡◌, ◌≤◌, ◌<◌, ◌*◌, ◌/◌, ◌%◌, length, true, false};
 ghost use Rattle.adapter.specs.Commands.{command_of};
 ghost use Rattle.adapter.specs.Rules.{IsOn, HasPort};
-ghost use Rattle.refinement.specs.Driven.{IsBitOf};
+ghost use Rattle.refinement.specs.Driven.{IsSoleBit};
 ghost use Rattle.hba_regs.specs.declared.reg.PortReg.TheVariants.{Ci, Sact};
 ghost use Rattle.hba_regs.specs.declared.reg.Reg.TheVariants.{Px};
-ghost use Rattle.commands.specs.Issuing.{IsArmedFor, IsIssued, MayIssueTask};
-ghost use Rattle.commands.specs.Masks.{AreClear, ReadsDone, SeesClear};
+ghost use Rattle.commands.specs.Issuing.{IsArmedFor, IsIssued, MayIssueTask, MayIssueTransfer};
+ghost use Rattle.commands.specs.Masks.{IsDoneMask, ReadsDone, SeesClear};
 ghost use Rattle.commands.specs.Tasks.{Arms, IsFitTransfer, IsTransfer, task_operation};
 ghost use Rattle.adapter.specs.Counted.{MakesAtMost};
 ghost use Rattle.commands.specs.Costs.{ARM_ACCESSES, DONE_ACCESSES, ISSUE_ACCESSES};
@@ -85,7 +85,7 @@ fn command(transfer: &Task, slot: Slot) -> Command
 /// The slot's bit of PxCI and PxSACT, alone.
 pub fn bit_of(slot: Slot) -> u32
     requires { slot.0 < 32 }
-    ensures { IsBitOf slot.0 result }
+    ensures { IsSoleBit slot.0 result }
 {
     with_bit(0, u32::from(slot.0))
 }
@@ -113,10 +113,7 @@ fn prepare<A: Adapter>(
     transfer: &Task,
     frames: &[Frame],
 ) -> u32
-    requires may { MayIssueTask port slot.0 (A.device adapter.old) }
-    requires slot { slot.0 < 32 }
-    requires usable { slot.0 ≤ (A.device adapter.old).cap / 256 % 32 }
-    requires fits { IsFitTransfer transfer.now frames.now }
+    requires may { MayIssueTransfer port slot.0 transfer.now frames.now (A.device adapter.old) }
     ensures armed { IsArmedFor port slot.0 transfer.now frames.now result (A.device adapter.old)
         (A.device adapter.new) }
     ensures cost { MakesAtMost ARM_ACCESSES (A.access_count adapter.old) (A.access_count adapter.new) }
@@ -136,10 +133,7 @@ fn prepare_in<A: Adapter, const ROOM: usize>(
     transfer: &Task,
     frames: &[Frame],
 ) -> u32
-    requires may { MayIssueTask port slot.0 (A.device adapter.old) }
-    requires slot { slot.0 < 32 }
-    requires usable { slot.0 ≤ (A.device adapter.old).cap / 256 % 32 }
-    requires fits { IsFitTransfer transfer.now frames.now }
+    requires may { MayIssueTransfer port slot.0 transfer.now frames.now (A.device adapter.old) }
     requires room { length frames.now ≤ ROOM }
     requires small { ROOM ≤ MOST_REQUEST_FRAMES }
     ensures armed { IsArmedFor port slot.0 transfer.now frames.now result (A.device adapter.old)
@@ -177,7 +171,7 @@ pub fn issue<A: Adapter>(adapter: &mut A, port: Port, slot: Slot, transfer: &Tas
 
 /// The bits of the mask that are clear in both of the others.
 fn clear_in_both(mask: u32, issued: u32, active: u32) -> u32
-    ensures { AreClear mask issued active result }
+    ensures { IsDoneMask mask issued active result }
 {
     mask & !(issued | active)
 }

@@ -11,7 +11,7 @@ use Rattle.std.proofs.lemmas.Map.Made.{IsDistinct-from_AllPairs}
 use Rattle.std.proofs.lemmas.Map.Steps.{length-le_from_distinct_below}
 use Rattle.block_machine.specs.Rules.{DifferInName}
 use Rattle.configuration.specs.Ranges.{IsClientConfig}
-use Rattle.configuration.specs.Rules.{ConfiguresPort, IsInRange, MeetsAll}
+use Rattle.configuration.specs.Rules.{ConfiguresPort, IsInRange, LacksEveryFault}
 use Rattle.configuration.specs.declared.ClientConfig.{ClientConfig}
 use Rattle.configuration.specs.declared.Config.{Config}
 use Rattle.configuration.specs.declared.FaultKind.TheVariants.{OutOfRange, Duplicate, SharedFrames, UnknownPort}
@@ -19,7 +19,7 @@ use Rattle.dma_frames.specs.Table.{FrameExtent, ExtentsApart}
 use Rattle.identify.specs.declared.wanted.Wanted.{Wanted}
 use Rattle.identify.specs.declared.wanted.Wanted.TheVariants.{Nothing}
 use Rattle.configuration.specs.Parts.{AreWantedOf, wanted_disk, row_of, owner_extent}
-use Rattle.configuration.specs.Plan.{AreRuns, HasClientFrames, IsClient, IsPlan, IsPlanOf, IsServedGrant, PlanView}
+use Rattle.configuration.specs.Plan.{AreExtents, HasClientFrames, IsClient, IsPlan, IsPlanOf, IsServedGrant, PlanView}
 
 -- what each two elements have in common, each two of their images have
 AllPairs-map : {X Y : Type 0} (R : Y → Y → Type 0) (f : X → Y) (xs : List X) → AllPairs (λ x y. R (f x) (f y)) xs
@@ -51,7 +51,7 @@ some_disk : (serial : Option (List ℕ)) → wanted_disk serial ≢ Nothing
 some_disk None = λ is. cc
 some_disk (Some serial) = λ is. cc
 
-module _ (c : Config) (sound : MeetsAll c) where
+module _ (c : Config) (sound : LacksEveryFault c) where
   pub in_range : IsInRange c
   in_range = sound OutOfRange
 
@@ -75,7 +75,7 @@ module _ (c : Config) (sound : MeetsAll c) where
       let once = AllPairs-map (λ a b. a ≢ b) id clients (sound Duplicate).clients in
       omega (arith, eight (map id clients) range once, length-map clients id)
 
-  runs : AreRuns c.frames (map owner_extent c.client.items)
+  runs : AreExtents c.frames (map owner_extent c.client.items)
   runs = record {
     owners = All-map (λ (run : FrameExtent). IsClient run.0) owner_extent c.client.items
         (λ k d low. ((in_range.parts.clients k d low).least, (in_range.parts.clients k d low).most));
@@ -109,7 +109,7 @@ module _ (c : Config) (sound : MeetsAll c) where
   pub plan_fits : (p : PlanView) → IsPlanOf c p → IsPlan p
   plan_fits p is = record {
     memory = subst (λ n. (FEWEST_FRAMES ≤ n) × (n ≤ MOST_FRAMES)) (sym is.frames) in_range.numbers.frames;
-    runs = subst (λ n. AreRuns n p.owners) (sym is.frames) (subst (AreRuns c.frames) (sym is.owners) runs);
+    runs = subst (λ n. AreExtents n p.owners) (sym is.frames) (subst (AreExtents c.frames) (sym is.owners) runs);
     few = omega (arith, ap length is.grants, length-map c.grant.items row_of, in_range.numbers.few_grants);
     grants = subst (All (IsServedGrant p.wanted)) (sym is.grants)
         (All-map (IsServedGrant p.wanted) row_of c.grant.items (served p.wanted is.wanted));

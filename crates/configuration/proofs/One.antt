@@ -4,8 +4,8 @@ use Rattle.toml.specs.Data.{Members}
 use Rattle.configuration.specs.declared.Config.{Config}
 use Rattle.configuration.specs.declared.FaultKind.{FaultKind}
 use Rattle.configuration.specs.declared.FaultKind.TheVariants.{NotToml, WrongKeys, WrongTypes, OutOfRange, Duplicate, SharedFrames, UnknownClient, UnknownPort}
-use Rattle.configuration.specs.Document.{IsDocument, IsDocumentFault, IsRead, IsReadFrom, IsToldOf, document, keys, negative, rule, types, unreadable}
-use Rattle.configuration.specs.Rules.{IsFirstUnmet, kind_number}
+use Rattle.configuration.specs.Document.{IsDocument, IsDocumentFault, IsRead, IsReadFrom, IsTextFault, document, keys, negative, rule, types, unreadable}
+use Rattle.configuration.specs.Rules.{IsLeastFault, kind_number}
 use Rattle.configuration.specs.Tables.{Spells}
 use Rattle.configuration.proofs.Same.{meets-alike, same-values}
 
@@ -34,14 +34,14 @@ below-or-not : (n k : ℕ) → (n < k) ⊎ ((k < n) ⊎ (n ≡ k))
 below-or-not n k = grind arith
 
 -- of one configuration one rule is broken first
-first-broken : (c : Config) (k l : FaultKind) → IsFirstUnmet c k → IsFirstUnmet c l → k ≡ l
+first-broken : (c : Config) (k l : FaultKind) → IsLeastFault c k → IsLeastFault c l → k ≡ l
 first-broken c k l a b = elim (below-or-not (kind_number k) (kind_number l)) [
   | inl less ↦ absurd (a.0 (b.1 k less))
   | inr (inl more) ↦ absurd (b.0 (a.1 l more))
   | inr (inr same) ↦ sym (kind_of-number k) ∙ ap kind_of same ∙ kind_of-number l
 ]
 
-broken-alike : (m : Members) (c d : Config) (k : FaultKind) → Spells m c → Spells m d → IsFirstUnmet d k → IsFirstUnmet c k
+broken-alike : (m : Members) (c d : Config) (k : FaultKind) → Spells m c → Spells m d → IsLeastFault d k → IsLeastFault c k
 broken-alike m c d k a b h = (
   (λ meets. h.0 (meets-alike c d k (same-values m c d a b) meets)),
   (λ l less. meets-alike d c l (same-values m d c b a) (h.1 l less)),
@@ -68,7 +68,7 @@ one-fault m _ _ (rule k c right t s b) (rule l d right' t' s' b') = first-broken
 one-document : (text : List ℕ) (m n : Members) → IsDocument text m → IsDocument text n → m ≡ n
 one-document text m n a b = let both = sym a.is ∙ b.is in cc
 
-pub told-kind-is-one : (text : List ℕ) (k l : FaultKind) → IsToldOf text k → IsToldOf text l → k ≡ l
+pub told-kind-is-one : (text : List ℕ) (k l : FaultKind) → IsTextFault text k → IsTextFault text l → k ≡ l
 told-kind-is-one text _ _ (unreadable wrong) (unreadable wrong') = refl
 told-kind-is-one text _ _ (unreadable wrong) (document l m is fault) = absurd (wrong m is)
 told-kind-is-one text _ _ (document k m is fault) (unreadable wrong) = absurd (wrong m is)
@@ -82,7 +82,7 @@ read-has-no-fault m c _ read (negative right t none) = none c read.values
 read-has-no-fault m c _ read (rule k d right t s b) =
     b.0 (meets-alike c d k (same-values m c d read.values s) (read.sound k))
 
-pub read-text-has-no-fault : (text : List ℕ) (c : Config) (k : FaultKind) → IsReadFrom text c → IsToldOf text k → ⊥
+pub read-text-has-no-fault : (text : List ℕ) (c : Config) (k : FaultKind) → IsReadFrom text c → IsTextFault text k → ⊥
 read-text-has-no-fault text c _ read (unreadable wrong) = wrong read.0 read.1
 read-text-has-no-fault text c _ read (document k m is fault) =
     read-has-no-fault m c k (subst (λ o. IsRead o c) (one-document text read.0 m read.1 is) read.2) fault

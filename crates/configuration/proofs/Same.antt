@@ -11,7 +11,7 @@ use Rattle.configuration.specs.declared.FaultKind.{FaultKind}
 use Rattle.configuration.specs.declared.FaultKind.TheVariants.{NotToml, WrongKeys, WrongTypes, OutOfRange, Duplicate, SharedFrames, UnknownClient, UnknownPort}
 use Rattle.configuration.specs.declared.PortConfig.{PortConfig}
 use Rattle.configuration.specs.Ranges.{IsClientConfig, IsGrant, IsPort, IsRights, IsSerialText}
-use Rattle.configuration.specs.Rules.{FramesApart, DifferInId, DifferInGrant, DifferInNumber, HasClient, ConfiguresPort, IsTrim, Meets}
+use Rattle.configuration.specs.Rules.{FramesApart, DifferInId, DifferInGrant, DifferInNumber, HasClient, ConfiguresPort, IsTrim, LacksFault}
 use Rattle.configuration.specs.Tables.{HasNumber, HasText, MayHaveText, Spells, SpellsClient, SpellsGrant, SpellsPort, tables_at}
 use Rattle.configuration.proofs.Zips.{All-alike, AllPairs-alike, Any-alike, same-length, same-list, zips-alike}
 
@@ -117,7 +117,7 @@ grant-alike g h same is = record {
 }
 
 -- the same values meet the same rules
-pub meets-alike : (c d : Config) (kind : FaultKind) → Same c d → Meets c kind → Meets d kind
+pub meets-alike : (c d : Config) (kind : FaultKind) → Same c d → LacksFault c kind → LacksFault d kind
 unfolding ConfiguresPort
 meets-alike c d NotToml same h = tt
 meets-alike c d WrongKeys same h = tt

@@ -9,7 +9,7 @@ use Rattle.configuration.specs.declared.ConfigFault.TheVariants.{Refused, NoMemo
 use Rattle.configuration.specs.declared.FaultKind.{FaultKind}
 use Rattle.configuration.specs.declared.FaultKind.TheVariants.{NotToml, WrongKeys, WrongTypes, OutOfRange}
 use Rattle.configuration.specs.Schema.{HasAllKeys, HasAllTypes}
-use Rattle.configuration.specs.Rules.{MeetsAll, IsFirstUnmet}
+use Rattle.configuration.specs.Rules.{LacksEveryFault, IsLeastFault}
 use Rattle.configuration.specs.Tables.{Spells}
 
 -- the document has the right keys and types, and these values, which meet every rule
@@ -17,7 +17,7 @@ pub record IsRead (document : Members) (c : Config) : Type 0 where
   pub keys : HasAllKeys document
   pub types : HasAllTypes document
   pub values : Spells document c
-  pub sound : MeetsAll c
+  pub sound : LacksEveryFault c
 
 -- The least kind of fault that a document has. Where its keys and types are right, and it has the values of no
 -- `Config`, whose numbers aren't negative, one of its numbers is negative, and so out of range.
@@ -27,7 +27,7 @@ pub data IsDocumentFault (document : Members) : FaultKind → Type 0 where
   negative : HasAllKeys document → HasAllTypes document → ((c : Config) → Spells document c → ⊥)
       → IsDocumentFault document OutOfRange
   rule : (kind : FaultKind) (c : Config) → HasAllKeys document → HasAllTypes document → Spells document c
-      → IsFirstUnmet c kind → IsDocumentFault document kind
+      → IsLeastFault c kind → IsDocumentFault document kind
 
 -- the text is UTF-8 and a TOML document, which is this one
 pub record IsDocument (text : List ℕ) (document : Members) : Type 0 where
@@ -39,12 +39,12 @@ abbrev pub IsReadFrom : List ℕ → Config → Type 0
 IsReadFrom text c = (document : Members) × IsDocument text document × IsRead document c
 
 -- the least kind of fault that a text has
-pub data IsToldOf (text : List ℕ) : FaultKind → Type 0 where
-  unreadable : ((document : Members) → IsDocument text document → ⊥) → IsToldOf text NotToml
+pub data IsTextFault (text : List ℕ) : FaultKind → Type 0 where
+  unreadable : ((document : Members) → IsDocument text document → ⊥) → IsTextFault text NotToml
   document : (kind : FaultKind) (document : Members) → IsDocument text document → IsDocumentFault document kind
-      → IsToldOf text kind
+      → IsTextFault text kind
 
 -- memory ran out, or the kind is so
-abbrev pub IsFault : (FaultKind → Type 0) → ConfigFault → Type 0
-IsFault P (Refused kind) = P kind
-IsFault P NoMemory = Unit {0}
+abbrev pub IsNoMemoryOr : (FaultKind → Type 0) → ConfigFault → Type 0
+IsNoMemoryOr P (Refused kind) = P kind
+IsNoMemoryOr P NoMemory = Unit {0}

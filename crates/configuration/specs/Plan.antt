@@ -39,7 +39,7 @@ abbrev pub HasClientFrames : ℕ → FrameExtent → Type 0
 HasClientFrames frames run = (DRIVER_FRAMES ≤ run.1.0) × (1 ≤ run.2) × (run.1.0 + run.2 ≤ frames)
 
 -- Runs of client frames, each of a client, and no frame in two of them.
-pub record AreRuns (frames : ℕ) (runs : List FrameExtent) : Type 0 where
+pub record AreExtents (frames : ℕ) (runs : List FrameExtent) : Type 0 where
   pub owners : All (λ run. IsClient run.0) runs
   pub within : All (HasClientFrames frames) runs
   pub apart : AllPairs ExtentsApart runs
@@ -57,7 +57,7 @@ pub record IsServedGrant (wanted : List Wanted) (row : GrantRow) : Type 0 where
 -- A server can serve the plan: at most 64 grants, no two of one client under one number.
 pub record IsPlan (p : PlanView) : Type 0 where
   pub memory : IsMemory p.frames
-  pub runs : AreRuns p.frames p.owners
+  pub runs : AreExtents p.frames p.owners
   pub few : length p.grants ≤ MOST_GRANTS
   pub grants : All (IsServedGrant p.wanted) p.grants
   pub names : AllPairs DifferInName p.grants

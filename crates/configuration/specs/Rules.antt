@@ -63,15 +63,15 @@ unfoldable pub ConfiguresPort : List PortConfig → ℕ → Type 0
 ConfiguresPort ports number = Any (λ p. p.number ≡ number) ports
 
 -- What the values have to meet, by the kind of fault that it is else. The first three kinds are of texts alone.
-abbrev pub Meets : Config → FaultKind → Type 0
-Meets c NotToml = Unit {0}
-Meets c WrongKeys = Unit {0}
-Meets c WrongTypes = Unit {0}
-Meets c OutOfRange = IsInRange c
-Meets c Duplicate = NamesOnce c
-Meets c SharedFrames = AllPairs FramesApart c.client.items
-Meets c UnknownClient = All (λ g. HasClient c.client.items g.client) c.grant.items
-Meets c UnknownPort = All (λ g. ConfiguresPort c.port.items g.port) c.grant.items
+abbrev pub LacksFault : Config → FaultKind → Type 0
+LacksFault c NotToml = Unit {0}
+LacksFault c WrongKeys = Unit {0}
+LacksFault c WrongTypes = Unit {0}
+LacksFault c OutOfRange = IsInRange c
+LacksFault c Duplicate = NamesOnce c
+LacksFault c SharedFrames = AllPairs FramesApart c.client.items
+LacksFault c UnknownClient = All (λ g. HasClient c.client.items g.client) c.grant.items
+LacksFault c UnknownPort = All (λ g. ConfiguresPort c.port.items g.port) c.grant.items
 
 -- the kinds' numbers say which is told first
 abbrev pub kind_number : FaultKind → ℕ
@@ -85,9 +85,9 @@ kind_number UnknownClient = 7
 kind_number UnknownPort = 8
 
 -- the values meet every rule
-abbrev pub MeetsAll : Config → Type 0
-MeetsAll c = (kind : FaultKind) → Meets c kind
+abbrev pub LacksEveryFault : Config → Type 0
+LacksEveryFault c = (kind : FaultKind) → LacksFault c kind
 
 -- the values don't meet this rule, and meet those before it
-abbrev pub IsFirstUnmet : Config → FaultKind → Type 0
-IsFirstUnmet c kind = (Meets c kind → ⊥) × ((k : FaultKind) → kind_number k < kind_number kind → Meets c k)
+abbrev pub IsLeastFault : Config → FaultKind → Type 0
+IsLeastFault c kind = (LacksFault c kind → ⊥) × ((k : FaultKind) → kind_number k < kind_number kind → LacksFault c k)

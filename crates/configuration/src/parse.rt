@@ -193,12 +193,12 @@ fn has_all_types(table: &Table) -> bool
 }
 
 impl Config {
-    ghost use Rattle.configuration.specs.Document.{IsFault, IsDocumentFault, IsRead, IsReadFrom, IsToldOf};
+    ghost use Rattle.configuration.specs.Document.{IsNoMemoryOr, IsDocumentFault, IsRead, IsReadFrom, IsTextFault};
 
     /// The values of a document, or the least kind of fault that it has.
     fn from_document(alloc: Global, table: &Table) -> Result<Config, ConfigFault>
         ensures ok { IfOk result (IsRead (table_view table.now)) }
-        ensures refused { IfErr result (IsFault (IsDocumentFault (table_view table.now))) }
+        ensures refused { IfErr result (IsNoMemoryOr (IsDocumentFault (table_view table.now))) }
         ensures memory { result ≡ Err ConfigFault.NoMemory
             → HasAllKeys (table_view table.now) × HasAllTypes (table_view table.now) }
     {
@@ -224,7 +224,7 @@ impl Config {
     /// (this project's own).
     pub fn parse(alloc: Global, text: &[u8]) -> Result<Config, ConfigFault>
         ensures ok { IfOk result (IsReadFrom text.now) }
-        ensures refused { IfErr result (IsFault (IsToldOf text.now)) }
+        ensures refused { IfErr result (IsNoMemoryOr (IsTextFault text.now)) }
 
         // When memory runs out is no matter of the text; but a text with white space and comments alone takes none.
         ensures memory { result ≡ Err ConfigFault.NoMemory → IsBlank text.now → ⊥ }

@@ -40,7 +40,7 @@ impl Model for Plan {
 }
 
 impl Plan {
-    ghost use Rattle.configuration.specs.Rules.{MeetsAll, IsFirstUnmet};
+    ghost use Rattle.configuration.specs.Rules.{LacksEveryFault, IsLeastFault};
     ghost use Rattle.configuration.specs.Plan.{IsPlan, IsPlanOf};
 
     /// The plan of a configuration: a run of frames for each client and a row for each grant, in their order, and of
@@ -48,10 +48,10 @@ impl Plan {
     /// breaks a rule has no plan: the least of its kinds of fault is told. No memory is taken.
     #[inline(never)]
     pub fn of(config: &Config) -> Result<Plan, FaultKind>
-        ensures sound { OnOk result (MeetsAll config.now) }
+        ensures sound { OnOk result (LacksEveryFault config.now) }
         ensures made { IfOk result (IsPlanOf config.now) }
         ensures fits { IfOk result IsPlan }
-        ensures refused { IfErr result (IsFirstUnmet config.now) }
+        ensures refused { IfErr result (IsLeastFault config.now) }
     {
         config.check()?;
         Ok(Plan {

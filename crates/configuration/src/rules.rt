@@ -213,7 +213,7 @@ fn has_client(clients: &[ClientConfig], id: u64) -> bool
 }
 
 impl Config {
-    ghost use Rattle.configuration.specs.Rules.{IsInRange, HasNumbersInRange, HasPartsInRange, IsFirstUnmet, MeetsAll, IsTrim, NamesOnce};
+    ghost use Rattle.configuration.specs.Rules.{IsInRange, HasNumbersInRange, HasPartsInRange, IsLeastFault, LacksEveryFault, IsTrim, NamesOnce};
 
     fn has_numbers_in_range(&self) -> bool
         ensures { IsTrue result ↔ HasNumbersInRange self.now }
@@ -274,8 +274,8 @@ impl Config {
     /// Says whether these values may configure a server, and else which kind of fault they have: of the kinds 4 to 8
     /// the least that applies (this project's own). What `parse` gives has none.
     pub fn check(&self) -> Result<(), FaultKind>
-        ensures sound { OnOk result (MeetsAll self.now) }
-        ensures broken { IfErr result (IsFirstUnmet self.now) }
+        ensures sound { OnOk result (LacksEveryFault self.now) }
+        ensures broken { IfErr result (IsLeastFault self.now) }
     {
         if !self.is_in_range() {
             return Err(FaultKind::OutOfRange);

@@ -9,7 +9,7 @@ use Rattle.device_model.proofs.Absurd.{some-none, some_one, true-false}
 use Rattle.device_model.proofs.Places.{changed_same, changed_other}
 use Rattle.device_model.specs.Block.{HasBlock, brought}
 use Rattle.device_model.specs.declared.port.TakenCommand.{TakenCommand}
-use Rattle.device_model.specs.declared.port.Transfer.TheVariants.{Trim}
+use Rattle.device_model.specs.declared.port.CommandKind.TheVariants.{Trim}
 
 -- what is taken in a slot, once one has changed
 at_set : (taken : ℕ → Option TakenCommand) (slot : ℕ) (new : Option TakenCommand) (k : ℕ) (t : TakenCommand) → changed taken slot new k ≡ Some t →

@@ -12,8 +12,8 @@ use Rattle.adapter.proofs.Runs.{Steps-refl}
 use Rattle.adapter.specs.Steps.{Can, Steps}
 use Rattle.adapter.specs.Steps.DeviceTransition.{Fault}
 use Rattle.sector_store.specs.declared.store.Failures.{Failures}
-use Rattle.device_model.specs.Does.{AnswersStep, AsksStore, ClearsFewer, Completes, Did, FailsToClear, FailsToMove, GoesOnSo, CommandFails, IsLeftOut, LacksMemory, NeedsAddresses, NoCallFailed, StepKeeps, Possible, asked_port, says_failed}
-use Rattle.device_model.specs.Disks.{bay_of, caches, disk_in_bay, numbered_disk, disk_failures, identity_of, says_of, which_of}
+use Rattle.device_model.specs.Does.{AnswersStep, AsksStore, ClearsFewer, Completes, DidStep, FailsToClear, FailsToMove, OwnStepsKeep, CommandFails, IsLeftOut, LacksMemory, IsAddressable, NoCallFailed, StepKeeps, Possible, asked_port, says_failed}
+use Rattle.device_model.specs.Disks.{bay_of, port_has_cache, disk_in_bay, numbered_disk, disk_failures, identity_of, says_of, which_of}
 use Rattle.device_model.specs.Modelled.{device_at}
 use Rattle.device_model.specs.Paged.{GainsPages}
 use Rattle.device_model.proofs.TwoDisks.{each_port, failures_kept, identity_kept}
@@ -26,7 +26,7 @@ use Rattle.device_model.specs.declared.bay.Bay.{Bay}
 use Rattle.device_model.specs.declared.disks.ModelDisk.{ModelDisk}
 use Rattle.device_model.specs.declared.disks.DiskIndex.{DiskIndex}
 use Rattle.device_model.specs.declared.model.Model.{Model}
-use Rattle.device_model.specs.declared.model.Queued.{Queued}
+use Rattle.device_model.specs.declared.model.QueuedStep.{QueuedStep}
 use Rattle.std.specs.Global.{Vec}
 
 -- what stays while a command of a port goes on
@@ -47,13 +47,13 @@ same_flag false false forth back = refl
 
 module _ {S : Type 0} (size : S → ℕ) (told : S → Option (ℕ → List ℕ)) (failures : S → Option Failures) where
   pub keeps_same : (m : Model S) → StepKeeps size m m
-  keeps_same m = record { identities = λ _ _. refl; out = λ _ _ _. refl; caches = λ _. refl; queue = refl; accesses = refl }
+  keeps_same m = record { identities = λ _ _. refl; out = λ _ _ _. refl; port_has_cache = λ _. refl; queue = refl; accesses = refl }
 
   pub keeps_on : (a b c : Model S) → ((q : ℕ) → which_of b q ≡ which_of a q) → StepKeeps size a b → StepKeeps size b c → StepKeeps size a c
   keeps_on a b c same first then = record {
     out = λ q w ne. then.out q w (λ is. ne (sym (same q) ∙ is)) ∙ first.out q w ne;
     identities = λ q w. then.identities q w ∙ first.identities q w;
-    caches = λ q. then.caches q ∙ first.caches q;
+    port_has_cache = λ q. then.port_has_cache q ∙ first.port_has_cache q;
     queue = then.queue ∙ first.queue;
     accesses = then.accesses ∙ first.accesses;
   }
@@ -102,15 +102,15 @@ module _ {S : Type 0} (size : S → ℕ) (told : S → Option (ℕ → List ℕ)
   }
 
   -- a command that ended did so whole
-  pub done_whole : (p : Port) (slot : Slot) (old new : Model S) → Did size told failures (asked.Done p slot) old new → Completes size told failures (asked.Done p slot) old new
+  pub done_whole : (p : Port) (slot : Slot) (old new : Model S) → DidStep size told failures (asked.Done p slot) old new → Completes size told failures (asked.Done p slot) old new
   done_whole p slot old new did = ⊎_elim (λ whole. whole) (λ failed. absurd failed) did.came
 
   module _ (s : DeviceStep) (old new : Model S) where
-    pub did_it : (answer : Bool) → AnswersStep size told failures s answer old new → answer ≡ true → Did size told failures s old new
+    pub did_it : (answer : Bool) → AnswersStep size told failures s answer old new → answer ≡ true → DidStep size told failures s old new
     did_it true a e = a.1
     did_it false a e = absurd (let no : false ≡ true = e in cc)
 
-    pub answered_true : (answer : Bool) → answer ≡ true → Possible s (device_at size told old) × Did size told failures s old new →
+    pub answered_true : (answer : Bool) → answer ≡ true → Possible s (device_at size told old) × DidStep size told failures s old new →
         AnswersStep size told failures s answer old new
     answered_true true e did = did
     answered_true false e did = absurd (let no : false ≡ true = e in cc)
@@ -128,10 +128,10 @@ module _ {S : Type 0} (size : S → ℕ) (told : S → Option (ℕ → List ℕ)
     answers_steps false a = let P : Device → Type 0 = λ d. Steps (device_at size told old) d in subst P (sym a.device) (Steps-refl (device_at size told old))
 
   -- the same, whatever is queued
-  keeps_queued : (old new : Model S) (q : Vec Queued) → StepKeeps size old new → StepKeeps size (record old { queue = q }) (record new { queue = q })
-  keeps_queued old new q k = record { out = k.out; identities = k.identities; caches = k.caches; queue = refl; accesses = k.accesses }
+  keeps_queued : (old new : Model S) (q : Vec QueuedStep) → StepKeeps size old new → StepKeeps size (record old { queue = q }) (record new { queue = q })
+  keeps_queued old new q k = record { out = k.out; identities = k.identities; port_has_cache = k.port_has_cache; queue = refl; accesses = k.accesses }
 
-  pub answers_queued : (s : DeviceStep) (answer : Bool) (old new : Model S) (q : Vec Queued) → AnswersStep size told failures s answer old new →
+  pub answers_queued : (s : DeviceStep) (answer : Bool) (old new : Model S) (q : Vec QueuedStep) → AnswersStep size told failures s answer old new →
       AnswersStep size told failures s answer (record old { queue = q }) (record new { queue = q })
   answers_queued s true old new q a = (
     a.0,
@@ -167,7 +167,7 @@ module _ {S : Type 0} (size : S → ℕ) (told : S → Option (ℕ → List ℕ)
       (did ≡ true → SlotGoesOn (SendsEnd slot.0) p.0 slot.0 (device_at size told old) (device_at size told mid)) → (did ≡ false → device_at size told mid ≡ device_at size told old) →
       Meanwhile size p.0 old mid → ((AsksStore (asked.Finish p slot) (device_at size told old) → ⊥) → (which : DiskIndex) → numbered_disk mid p.0 which ≡ numbered_disk old p.0 which) →
       (did ≡ false → (which : DiskIndex) → numbered_disk mid p.0 which ≡ numbered_disk old p.0 which) → NoCallFailed failures old mid → asked_port s ≡ p.0 → IsLeftOut size told failures s mid new →
-      ((device_at size told old).size ≤ 2 ^ 32 → NeedsAddresses s (device_at size told mid)) → Possible s (device_at size told mid) →
+      ((device_at size told old).size ≤ 2 ^ 32 → IsAddressable s (device_at size told mid)) → Possible s (device_at size told mid) →
       (LacksMemory s (device_at size told mid) mid.hardware mid.bays.items → ⊥) → (t : FetchedCommand) → ((device_at size told mid).port p.0).taken slot.0 ≡ Some t →
       AnswersStep size told failures (asked.Finish p slot) did old new
   cut_short s p slot did old mid new may went stayed meanwhile same untouched none at step needs possible room t taken = by did went stayed untouched
@@ -267,26 +267,26 @@ module _ {S : Type 0} (size : S → ℕ) (told : S → Option (ℕ → List ℕ)
       },
     )
 
-    pub move_fails : Did size told failures (asked.Move p slot) mid new → CommandFails size told failures (asked.Move p slot) mid new →
+    pub move_fails : DidStep size told failures (asked.Move p slot) mid new → CommandFails size told failures (asked.Move p slot) mid new →
         AnswersStep size told failures (asked.Finish p slot) true old new
     move_fails step f =
         fails_finish step.held step.which step.others step.pages step.keeps step.starved (
           device_at size told mid,
           before_it p slot did _ _ went stayed,
-          inl (subst (λ on. FailsToMove on p.0 slot.0 (disk_failures failures old p.0) (disk_failures failures new p.0) (says_of old p.0) (says_of new p.0) (device_at size told mid) (device_at size told new)) (meanwhile.keeps.caches p.0)
-              (subst (λ was. FailsToMove (caches mid p.0) p.0 slot.0 was (disk_failures failures new p.0) (says_of old p.0) (says_of new p.0) (device_at size told mid) (device_at size told new)) fine
-              (subst (λ says. FailsToMove (caches mid p.0) p.0 slot.0 (disk_failures failures mid p.0) (disk_failures failures new p.0) says (says_of new p.0) (device_at size told mid) (device_at size told new)) meanwhile.says f))),
+          inl (subst (λ on. FailsToMove on p.0 slot.0 (disk_failures failures old p.0) (disk_failures failures new p.0) (says_of old p.0) (says_of new p.0) (device_at size told mid) (device_at size told new)) (meanwhile.keeps.port_has_cache p.0)
+              (subst (λ was. FailsToMove (port_has_cache mid p.0) p.0 slot.0 was (disk_failures failures new p.0) (says_of old p.0) (says_of new p.0) (device_at size told mid) (device_at size told new)) fine
+              (subst (λ says. FailsToMove (port_has_cache mid p.0) p.0 slot.0 (disk_failures failures mid p.0) (disk_failures failures new p.0) says (says_of new p.0) (device_at size told mid) (device_at size told new)) meanwhile.says f))),
         )
 
-    pub clear_fails : (most : ℕ) → Did size told failures (asked.Clear p slot most) mid new → CommandFails size told failures (asked.Clear p slot most) mid new →
+    pub clear_fails : (most : ℕ) → DidStep size told failures (asked.Clear p slot most) mid new → CommandFails size told failures (asked.Clear p slot most) mid new →
         AnswersStep size told failures (asked.Finish p slot) true old new
     clear_fails most step (last, cleared, f) =
         fails_finish step.held step.which step.others step.pages step.keeps step.starved (
           last,
           on cleared,
-          inr (subst (λ on. FailsToClear on p.0 slot.0 (disk_failures failures old p.0) (disk_failures failures new p.0) (says_of old p.0) (says_of new p.0) last (device_at size told new)) (meanwhile.keeps.caches p.0)
-              (subst (λ was. FailsToClear (caches mid p.0) p.0 slot.0 was (disk_failures failures new p.0) (says_of old p.0) (says_of new p.0) last (device_at size told new)) fine
-              (subst (λ says. FailsToClear (caches mid p.0) p.0 slot.0 (disk_failures failures mid p.0) (disk_failures failures new p.0) says (says_of new p.0) last (device_at size told new)) meanwhile.says f))),
+          inr (subst (λ on. FailsToClear on p.0 slot.0 (disk_failures failures old p.0) (disk_failures failures new p.0) (says_of old p.0) (says_of new p.0) last (device_at size told new)) (meanwhile.keeps.port_has_cache p.0)
+              (subst (λ was. FailsToClear (port_has_cache mid p.0) p.0 slot.0 was (disk_failures failures new p.0) (says_of old p.0) (says_of new p.0) last (device_at size told new)) fine
+              (subst (λ says. FailsToClear (port_has_cache mid p.0) p.0 slot.0 (disk_failures failures mid p.0) (disk_failures failures new p.0) says (says_of new p.0) last (device_at size told new)) meanwhile.says f))),
         )
       where
         on : (last ≡ device_at size told mid) ⊎ ClearsFewer p.0 slot.0 most (device_at size told mid) last →
@@ -335,7 +335,7 @@ module _ {S : Type 0} (size : S → ℕ) (told : S → Option (ℕ → List ℕ)
 
   -- ---- what the model does by itself
 
-  pub goes_so_on : (a b c : Model S) → GoesOnSo size a b → GoesOnSo size b c → GoesOnSo size a c
+  pub goes_so_on : (a b c : Model S) → OwnStepsKeep size a b → OwnStepsKeep size b c → OwnStepsKeep size a c
   goes_so_on a b c first then = record {
     held = then.held ∙ first.held;
     says = λ q. then.says q ∙ first.says q;
@@ -346,7 +346,7 @@ module _ {S : Type 0} (size : S → ℕ) (told : S → Option (ℕ → List ℕ)
   }
 
   pub finish_goes_so : (p : Port) (slot : Slot) (answer : Bool) (old new : Model S) → AnswersStep size told failures (asked.Finish p slot) answer old new →
-      (answer ≡ true → says_of new p.0 ≡ says_of old p.0) → GoesOnSo size old new
+      (answer ≡ true → says_of new p.0 ≡ says_of old p.0) → OwnStepsKeep size old new
   finish_goes_so p slot true old new a says = record {
     held = a.1.held;
     says = all_say p.0 old new (says refl) a.1.others;

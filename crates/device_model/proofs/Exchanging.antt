@@ -16,11 +16,11 @@ use Rattle.adapter.specs.declared.command.Direction.{Direction}
 use Rattle.adapter.specs.declared.command.Operation.{Operation}
 use Rattle.adapter.specs.declared.tape.Entry.{Entry}
 use Rattle.adapter.specs.declared.tape.Entry.TheVariants as entry
-use Rattle.device_model.specs.Exchanged.{IsExchanged, piece_of}
+use Rattle.device_model.specs.Exchanged.{IsTransferred, piece_of}
 use Rattle.device_model.specs.Fetched.{bytes_of}
 use Rattle.device_model.specs.Finishing.{TapeHasRoom}
 use Rattle.device_model.specs.Slots.{WorksOnIn, IsNext}
-use Rattle.device_model.specs.View.{blank_port, held_in, media_after, transfer_operation, port_of, taken_of}
+use Rattle.device_model.specs.View.{blank_port, taken_in, media_after, transfer_operation, port_of, taken_of}
 use Rattle.device_model.specs.Whole.{Outside, device_of, outside_after}
 use Rattle.device_model.specs.declared.hardware.Hardware.{Hardware}
 use Rattle.device_model.specs.declared.port.PortModel.{PortModel}
@@ -87,7 +87,7 @@ piece_is h next k d b is whole small size =
 pub exchanged : (h : Hardware) (next : NextMove) (k : ℕ) (d b : List ℕ) → d ≡ h.memory.items → k ≡ 512 →
     next.address + 512 ≤ length h.memory.items → length b ≡ 512 →
     (reads_memory (transfer_operation next.transfer) ≡ true → b ≡ take k (drop next.address d)) →
-    IsExchanged h (with_piece h next.address k d b) next
+    IsTransferred h (with_piece h next.address k d b) next
 exchanged h next k d b is whole small size takes =
     record {
       rest = λ _. with_piece h next.address k d b;
@@ -138,7 +138,7 @@ piece_stays h o next k d b is whole small same =
 -- the next piece of a command is noted, where it was exchanged
 pub port_moves_over : (old h : Hardware) (o : Outside) (p port slot : ℕ) (next : NextMove) (new : PortModel)
     (t : TakenCommand) (tape : Vec Entry) (operation : Operation) (direction : Direction) →
-    IsExchanged old h next → p ≡ port → p < length h.ports → IsNext old port slot next t →
+    IsTransferred old h next → p ≡ port → p < length h.ports → IsNext old port slot next t →
     port_of new (media_after (o.media p) (taken_of t) (piece_of h next))
     ≡ with_move (port_of (slice_index_or h.ports p blank_port) (o.media p)) slot (taken_of t) (piece_of h next) →
     operation ≡ transfer_operation next.transfer → direction ≡ direction_of (transfer_operation next.transfer) →
@@ -164,7 +164,7 @@ port_moves_over old h o p port slot next new t tape operation direction is e sma
     (outside_after o port (taken_of t) bytes) ≡ effect) (sym is.rest) moved
 
 -- it is the next one still
-pub next_over : {old h : Hardware} {next : NextMove} {t : TakenCommand} → (port slot : ℕ) → IsExchanged old h next →
+pub next_over : {old h : Hardware} {next : NextMove} {t : TakenCommand} → (port slot : ℕ) → IsTransferred old h next →
     IsNext old port slot next t → IsNext h port slot next t
 next_over {old} {h} {next} {t} port slot is at = record {
   holds = subst (λ (x : Hardware). WorksOnIn (slice_index_or x.ports port blank_port) slot t) (sym is.rest) at.holds;
@@ -220,7 +220,7 @@ one_further t sector ranged is =
 pub next_after : (old : Hardware) (p port slot : ℕ) (next : NextMove) (t : TakenCommand) (new : PortModel) (tape : Vec Entry) (starved : Bool) →
     IsNext old port slot next t → 1 ≤ next.behind → p ≡ port → p < length old.ports →
     new ≡ record (slice_index_or old.ports p blank_port) { taken = new.taken } →
-    held_in new.taken slot ≡ Some (record t { moved = t.moved + 1 }) →
+    taken_in new.taken slot ≡ Some (record t { moved = t.moved + 1 }) →
     IsNext (record old { ports = slice_set old.ports p new; tape = tape; starved = starved }) port slot
     (record next { sector = next.sector + 1; address = next.address + 512; behind = next.behind - 1 })
     (record t { moved = t.moved + 1 })
@@ -241,7 +241,7 @@ next_after old p port slot next t new tape starved at some e small same held =
                 let is : new ≡ record here { taken = new.taken } =
                 same ∙ ap (λ k. record (slice_index_or old.ports k blank_port) { taken = new.taken }) e in
                 record {
-                  taken = slot_taken (held_in new.taken) u slot held;
+                  taken = slot_taken (taken_in new.taken) u slot held;
                   working = subst P (sym is)
                       (record { running = was.running; present = was.present; fresh = was.fresh; admitted = was.admitted; whole = was.whole });
                 };
@@ -267,8 +267,8 @@ next_after old p port slot next t new tape starved at some e small same held =
     }
 
 -- the tape has the memory that it had
-pub room_over : {old h : Hardware} {next : NextMove} → (n : ℕ) → IsExchanged old h next → TapeHasRoom old n → TapeHasRoom h n
+pub room_over : {old h : Hardware} {next : NextMove} → (n : ℕ) → IsTransferred old h next → TapeHasRoom old n → TapeHasRoom h n
 room_over {old} {h} {next} n is room = subst (λ (x : Hardware). TapeHasRoom x n) (sym is.rest) room
 
-pub starved_over : {old h : Hardware} {next : NextMove} → IsExchanged old h next → h.starved ≡ old.starved
+pub starved_over : {old h : Hardware} {next : NextMove} → IsTransferred old h next → h.starved ≡ old.starved
 starved_over is = ap (λ (x : Hardware). x.starved) is.rest

@@ -10,8 +10,8 @@ use Rattle.adapter.specs.declared.access.DeviceStep.TheVariants as asked
 use Rattle.ata_types.specs.declared.Port.{Port}
 use Rattle.ata_types.specs.declared.Slot.{Slot}
 use Rattle.sector_store.specs.declared.store.Failures.{Failures}
-use Rattle.device_model.specs.Disks.{bay_of, caches, disk_failures, says_of, which_of}
-use Rattle.device_model.specs.Does.{AsksStore, Did, CommandFails, IsCause, StepKeeps, asked_port, says_failed, which_after}
+use Rattle.device_model.specs.Disks.{bay_of, port_has_cache, disk_failures, says_of, which_of}
+use Rattle.device_model.specs.Does.{AsksStore, DidStep, CommandFails, IsSectorFault, StepKeeps, asked_port, says_failed, which_after}
 use Rattle.device_model.specs.Finishing.{HasMove}
 use Rattle.device_model.specs.Held.{held_after}
 use Rattle.device_model.specs.Modelled.{device_at}
@@ -33,11 +33,11 @@ module _ {S : Type 0} (size : S → ℕ) (told : S → Option (ℕ → List ℕ)
   -- as the next sector was to be moved
   pub fails_to_move : device_at size told mid ≡ device_at size told m → says_of mid p.0 ≡ says_of m p.0 → HasMove (device_at size told m) p.0 slot.0 t →
       is_ranged t.meaning.operation ≡ true →
-      IsCause (caches m p.0) (reads_memory t.meaning.operation) (next_sector t) ((device_at size told m).port p.0).disk.size error (disk_failures failures m p.0) (disk_failures failures mid p.0) →
+      IsSectorFault (port_has_cache m p.0) (reads_memory t.meaning.operation) (next_sector t) ((device_at size told m).port p.0).disk.size error (disk_failures failures m p.0) (disk_failures failures mid p.0) →
       CommandFails size told failures (asked.Move p slot) m last
   fails_to_move same says move ranged cause =
       let P : Option Failures → Type 0 = λ now.
-      IsCause (caches m p.0) (reads_memory t.meaning.operation) (next_sector t) ((device_at size told m).port p.0).disk.size error (disk_failures failures m p.0) now in
+      IsSectorFault (port_has_cache m p.0) (reads_memory t.meaning.operation) (next_sector t) ((device_at size told m).port p.0).disk.size error (disk_failures failures m p.0) now in
       let Q : FetchedCommand → Device → Type 0 = λ x d. Can (Fault p.0 slot.0 error 0 x) d in
       let R : FetchedCommand → Device → Type 0 = λ x d. SendsFault (is_queued x.meaning.operation) p.0 d (device_at size told last) in
       record {
@@ -56,7 +56,7 @@ module _ {S : Type 0} (size : S → ℕ) (told : S → Option (ℕ → List ℕ)
   pub did_fail : (s : DeviceStep) → asked_port s ≡ p.0 → CommandFails size told failures s m last → held_after s m.held ≡ m.held →
       which_after s (which_of m (asked_port s)) ≡ which_of m (asked_port s) → mid.held ≡ m.held → says_of mid p.0 ≡ says_of m p.0 → which_of mid p.0 ≡ which_of m p.0 →
       ((q : ℕ) → q ≢ p.0 → bay_of mid q ≡ bay_of m q) → GainsPages size m mid → StepKeeps size m mid → mid.hardware.starved ≡ m.hardware.starved →
-      AsksStore s (device_at size told m) → Did size told failures s m last
+      AsksStore s (device_at size told m) → DidStep size told failures s m last
   did_fail s at fails held_on which_on held says which others pages keeps starved asks = record {
     came = inr fails;
     held = failed.held ∙ (held ∙ sym held_on);

@@ -2,7 +2,7 @@
 use Rattle.std.proofs.Common.{ℕ, Bool, zero, suc, ◌≡◌, ◌<◌, ◌≤◌, ◌+◌, ◌-◌, ◌*◌, ◌/◌, List, [], ◌∷◌, ◌++◌, length, take, drop, All, slice_index, slice_index_or, refl, sym, ◌∙◌, ap, arith, subst, append_assoc, length-append}
 use Rattle.std.proofs.lemmas.List.{drop_all, get_or_append_left, get_or-append_right}
 use Rattle.adapter.specs.Memory.{bytes_at}
-use Rattle.adapter.specs.Commands.{IsMeaning, Meaning, command_of, reads_memory, pieces_moved}
+use Rattle.adapter.specs.Commands.{IsMeaning, Meaning, command_of, reads_memory, piece_count}
 use Rattle.adapter.specs.Encoding.{EncodesPrd, EncodesHeader, EncodesCommand}
 use Rattle.adapter.specs.Decoding.{HasPrds, IsWholePieces, DecodesTo, pieces, piece_addresses}
 use Rattle.adapter.specs.declared.command.Operation.{Operation}
@@ -10,7 +10,7 @@ use Rattle.adapter.specs.declared.command.Prd.{Prd}
 use Rattle.adapter.proofs.SaysLemmas.{cut_length, cut_index}
 use Rattle.device_model.specs.Fetched.{no_prd}
 use Rattle.device_model.specs.View.{transfer_operation}
-use Rattle.device_model.specs.declared.port.Transfer.{Transfer}
+use Rattle.device_model.specs.declared.port.CommandKind.{CommandKind}
 
 abbrev Here : (ℕ → ℕ) → ℕ → Prd → Type 0
 Here memory at e = EncodesPrd (bytes_at memory at 16) e
@@ -129,7 +129,7 @@ only_one e here (suc k) d lt = absurd (omega arith)
 
 -- ---- what a command of this kind says
 
-module _ (k : Transfer) (memory : ℕ → ℕ) (list slot : ℕ) (m : Meaning) (places : List ℕ) (is : m.operation ≡ transfer_operation k)
+module _ (k : CommandKind) (memory : ℕ → ℕ) (list slot : ℕ) (m : Meaning) (places : List ℕ) (is : m.operation ≡ transfer_operation k)
     (s : DecodesTo memory list slot m places) where
   pub said_header : EncodesHeader (bytes_at memory (list + 32 * slot) 32) (reads_memory (transfer_operation k)) (length s.prds) s.table
   said_header = subst (λ (w : Bool). EncodesHeader (bytes_at memory (list + 32 * slot) 32) w (length s.prds) s.table) (ap reads_memory is) s.header
@@ -140,5 +140,5 @@ module _ (k : Transfer) (memory : ℕ → ℕ) (list slot : ℕ) (m : Meaning) (
   pub said_meaning : IsMeaning (record { operation = transfer_operation k; first = m.first; count = m.count })
   said_meaning = subst (λ (o : Operation). IsMeaning (record { operation = o; first = m.first; count = m.count })) is s.meaning
 
-  pub said_count : length (pieces s.prds) ≡ pieces_moved (transfer_operation k) m.count
-  said_count = ap length (sym s.in_order) ∙ (s.as_many ∙ ap (λ (o : Operation). pieces_moved o m.count) is)
+  pub said_count : length (pieces s.prds) ≡ piece_count (transfer_operation k) m.count
+  said_count = ap length (sym s.in_order) ∙ (s.as_many ∙ ap (λ (o : Operation). piece_count o m.count) is)

@@ -1,7 +1,7 @@
 -- A command that may be done is taken, goes on piece by piece and clear by clear, and ends.
 use Rattle.std.proofs.Common.{[], ◌∷◌, ℕ, Bool, true, false, zero, suc, ◌≡◌, ◌<◌, ◌≤◌, ◌+◌, ◌⊎◌, List, length, slice_index, slice_index_or, Option, None, Some, refl, sym, ◌∙◌, ap, subst, inl, inr, arith}
 use Rattle.std.specs.Prelude.{if◌then◌else◌}
-use Rattle.adapter.specs.Asked.{DoesClear, DoesFetch, DoesMove, DoesDone, DoesOne, DoesSome, EndsAndPosts, SlotGoesOn}
+use Rattle.adapter.specs.Asked.{DoesClear, DoesFetch, DoesMove, DoesDone, DoesSlotStep, DoesSlotSteps, EndsAndPosts, SlotGoesOn}
 use Rattle.adapter.specs.Commands.{Meaning, is_queued, is_ranged}
 use Rattle.adapter.specs.Device.{Disk, FetchedCommand, Halt, DevicePort, Device}
 use Rattle.adapter.specs.Memory.{changed}
@@ -19,13 +19,13 @@ use Rattle.device_model.specs.Finishing.{HasDisk, HasMove, IsCovered, IsGoing, M
 use Rattle.device_model.specs.Sent.{SendsEnd}
 use Rattle.device_model.specs.Slots.{CanClear, WorksOnIn, IsNext}
 use Rattle.device_model.specs.Trims.{HasClear, WillClear, span, uncleared}
-use Rattle.device_model.specs.View.{halt_of, held_in, transfer_operation, taken_of, blank_port}
+use Rattle.device_model.specs.View.{halt_of, taken_in, transfer_operation, taken_of, blank_port}
 use Rattle.device_model.specs.Whole.{HasDisks, Outside, device_of}
 use Rattle.device_model.specs.declared.port.PortModel.{PortModel}
 use Rattle.device_model.specs.declared.hardware.Hardware.{Hardware}
 use Rattle.device_model.specs.declared.port.TakenCommand.{TakenCommand}
-use Rattle.device_model.specs.declared.port.Transfer.{Transfer}
-use Rattle.device_model.specs.declared.port.Transfer.TheVariants as transfer
+use Rattle.device_model.specs.declared.port.CommandKind.{CommandKind}
+use Rattle.device_model.specs.declared.port.CommandKind.TheVariants as transfer
 use Rattle.device_model.specs.declared.steps.NextMove.{NextMove}
 use Rattle.device_model.proofs.Posting.{end_rest}
 use Rattle.device_model.proofs.Trimming.{is_a_trim, moved_clears, none_left, some_uncleared, span_less}
@@ -179,7 +179,7 @@ module _ (port slot : ℕ) where
   no_more_yet since t taken queued (inl none) = some-none taken none
   no_more_yet since t taken queued (inr clear) = clear
 
-  no_more_on : (since mid new : Device) → IsIssuedNoMore since mid → DoesOne (SendsEnd slot) port slot mid new → IsIssuedNoMore since new
+  no_more_on : (since mid new : Device) → IsIssuedNoMore since mid → DoesSlotStep (SendsEnd slot) port slot mid new → IsIssuedNoMore since new
   no_more_on since mid new was (inl f) t taken queued before =
       let p : DevicePort = mid.port port in
       let state : DevicePort = with_fetch p slot f.meaning f.places in
@@ -207,7 +207,7 @@ module _ (port slot : ℕ) where
       let kind : is_queued c.t.meaning.operation ≡ true = ap (λ (x : FetchedCommand). is_queued x.meaning.operation) same ∙ queued in
       ap (λ (x : DevicePort). x.ci slot) there ∙ was c.t c.can.works.taken kind before
 
-  no_more_after : (n : ℕ) (since new : Device) → DoesSome (SendsEnd slot) n port slot since new → IsIssuedNoMore since new
+  no_more_after : (n : ℕ) (since new : Device) → DoesSlotSteps (SendsEnd slot) n port slot since new → IsIssuedNoMore since new
   no_more_after zero since new same = subst (IsIssuedNoMore since) (sym same) (no_more_yet since)
   no_more_after (suc n) since new s = no_more_on since s.0 new (no_more_after n since s.0 s.1) s.2
 
@@ -265,12 +265,12 @@ pub holds : (h : Hardware) (o : Outside) (port slot : ℕ) (t : FetchedCommand) 
     (r : TakenCommand) × WorksOnIn (slice_index_or h.ports port blank_port) slot r × (t ≡ taken_of r)
 holds h o port slot t works =
     let p : PortModel = slice_index_or h.ports port blank_port in
-    let w = taken_slot (held_in p.taken) slot t works.taken in (
+    let w = taken_slot (taken_in p.taken) slot t works.taken in (
       w.0,
       record {
         held = w.1;
         works = λ m. record {
-          taken = slot_taken (held_in p.taken) w.0 slot w.1;
+          taken = slot_taken (taken_in p.taken) w.0 slot w.1;
           working = record {
             running = works.working.running;
             present = works.working.present;
@@ -310,7 +310,7 @@ next_has_move h o d port slot next r has same is =
     subst P same (record { works = is.holds.works (o.media port); left = is.left; inside = omega (arith, place, there); has_disks = subst Q (sym same) has })
 
 -- a move of a device is of a sector on its disk, if it is of one
-brings_on_disk : (disk : Disk) (memory : ℕ → ℕ) (t : FetchedCommand) (k : Transfer) (bytes : List ℕ) → is_ranged (transfer_operation k) ≡ true →
+brings_on_disk : (disk : Disk) (memory : ℕ → ℕ) (t : FetchedCommand) (k : CommandKind) (bytes : List ℕ) → is_ranged (transfer_operation k) ≡ true →
     Brings disk memory t (transfer_operation k) bytes → next_sector t < disk.size
 brings_on_disk disk memory t transfer.Read bytes ranged brings = brings.0
 brings_on_disk disk memory t transfer.Write bytes ranged brings = brings.0

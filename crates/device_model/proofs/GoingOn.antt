@@ -3,14 +3,14 @@ use Rattle.std.proofs.Common.{ℕ, length, Bool, zero, suc, true, false, ◌≡�
 use Rattle.std.proofs.lemmas.Bool.Decides.{eqb_tells}
 use Rattle.adapter.specs.Device.{DevicePort, Device}
 use Rattle.adapter.specs.Memory.{changed}
-use Rattle.adapter.specs.Asked.{DoesOne, DoesSome, SlotGoesOn}
+use Rattle.adapter.specs.Asked.{DoesSlotStep, DoesSlotSteps, SlotGoesOn}
 use Rattle.adapter.specs.Steps.{MayLinkUp, with_clear, with_done, with_flush, with_fetch, with_link, with_move, with_port, with_reset}
 use Rattle.adapter.specs.Steps.DeviceTransition.{Fall, FrFall, LinkUp}
 use Rattle.device_model.proofs.Places.{fun_ext, changed_same, changed_other, changed_each}
 use Rattle.device_model.proofs.Own.{own_none, own_on, own_one}
 use Rattle.device_model.specs.Bits.{word_bits}
 use Rattle.device_model.specs.Held.{IsPortHeld, IsPortLoose}
-use Rattle.device_model.specs.Sent.{SendsEnd, SendsRegisters, signature_of}
+use Rattle.device_model.specs.Sent.{SendsEnd, SendsRegisters, signature_fis}
 use Rattle.device_model.proofs.Posting.{end_rest}
 use Rattle.device_model.specs.Settled.{LeadsOwn, Settles, GoesTo, IsSettled, IsSettledPort}
 use Rattle.device_model.specs.View.{Media, port_of, blank_port}
@@ -62,9 +62,9 @@ goes_area_fallen old new fre cr fr is held d port loose here =
 
 -- the link of a port in this state comes up, and the disk's first FIS is sent
 pub own_linked : (held : List Bool) (d linked new : Device) (port : ℕ) (p : DevicePort) → IsPortLoose held port → d.port port ≡ p → MayLinkUp p 0x101 →
-    linked ≡ with_port d port (with_link p 0x101 true) → SendsRegisters port (signature_of (linked.port port)) linked new → LeadsOwn (Settles held) d new
+    linked ≡ with_port d port (with_link p 0x101 true) → SendsRegisters port (signature_fis (linked.port port)) linked new → LeadsOwn (Settles held) d new
 own_linked held d linked new port p loose here may is sends =
-    let P : Device → Type 0 = λ x. SendsRegisters port (signature_of (x.port port)) x new in
+    let P : Device → Type 0 = λ x. SendsRegisters port (signature_fis (x.port port)) x new in
     let same : linked ≡ with_port d port (with_link (d.port port) 0x101 true) = is ∙ ap (λ (x : DevicePort). with_port d port (with_link x 0x101 true)) (sym here) in
     own_one (Settles held) (LinkUp port 0x101 true) d new ((loose, refl, refl), tt) (subst (λ (x : DevicePort). MayLinkUp x 0x101) (sym here) may) (subst P same sends)
 
@@ -132,7 +132,7 @@ abbrev same : (p new : DevicePort) → new.st ≡ p.st → new.cr ≡ p.cr → n
     new.sctl_det ≡ p.sctl_det → new.link_due ≡ p.link_due → SameControls p new
 same p new st cr fre fr present det due = record { st = st; cr = cr; fre = fre; fr = fr; present = present; det = det; due = due }
 
-one_settled : (port slot : ℕ) (old new : Device) → DoesOne (SendsEnd slot) port slot old new → (held : List Bool) → IsSettled held old → IsSettled held new
+one_settled : (port slot : ℕ) (old new : Device) → DoesSlotStep (SendsEnd slot) port slot old new → (held : List Bool) → IsSettled held old → IsSettled held new
 one_settled port slot old new (inl f) =
     settled_with old new port (with_fetch (old.port port) slot f.meaning f.places) (ap (λ (d : Device). d.hr) f.effect) (ap (λ (d : Device). d.port) f.effect)
     (same _ _ refl refl refl refl refl refl refl)
@@ -148,7 +148,7 @@ one_settled port slot old new (inr (inr (inl e))) =
     (ap (λ (d : Device). d.hr) rest ∙ ap (λ (d : Device). d.hr) e.done.effect)
     (ap (λ (d : Device). d.port) rest ∙ ap (λ (d : Device). d.port) e.done.effect) (same _ _ refl refl refl refl refl refl refl)
 
-some_settled : (n port slot : ℕ) (old new : Device) → DoesSome (SendsEnd slot) n port slot old new → (held : List Bool) → IsSettled held old → IsSettled held new
+some_settled : (n port slot : ℕ) (old new : Device) → DoesSlotSteps (SendsEnd slot) n port slot old new → (held : List Bool) → IsSettled held old → IsSettled held new
 some_settled zero port slot old new e held settled = let P : Device → Type 0 = λ d. IsSettled held d in subst P (sym e) settled
 some_settled (suc n) port slot old new s held settled = one_settled port slot s.0 new s.2 held (some_settled n port slot old s.0 s.1 held settled)
 

@@ -11,7 +11,7 @@ use Rattle.adapter.specs.declared.access.DeviceStep.{DeviceStep}
 use Rattle.sector_store.specs.declared.store.Failures.{Failures}
 use Rattle.device_model.specs.Cached.{HasOldRoom, KeepsTheSame}
 use Rattle.device_model.specs.Disks.{HasOldRoomAt, HasOldRoomIn, HasOldRoomOf, bay_of, disk_in_bay, numbered_disk, lasting_of}
-use Rattle.device_model.specs.Does.{HasCleared, IsLeftOut, LacksMemory, NeedsAddresses, Possible, StepKeeps, asked_port, cleared_on_disk}
+use Rattle.device_model.specs.Does.{HasCleared, IsLeftOut, LacksMemory, IsAddressable, Possible, StepKeeps, asked_port, cleared_on_disk}
 use Rattle.device_model.specs.Modelled.{device_at, outside_at}
 use Rattle.device_model.specs.OldSectors.{with_old}
 use Rattle.device_model.specs.Trims.{HasClear, changes_ahead, next_uncleared, span, written_ahead}
@@ -57,7 +57,7 @@ module _ {S : Type 0} (size : S → ℕ) (told : S → Option (ℕ → List ℕ)
   -- a step is left
   pub grown_left : (s : DeviceStep) → asked_port s ≡ port → device_of new.hardware (outside_at size told m) ≡ device_at size told m → new.held ≡ m.held → new.queue ≡ m.queue →
       new.accesses ≡ m.accesses →
-      (NeedsAddresses s (device_at size told m) → Possible s (device_at size told m) → LacksMemory s (device_at size told m) m.hardware m.bays.items × (new.hardware.starved ≡ true)) →
+      (IsAddressable s (device_at size told m) → Possible s (device_at size told m) → LacksMemory s (device_at size told m) m.hardware m.bays.items × (new.hardware.starved ≡ true)) →
       (m.hardware.starved ≡ true → new.hardware.starved ≡ true) →
       (new.hardware.starved ≡ true → (m.hardware.starved ≡ true) ⊎ (Possible s (device_at size told m) × LacksMemory s (device_at size told m) m.hardware m.bays.items)) →
       IsLeftOut size told failures s m new

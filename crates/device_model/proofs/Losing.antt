@@ -12,7 +12,7 @@ use Rattle.sector_store.specs.declared.store.Failures.{Failures}
 use Rattle.std.proofs.lemmas.Option.{same_Some}
 use Rattle.device_model.specs.Cached.{TurnsBack, WritesFail, lasting_in, sector_told}
 use Rattle.device_model.specs.Disks.{LosesCache, bay_of, disk_in_bay, disk_number, identity, is_same, lasting_of, plugged_as}
-use Rattle.device_model.specs.Does.{LosesCacheIn, Did, IsLeftOut, LacksMemory, Possible}
+use Rattle.device_model.specs.Does.{LosesCacheIn, DidStep, IsLeftOut, LacksMemory, Possible}
 use Rattle.device_model.specs.Modelled.{device_at, media_of, outside_at, tells}
 use Rattle.device_model.specs.OldSectors.{with_old}
 use Rattle.device_model.specs.Whole.{Outside, device_of, outside_plugged}
@@ -113,7 +113,7 @@ module _ {S : Type 0} (size : S → ℕ) (told : S → Option (ℕ → List ℕ)
 
 -- a LosePlug that was done
 pub lost_of : {S : Type 0} (size : S → ℕ) (told : S → Option (ℕ → List ℕ)) (failures : S → Option Failures) (old new : Model S) (p : Port) (a b : Bay S) →
-    bay_of old p.0 ≡ Some a → bay_of new p.0 ≡ Some b → Did size told failures (asked.LosePlug p) old new → LosesCache size told failures a b
+    bay_of old p.0 ≡ Some a → bay_of new p.0 ≡ Some b → DidStep size told failures (asked.LosePlug p) old new → LosesCache size told failures a b
 lost_of {S} size told failures old new p a b was is did =
     let both : Option (Bay S) → Option (Bay S) → Type 0 = λ x y. LosesCacheIn size told failures x y in
     elim did.came [
@@ -178,7 +178,7 @@ module _ {S : Type 0} (size : S → ℕ) (told : S → Option (ℕ → List ℕ)
     pub did_lose : p.0 < 4 → ((d : Device) → d ≡ device_at size told m → ((d.port p.0).present ≡ false)) → ((s : S) → AreSectors (size s) (told s)) →
         ((o : Outside) (disk : Disk) → disk.name ≡ disk_number a.which → true ≡ nat_eq disk.name (o.media p.0).disk.name → device_of new.hardware (outside_plugged o p.0 disk) ≡ device_after (Plug p.0 disk) (device_of m.hardware o)) →
         new.hardware.starved ≡ m.hardware.starved →
-        Possible (asked.LosePlug p) (device_at size told m) × Did size told failures (asked.LosePlug p) m new
+        Possible (asked.LosePlug p) (device_at size told m) × DidStep size told failures (asked.LosePlug p) m new
     did_lose small free are did starved =
         let may : Possible (asked.LosePlug p) (device_at size told m) = (small, has_disks size told m p.0 a was, free _ refl) in
         let name : disk_number a.which ≡ ((device_at size told m).port p.0).disk.name = sym (ap (λ x. (media_of size told x).disk.name) was) in

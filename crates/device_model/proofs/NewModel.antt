@@ -6,7 +6,7 @@ use Rattle.hba_regs.specs.Bits.{bit}
 use Rattle.adapter.specs.Device.{IsDisk}
 use Rattle.adapter.specs.Idle.{IsIdlePort}
 use Rattle.device_model.specs.Disks.{given_for}
-use Rattle.device_model.specs.Modelled.{IsNewMedia, IsNewPort, IsReset, all_tell, media_of}
+use Rattle.device_model.specs.Modelled.{IsNewMedia, IsNewPort, HasResetValues, all_tell, media_of}
 use Rattle.device_model.specs.declared.disks.Disks.{Disks}
 use Rattle.device_model.specs.declared.disks.PortDisks.{PortDisks}
 use Rattle.sector_store.specs.Stores.{AreSectors}
@@ -32,7 +32,7 @@ abbrev pub IsIdleModel : PortModel → Type 0
 IsIdleModel p = (m : Media) → IsIdlePort (port_of p m)
 
 abbrev pub IsResetModel : PortModel → Type 0
-IsResetModel p = (m : Media) → IsReset (port_of p m)
+IsResetModel p = (m : Media) → HasResetValues (port_of p m)
 
 pub blank_idle : IsIdleModel blank_port
 blank_idle = λ m. record {

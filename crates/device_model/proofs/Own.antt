@@ -3,7 +3,7 @@ use Rattle.std.proofs.Common.{ℕ, length, Bool, zero, suc, true, false, ◌≡�
 use Rattle.std.proofs.lemmas.Bool.Decides.{eqb_tells}
 use Rattle.std.proofs.lemmas.List.Elements.{All-append, All-nil}
 use Rattle.std.specs.Prelude.{if◌then◌else◌, slice_index_or}
-use Rattle.adapter.specs.Asked.{DoesFatal, DoesOne, DoesSome, Fails, SlotGoesOn, fatal_bit}
+use Rattle.adapter.specs.Asked.{DoesFatal, DoesSlotStep, DoesSlotSteps, Fails, SlotGoesOn, fatal_bit}
 use Rattle.adapter.specs.Commands.{Meaning, is_queued}
 use Rattle.adapter.specs.Device.{DevicePort, Device, FetchedCommand}
 use Rattle.adapter.specs.Memory.{changed}
@@ -66,7 +66,7 @@ present_with q f port p same =
       | inr there ↦ ap (λ (x : DevicePort). x.present) (changed_other f port p q there.1)
     ]
 
-pub one_keeps_present : (q : ℕ) (port slot : ℕ) (old new : Device) → DoesOne (SendsEnd slot) port slot old new → (new.port q).present ≡ (old.port q).present
+pub one_keeps_present : (q : ℕ) (port slot : ℕ) (old new : Device) → DoesSlotStep (SendsEnd slot) port slot old new → (new.port q).present ≡ (old.port q).present
 one_keeps_present q port slot old new (inl f) =
     ap (λ (d : Device). (d.port q).present) f.effect ∙ present_with q old.port port (with_fetch (old.port port) slot f.meaning f.places) refl
 one_keeps_present q port slot old new (inr (inl m)) =
@@ -93,7 +93,7 @@ pub senseless_keeps_present : (q : ℕ) (port slot : ℕ) (old new : Device) →
 senseless_keeps_present q port slot old new sends =
     ap (λ (d : Device). (d.port q).present) (fault_rest false port (device_after (FetchFault port slot false 0) old) new sends) ∙ present_with q old.port port (with_fault (old.port port) false 4 0) refl
 
-pub some_keep_present : (q : ℕ) (n port slot : ℕ) (old new : Device) → DoesSome (SendsEnd slot) n port slot old new → (new.port q).present ≡ (old.port q).present
+pub some_keep_present : (q : ℕ) (n port slot : ℕ) (old new : Device) → DoesSlotSteps (SendsEnd slot) n port slot old new → (new.port q).present ≡ (old.port q).present
 some_keep_present q zero port slot old new same = ap (λ (d : Device). (d.port q).present) same
 some_keep_present q (suc n) port slot old new s = one_keeps_present q port slot s.0 new s.2 ∙ some_keep_present q n port slot old s.0 s.1
 
@@ -114,7 +114,7 @@ module _ (P : Operation → List ℕ → Type 0) (is_plain : (o : Operation) (pl
         fetched = λ m places can. some-none stands can.fetchable.free;
       }
 
-  only_by_one : (old new : Device) → DoesOne (SendsEnd slot) port slot old new → IsOnly P old port slot → IsOnly P new port slot
+  only_by_one : (old new : Device) → DoesSlotStep (SendsEnd slot) port slot old new → IsOnly P old port slot → IsOnly P new port slot
   only_by_one old new (inl f) only =
       let p : DevicePort = with_fetch (old.port port) slot f.meaning f.places in
       only_with new p (begun f.meaning f.places) (ap (λ (d : Device). d.port port) f.effect ∙ changed_same old.port port p)
@@ -142,7 +142,7 @@ module _ (P : Operation → List ℕ → Type 0) (is_plain : (o : Operation) (pl
       only_with new p u (ap (λ (d : Device). d.port port) c.effect ∙ changed_same old.port port p) (changed_same (old.port port).taken slot (Some u))
       (only.taken c.t c.can.works.taken)
 
-  only_by_some : (n : ℕ) (old new : Device) → DoesSome (SendsEnd slot) n port slot old new → IsOnly P old port slot → IsOnly P new port slot
+  only_by_some : (n : ℕ) (old new : Device) → DoesSlotSteps (SendsEnd slot) n port slot old new → IsOnly P old port slot → IsOnly P new port slot
   only_by_some zero old new e only = let Q : Device → Type 0 = λ d. IsOnly P d port slot in subst Q (sym e) only
   only_by_some (suc n) old new s only = only_by_one s.0 new s.2 (only_by_some n old s.0 s.1 only)
 
@@ -157,7 +157,7 @@ module _ (P : Operation → List ℕ → Type 0) (is_page : (o : Operation) (pla
   plain : (o : Operation) (places : List ℕ) → P o places → is_queued o ≡ false
   plain o places holds = page_plain o (is_page o places holds)
 
-  own_by_one : (old new : Device) → DoesOne (SendsEnd slot) port slot old new → IsOnly P old port slot → LeadsOwn (SendsPages held) old new
+  own_by_one : (old new : Device) → DoesSlotStep (SendsEnd slot) port slot old new → IsOnly P old port slot → LeadsOwn (SendsPages held) old new
   own_by_one old new (inl f) only =
       own_one (SendsPages held) (Fetch port slot f.meaning f.places) old new ((loose, is_page _ _ (only.fetched f.meaning f.places f.can)), tt) f.can f.effect
   own_by_one old new (inr (inl m)) only =
@@ -170,7 +170,7 @@ module _ (P : Operation → List ℕ → Type 0) (is_page : (o : Operation) (pla
   own_by_one old new (inr (inr (inr (most, c)))) only =
       true-false (is_page _ _ (only.taken c.t c.can.works.taken)) (ap sends_page c.can.trim)
 
-  pub own_by_some : (n : ℕ) (old new : Device) → DoesSome (SendsEnd slot) n port slot old new → IsOnly P old port slot → LeadsOwn (SendsPages held) old new × IsOnly P new port slot
+  pub own_by_some : (n : ℕ) (old new : Device) → DoesSlotSteps (SendsEnd slot) n port slot old new → IsOnly P old port slot → LeadsOwn (SendsPages held) old new × IsOnly P new port slot
   own_by_some zero old new e only =
       let Q : Device → Type 0 = λ d. LeadsOwn (SendsPages held) old d × IsOnly P d port slot in
       subst Q (sym e) (own_none (SendsPages held) old, only)

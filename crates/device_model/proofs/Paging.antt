@@ -3,13 +3,13 @@ use Rattle.std.proofs.Common.{ℕ, length, Bool, zero, suc, true, false, ◌≡�
 use Rattle.std.specs.Prelude.{◌&&◌, not, if◌then◌else◌, is_some, option_map}
 use Rattle.std.proofs.lemmas.Bool.Decides.{eqb_tells}
 use Rattle.adapter.specs.Access.{note, noted}
-use Rattle.adapter.specs.Asked.{DoesFetch, DoesOne, DoesSome, SlotGoesOn}
+use Rattle.adapter.specs.Asked.{DoesFetch, DoesSlotStep, DoesSlotSteps, SlotGoesOn}
 use Rattle.adapter.specs.Commands.{Meaning, is_queued, is_ranged}
 use Rattle.adapter.specs.Device.{Notes, DevicePort, Device, FetchedCommand}
 use Rattle.adapter.specs.Memory.{changed}
 use Rattle.adapter.specs.OneCommand.{IsFreeSlot}
 use Rattle.adapter.specs.Decoding.{DecodesTo}
-use Rattle.adapter.specs.Steps.{Can, IsFetchable, IsWorking, IsAlone, WorksOn, begun, with_clear, with_done, with_flush, with_fetch, with_move}
+use Rattle.adapter.specs.Steps.{Can, IsFetchable, IsWorking, IsUnmixed, WorksOn, begun, with_clear, with_done, with_flush, with_fetch, with_move}
 use Rattle.adapter.specs.Steps.DeviceTransition.{Fetch}
 use Rattle.adapter.specs.declared.command.Operation.{Operation}
 use Rattle.device_model.proofs.Absurd.{some-none, some_one, true-false}
@@ -21,8 +21,8 @@ use Rattle.ata_types.specs.declared.Port.{Port}
 use Rattle.ata_types.specs.declared.Slot.{Slot}
 use Rattle.adapter.specs.declared.access.DeviceStep.TheVariants as asked
 use Rattle.sector_store.specs.declared.store.Failures.{Failures}
-use Rattle.device_model.specs.Does.{AnswersStep, LeavesMoves, AsksStore, Completes, Did, StepFails, FailsToClear, FailsToMove}
-use Rattle.device_model.specs.Finishing.{AreInside, HasPageCommand, LooksForPage, IsBusy, IsCovered, MayFinish, MayPage, sends_page}
+use Rattle.device_model.specs.Does.{AnswersStep, LeavesMoves, AsksStore, Completes, DidStep, StepFails, FailsToClear, FailsToMove}
+use Rattle.device_model.specs.Finishing.{AreInside, HasPageCommand, LooksForPage, HasTakenCommand, IsCovered, MayFinish, MayTakePage, sends_page}
 use Rattle.device_model.specs.Modelled.{device_at}
 use Rattle.device_model.specs.Sent.{SendsEnd}
 use Rattle.device_model.specs.Slots.{IsNext}
@@ -32,10 +32,10 @@ use Rattle.device_model.specs.Whole.{HasDisks, Outside, device_of}
 use Rattle.device_model.specs.declared.bay.Bay.{Bay}
 use Rattle.device_model.specs.declared.disks.DiskIndex.{DiskIndex}
 use Rattle.device_model.specs.declared.hardware.Hardware.{Hardware}
-use Rattle.device_model.specs.declared.bay.PageContents.{PageContents}
+use Rattle.device_model.specs.declared.bay.PageSource.{PageSource}
 use Rattle.device_model.specs.declared.model.Model.{Model}
 use Rattle.device_model.specs.declared.port.TakenCommand.{TakenCommand}
-use Rattle.device_model.specs.declared.port.Transfer.{Transfer}
+use Rattle.device_model.specs.declared.port.CommandKind.{CommandKind}
 use Rattle.device_model.specs.declared.steps.NextMove.{NextMove}
 use Rattle.adapter.proofs.Going.{goes_one}
 use Rattle.device_model.proofs.Finishing.{fetched_goes, next_has_move}
@@ -113,7 +113,7 @@ page_asks_none d port slot left clears has may asks = by asks
         let none = page_cleared t.meaning.operation d.memory t clears (kind may.begins) may.clearing in absurd (omega (arith, some, none))
 
 -- so it comes to no sector on which it fails
-page_whole : (p : Port) (s : Slot) (cached : Bool) (was now : Option Failures) (says later : Option PageContents) (old new : Device) → HasPageCommand old p.0 s.0 →
+page_whole : (p : Port) (s : Slot) (cached : Bool) (was now : Option Failures) (says later : Option PageSource) (old new : Device) → HasPageCommand old p.0 s.0 →
     StepFails (asked.Finish p s) cached was now says later old new → ⊥
 page_whole p s cached was now says later old new has (mid, before, fails) = by before fails
   where
@@ -127,7 +127,7 @@ page_whole p s cached was now says later old new has (mid, before, fails) = by b
     by gone (inr clears) = true-false (page gone clears.t clears.clear.works.taken).0 (ap sends_page clears.clear.trim)
 
 pub page_completes : {S : Type 0} (size : S → ℕ) (told : S → Option (ℕ → List ℕ)) (failures : S → Option Failures) (old new : Model S) (p : Port) (s : Slot) →
-    Did size told failures (asked.Finish p s) old new → HasPageCommand (device_at size told old) p.0 s.0 → Completes size told failures (asked.Finish p s) old new
+    DidStep size told failures (asked.Finish p s) old new → HasPageCommand (device_at size told old) p.0 s.0 → Completes size told failures (asked.Finish p s) old new
 page_completes size told failures old new p s did has =
     elim did.came [
       | inl whole ↦ whole
@@ -168,7 +168,7 @@ next_moves h o d p s next r here small same is ranged = (
   small,
   taken_of r,
   next_has_move h o d p.0 s.0 next r here same is,
-  ap (λ (k : Transfer). is_ranged (transfer_operation k)) (sym is.transfer_is) ∙ ranged,
+  ap (λ (k : CommandKind). is_ranged (transfer_operation k)) (sym is.transfer_is) ∙ ranged,
 )
 
 -- and else it is none
@@ -187,7 +187,7 @@ plain_right true b e = e
 plain_right false b e = refl
 
 -- no other command is in its slot
-may_only : (d : Device) (port slot : ℕ) → MayPage d port slot → IsOnly BringsPage d port slot
+may_only : (d : Device) (port slot : ℕ) → MayTakePage d port slot → IsOnly BringsPage d port slot
 may_only d port slot may = record {
   taken = λ u is. some-none is may.can.fetchable.free;
   fetched = λ m places can.
@@ -195,7 +195,7 @@ may_only d port slot may = record {
       ap (λ (x : Meaning). sends_page x.operation) (sym meaning) ∙ may.sends;
 }
 
-pub found_only : (d : Device) (port slot : ℕ) → MayPage d port slot ⊎ HasPageCommand d port slot → IsOnly BringsPage d port slot
+pub found_only : (d : Device) (port slot : ℕ) → MayTakePage d port slot ⊎ HasPageCommand d port slot → IsOnly BringsPage d port slot
 found_only d port slot (inl may) = may_only d port slot may
 found_only d port slot (inr has) = only_of BringsPage d port slot has.left 0 has.ready has.sends
 
@@ -204,12 +204,12 @@ pub found_ends : (d : Device) (port slot : ℕ) (ends : Bool) → not ends ≡ f
 found_ends d port slot true e found = found
 found_ends d port slot false e found = absurd (let no : true ≡ false = e in cc)
 
-pub found_stuck : (d : Device) (port slot : ℕ) (ends : Bool) → not ends ≡ true → LooksForPage d port slot (Some ends) → MayPage d port slot × (HasPageCommand d port slot → ⊥)
+pub found_stuck : (d : Device) (port slot : ℕ) (ends : Bool) → not ends ≡ true → LooksForPage d port slot (Some ends) → MayTakePage d port slot × (HasPageCommand d port slot → ⊥)
 found_stuck d port slot true e found = absurd (let no : false ≡ true = e in cc)
 found_stuck d port slot false e found = found
 
 -- where a command is taken, none that sends a page may be
-pub taken_bars : (d : Device) (port slot k : ℕ) (t : FetchedCommand) → (d.port port).taken slot ≡ Some t → MayPage d port k → ⊥
+pub taken_bars : (d : Device) (port slot k : ℕ) (t : FetchedCommand) → (d.port port).taken slot ≡ Some t → MayTakePage d port k → ⊥
 taken_bars d port slot k t is may = some-none is (alone_none (d.port port) may.meaning.operation (page_plain _ may.sends) may.can.alone slot)
 
 fetched_is : (port slot : ℕ) (old new : Device) (f : DoesFetch port slot old new) → (new.port port).taken ≡ changed (old.port port).taken slot (Some (begun f.meaning f.places))
@@ -221,13 +221,13 @@ fetched_taken port slot old new f =
     ap (λ (g : ℕ → Option FetchedCommand). g slot) (fetched_is port slot old new f) ∙ changed_same (old.port port).taken slot (Some (begun f.meaning f.places))
 
 -- a port on which a command is taken is busy
-pub busy_bars : (d : Device) (port k : ℕ) → IsBusy d port → MayPage d port k → ⊥
+pub busy_bars : (d : Device) (port k : ℕ) → HasTakenCommand d port → MayTakePage d port k → ⊥
 busy_bars d port k busy = taken_bars d port busy.0 k busy.1 busy.2
 
 -- once it was taken, or was already, the port is
 pub fetched_busy : (port slot : ℕ) (did : Bool) (old new : Device) → (did ≡ true → DoesFetch port slot old new) →
     (did ≡ false → (m : Meaning) (places : List ℕ) → Can (Fetch port slot m places) old → ⊥) → (did ≡ false → new ≡ old) →
-    MayPage old port slot ⊎ HasPageCommand old port slot → IsBusy new port
+    MayTakePage old port slot ⊎ HasPageCommand old port slot → HasTakenCommand new port
 fetched_busy port slot true old new went never same there = let f = went refl in (slot, begun f.meaning f.places, fetched_taken port slot old new f)
 fetched_busy port slot false old new went never same (inl may) = absurd (never refl may.meaning may.places may.can)
 fetched_busy port slot false old new went never same (inr has) = by has.ready.begins
@@ -235,7 +235,7 @@ fetched_busy port slot false old new went never same (inr has) = by has.ready.be
     t : FetchedCommand
     t = has.ready.t
 
-    by : WorksOn (old.port port) slot t t.meaning.operation ⊎ (Can (Fetch port slot t.meaning t.places) old × (t ≡ begun t.meaning t.places)) → IsBusy new port
+    by : WorksOn (old.port port) slot t t.meaning.operation ⊎ (Can (Fetch port slot t.meaning t.places) old × (t ≡ begun t.meaning t.places)) → HasTakenCommand new port
     by (inl works) = (slot, t, ap (λ (d : Device). (d.port port).taken slot) (same refl) ∙ works.taken)
     by (inr may) = absurd (never refl t.meaning t.places may.0)
 
@@ -283,7 +283,7 @@ taken_has port slot k old new f has = by has.ready.begins
 
 pub fetched_has : (port slot k : ℕ) (did : Bool) (old new : Device) → (did ≡ true → DoesFetch port slot old new) →
     (did ≡ false → (m : Meaning) (places : List ℕ) → Can (Fetch port slot m places) old → ⊥) →
-    MayPage old port slot → HasPageCommand new port k → HasPageCommand old port slot
+    MayTakePage old port slot → HasPageCommand new port k → HasPageCommand old port slot
 fetched_has port slot k true old new went never may has = taken_has port slot k old new (went refl) has
 fetched_has port slot k false old new went never may has = absurd (never refl may.meaning may.places may.can)
 
@@ -352,7 +352,7 @@ kept_other : (b : Bool) (f : ℕ → Bool) (slot k : ℕ) → k ≢ slot → (if
 kept_other true f slot k ne = refl
 kept_other false f slot k ne = changed_other f slot false k ne
 
-one_elsewhere : (port slot : ℕ) (old new : Device) → DoesOne (SendsEnd slot) port slot old new → (k : ℕ) → k ≢ slot → weight new port k ≡ weight old port k
+one_elsewhere : (port slot : ℕ) (old new : Device) → DoesSlotStep (SendsEnd slot) port slot old new → (k : ℕ) → k ≢ slot → weight new port k ≡ weight old port k
 one_elsewhere port slot old new (inl f) k ne =
     let p : DevicePort = with_fetch (old.port port) slot f.meaning f.places in
     weight_with old new port p k (ap (λ (d : Device). d.port port) f.effect ∙ changed_same old.port port p)
@@ -370,7 +370,7 @@ one_elsewhere port slot old new (inr (inr (inl e))) k ne =
     ∙ (ap (λ (d : Device). d.port port) e.done.effect ∙ changed_same old.port port p))
     (kept_other (is_queued e.done.t.meaning.operation) (old.port port).ci slot k ne) (changed_other (old.port port).taken slot None k ne)
 
-some_elsewhere : (n port slot : ℕ) (old new : Device) → DoesSome (SendsEnd slot) n port slot old new → (k : ℕ) → k ≢ slot → weight new port k ≡ weight old port k
+some_elsewhere : (n port slot : ℕ) (old new : Device) → DoesSlotSteps (SendsEnd slot) n port slot old new → (k : ℕ) → k ≢ slot → weight new port k ≡ weight old port k
 some_elsewhere zero port slot old new e k ne = ap (λ (d : Device). weight d port k) e
 some_elsewhere (suc n) port slot old new s k ne = one_elsewhere port slot s.0 new s.2 k ne ∙ some_elsewhere n port slot old s.0 s.1 k ne
 
@@ -397,7 +397,7 @@ fewer_left port slot old new small has went free =
 
 -- ---- a command of one port leaves the others
 
-one_apart : (port slot : ℕ) (old new : Device) → DoesOne (SendsEnd slot) port slot old new → (new.size ≡ old.size) × ((q : ℕ) → q ≢ port → new.port q ≡ old.port q)
+one_apart : (port slot : ℕ) (old new : Device) → DoesSlotStep (SendsEnd slot) port slot old new → (new.size ≡ old.size) × ((q : ℕ) → q ≢ port → new.port q ≡ old.port q)
 one_apart port slot old new (inl f) = (
   ap (λ (d : Device). d.size) f.effect,
   λ q ne. ap (λ (d : Device). d.port q) f.effect ∙ changed_other old.port port (with_fetch (old.port port) slot f.meaning f.places) q ne,
@@ -419,7 +419,7 @@ one_apart port slot old new (inr (inr (inl e))) =
           ∙ changed_other old.port port (with_flush (with_done (old.port port) slot e.done.flag e.done.t.meaning.operation) e.done.t.meaning.operation (length old.tape)) q ne),
     )
 
-some_apart : (n port slot : ℕ) (old new : Device) → DoesSome (SendsEnd slot) n port slot old new → (new.size ≡ old.size) × ((q : ℕ) → q ≢ port → new.port q ≡ old.port q)
+some_apart : (n port slot : ℕ) (old new : Device) → DoesSlotSteps (SendsEnd slot) n port slot old new → (new.size ≡ old.size) × ((q : ℕ) → q ≢ port → new.port q ≡ old.port q)
 some_apart zero port slot old new e = (ap (λ (d : Device). d.size) e, λ q ne. ap (λ (d : Device). d.port q) e)
 some_apart (suc n) port slot old new s =
     let first = some_apart n port slot old s.0 s.1 in
@@ -435,7 +435,7 @@ fetched_apart port slot true old new went same = one_apart port slot old new (in
 fetched_apart port slot false old new went same = (ap (λ (d : Device). d.size) (same refl), λ q ne. ap (λ (d : Device). d.port q) (same refl))
 
 -- so what such a port has taken, and can be done to its end, still can be, and could before
-pub page_stays : (old new : Device) (port k : ℕ) → new.port port ≡ old.port port → new.size ≡ old.size → IsBusy old port → (has : HasPageCommand old port k) →
+pub page_stays : (old new : Device) (port k : ℕ) → new.port port ≡ old.port port → new.size ≡ old.size → HasTakenCommand old port → (has : HasPageCommand old port k) →
     (now : HasPageCommand new port k) × (now.left ≡ has.left)
 page_stays old new port k same size busy has = by has.ready.begins
   where
@@ -462,7 +462,7 @@ page_stays old new port k same size busy has = by has.ready.begins
           refl,
         )
 
-pub busy_stays : (old new : Device) (port : ℕ) → new.port port ≡ old.port port → IsBusy old port → IsBusy new port
+pub busy_stays : (old new : Device) (port : ℕ) → new.port port ≡ old.port port → HasTakenCommand old port → HasTakenCommand new port
 busy_stays old new port same busy = (busy.0, busy.1, ap (λ (p : DevicePort). p.taken busy.0) same ∙ busy.2)
 
 -- ---- a reading leaves none where none was left
@@ -499,13 +499,13 @@ has_noted d f n port slot is has = record {
           record {
             fetchable = record { st = fetchable.st; issued = fetchable.issued; free = fetchable.free };
             working = working_noted (d.port port) n t.meaning.operation working;
-            alone = subst (λ (p : DevicePort). IsAlone p t.meaning.operation) is may.0.alone;
+            alone = subst (λ (p : DevicePort). IsUnmixed p t.meaning.operation) is may.0.alone;
             says = subst (λ (p : DevicePort). DecodesTo d.memory p.bases.clb slot t.meaning t.places) is may.0.says;
           },
           may.1,
         )
 
-may_noted : (d : Device) (f : ℕ → DevicePort) (n : Notes) (port slot : ℕ) → f port ≡ record (d.port port) { notes = n } → MayPage (record d { port = f }) port slot → MayPage d port slot
+may_noted : (d : Device) (f : ℕ → DevicePort) (n : Notes) (port slot : ℕ) → f port ≡ record (d.port port) { notes = n } → MayTakePage (record d { port = f }) port slot → MayTakePage d port slot
 may_noted d f n port slot is may =
     let fetchable = subst (λ (p : DevicePort). IsFetchable p slot) is may.can.fetchable in
     let working = subst (λ (p : DevicePort). IsWorking p may.meaning.operation) is may.can.working in
@@ -516,12 +516,12 @@ may_noted d f n port slot is may =
       can = record {
         fetchable = record { st = fetchable.st; issued = fetchable.issued; free = fetchable.free };
         working = working_noted (d.port port) n may.meaning.operation working;
-        alone = subst (λ (p : DevicePort). IsAlone p may.meaning.operation) is may.can.alone;
+        alone = subst (λ (p : DevicePort). IsUnmixed p may.meaning.operation) is may.can.alone;
         says = subst (λ (p : DevicePort). DecodesTo d.memory p.bases.clb slot may.meaning may.places) is may.can.says;
       };
     }
 
-pub noted_may : (r : Reg) (v : ℕ) (d : Device) (port slot : ℕ) → MayPage (noted r v d) port slot → MayPage d port slot
+pub noted_may : (r : Reg) (v : ℕ) (d : Device) (port slot : ℕ) → MayTakePage (noted r v d) port slot → MayTakePage d port slot
 noted_may (Px q r) v d port slot may =
     let p : DevicePort = record (d.port q.0) { notes = note r v (d.port q.0) } in
     elim (eqb_tells port q.0) [

@@ -13,7 +13,7 @@ use Rattle.ata_types.specs.declared.Port.{Port}
 use Rattle.sector_store.specs.Stores.{AreSectors}
 use Rattle.sector_store.specs.declared.store.Failures.{Failures}
 use Rattle.device_model.specs.Disks.{bay_of, disk_in_bay, disk_number, disk_over, identity, is_same, lasting_of, plugged_as}
-use Rattle.device_model.specs.Does.{Did, IsLeftOut, LacksMemory, Possible}
+use Rattle.device_model.specs.Does.{DidStep, IsLeftOut, LacksMemory, Possible}
 use Rattle.device_model.specs.Modelled.{device_at, media_of, outside_at, tells}
 use Rattle.device_model.specs.Tells.{bay_told, each_tells}
 use Rattle.device_model.specs.Whole.{Outside, device_of, media_plugged, outside_plugged}
@@ -146,7 +146,7 @@ module _ {S : Type 0} (size : S → ℕ) (told : S → Option (ℕ → List ℕ)
     pub did_plug : p.0 < 4 → ((d : Device) → d ≡ device_at size told m → ((d.port p.0).present ≡ false)) → ((s : S) → AreSectors (size s) (told s)) →
         ((o : Outside) (disk : Disk) → disk.name ≡ number.0 → is_same which a.which ≡ nat_eq disk.name (o.media p.0).disk.name → device_of new.hardware (outside_plugged o p.0 disk) ≡ device_after (Plug p.0 disk) (device_of m.hardware o)) →
         new.hardware.starved ≡ m.hardware.starved →
-        Possible (asked.Plug p number) (device_at size told m) × Did size told failures (asked.Plug p number) m new
+        Possible (asked.Plug p number) (device_at size told m) × DidStep size told failures (asked.Plug p number) m new
     did_plug small free are did starved =
         let few = number_small which in
         let name : disk_number b.which ≡ number.0 = ap disk_number which_is ∙ found in

@@ -14,7 +14,7 @@ use Rattle.hba_regs.specs.declared.reg.Reg.{Reg}
 use Rattle.hba_regs.specs.declared.reg.Reg.TheVariants.{Cap, Ghc, Is, Pi, Vs, Cap2, Bohc, Px}
 use Rattle.device_model.specs.Fetched.{bytes_of}
 use Rattle.device_model.specs.Held.{IsPortHeld, IsPortLoose}
-use Rattle.device_model.specs.Sent.{SendsRegisters, signature_of}
+use Rattle.device_model.specs.Sent.{SendsRegisters, signature_fis}
 use Rattle.device_model.specs.Settled.{LeadsOwn, Settles, GoesTo, IsSettled}
 use Rattle.device_model.specs.View.{Media, port_of, blank_port}
 use Rattle.device_model.specs.Whole.{Outside, device_of, HasRegister}
@@ -89,7 +89,7 @@ port_settles h o p new held small loose goes =
 pub port_links : (h : Hardware) (o : Outside) (p : ℕ) (linked : PortModel) (held : List Bool) (new : Device) → p < length h.ports → IsPortLoose held p →
     MayLinkUp (port_of (slice_index_or h.ports p blank_port) (o.media p)) 0x101 →
     port_of linked (o.media p) ≡ with_link (port_of (slice_index_or h.ports p blank_port) (o.media p)) 0x101 true →
-    SendsRegisters p (signature_of ((device_of (record h { ports = slice_set h.ports p linked }) o).port p)) (device_of (record h { ports = slice_set h.ports p linked }) o) new →
+    SendsRegisters p (signature_fis ((device_of (record h { ports = slice_set h.ports p linked }) o).port p)) (device_of (record h { ports = slice_set h.ports p linked }) o) new →
     LeadsOwn (Settles held) (device_of h o) new
 port_links h o p linked held new small loose may is sends =
     own_linked held (device_of h o) (device_of (record h { ports = slice_set h.ports p linked }) o) new p (port_of (slice_index_or h.ports p blank_port) (o.media p)) loose refl may

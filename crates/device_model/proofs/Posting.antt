@@ -1,7 +1,7 @@
 -- What the model sends is one of the device's own steps, and changes the memory alone.
 use Rattle.std.proofs.Common.{ℕ, Bool, true, false, zero, suc, ◌≡◌, ◌∙◌, ◌+◌, ◌≤◌, ◌⊎◌, List, Option, refl, sym, ap, inl, inr, arith}
 use Rattle.std.proofs.lemmas.Bool.Decides.{leb_tells}
-use Rattle.adapter.specs.Asked.{Asked, DoesClear, DoesOne, DoneOf, Fails, FailsAfter, SlotGoesOn, DoesSome, EndsAndPosts, MayPost, busy}
+use Rattle.adapter.specs.Asked.{Asked, DoesClear, DoesSlotStep, DoesToldStep, Fails, FailsAfter, SlotGoesOn, DoesSlotSteps, EndsAndPosts, MayPost, busy}
 use Rattle.adapter.specs.Commands.{is_queued}
 use Rattle.adapter.specs.Device.{DevicePort, Device}
 use Rattle.adapter.specs.Steps.{DeviceTransition, Steps, device_after}
@@ -12,13 +12,13 @@ use Rattle.adapter.specs.declared.command.Operation.{Operation}
 use Rattle.adapter.specs.declared.command.Operation.TheVariants as operation
 use Rattle.adapter.proofs.Going.{post_steps}
 use Rattle.sector_store.specs.declared.store.Failures.{Failures}
-use Rattle.device_model.specs.Does.{ClearsFewer, Did, StepFails, FailsToClear, FailsToMove}
+use Rattle.device_model.specs.Does.{ClearsFewer, DidStep, StepFails, FailsToClear, FailsToMove}
 use Rattle.device_model.specs.Modelled.{device_at}
-use Rattle.device_model.specs.Sent.{IsSent, Sends, SendsAfter, SendsEnd, SendsFailed, SendsFault, is_received}
-use Rattle.device_model.specs.declared.bay.PageContents.{PageContents}
+use Rattle.device_model.specs.Sent.{IsSent, Sends, SendsAfter, SendsEnd, SendsFailed, SendsFault, receives_fis}
+use Rattle.device_model.specs.declared.bay.PageSource.{PageSource}
 use Rattle.device_model.specs.declared.model.Model.{Model}
 
-pub received_there : (p : DevicePort) (size : ℕ) → p.fre ≡ true → p.bases.fb + 256 ≤ size → is_received p size ≡ true
+pub received_there : (p : DevicePort) (size : ℕ) → p.fre ≡ true → p.bases.fb + 256 ≤ size → receives_fis p size ≡ true
 received_there p size fre inside =
     elim (leb_tells (p.bases.fb + 256) size) [
       | inl fits ↦ rw fre fits.0
@@ -27,9 +27,9 @@ received_there p size fre inside =
 
 -- a FIS is posted or lost
 sent_may : (port place : ℕ) (bytes : List ℕ) (old new : Device) → IsSent port place bytes old new → MayPost port 0 operation.Read old new
-sent_may port place bytes old new s = by (is_received (old.port port) old.size) refl
+sent_may port place bytes old new s = by (receives_fis (old.port port) old.size) refl
   where
-    by : (b : Bool) → is_received (old.port port) old.size ≡ b → MayPost port 0 operation.Read old new
+    by : (b : Bool) → receives_fis (old.port port) old.size ≡ b → MayPost port 0 operation.Read old new
     by true e = inr ((old.port port).bases.fb + place, bytes, s.posted e)
     by false e = inl (s.lost e)
 
@@ -91,13 +91,13 @@ after_steps step old new s = let m = after_may step old new s in post_steps m.0 
 ends_may : (port slot : ℕ) (old new : Device) → EndsAndPosts (SendsEnd slot) port slot old new → EndsAndPosts MayPost port slot old new
 ends_may port slot old new e = record { mid = e.mid; done = e.done; posts = end_may port slot e.done.flag e.done.t.meaning.operation e.mid new e.posts }
 
-one_may : (port slot : ℕ) (old new : Device) → DoesOne (SendsEnd slot) port slot old new → DoesOne MayPost port slot old new
+one_may : (port slot : ℕ) (old new : Device) → DoesSlotStep (SendsEnd slot) port slot old new → DoesSlotStep MayPost port slot old new
 one_may port slot old new (inl f) = inl f
 one_may port slot old new (inr (inl m)) = inr (inl m)
 one_may port slot old new (inr (inr (inl e))) = inr (inr (inl (ends_may port slot old new e)))
 one_may port slot old new (inr (inr (inr c))) = inr (inr (inr c))
 
-some_may : (n port slot : ℕ) (old new : Device) → DoesSome (SendsEnd slot) n port slot old new → DoesSome MayPost n port slot old new
+some_may : (n port slot : ℕ) (old new : Device) → DoesSlotSteps (SendsEnd slot) n port slot old new → DoesSlotSteps MayPost n port slot old new
 some_may zero port slot old new e = e
 some_may (suc n) port slot old new s = (s.0, some_may n port slot old s.0 s.1, one_may port slot s.0 new s.2)
 
@@ -106,7 +106,7 @@ failed_may port slot error kept old new f =
     let o : Operation = f.fault.t.meaning.operation in
     record { mid = f.mid; fault = f.fault; posts = fault_may (is_queued o) port o f.mid new f.posts }
 
-done_may : (s : DeviceStep) (old new : Device) → DoneOf (Sends s) s old new → DoneOf MayPost s old new
+done_may : (s : DeviceStep) (old new : Device) → DoesToldStep (Sends s) s old new → DoesToldStep MayPost s old new
 done_may (asked.Fetch p slot) old new did = did
 done_may (asked.Move p slot) old new did = did
 done_may (asked.Clear p slot most) old new did = did
@@ -125,12 +125,12 @@ done_may (asked.Plug p number) old new did = did
 done_may (asked.LosePlug p) old new did = did
 
 -- a fault in the place of a step, or on its way, is one of the device's own
-pub moving_fails : (cached : Bool) (port slot : ℕ) (was now : Option Failures) (says later : Option PageContents) (old new : Device) (f : FailsToMove cached port slot was now says later old new) →
+pub moving_fails : (cached : Bool) (port slot : ℕ) (was now : Option Failures) (says later : Option PageSource) (old new : Device) (f : FailsToMove cached port slot was now says later old new) →
     Fails SendsFailed port slot f.error 0 old new
 moving_fails cached port slot was now says later old new f =
     record { mid = device_after (Fault port slot f.error 0 f.t) old; fault = record { t = f.t; can = f.can; effect = refl }; posts = f.sends }
 
-pub clearing_fails : (cached : Bool) (port slot : ℕ) (was now : Option Failures) (says later : Option PageContents) (old new : Device) (f : FailsToClear cached port slot was now says later old new) →
+pub clearing_fails : (cached : Bool) (port slot : ℕ) (was now : Option Failures) (says later : Option PageSource) (old new : Device) (f : FailsToClear cached port slot was now says later old new) →
     Fails SendsFailed port slot f.error 0 old new
 clearing_fails cached port slot was now says later old new f =
     record { mid = device_after (Fault port slot f.error 0 f.t) old; fault = record { t = f.t; can = f.can; effect = refl }; posts = f.sends }
@@ -142,7 +142,7 @@ fails_after_may port slot error Part More more old mid new (inl same) f =
 fails_after_may port slot error Part More more old mid new (inr some) f =
     record { mid = mid; before = inr (more old mid some); error = error; fails = failed_may port slot error 0 mid new f }
 
-fails_may : (s : DeviceStep) (cached : Bool) (was now : Option Failures) (says later : Option PageContents) (old new : Device) → StepFails s cached was now says later old new → Asked s old new
+fails_may : (s : DeviceStep) (cached : Bool) (was now : Option Failures) (says later : Option PageSource) (old new : Device) → StepFails s cached was now says later old new → Asked s old new
 fails_may (asked.Fetch p s) cached was now says later old new f = inr (record {
   mid = device_after (FetchFault p.0 s.0 false 0) old;
   fault = record { queued = false; can = f.can; effect = refl };
@@ -173,7 +173,7 @@ fails_may (asked.Plug p number) cached was now says later old new f = absurd f
 fails_may (asked.LosePlug p) cached was now says later old new f = absurd f
 
 pub did_may : {S : Type 0} (size : S → ℕ) (told : S → Option (ℕ → List ℕ)) (failures : S → Option Failures) (s : DeviceStep) (old new : Model S) →
-    Did size told failures s old new → Asked s (device_at size told old) (device_at size told new)
+    DidStep size told failures s old new → Asked s (device_at size told old) (device_at size told new)
 did_may size told failures s old new did =
     elim did.came [
       | inl whole ↦ inl (done_may s _ _ whole.asked)

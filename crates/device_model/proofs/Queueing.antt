@@ -13,7 +13,7 @@ use Rattle.device_model.specs.Does.{AnswersStep}
 use Rattle.device_model.specs.Modelled.{device_at}
 use Rattle.device_model.specs.Queue.{BeginsAccess, due, not_due, DoesEach}
 use Rattle.device_model.specs.declared.model.Model.{Model}
-use Rattle.device_model.specs.declared.model.Queued.{Queued}
+use Rattle.device_model.specs.declared.model.QueuedStep.{QueuedStep}
 use Rattle.device_model.proofs.Doing.{answers_steps}
 
 -- ---- steps, one more at the end
@@ -39,24 +39,24 @@ module _ {S : Type 0} (size : S → ℕ) (told : S → Option (ℕ → List ℕ)
 -- these steps lead from the one model to the other, whatever is queued in both
 abbrev pub DoneSo : {S : Type 0} → (S → ℕ) → (S → Option (ℕ → List ℕ)) → (S → Option Failures) → Model S → Model S → List DeviceStep → Type 0
 DoneSo size told failures old new done =
-    (q : Vec Queued) → DoesEach size told failures done (record old { queue = q }) (record new { queue = q })
+    (q : Vec QueuedStep) → DoesEach size told failures done (record old { queue = q }) (record new { queue = q })
 
 -- ---- the queue
 
 -- The queue was gone through up to this place: `rest` is still to be looked at, `kept` stands before it, and of what was done this holds.
-pub record IsAt (access : ℕ) (queue now : List Queued) (place left : ℕ) (Did : List DeviceStep → Type 0) : Type 0 where
-  pub kept : List Queued
-  pub rest : List Queued
+pub record IsAt (access : ℕ) (queue now : List QueuedStep) (place left : ℕ) (DidStep : List DeviceStep → Type 0) : Type 0 where
+  pub kept : List QueuedStep
+  pub rest : List QueuedStep
   pub done : List DeviceStep
   pub is : now ≡ kept ++ rest
   pub place_is : length kept ≡ place
   pub left_is : length rest ≡ left
   pub keeps : not_due access queue ≡ kept ++ not_due access rest
   pub does : due access queue ≡ done ++ due access rest
-  pub did : Did done
+  pub did : DidStep done
 
-pub at_start : (access : ℕ) (queue : List Queued) (Did : List DeviceStep → Type 0) → Did [] → IsAt access queue queue 0 (length queue) Did
-at_start access queue Did none = record {
+pub at_start : (access : ℕ) (queue : List QueuedStep) (DidStep : List DeviceStep → Type 0) → DidStep [] → IsAt access queue queue 0 (length queue) DidStep
+at_start access queue DidStep none = record {
   kept = [];
   rest = queue;
   done = [];
@@ -69,34 +69,34 @@ at_start access queue Did none = record {
 }
 
 -- the one that is looked at, and those after it
-next_of : (rest : List Queued) (left : ℕ) → length rest ≡ suc left → (x : Queued) × (after : List Queued) × (rest ≡ x ∷ after) × (length after ≡ left)
+next_of : (rest : List QueuedStep) (left : ℕ) → length rest ≡ suc left → (x : QueuedStep) × (after : List QueuedStep) × (rest ≡ x ∷ after) × (length after ≡ left)
 next_of [] left e = absurd (omega (arith, e))
 next_of (x ∷ after) left e = (x, after, refl, omega (arith, e))
 
 -- the place is inside
-pub at_inside : (access : ℕ) (queue now : List Queued) (place left : ℕ) (Did : List DeviceStep → Type 0) → IsAt access queue now place left Did → 0 < left →
+pub at_inside : (access : ℕ) (queue now : List QueuedStep) (place left : ℕ) (DidStep : List DeviceStep → Type 0) → IsAt access queue now place left DidStep → 0 < left →
     place < length now
-at_inside access queue now place left Did a some =
+at_inside access queue now place left DidStep a some =
     let n = length-append a.kept a.rest in omega (arith, ap length a.is, n, a.left_is, a.place_is, some)
 
-module _ (access : ℕ) (queue now : List Queued) (place left : ℕ) (Was Did : List DeviceStep → Type 0)
-    (a : IsAt access queue now place (suc left) Was) (d : Queued) where
+module _ (access : ℕ) (queue now : List QueuedStep) (place left : ℕ) (Was DidStep : List DeviceStep → Type 0)
+    (a : IsAt access queue now place (suc left) Was) (d : QueuedStep) where
   -- this is the one that stands there
 
-  there : (x : Queued) (after : List Queued) → a.rest ≡ x ∷ after → slice_index_or now place d ≡ x
+  there : (x : QueuedStep) (after : List QueuedStep) → a.rest ≡ x ∷ after → slice_index_or now place d ≡ x
   there x after e =
       ap (λ l. slice_index_or l place d) a.is
       ∙ (get_or-append_right a.kept a.rest (length a.kept) place d refl (omega (arith, a.place_is))
       ∙ (ap (λ k. slice_index_or a.rest k d) (omega (arith, a.place_is)) ∙ ap (λ l. slice_index_or l 0 d) e))
 
   -- it isn't due
-  pub at_kept : access < (slice_index_or now place d).access → ((done : List DeviceStep) → Was done → Did done) → IsAt access queue now (place + 1) left Did
+  pub at_kept : access < (slice_index_or now place d).access → ((done : List DeviceStep) → Was done → DidStep done) → IsAt access queue now (place + 1) left DidStep
   at_kept late same =
       let n = next_of a.rest left a.left_is in
-      let x : Queued = n.0 in
-      let after : List Queued = n.1 in
+      let x : QueuedStep = n.0 in
+      let after : List QueuedStep = n.1 in
       let e : slice_index_or now place d ≡ x = there x after n.2 in
-      let here : access < x.access = let P : Queued → Type 0 = λ q. access < q.access in subst P e late in
+      let here : access < x.access = let P : QueuedStep → Type 0 = λ q. access < q.access in subst P e late in
       let kept : not_due access (x ∷ after) ≡ x ∷ not_due access after = rw (lt-ltb access x.access here) refl in
       let passed : due access (x ∷ after) ≡ due access after = rw (lt-leb x.access access here) refl in
       record {
@@ -113,16 +113,16 @@ module _ (access : ℕ) (queue now : List Queued) (place left : ℕ) (Was Did : 
 
   -- it is due, and leaves the queue
   pub at_done : (slice_index_or now place d).access ≤ access →
-      ((done : List DeviceStep) → Was done → Did (done ++ (slice_index_or now place d).step ∷ [])) → IsAt access queue (remove now place) place left Did
+      ((done : List DeviceStep) → Was done → DidStep (done ++ (slice_index_or now place d).step ∷ [])) → IsAt access queue (remove now place) place left DidStep
   at_done early one =
       let n = next_of a.rest left a.left_is in
-      let x : Queued = n.0 in
-      let after : List Queued = n.1 in
+      let x : QueuedStep = n.0 in
+      let after : List QueuedStep = n.1 in
       let e : slice_index_or now place d ≡ x = there x after n.2 in
-      let here : x.access ≤ access = let P : Queued → Type 0 = λ q. q.access ≤ access in subst P e early in
+      let here : x.access ≤ access = let P : QueuedStep → Type 0 = λ q. q.access ≤ access in subst P e early in
       let passed : not_due access (x ∷ after) ≡ not_due access after = rw (le-ltb access x.access here) refl in
       let taken : due access (x ∷ after) ≡ x.step ∷ due access after = rw (le-leb x.access access here) refl in
-      let Q : Queued → Type 0 = λ q. Did (a.done ++ q.step ∷ []) in
+      let Q : QueuedStep → Type 0 = λ q. DidStep (a.done ++ q.step ∷ []) in
       let here_from : place ≤ place = omega arith in
       let none : place - place ≡ 0 = omega arith in
       record {
@@ -140,8 +140,8 @@ module _ (access : ℕ) (queue now : List Queued) (place left : ℕ) (Was Did : 
       }
 
 -- all were looked at
-module _ (access : ℕ) (queue now : List Queued) (place : ℕ) (Did : List DeviceStep → Type 0) (a : IsAt access queue now place 0 Did) where
-  none_left : (rest : List Queued) → length rest ≡ 0 → rest ≡ []
+module _ (access : ℕ) (queue now : List QueuedStep) (place : ℕ) (DidStep : List DeviceStep → Type 0) (a : IsAt access queue now place 0 DidStep) where
+  none_left : (rest : List QueuedStep) → length rest ≡ 0 → rest ≡ []
   none_left [] e = refl
   none_left (x ∷ rest) e = absurd (omega (arith, e))
 
@@ -150,8 +150,8 @@ module _ (access : ℕ) (queue now : List Queued) (place : ℕ) (Did : List Devi
       let none : a.rest ≡ [] = none_left a.rest a.left_is in
       a.is ∙ (ap (λ l. a.kept ++ l) none ∙ sym (a.keeps ∙ ap (λ l. a.kept ++ not_due access l) none))
 
-  pub at_end_did : Did (due access queue)
+  pub at_end_did : DidStep (due access queue)
   at_end_did =
       let none : a.rest ≡ [] = none_left a.rest a.left_is in
       let all : due access queue ≡ a.done = a.does ∙ (ap (λ l. a.done ++ due access l) none ∙ append-nil a.done) in
-      subst Did (sym all) a.did
+      subst DidStep (sym all) a.did

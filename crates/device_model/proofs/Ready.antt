@@ -9,19 +9,19 @@ use Rattle.adapter.specs.Asked.{DoesFetch}
 use Rattle.adapter.specs.Commands.{Meaning}
 use Rattle.adapter.specs.Device.{Device, DevicePort, FetchedCommand}
 use Rattle.adapter.specs.Decoding.{DecodesTo, pieces, piece_addresses}
-use Rattle.adapter.specs.Steps.{Can, IsAlone, WorksOn, admits, begun, with_fetch}
+use Rattle.adapter.specs.Steps.{Can, IsUnmixed, WorksOn, admits, begun, with_fetch}
 use Rattle.adapter.specs.Steps.DeviceTransition.{Fetch}
 use Rattle.adapter.specs.declared.command.Operation.{Operation}
 use Rattle.adapter.specs.declared.command.Prd.{Prd}
 use Rattle.device_model.proofs.Absurd.{some-none, some_one, true-false}
 use Rattle.adapter.proofs.SaysLemmas.{says_meaning, says_places, cut_length, cut_index}
-use Rattle.device_model.specs.Finishing.{HasPageCommand, LooksForPage, IsInside, AreInside, IsCovered, IsRest, MayFinish, MayPage, sends_page}
+use Rattle.device_model.specs.Finishing.{HasPageCommand, LooksForPage, IsInside, AreInside, IsCovered, IsRemaining, MayFinish, MayTakePage, sends_page}
 use Rattle.device_model.specs.Fetched.{IsUntouched, bytes_of}
 use Rattle.device_model.specs.Cached.{HasOldRoom}
 use Rattle.device_model.specs.Trims.{WillClear, changes_ahead}
 use Rattle.device_model.specs.Slots.{IsOpenTo, MayTake, HasUntaken, WorksOnIn}
 use Rattle.device_model.specs.Bits.{word_bits}
-use Rattle.device_model.specs.View.{Media, halt_of, held_in, transfer_operation, port_of, taken_of, blank_port}
+use Rattle.device_model.specs.View.{Media, halt_of, taken_in, transfer_operation, port_of, taken_of, blank_port}
 use Rattle.device_model.specs.Whole.{Outside, device_of}
 use Rattle.device_model.specs.declared.port.PortModel.{PortModel}
 use Rattle.device_model.specs.declared.port.TakenCommand.{TakenCommand}
@@ -145,7 +145,7 @@ module _ (h : Hardware) (o : Outside) (p port slot left clears : ℕ) (e : p ≡
 
 module _ (h : Hardware) (p port slot : ℕ) (r : TakenCommand) (e : p ≡ port) where
   -- a command that may be taken is ready
-  pub ready_to_take : (left clears : ℕ) → IsRest r h.memory.items left clears → IsUntouched r →
+  pub ready_to_take : (left clears : ℕ) → IsRemaining r h.memory.items left clears → IsUntouched r →
       HasUntaken (slice_index_or h.ports p blank_port) slot → IsBeside (slice_index_or h.ports p blank_port) r →
       DecodesTo (bytes_of h.memory.items) (slice_index_or h.ports p blank_port).addresses.clb slot (taken_of r).meaning (taken_of r).places →
       (o : Outside) → MayFinish (device_of h o) port slot left clears
@@ -161,7 +161,7 @@ module _ (h : Hardware) (p port slot : ℕ) (r : TakenCommand) (e : p ≡ port) 
       })
 
   -- and so is one that is taken
-  pub ready_to_go : (left clears : ℕ) → IsRest r h.memory.items left clears → WorksOnIn (slice_index_or h.ports p blank_port) slot r →
+  pub ready_to_go : (left clears : ℕ) → IsRemaining r h.memory.items left clears → WorksOnIn (slice_index_or h.ports p blank_port) slot r →
       (o : Outside) → MayFinish (device_of h o) port slot left clears
   ready_to_go left clears rest here o =
       let P : ℕ → Type 0 = λ q. MayFinish (device_of h o) q slot left clears in
@@ -169,7 +169,7 @@ module _ (h : Hardware) (p port slot : ℕ) (r : TakenCommand) (e : p ≡ port) 
 
   -- a command that is ready, as far as these are its moves and clears
   rest_back : (left clears : ℕ) (o : Outside) (ready : MayFinish (device_of h o) port slot left clears) → ready.t ≡ taken_of r →
-      IsRest r h.memory.items left clears
+      IsRemaining r h.memory.items left clears
   rest_back left clears o ready same =
       let Q : FetchedCommand → Type 0 = λ t. IsCovered t (length h.memory.items) left in
       let R : FetchedCommand → Type 0 = λ t. WillClear t.meaning.operation (bytes_of h.memory.items) t clears in
@@ -190,7 +190,7 @@ module _ (h : Hardware) (p port slot : ℕ) (r : TakenCommand) (e : p ≡ port) 
 
   pub ready_is_said : HasUntaken (slice_index_or h.ports p blank_port) slot → IsUntouched r →
       DecodesTo (bytes_of h.memory.items) (slice_index_or h.ports p blank_port).addresses.clb slot (taken_of r).meaning (taken_of r).places →
-      (o : Outside) (left clears : ℕ) → MayFinish (device_of h o) port slot left clears → IsRest r h.memory.items left clears
+      (o : Outside) (left clears : ℕ) → MayFinish (device_of h o) port slot left clears → IsRemaining r h.memory.items left clears
   ready_is_said may new says o left clears ready =
       rest_back left clears o ready (ready_is_one may new says o left clears ready)
 
@@ -199,18 +199,18 @@ module _ (h : Hardware) (p port slot : ℕ) (r : TakenCommand) (e : p ≡ port) 
       DecodesTo (bytes_of h.memory.items) (slice_index_or h.ports p blank_port).addresses.clb slot (taken_of r).meaning (taken_of r).places →
       (o : Outside) (left clears : ℕ) → MayFinish (device_of h o) port slot left clears →
       (admits (halt_of (slice_index_or h.ports p blank_port).halting) (transfer_operation r.transfer) ≡ true)
-      × IsAlone (port_of (slice_index_or h.ports p blank_port) (o.media p)) (transfer_operation r.transfer)
+      × IsUnmixed (port_of (slice_index_or h.ports p blank_port) (o.media p)) (transfer_operation r.transfer)
   ready_beside may new says o left clears ready =
       let same = ready_is_one may new says o left clears ready in
-      let P : ℕ → Type 0 = λ q. (admits ((device_of h o).port q).halt ready.t.meaning.operation ≡ true) × IsAlone ((device_of h o).port q) ready.t.meaning.operation in
+      let P : ℕ → Type 0 = λ q. (admits ((device_of h o).port q).halt ready.t.meaning.operation ≡ true) × IsUnmixed ((device_of h o).port q) ready.t.meaning.operation in
       let can = (ready_fetch h o p port slot left clears e ready may).0 in
       let both = subst P (sym e) (can.working.admitted, can.alone) in
       subst (λ (t : FetchedCommand). (admits (halt_of (slice_index_or h.ports p blank_port).halting) t.meaning.operation ≡ true)
-      × IsAlone (port_of (slice_index_or h.ports p blank_port) (o.media p)) t.meaning.operation) same both
+      × IsUnmixed (port_of (slice_index_or h.ports p blank_port) (o.media p)) t.meaning.operation) same both
 
   -- where it is taken, the one that its slot holds
   pub ready_is_held : WorksOnIn (slice_index_or h.ports p blank_port) slot r → MayTakeNone (slice_index_or h.ports p blank_port) slot →
-      (o : Outside) (left clears : ℕ) → MayFinish (device_of h o) port slot left clears → IsRest r h.memory.items left clears
+      (o : Outside) (left clears : ℕ) → MayFinish (device_of h o) port slot left clears → IsRemaining r h.memory.items left clears
   ready_is_held here never o left clears ready =
       let w = ready_held h o p port slot left clears e ready never in
       let same : r ≡ w.0 = some_one (sym here.held ∙ w.1.held) in
@@ -322,7 +322,7 @@ module _ (h : Hardware) (port slot size : ℕ) (sized : size ≡ vec_len h.memor
       (has.left, covers_back w.0 has.left (rest_back h port port slot w.0 refl has.left 0 o has.ready w.2).0, subst (λ (t : FetchedCommand). AreInside (2 ^ 32) t.places) w.2 has.low)
 
 -- what a look at a slot finds, by whether it can be done to its end
-pub finds : (d : Device) (port slot : ℕ) (ends : Bool) → (ends ≡ true → HasPageCommand d port slot) → (ends ≡ false → MayPage d port slot × (HasPageCommand d port slot → ⊥)) →
+pub finds : (d : Device) (port slot : ℕ) (ends : Bool) → (ends ≡ true → HasPageCommand d port slot) → (ends ≡ false → MayTakePage d port slot × (HasPageCommand d port slot → ⊥)) →
     LooksForPage d port slot (Some ends)
 finds d port slot true has may = has refl
 finds d port slot false has may = may refl
@@ -333,7 +333,7 @@ module _ (h : Hardware) (port slot : ℕ) where
 
   -- one that its slot's bytes say may be taken
   pub may_page : (r : TakenCommand) → DecodesTo (bytes_of h.memory.items) first.addresses.clb slot (taken_of r).meaning (taken_of r).places →
-      sends_page (transfer_operation r.transfer) ≡ true → HasUntaken first slot → IsBeside first r → (o : Outside) → MayPage (device_of h o) port slot
+      sends_page (transfer_operation r.transfer) ≡ true → HasUntaken first slot → IsBeside first r → (o : Outside) → MayTakePage (device_of h o) port slot
   may_page r says kind may beside o =
       let m = may (o.media port) (transfer_operation r.transfer) beside.0 in
       record {
@@ -344,7 +344,7 @@ module _ (h : Hardware) (port slot : ℕ) where
       }
 
   -- and so may one that can be done to its end, where one may be
-  pub ready_may : HasUntaken first slot → (o : Outside) → HasPageCommand (device_of h o) port slot → MayPage (device_of h o) port slot
+  pub ready_may : HasUntaken first slot → (o : Outside) → HasPageCommand (device_of h o) port slot → MayTakePage (device_of h o) port slot
   ready_may may o has = record {
     meaning = has.ready.t.meaning;
     places = has.ready.t.places;
@@ -354,28 +354,28 @@ module _ (h : Hardware) (port slot : ℕ) where
 
   -- none may be beside others that are taken
   pub page_crowded : (r : TakenCommand) → DecodesTo (bytes_of h.memory.items) first.addresses.clb slot (taken_of r).meaning (taken_of r).places →
-      ((m : Media) → admits (halt_of first.halting) (transfer_operation r.transfer) ≡ true → IsAlone (port_of first m) (transfer_operation r.transfer) → ⊥) → (o : Outside) →
-      MayPage (device_of h o) port slot → ⊥
+      ((m : Media) → admits (halt_of first.halting) (transfer_operation r.transfer) ≡ true → IsUnmixed (port_of first m) (transfer_operation r.transfer) → ⊥) → (o : Outside) →
+      MayTakePage (device_of h o) port slot → ⊥
   page_crowded r says crowded o may =
       let memory = bytes_of h.memory.items in
       let there = fetch_says h o port port slot may.meaning may.places refl may.can in
       let meaning = says_meaning memory first.addresses.clb slot may.meaning (taken_of r).meaning may.places (taken_of r).places there says in
       let same : may.meaning.operation ≡ transfer_operation r.transfer = ap (λ (x : Meaning). x.operation) meaning in
       crowded (o.media port) (subst (λ (x : Operation). admits (halt_of first.halting) x ≡ true) same may.can.working.admitted)
-      (subst (λ (x : Operation). IsAlone (port_of first (o.media port)) x) same may.can.alone)
+      (subst (λ (x : Operation). IsUnmixed (port_of first (o.media port)) x) same may.can.alone)
 
   -- none is said
   pub page_unmeant : ((m : Meaning) (places : List ℕ) → sends_page m.operation ≡ true → DecodesTo (bytes_of h.memory.items) first.addresses.clb slot m places → ⊥) →
-      (o : Outside) → MayPage (device_of h o) port slot → ⊥
+      (o : Outside) → MayTakePage (device_of h o) port slot → ⊥
   page_unmeant none o may = none may.meaning may.places may.sends (fetch_says h o port port slot may.meaning may.places refl may.can)
 
   -- none may be taken
-  pub page_barred : MayTakeNone first slot → (o : Outside) → MayPage (device_of h o) port slot → ⊥
+  pub page_barred : MayTakeNone first slot → (o : Outside) → MayTakePage (device_of h o) port slot → ⊥
   page_barred never o may =
       never (o.media port) may.meaning.operation (fetch_takes h o port port slot may.meaning may.places refl may.can)
 
 -- nothing is issued or taken there
-pub page_unused : (h : Hardware) (port slot : ℕ) → word_bits (slice_index_or h.ports port blank_port).ci slot ≡ false → held_in (slice_index_or h.ports port blank_port).taken slot ≡ None →
+pub page_unused : (h : Hardware) (port slot : ℕ) → word_bits (slice_index_or h.ports port blank_port).ci slot ≡ false → taken_in (slice_index_or h.ports port blank_port).taken slot ≡ None →
     (o : Outside) → LooksForPage (device_of h o) port slot None
 page_unused h port slot unissued untaken o =
     let never : MayTakeNone (slice_index_or h.ports port blank_port) slot = λ m operation may. true-false may.fetchable.issued unissued in

@@ -11,8 +11,8 @@ use Rattle.ata_types.specs.declared.Port.{Port}
 use Rattle.ata_types.specs.declared.Slot.{Slot}
 use Rattle.sector_store.specs.declared.store.Failures.{Failures}
 use Rattle.device_model.specs.Disks.{numbered_disk, which_of}
-use Rattle.device_model.specs.Does.{AnswersStep, Completes, GoesOnSo}
-use Rattle.device_model.specs.Finishing.{LooksForPage, HasPageCommand, TapeHasRoom, IsBusy, MayPage}
+use Rattle.device_model.specs.Does.{AnswersStep, Completes, OwnStepsKeep}
+use Rattle.device_model.specs.Finishing.{LooksForPage, HasPageCommand, TapeHasRoom, HasTakenCommand, MayTakePage}
 use Rattle.device_model.specs.Held.{IsPortHeld, IsPortLoose}
 use Rattle.device_model.specs.Modelled.{device_at}
 use Rattle.device_model.specs.Pending.{TakesPage}
@@ -44,19 +44,19 @@ module _ {S : Type 0} (size : S → ℕ) (told : S → Option (ℕ → List ℕ)
     pub low : slot < 32
     pub out : IsPortHeld left_out port
     pub disks : HasDisks (device_at size told m) port
-    pub busy : IsBusy (device_at size told m) port
+    pub busy : HasTakenCommand (device_at size told m) port
     pub has : HasPageCommand (device_at size told m) port slot
     pub lacks : TapeHasRoom m.hardware (has.left + 1) → ⊥
 
   -- a port on which nothing more goes on by itself: a command is taken, and one that can be done to its end lacks memory
   abbrev pub Waits : Model S → ℕ → Type 0
-  Waits m q = IsBusy (device_at size told m) q × ((k : ℕ) → HasPageCommand (device_at size told m) q k → m.hardware.starved ≡ true)
+  Waits m q = HasTakenCommand (device_at size told m) q × ((k : ℕ) → HasPageCommand (device_at size told m) q k → m.hardware.starved ≡ true)
 
   -- So far it came: these ports are left out, each since it is held, or waits; and the tape has lacked memory, or not.
   pub record IsSoFar (first m : Model S) (left_out : List Bool) (lacks : Bool) : Type 0 where
     pub own : LeadsOwn (SendsPages first.held) (device_at size told first) (device_at size told m)
     pub settled : (held : List Bool) → IsSettled held (device_at size told first) → IsSettled held (device_at size told m)
-    pub rest : GoesOnSo size first m
+    pub rest : OwnStepsKeep size first m
     pub disks : (q : ℕ) (w : DiskIndex) → numbered_disk m q w ≡ numbered_disk first q w
     pub long : length left_out ≡ 4
     pub out : (q : ℕ) → IsPortHeld left_out q → IsPortHeld first.held q ⊎ Waits m q
@@ -102,7 +102,7 @@ module _ {S : Type 0} (size : S → ℕ) (told : S → Option (ℕ → List ℕ)
     apart_of q held = λ same. true-false held (subst (IsPortLoose left_out) (sym same) loose)
 
     -- the port is left out from then on, and waits
-    out_then : (new : Model S) → IsBusy (device_at size told new) p.0 → ((k : ℕ) → HasPageCommand (device_at size told new) p.0 k → new.hardware.starved ≡ true) →
+    out_then : (new : Model S) → HasTakenCommand (device_at size told new) p.0 → ((k : ℕ) → HasPageCommand (device_at size told new) p.0 k → new.hardware.starved ≡ true) →
         ((q : ℕ) → q ≢ p.0 → (device_at size told new).port q ≡ old_device.port q) → (device_at size told new).size ≡ old_device.size →
         (m.hardware.starved ≡ true → new.hardware.starved ≡ true) → (q : ℕ) → IsPortHeld (slice_set left_out p.0 true) q → IsPortHeld first.held q ⊎ Waits new q
     out_then new busy starves ports large on q held =
@@ -137,7 +137,7 @@ module _ {S : Type 0} (size : S → ℕ) (told : S → Option (ℕ → List ℕ)
       same : answer ≡ false → device_at size told new ≡ old_device
       same e = (left_it size told failures (asked.Finish p s) m new answer answers e).device
 
-      goes : GoesOnSo size m new
+      goes : OwnStepsKeep size m new
       goes = finish_goes_so size told failures p s answer m new answers (λ e. (completes e).says)
 
       leads : LeadsOwn (SendsPages first.held) (device_at size told first) (device_at size told new)
@@ -218,7 +218,7 @@ module _ {S : Type 0} (size : S → ℕ) (told : S → Option (ℕ → List ℕ)
 
     -- ---- one that can't be done to its end, or for which no memory is looked for, is taken
 
-    pub so_far_taken : (new : Model S) → TakesPage size told p.0 s.0 m new → (lacks ≡ false → (MayPage old_device p.0 s.0) × (HasPageCommand old_device p.0 s.0 → ⊥)) →
+    pub so_far_taken : (new : Model S) → TakesPage size told p.0 s.0 m new → (lacks ≡ false → (MayTakePage old_device p.0 s.0) × (HasPageCommand old_device p.0 s.0 → ⊥)) →
         IsSoFar first new (slice_set left_out p.0 true) lacks
     so_far_taken new t stuck =
         let long : p.0 < length left_out = subst (λ (n : ℕ). p.0 < n) (sym is.long) small in

@@ -3,7 +3,7 @@ use Rattle.std.proofs.Common.{ℕ, Bool, true, ◌≡◌, ◌≢◌, ◌∙◌, 
 use Rattle.adapter.specs.Asked.{DoesFetch, EndsAndPosts}
 use Rattle.adapter.specs.Commands.{Meaning, is_queued}
 use Rattle.adapter.specs.Device.{FetchedCommand, DevicePort, Device}
-use Rattle.adapter.specs.Steps.{Can, IsAlone, IsFetchable, IsWorking, WorksOn, begun, with_fetch}
+use Rattle.adapter.specs.Steps.{Can, IsUnmixed, IsFetchable, IsWorking, WorksOn, begun, with_fetch}
 use Rattle.adapter.specs.Steps.DeviceTransition.{Fetch}
 use Rattle.adapter.specs.Decoding.{DecodesTo}
 use Rattle.adapter.specs.declared.command.Operation.{Operation}
@@ -19,8 +19,8 @@ module _ (port slot other : ℕ) (apart : other ≢ slot) (old new : Device) whe
   was = old.port port
 
   -- what is taken is as it was, but for a queued command that is taken now, beside which a queued one may be taken, too
-  beside : (m : Meaning) (places : List ℕ) (o : Operation) → is_queued o && is_queued m.operation ≡ true → IsAlone was o →
-      IsAlone (with_fetch was slot m places) o
+  beside : (m : Meaning) (places : List ℕ) (o : Operation) → is_queued o && is_queued m.operation ≡ true → IsUnmixed was o →
+      IsUnmixed (with_fetch was slot m places) o
   beside m places o both alone =
       changed_each was.taken slot (Some (begun m places)) (λ k x. (t : FetchedCommand) → x ≡ Some t → is_queued o && is_queued t.meaning.operation ≡ true)
       (λ t is. subst (λ (x : FetchedCommand). is_queued o && is_queued x.meaning.operation ≡ true) (some_one is) both) alone
@@ -50,7 +50,7 @@ module _ (port slot other : ℕ) (apart : other ≢ slot) (old new : Device) whe
               admitted = there.working.admitted;
               whole = there.working.whole;
             });
-        alone = subst (λ (x : DevicePort). IsAlone x n.operation) now (beside f.meaning f.places n.operation both there.alone);
+        alone = subst (λ (x : DevicePort). IsUnmixed x n.operation) now (beside f.meaning f.places n.operation both there.alone);
         says = subst (λ (x : DevicePort). DecodesTo new.memory x.bases.clb other n ys) now
             (subst (λ (bytes : ℕ → ℕ). DecodesTo bytes was.bases.clb other n ys) memory there.says);
       }

@@ -6,7 +6,7 @@ use Rattle.adapter.specs.Commands.{Meaning, direction_of, is_queued, is_ranged, 
 use Rattle.adapter.specs.Device.{Disk, Lasting, DevicePort, Device, IsSector}
 use Rattle.adapter.specs.Memory.{changed, patched, bytes_at}
 use Rattle.adapter.specs.Decoding.{DecodesTo}
-use Rattle.adapter.specs.Steps.{AreKeptBits, admits, device_after, IsFinished, MayBeDone, MayFault, MayFetch, MayFetchFault, MayMove, Brings, recorded, with_clear, with_fault, with_fetch, with_move, with_done, with_flush, clear_entry, done_entry, fault_entry, move_of, noted_bytes, device_memory_after, next_place, next_sector}
+use Rattle.adapter.specs.Steps.{AreBsyDrqBits, admits, device_after, IsFinished, MayBeDone, MayFault, MayFetch, MayFetchFault, MayMove, Brings, recorded, with_clear, with_fault, with_fetch, with_move, with_done, with_flush, clear_entry, done_entry, fault_entry, move_of, noted_bytes, device_memory_after, next_place, next_sector}
 use Rattle.adapter.specs.Steps.DeviceTransition.{Clear, FetchFault, Move, Unplug, Plug}
 use Rattle.adapter.specs.declared.access.FatalError.{FatalError}
 use Rattle.adapter.specs.declared.access.FatalError.TheVariants.{Interface, HostBus}
@@ -20,11 +20,11 @@ use Rattle.adapter.specs.Asked.{DoesFatal, DoesFault, DoesFetch, EndsAndPosts, f
 use Rattle.device_model.specs.Fetched.{bytes_of}
 use Rattle.device_model.specs.Sent.{SendsEnd}
 use Rattle.device_model.specs.Slots.{HasUntaken, MayTake, WorksOnIn, IsNext}
-use Rattle.device_model.specs.View.{Media, cause_of, halt_of, held_in, kept_by, media_after, media_cleared, media_ended, transfer_operation, port_of, taken_of, blank_port}
+use Rattle.device_model.specs.View.{Media, cause_of, halt_of, taken_in, busy_if_left, media_after, media_cleared, media_ended, transfer_operation, port_of, taken_of, blank_port}
 use Rattle.device_model.specs.Whole.{Outside, device_of, media_plugged, outside_after, outside_cleared, outside_ended, outside_plugged}
 use Rattle.device_model.specs.declared.port.TakenCommand.{TakenCommand}
-use Rattle.device_model.specs.declared.port.Transfer.{Transfer}
-use Rattle.device_model.specs.declared.port.Transfer.TheVariants as transfer
+use Rattle.device_model.specs.declared.port.CommandKind.{CommandKind}
+use Rattle.device_model.specs.declared.port.CommandKind.TheVariants as transfer
 use Rattle.device_model.specs.declared.port.PortModel.{PortModel}
 use Rattle.device_model.specs.declared.hardware.Hardware.{Hardware}
 use Rattle.device_model.specs.declared.steps.NextMove.{NextMove}
@@ -101,7 +101,7 @@ plugged_in h o p port new tape disk number since name e some lasts is more =
     (is media ∙ ap (λ (l : Lasting). record state { ssts_det = 3; present = true; fresh = false; serr_n = true; serr_x = true; lasting = l }) lasting)
     (rw (← e) at more ∙ ap (λ (x : Entry). h.tape.items ++ x ∷ []) named))
 
-is_cause : (k : Transfer) → (cause_of k ≡ 0) ⊎ (cause_of k ≡ 1) ⊎ (cause_of k ≡ 3)
+is_cause : (k : CommandKind) → (cause_of k ≡ 0) ⊎ (cause_of k ≡ 1) ⊎ (cause_of k ≡ 3)
 is_cause transfer.Identify = inr (inl refl)
 is_cause transfer.Flush = inl refl
 is_cause transfer.Trim = inl refl
@@ -160,15 +160,15 @@ port_fails_senseless h o p port slot new tape e small is more =
     subst P e (set_port_recorded h o p new _ tape (fault_entry p slot 4 0) small is (rw (← e) at more))
 
 -- BSY is one of the bits that may be left set
-kept_well : (busy : Bool) → AreKeptBits (kept_by busy)
+kept_well : (busy : Bool) → AreBsyDrqBits (busy_if_left busy)
 kept_well true = refl
 kept_well false = refl
 
 -- a command that is taken may fail, while the engine runs
-pub may_fail : (h : Hardware) (o : Outside) (port slot error : ℕ) (busy : Bool) (t : TakenCommand) → error < 256 → held_in (slice_index_or h.ports port blank_port).taken slot ≡ Some t →
-    (slice_index_or h.ports port blank_port).cr ≡ true → MayFault ((device_of h o).port port) slot error (kept_by busy) (taken_of t)
+pub may_fail : (h : Hardware) (o : Outside) (port slot error : ℕ) (busy : Bool) (t : TakenCommand) → error < 256 → taken_in (slice_index_or h.ports port blank_port).taken slot ≡ Some t →
+    (slice_index_or h.ports port blank_port).cr ≡ true → MayFault ((device_of h o).port port) slot error (busy_if_left busy) (taken_of t)
 may_fail h o port slot error busy t byte held cr = record {
-  taken = slot_taken (held_in (slice_index_or h.ports port blank_port).taken) t slot held;
+  taken = slot_taken (taken_in (slice_index_or h.ports port blank_port).taken) t slot held;
   running = cr;
   is_byte = byte;
   kept = kept_well busy;
@@ -176,20 +176,20 @@ may_fail h o port slot error busy t byte held cr = record {
 
 -- and it does
 pub port_fails : (h : Hardware) (o : Outside) (p port slot error : ℕ) (busy : Bool) (new : PortModel) (t : TakenCommand) (queued : Bool) (tape : Vec Entry) → p ≡ port →
-    p < length h.ports → error < 256 → held_in (slice_index_or h.ports port blank_port).taken slot ≡ Some t → (slice_index_or h.ports port blank_port).cr ≡ true →
-    queued ≡ is_queued (transfer_operation t.transfer) → port_of new (o.media p) ≡ with_fault (port_of (slice_index_or h.ports p blank_port) (o.media p)) queued error (kept_by busy) →
-    tape.items ≡ h.tape.items ++ fault_entry port slot error (kept_by busy) ∷ [] →
-    (f : DoesFault port slot error (kept_by busy) (device_of h o) (device_of (record h { ports = slice_set h.ports p new; tape = tape }) o)) × (queued ≡ is_queued f.t.meaning.operation)
+    p < length h.ports → error < 256 → taken_in (slice_index_or h.ports port blank_port).taken slot ≡ Some t → (slice_index_or h.ports port blank_port).cr ≡ true →
+    queued ≡ is_queued (transfer_operation t.transfer) → port_of new (o.media p) ≡ with_fault (port_of (slice_index_or h.ports p blank_port) (o.media p)) queued error (busy_if_left busy) →
+    tape.items ≡ h.tape.items ++ fault_entry port slot error (busy_if_left busy) ∷ [] →
+    (f : DoesFault port slot error (busy_if_left busy) (device_of h o) (device_of (record h { ports = slice_set h.ports p new; tape = tape }) o)) × (queued ≡ is_queued f.t.meaning.operation)
 port_fails h o p port slot error busy new t queued tape e small byte held cr kind is more = (
   record {
     t = taken_of t;
     can = may_fail h o port slot error busy t byte held cr;
     effect =
         let P : ℕ → Type 0 = λ q. device_of (record h { ports = slice_set h.ports p new; tape = tape }) o
-        ≡ recorded (device_of h o) q (with_fault ((device_of h o).port q) (is_queued (transfer_operation t.transfer)) error (kept_by busy)) (fault_entry q slot error (kept_by busy)) in
+        ≡ recorded (device_of h o) q (with_fault ((device_of h o).port q) (is_queued (transfer_operation t.transfer)) error (busy_if_left busy)) (fault_entry q slot error (busy_if_left busy)) in
         subst P e
-        (set_port_recorded h o p new _ tape (fault_entry p slot error (kept_by busy)) small
-        (is ∙ ap (λ (b : Bool). with_fault (port_of (slice_index_or h.ports p blank_port) (o.media p)) b error (kept_by busy)) kind) (rw (← e) at more));
+        (set_port_recorded h o p new _ tape (fault_entry p slot error (busy_if_left busy)) small
+        (is ∙ ap (λ (b : Bool). with_fault (port_of (slice_index_or h.ports p blank_port) (o.media p)) b error (busy_if_left busy)) kind) (rw (← e) at more));
   },
   kind,
 )
@@ -229,7 +229,7 @@ port_moves h o p port slot next new t tape memory bytes operation direction e sm
     let sector : next.sector ≡ next_sector (taken_of t) = is.sector_is in
     let place : next.address ≡ next_place (taken_of t) = is.address_is in
     let asks : operation ≡ transfer_operation t.transfer = named ∙ ap transfer_operation kind in
-    let goes : direction ≡ direction_of (transfer_operation t.transfer) = way ∙ ap (λ (k : Transfer). direction_of (transfer_operation k)) kind in
+    let goes : direction ≡ direction_of (transfer_operation t.transfer) = way ∙ ap (λ (k : CommandKind). direction_of (transfer_operation k)) kind in
     let back : port ≡ p = sym e in
     let entries : tape.items ≡ h.tape.items ++ entry.Move (move_of p slot (taken_of t) bytes) ∷ [] =
     more ∙ (λ i. h.tape.items ++ entry.Move (moved_by (back i) slot (asks i) (sector i) (place i) (goes i) bytes) ∷ []) in
@@ -251,7 +251,7 @@ may_move h o port slot next t bytes is sized small gives takes =
       works = is.holds.works (o.media port);
       left = is.left;
       sector = sized;
-      brings = subst (λ (k : Transfer). Brings (o.media port).disk (bytes_of h.memory.items) (taken_of t) (transfer_operation k) bytes) is.transfer_is
+      brings = subst (λ (k : CommandKind). Brings (o.media port).disk (bytes_of h.memory.items) (taken_of t) (transfer_operation k) bytes) is.transfer_is
           (by next.transfer refl);
     }
   where
@@ -268,16 +268,16 @@ may_move h o port slot next t bytes is sized small gives takes =
         let place : next.address ≡ next_place (taken_of t) = is.address_is in
         (rw sector at (small ranged), rw place at (takes reads))
 
-    by : (k : Transfer) → next.transfer ≡ k → Brings (o.media port).disk (bytes_of h.memory.items) (taken_of t) (transfer_operation k) bytes
-    by transfer.Read e = given (ap (λ (k : Transfer). is_ranged (transfer_operation k)) e) (ap (λ (k : Transfer). reads_memory (transfer_operation k)) e)
-    by transfer.Write e = taken (ap (λ (k : Transfer). is_ranged (transfer_operation k)) e) (ap (λ (k : Transfer). reads_memory (transfer_operation k)) e)
-    by transfer.ReadQueued e = given (ap (λ (k : Transfer). is_ranged (transfer_operation k)) e) (ap (λ (k : Transfer). reads_memory (transfer_operation k)) e)
-    by transfer.WriteQueued e = taken (ap (λ (k : Transfer). is_ranged (transfer_operation k)) e) (ap (λ (k : Transfer). reads_memory (transfer_operation k)) e)
+    by : (k : CommandKind) → next.transfer ≡ k → Brings (o.media port).disk (bytes_of h.memory.items) (taken_of t) (transfer_operation k) bytes
+    by transfer.Read e = given (ap (λ (k : CommandKind). is_ranged (transfer_operation k)) e) (ap (λ (k : CommandKind). reads_memory (transfer_operation k)) e)
+    by transfer.Write e = taken (ap (λ (k : CommandKind). is_ranged (transfer_operation k)) e) (ap (λ (k : CommandKind). reads_memory (transfer_operation k)) e)
+    by transfer.ReadQueued e = given (ap (λ (k : CommandKind). is_ranged (transfer_operation k)) e) (ap (λ (k : CommandKind). reads_memory (transfer_operation k)) e)
+    by transfer.WriteQueued e = taken (ap (λ (k : CommandKind). is_ranged (transfer_operation k)) e) (ap (λ (k : CommandKind). reads_memory (transfer_operation k)) e)
     by transfer.Identify e = tt
     by transfer.Flush e = tt
     by transfer.ReadLog e = tt
     by transfer.Trim e =
-        let place : next.address ≡ next_place (taken_of t) = is.address_is in rw place at (takes (ap (λ (k : Transfer). reads_memory (transfer_operation k)) e))
+        let place : next.address ≡ next_place (taken_of t) = is.address_is in rw place at (takes (ap (λ (k : CommandKind). reads_memory (transfer_operation k)) e))
 
 -- sectors of a trim are cleared
 pub port_clears : (h : Hardware) (o : Outside) (p port slot first count : ℕ) (new : PortModel) (t : TakenCommand) (tape : Vec Entry) → p ≡ port →

@@ -2,7 +2,7 @@
 use Rattle.std.proofs.Common.{ℕ, Bool, true, false, ◌≡◌, ◌<◌, ◌∙◌, List, [], ◌∷◌, ◌++◌, Option, None, Some, refl, sym, ap, subst, inl, inr}
 use Rattle.std.specs.Global.{Vec}
 use Rattle.std.specs.Prelude.{if◌then◌else◌, option_map, slice_set}
-use Rattle.adapter.specs.Asked.{DoesFatal, DoesFault, DoesFetch, DoesScribble, DoneOf, EndsAndPosts, Fails, fatal_bit}
+use Rattle.adapter.specs.Asked.{DoesFatal, DoesFault, DoesFetch, DoesScribble, DoesToldStep, EndsAndPosts, Fails, fatal_bit}
 use Rattle.adapter.specs.Asked.{busy as busy_bit}
 use Rattle.adapter.specs.Commands.{Meaning, is_queued}
 use Rattle.adapter.specs.Device.{Device, FetchedCommand}
@@ -21,18 +21,18 @@ use Rattle.ata_types.specs.declared.Slot.{Slot}
 use Rattle.sector_store.specs.declared.store.Failures.{Failures}
 use Rattle.device_model.specs.Disks.{EndsCommandIn, EndsOnly, EndsCommand, SaysOnly, bay_of, disk_in_bay, lasting_of, says_of, which_of}
 use Rattle.device_model.specs.Does.{AnswersStep, EndsIt, IsLeftOut, is_losing, MayBeFetched, StepKeeps, LacksMemory, Possible, asked_fault, asked_port, says_after, says_failed, which_after}
-use Rattle.device_model.specs.Finishing.{TapeHasRoom, IsPassed}
+use Rattle.device_model.specs.Finishing.{TapeHasRoom, IsStepSkipped}
 use Rattle.device_model.specs.Held.{held_after}
 use Rattle.device_model.specs.Modelled.{device_at, media_of, outside_at, tells}
 use Rattle.device_model.specs.Sent.{Sends, SendsEnd, SendsFailed, SendsFault}
-use Rattle.device_model.specs.View.{kept_by, media_ended}
+use Rattle.device_model.specs.View.{busy_if_left, media_ended}
 use Rattle.device_model.specs.Whole.{Outside, device_of, outside_ended}
 use Rattle.device_model.specs.declared.hardware.Hardware.{Hardware}
 use Rattle.device_model.specs.Cached.{lasting_in}
 use Rattle.device_model.specs.OldSectors.{with_old}
 use Rattle.device_model.specs.declared.old_sectors.OldSector.{OldSector}
 use Rattle.device_model.specs.declared.bay.Bay.{Bay}
-use Rattle.device_model.specs.declared.bay.PageContents.{PageContents}
+use Rattle.device_model.specs.declared.bay.PageSource.{PageSource}
 use Rattle.device_model.specs.declared.disks.ModelDisk.{ModelDisk}
 use Rattle.device_model.specs.declared.model.Model.{Model}
 use Rattle.device_model.proofs.Absurd.{some-none, some_one, true-false}
@@ -117,12 +117,12 @@ module _ {S : Type 0} (size : S → ℕ) (told : S → Option (ℕ → List ℕ)
   behind = outside_at size told m
 
   pub on_hardware : StepKeeps size m new
-  on_hardware = record { identities = λ _ _. refl; out = λ _ _ _. refl; caches = λ _. refl; queue = refl; accesses = refl }
+  on_hardware = record { identities = λ _ _. refl; out = λ _ _ _. refl; port_has_cache = λ _. refl; queue = refl; accesses = refl }
 
   -- a step that notes one entry wasn't done
   passed_left : (s : DeviceStep) (possible : Type 0) → (Possible s (device_at size told m) → possible) → (possible → Possible s (device_at size told m)) →
       ((TapeHasRoom m.hardware 1 → ⊥) → LacksMemory s (device_at size told m) m.hardware m.bays.items) → device_of h behind ≡ device_of m.hardware behind →
-      IsPassed m.hardware h possible → IsLeftOut size told failures s m new
+      IsStepSkipped m.hardware h possible → IsLeftOut size told failures s m new
   passed_left s possible forth back lacks same (inl never) = record {
     device = same;
     held = refl;
@@ -150,7 +150,7 @@ module _ {S : Type 0} (size : S → ℕ) (told : S → Option (ℕ → List ℕ)
 
   -- nothing was taken, and nothing failed
   fetch_left : (p : Port) (s : Slot) → p.0 < 4 → s.0 < 32 → ((g : Meaning) (places : List ℕ) → Can (Fetch p.0 s.0 g places) (device_of m.hardware behind) → ⊥) →
-      device_of h behind ≡ device_of m.hardware behind → IsPassed m.hardware h (Can (FetchFault p.0 s.0 false 0) (device_of m.hardware behind)) →
+      device_of h behind ≡ device_of m.hardware behind → IsStepSkipped m.hardware h (Can (FetchFault p.0 s.0 false 0) (device_of m.hardware behind)) →
       IsLeftOut size told failures (asked.Fetch p s) m new
   fetch_left p s port slot only same (inl never) = record {
     device = same;
@@ -202,7 +202,7 @@ module _ {S : Type 0} (size : S → ℕ) (told : S → Option (ℕ → List ℕ)
   pub senseless_answers : (p : Port) (s : Slot) (did : Bool) → p.0 < 4 → s.0 < 32 →
       ((g : Meaning) (places : List ℕ) → Can (Fetch p.0 s.0 g places) (device_of m.hardware behind) → ⊥) →
       (did ≡ true → Can (FetchFault p.0 s.0 false 0) (device_of m.hardware behind) × SendsFault false p.0 (device_after (FetchFault p.0 s.0 false 0) (device_of m.hardware behind)) (device_of h behind)) →
-      (did ≡ false → device_of h behind ≡ device_of m.hardware behind) → (did ≡ false → IsPassed m.hardware h (Can (FetchFault p.0 s.0 false 0) (device_of m.hardware behind))) →
+      (did ≡ false → device_of h behind ≡ device_of m.hardware behind) → (did ≡ false → IsStepSkipped m.hardware h (Can (FetchFault p.0 s.0 false 0) (device_of m.hardware behind))) →
       (did ≡ true → h.starved ≡ m.hardware.starved) → AnswersStep size told failures (asked.Fetch p s) did m new
   senseless_answers p s true port slot only done same passed starved =
       let d = done refl in (
@@ -258,7 +258,7 @@ module _ {S : Type 0} (size : S → ℕ) (told : S → Option (ℕ → List ℕ)
 
   -- none did
   pub done_left : (p : Port) (s : Slot) → p.0 < 4 → s.0 < 32 → device_of h behind ≡ device_of m.hardware behind →
-      IsPassed m.hardware h ((flag : ℕ) × (t : FetchedCommand) × Can (Done p.0 s.0 flag t) (device_of m.hardware behind)) → AnswersStep size told failures (asked.Done p s) false m new
+      IsStepSkipped m.hardware h ((flag : ℕ) × (t : FetchedCommand) × Can (Done p.0 s.0 flag t) (device_of m.hardware behind)) → AnswersStep size told failures (asked.Done p s) false m new
   done_left p s port slot same passed =
       passed_left (asked.Done p s) ((flag : ℕ) × (t : FetchedCommand) × Can (Done p.0 s.0 flag t) (device_of m.hardware behind)) (λ may. (may.2, may.3, may.4))
       (λ may. (port, slot, may.0, may.1, may.2)) (λ none. none) same passed
@@ -266,15 +266,15 @@ module _ {S : Type 0} (size : S → ℕ) (told : S → Option (ℕ → List ℕ)
   -- a command that is taken fails: in the model the log names it, if it is queued
   module _ (step : DeviceStep) (s : Slot) (error kept : ℕ) (may : Possible step (device_at size told m))
       (f : Fails SendsFailed (asked_port step) s.0 error kept (device_of m.hardware behind) (device_of h behind)) (starved : h.starved ≡ m.hardware.starved)
-      (done : (old last : Device) → Fails SendsFailed (asked_port step) s.0 error kept old last → DoneOf (Sends step) step old last)
+      (done : (old last : Device) → Fails SendsFailed (asked_port step) s.0 error kept old last → DoesToldStep (Sends step) step old last)
       (ends : (old last : Device) → EndsIt step old last)
       (safe : is_losing step ≡ false)
-      (tells : (said : Option PageContents) → says_after step (device_at size told m) said ≡ says_failed (((device_at size told m).port (asked_port step)).taken s.0) s.0 error said)
+      (tells : (said : Option PageSource) → says_after step (device_at size told m) said ≡ says_failed (((device_at size told m).port (asked_port step)).taken s.0) s.0 error said)
       (held : m.held ≡ held_after step m.held) (which : which_of m (asked_port step) ≡ which_after step (which_of m (asked_port step))) where
     abbrev at : ℕ
     at = asked_port step
 
-    abbrev name : PageContents → PageContents
+    abbrev name : PageSource → PageSource
     name = naming (record { tag = s.0; error = error })
 
     noted : h.tape.items ≡ m.hardware.tape.items ++ fault_entry at s.0 error kept ∷ []
@@ -327,7 +327,7 @@ module _ {S : Type 0} (size : S → ℕ) (told : S → Option (ℕ → List ℕ)
 
   -- the one or the other: its disk is left busy, or not
   pub plain_answers : (busy : Bool) (p : Port) (s : Slot) (error : ℕ) → p.0 < 4 → s.0 < 32 →
-      (f : Fails SendsFailed p.0 s.0 error (kept_by busy) (device_of m.hardware behind) (device_of h behind)) → h.starved ≡ m.hardware.starved →
+      (f : Fails SendsFailed p.0 s.0 error (busy_if_left busy) (device_of m.hardware behind) (device_of h behind)) → h.starved ≡ m.hardware.starved →
       is_queued f.fault.t.meaning.operation ≡ false → AnswersStep size told failures (asked_fault busy p s error) true m new
   plain_answers false p s error port slot f starved plain =
       plain_fails (asked.Fault p s error) s error 0 (port, slot, f.fault.t, f.fault.can) f starved (λ _ _ g. g) (λ _ _. tt) refl (λ _. refl) refl refl plain
@@ -335,7 +335,7 @@ module _ {S : Type 0} (size : S → ℕ) (told : S → Option (ℕ → List ℕ)
       plain_fails (asked.FaultBusy p s error) s error busy_bit (port, slot, f.fault.t, f.fault.can) f starved (λ _ _ g. g) (λ _ _. tt) refl (λ _. refl) refl refl plain
 
   pub queued_answers : (busy : Bool) (p : Port) (s : Slot) (error : ℕ) → p.0 < 4 → s.0 < 32 →
-      (f : Fails SendsFailed p.0 s.0 error (kept_by busy) (device_of m.hardware behind) (device_of h behind)) → h.starved ≡ m.hardware.starved →
+      (f : Fails SendsFailed p.0 s.0 error (busy_if_left busy) (device_of m.hardware behind) (device_of h behind)) → h.starved ≡ m.hardware.starved →
       (bays : Vec (Option (Bay S))) → SaysOnly (naming (record { tag = s.0; error = error })) p.0 m.bays.items bays.items →
       is_queued f.fault.t.meaning.operation ≡ true → AnswersStep size told failures (asked_fault busy p s error) true m (record new { bays = bays })
   queued_answers false p s error port slot f starved bays only queued =
@@ -345,7 +345,7 @@ module _ {S : Type 0} (size : S → ℕ) (told : S → Option (ℕ → List ℕ)
 
   -- none did
   pub fail_left : (busy : Bool) (p : Port) (s : Slot) (error : ℕ) → p.0 < 4 → s.0 < 32 → device_of h behind ≡ device_of m.hardware behind →
-      IsPassed m.hardware h ((t : FetchedCommand) × Can (Fault p.0 s.0 error (kept_by busy) t) (device_of m.hardware behind)) →
+      IsStepSkipped m.hardware h ((t : FetchedCommand) × Can (Fault p.0 s.0 error (busy_if_left busy) t) (device_of m.hardware behind)) →
       AnswersStep size told failures (asked_fault busy p s error) false m new
   fail_left false p s error port slot same passed =
       passed_left (asked.Fault p s error) ((t : FetchedCommand) × Can (Fault p.0 s.0 error 0 t) (device_of m.hardware behind)) (λ may. (may.2, may.3))
@@ -382,8 +382,8 @@ module _ {S : Type 0} (size : S → ℕ) (told : S → Option (ℕ → List ℕ)
       ((TapeHasRoom m.hardware 1 → ⊥) → LacksMemory s (device_at size told m) m.hardware m.bays.items) → says_of m (asked_port s) ≡ says_after s (device_at size told m) (says_of m (asked_port s)) →
       m.held ≡ held_after s m.held → which_of m (asked_port s) ≡ which_after s (which_of m (asked_port s)) → EndsIt s (device_of m.hardware behind) (device_of h behind) →
       is_losing s ≡ false →
-      (did ≡ true → possible × DoneOf (Sends s) s (device_of m.hardware behind) (device_of h behind) × (h.tape.items ≡ m.hardware.tape.items ++ note ∷ [])) →
-      (did ≡ false → device_of h behind ≡ device_of m.hardware behind) → (did ≡ false → IsPassed m.hardware h possible) →
+      (did ≡ true → possible × DoesToldStep (Sends s) s (device_of m.hardware behind) (device_of h behind) × (h.tape.items ≡ m.hardware.tape.items ++ note ∷ [])) →
+      (did ≡ false → device_of h behind ≡ device_of m.hardware behind) → (did ≡ false → IsStepSkipped m.hardware h possible) →
       (did ≡ true → h.starved ≡ m.hardware.starved) → AnswersStep size told failures s did m new
   noted_answers s true possible note no_move forth back lacks says held which ends safe done same passed starved =
       let d = done refl in (
@@ -404,7 +404,7 @@ module _ {S : Type 0} (size : S → ℕ) (told : S → Option (ℕ → List ℕ)
 
   pub fatal_answers : (p : Port) (error : FatalError) (did : Bool) → p.0 < 4 → (did ≡ true → DoesFatal p.0 error (device_of m.hardware behind) (device_of h behind)) →
       (did ≡ false → device_of h behind ≡ device_of m.hardware behind) →
-      (did ≡ false → IsPassed m.hardware h (Can (Fatal p.0 (fatal_bit error)) (device_of m.hardware behind))) →
+      (did ≡ false → IsStepSkipped m.hardware h (Can (Fatal p.0 (fatal_bit error)) (device_of m.hardware behind))) →
       (did ≡ true → h.starved ≡ m.hardware.starved) → AnswersStep size told failures (asked.Fatal p error) did m new
   fatal_answers p error did port done same passed starved =
       noted_answers (asked.Fatal p error) did (Can (Fatal p.0 (fatal_bit error)) (device_of m.hardware behind)) (entry.Fatal p) (λ x e. absurd (cc e))
@@ -413,7 +413,7 @@ module _ {S : Type 0} (size : S → ℕ) (told : S → Option (ℕ → List ℕ)
 
   pub unplug_answers : (p : Port) (did : Bool) → p.0 < 4 →
       (did ≡ true → Can (Unplug p.0) (device_of m.hardware behind) × (device_of h behind ≡ device_after (Unplug p.0) (device_of m.hardware behind))) →
-      (did ≡ false → device_of h behind ≡ device_of m.hardware behind) → (did ≡ false → IsPassed m.hardware h (Can (Unplug p.0) (device_of m.hardware behind))) →
+      (did ≡ false → device_of h behind ≡ device_of m.hardware behind) → (did ≡ false → IsStepSkipped m.hardware h (Can (Unplug p.0) (device_of m.hardware behind))) →
       (did ≡ true → h.starved ≡ m.hardware.starved) → AnswersStep size told failures (asked.Unplug p) did m new
   unplug_answers p did port done same passed starved =
       noted_answers (asked.Unplug p) did (Can (Unplug p.0) (device_of m.hardware behind)) (entry.Unplug p) (λ x e. absurd (cc e))
@@ -422,13 +422,13 @@ module _ {S : Type 0} (size : S → ℕ) (told : S → Option (ℕ → List ℕ)
 
 -- ---- what the disks of a port say is another
 
-module _ {S : Type 0} (size : S → ℕ) (told : S → Option (ℕ → List ℕ)) (failures : S → Option Failures) (m : Model S) (s : DeviceStep) (name : PageContents → PageContents)
+module _ {S : Type 0} (size : S → ℕ) (told : S → Option (ℕ → List ℕ)) (failures : S → Option Failures) (m : Model S) (s : DeviceStep) (name : PageSource → PageSource)
     (bays : Vec (Option (Bay S))) (only : SaysOnly name (asked_port s) m.bays.items bays.items) where
   abbrev lied : Model S
   lied = record m { bays = bays }
 
   -- a step that asks for nothing else is done
-  pub lie_answers : Possible s (device_at size told m) → ((old new : Device) → new ≡ old → DoneOf (Sends s) s old new) → ((old new : Device) → EndsIt s old new) →
+  pub lie_answers : Possible s (device_at size told m) → ((old new : Device) → new ≡ old → DoesToldStep (Sends s) s old new) → ((old new : Device) → EndsIt s old new) →
       is_losing s ≡ false →
       option_map name (says_of m (asked_port s)) ≡ says_after s (device_at size told m) (says_of m (asked_port s)) → m.held ≡ held_after s m.held →
       which_of m (asked_port s) ≡ which_after s (which_of m (asked_port s)) → AnswersStep size told failures s true m lied

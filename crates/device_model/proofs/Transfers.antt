@@ -6,22 +6,22 @@ use Rattle.sector_store.specs.Stores.{replaced}
 use Rattle.adapter.specs.Commands.{is_queued, is_ranged}
 use Rattle.adapter.specs.Device.{Disk, FetchedCommand, DevicePort, IsSector}
 use Rattle.adapter.specs.Memory.{changed}
-use Rattle.adapter.specs.Steps.{IsAlone, block_after, disk_after}
+use Rattle.adapter.specs.Steps.{IsUnmixed, block_after, disk_after}
 use Rattle.adapter.specs.declared.command.Operation.{Operation}
 use Rattle.adapter.specs.declared.command.Operation.TheVariants.{Identify, Read, ReadQueued, Write, WriteQueued, Flush, Trim, ReadLog}
 use Rattle.device_model.proofs.Absurd.{true-false}
 use Rattle.device_model.specs.Finishing.{sends_page}
 use Rattle.device_model.specs.Trims.{changes_ahead, written_ahead}
 use Rattle.device_model.specs.View.{transfer_operation}
-use Rattle.device_model.specs.declared.port.Transfer.{Transfer}
-use Rattle.device_model.specs.declared.port.Transfer.TheVariants as transfer
+use Rattle.device_model.specs.declared.port.CommandKind.{CommandKind}
+use Rattle.device_model.specs.declared.port.CommandKind.TheVariants as transfer
 
 -- so many bytes are a sector
 pub fits_sector : (bytes : List ℕ) → length bytes ≡ 512 → ((k : ℕ) → slice_index bytes k < 256) → IsSector bytes
 fits_sector bytes long small = (long, λ k d less. rw (get_or_default_zero bytes k d less) (small k))
 
 -- no command but a trim keeps what it moves
-pub no_block : (k : Transfer) (bytes old : List ℕ) → (k ≡ transfer.Trim → ⊥) → block_after (transfer_operation k) bytes old ≡ old
+pub no_block : (k : CommandKind) (bytes old : List ℕ) → (k ≡ transfer.Trim → ⊥) → block_after (transfer_operation k) bytes old ≡ old
 no_block transfer.Read bytes old other = refl
 no_block transfer.Write bytes old other = refl
 no_block transfer.ReadQueued bytes old other = refl
@@ -32,7 +32,7 @@ no_block transfer.Trim bytes old other = absurd (other refl)
 no_block transfer.ReadLog bytes old other = refl
 
 -- the command whose operation is a trim
-pub is_trim : (k : Transfer) → transfer_operation k ≡ Trim → k ≡ transfer.Trim
+pub is_trim : (k : CommandKind) → transfer_operation k ≡ Trim → k ≡ transfer.Trim
 is_trim transfer.Read e = cc
 is_trim transfer.Write e = cc
 is_trim transfer.ReadQueued e = cc
@@ -43,7 +43,7 @@ is_trim transfer.Trim e = refl
 is_trim transfer.ReadLog e = cc
 
 -- each operation is that of a command that the model takes
-pub transfer_of : (o : Operation) → (k : Transfer) × (o ≡ transfer_operation k)
+pub transfer_of : (o : Operation) → (k : CommandKind) × (o ≡ transfer_operation k)
 transfer_of Read = (transfer.Read, refl)
 transfer_of Write = (transfer.Write, refl)
 transfer_of ReadQueued = (transfer.ReadQueued, refl)
@@ -65,7 +65,7 @@ unranged_plain Trim e = refl
 unranged_plain ReadLog e = refl
 
 -- where a plain one is alone, no slot is taken
-pub alone_none : (p : DevicePort) (o : Operation) → is_queued o ≡ false → IsAlone p o → (slot : ℕ) → p.taken slot ≡ None
+pub alone_none : (p : DevicePort) (o : Operation) → is_queued o ≡ false → IsUnmixed p o → (slot : ℕ) → p.taken slot ≡ None
 alone_none p o plain alone slot = by (p.taken slot) refl
   where
     by : (held : Option FetchedCommand) → p.taken slot ≡ held → p.taken slot ≡ None
@@ -77,7 +77,7 @@ mapped_tells sector bytes None = refl
 mapped_tells sector bytes (Some f) = refl
 
 -- a disk tells its sectors after a move as it did
-pub still_tells : (k : Transfer) (disk : Disk) (sector : ℕ) (bytes : List ℕ) →
+pub still_tells : (k : CommandKind) (disk : Disk) (sector : ℕ) (bytes : List ℕ) →
     is_some (disk_after (transfer_operation k) disk sector bytes).sectors ≡ is_some disk.sectors
 still_tells transfer.Read disk sector bytes = refl
 still_tells transfer.ReadQueued disk sector bytes = refl
@@ -98,7 +98,7 @@ pub replaced_is : (told : Option (ℕ → List ℕ)) (sector : ℕ) (bytes : Lis
 replaced_is told sector bytes = ap (λ (g : (ℕ → List ℕ) → ℕ → List ℕ). option_map g told) (λ i f. one_replaced f sector bytes i)
 
 -- the command whose operation is IDENTIFY DEVICE
-pub is_identify : (k : Transfer) → transfer_operation k ≡ Identify → k ≡ transfer.Identify
+pub is_identify : (k : CommandKind) → transfer_operation k ≡ Identify → k ≡ transfer.Identify
 is_identify transfer.Read e = cc
 is_identify transfer.Write e = cc
 is_identify transfer.ReadQueued e = cc
@@ -109,7 +109,7 @@ is_identify transfer.Trim e = cc
 is_identify transfer.ReadLog e = cc
 
 -- and READ LOG EXT
-pub is_log : (k : Transfer) → transfer_operation k ≡ ReadLog → k ≡ transfer.ReadLog
+pub is_log : (k : CommandKind) → transfer_operation k ≡ ReadLog → k ≡ transfer.ReadLog
 is_log transfer.Read e = cc
 is_log transfer.Write e = cc
 is_log transfer.ReadQueued e = cc
@@ -154,12 +154,12 @@ pub page_plain : (o : Operation) → sends_page o ≡ true → is_queued o ≡ f
 page_plain o e = unranged_plain o (page_unranged o e)
 
 -- of two that are queued neither is a trim
-pub both_queued : (k l : Transfer) → is_queued (transfer_operation k) && is_queued (transfer_operation l) ≡ true → (k ≡ transfer.Trim → ⊥) × (l ≡ transfer.Trim → ⊥)
+pub both_queued : (k l : CommandKind) → is_queued (transfer_operation k) && is_queued (transfer_operation l) ≡ true → (k ≡ transfer.Trim → ⊥) × (l ≡ transfer.Trim → ⊥)
 both_queued k l both = (λ trim. true-false both (first trim), λ trim. true-false both (second (is_queued (transfer_operation k)) trim))
   where
     first : k ≡ transfer.Trim → is_queued (transfer_operation k) && is_queued (transfer_operation l) ≡ false
-    first trim = ap (λ (x : Transfer). is_queued (transfer_operation x) && is_queued (transfer_operation l)) trim
+    first trim = ap (λ (x : CommandKind). is_queued (transfer_operation x) && is_queued (transfer_operation l)) trim
 
     second : (b : Bool) → l ≡ transfer.Trim → b && is_queued (transfer_operation l) ≡ false
-    second true trim = ap (λ (x : Transfer). is_queued (transfer_operation x)) trim
+    second true trim = ap (λ (x : CommandKind). is_queued (transfer_operation x)) trim
     second false trim = refl

@@ -14,7 +14,7 @@ use Rattle.device_model.specs.Modelled.{all_tell, device_at, media_of, outside_a
 use Rattle.device_model.specs.View.{Media, media_after, media_cleared, transfer_operation, taken_of}
 use Rattle.device_model.specs.Whole.{HasDisks, outside_after, outside_cleared}
 use Rattle.device_model.specs.declared.bay.Bay.{Bay}
-use Rattle.device_model.specs.declared.bay.PageContents.{PageContents}
+use Rattle.device_model.specs.declared.bay.PageSource.{PageSource}
 use Rattle.device_model.specs.declared.cache.Cache.{Cache}
 use Rattle.device_model.specs.declared.disks.ModelDisk.{ModelDisk}
 use Rattle.device_model.specs.declared.disks.DiskIndex.{DiskIndex}
@@ -209,7 +209,7 @@ module _ {S : Type 0} where
     seated_keeps size out same cached queue accesses = record {
       out = λ q w ne. seated_out w (out w) q ne;
       identities = λ q w. seated_same (λ x. option_map (identity size) (option_map (λ (y : Bay S). disk_in_bay y w) x)) (ap Some (same w)) q;
-      caches = seated_same has_cache cached;
+      port_has_cache = seated_same has_cache cached;
       queue = queue;
       accesses = accesses;
     }
@@ -379,14 +379,14 @@ module _ {S : Type 0} where
     put_keeps size same cached queue accesses = record {
       out = λ q w _. put_same (option_map (λ (b : Bay S). disk_in_bay b w)) (λ b is. ap Some (same b is w)) q;
       identities = λ q w. put_same (λ x. option_map (identity size) (option_map (λ (b : Bay S). disk_in_bay b w) x)) (λ b is. ap (λ (d : ModelDisk S). Some (identity size d)) (same b is w)) q;
-      caches = put_same has_cache cached;
+      port_has_cache = put_same has_cache cached;
       queue = queue;
       accesses = accesses;
     }
 
   -- ---- what the disks of a port say is another
 
-  module _ (says : PageContents → PageContents) (m new : Model S) (port : ℕ)
+  module _ (says : PageSource → PageSource) (m new : Model S) (port : ℕ)
       (items : new.bays.items ≡ slice_set m.bays.items port (option_map (λ (b : Bay S). record b { says = says b.says }) (bay_of m port))) where
     abbrev saying : Bay S → Bay S
     saying b = record b { says = says b.says }

@@ -3,7 +3,7 @@ use Rattle.std.proofs.Common.{ℕ, zero, suc, Bool, true, false, ◌≡◌, ◌�
 use Rattle.std.proofs.lemmas.Bool.Decides.{eqb_tells}
 use Rattle.std.proofs.lemmas.List.Elements.{All-head, All-tail}
 use Rattle.std.specs.Prelude.{if◌then◌else◌, nat_eq, option_map}
-use Rattle.adapter.specs.Asked.{DoesPlug, DoesUnplug, DoneOf, SlotGoesOn, busy}
+use Rattle.adapter.specs.Asked.{DoesPlug, DoesUnplug, DoesToldStep, SlotGoesOn, busy}
 use Rattle.adapter.specs.Device.{Device, DevicePort, FetchedCommand}
 use Rattle.adapter.specs.Steps.{Can, WorksOn, begun}
 use Rattle.adapter.specs.Steps.DeviceTransition.{Fetch}
@@ -17,7 +17,7 @@ use Rattle.device_model.specs.Queue.{DoesEach}
 use Rattle.device_model.specs.Sent.{Sends, SendsEnd}
 use Rattle.device_model.specs.declared.disks.DiskIndex.{DiskIndex}
 use Rattle.device_model.specs.declared.disks.DiskIndex.TheVariants.{Disk0, Disk1}
-use Rattle.device_model.specs.declared.bay.PageContents.{PageContents}
+use Rattle.device_model.specs.declared.bay.PageSource.{PageSource}
 use Rattle.device_model.specs.declared.model.Model.{Model}
 use Rattle.device_model.proofs.Places.{changed_each, changed_other}
 use Rattle.device_model.specs.declared.bay.Bay.{Bay}
@@ -69,7 +69,7 @@ still_out l (asked.LosePlug p) d q w v at out never may = out
 
 -- where a port has no disk in it, nothing that is asked puts one in, but a Plug
 still_empty : (s : DeviceStep) (old new : Device) (q : ℕ) (w : DiskIndex) (v : Option DiskIndex) → (old.port q).present ≡ false → (PutsIn (Some w) q w s → ⊥) → Possible s old →
-    DoneOf (Sends s) s old new → (q ≡ asked_port s → which_after s v ≡ Some w) → (new.port q).present ≡ false
+    DoesToldStep (Sends s) s old new → (q ≡ asked_port s → which_after s v ≡ Some w) → (new.port q).present ≡ false
 still_empty (asked.Fetch p s) old new q w v empty never may did same = one_keeps_present q p.0 s.0 old new (inl did) ∙ empty
 still_empty (asked.Move p s) old new q w v empty never may did same = one_keeps_present q p.0 s.0 old new (inr (inl did)) ∙ empty
 still_empty (asked.Clear p s n) old new q w v empty never may did same = one_keeps_present q p.0 s.0 old new (inr (inr (inr (n, did)))) ∙ empty
@@ -89,18 +89,18 @@ still_empty (asked.Plug p number) old new q w (Some v) empty never may did same 
     plug_elsewhere q p.0 number.0 old new did empty (λ here. absurd (never (sym here, named_by w number.0 may.2 (sym (some_one (same here))))))
 still_empty (asked.LosePlug p) old new q w v empty never may did same = plug_elsewhere q p.0 (old.port p.0).disk.name old new did empty (λ here. never (sym here, refl))
 
-moving_keeps : (cached : Bool) (q port slot : ℕ) (was now : Option Failures) (says later : Option PageContents) (old new : Device) → FailsToMove cached port slot was now says later old new →
+moving_keeps : (cached : Bool) (q port slot : ℕ) (was now : Option Failures) (says later : Option PageSource) (old new : Device) → FailsToMove cached port slot was now says later old new →
     (new.port q).present ≡ (old.port q).present
 moving_keeps cached q port slot was now says later old new f =
     fault_keeps_present q port slot f.error 0 old new (moving_fails cached port slot was now says later old new f)
 
-clearing_keeps : (cached : Bool) (q port slot : ℕ) (was now : Option Failures) (says later : Option PageContents) (old new : Device) → FailsToClear cached port slot was now says later old new →
+clearing_keeps : (cached : Bool) (q port slot : ℕ) (was now : Option Failures) (says later : Option PageSource) (old new : Device) → FailsToClear cached port slot was now says later old new →
     (new.port q).present ≡ (old.port q).present
 clearing_keeps cached q port slot was now says later old new f =
     fault_keeps_present q port slot f.error 0 old new (clearing_fails cached port slot was now says later old new f)
 
 -- nor does a fault
-still_failed : (q : ℕ) (s : DeviceStep) (cached : Bool) (was now : Option Failures) (says later : Option PageContents) (old new : Device) → (old.port q).present ≡ false →
+still_failed : (q : ℕ) (s : DeviceStep) (cached : Bool) (was now : Option Failures) (says later : Option PageSource) (old new : Device) → (old.port q).present ≡ false →
     StepFails s cached was now says later old new → (new.port q).present ≡ false
 still_failed q (asked.Move p s) cached was now says later old new empty f = moving_keeps cached q p.0 s.0 was now says later old new f ∙ empty
 still_failed q (asked.Clear p s most) cached was now says later old new empty (mid, before, f) =

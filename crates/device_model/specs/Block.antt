@@ -5,7 +5,7 @@ use Rattle.std.specs.List.{slice_get}
 use Rattle.std.specs.declared.snapshot.Snapshot.{Snapshot}
 use Rattle.hba_regs.specs.Bits.{bit}
 use Rattle.device_model.specs.declared.port.TakenCommand.{TakenCommand}
-use Rattle.device_model.specs.declared.port.Transfer.TheVariants.{Trim}
+use Rattle.device_model.specs.declared.port.CommandKind.TheVariants.{Trim}
 
 -- its bytes, where it was moved
 abbrev pub brought : Option (Snapshot (List ℕ)) → List ℕ
@@ -13,13 +13,14 @@ brought None = []
 brought (Some block) = block.value
 
 -- what is taken in each slot: the command in its room, where its bit is a one
-abbrev pub held_by : (filled : ℕ) → List TakenCommand → ℕ → Option TakenCommand
-held_by filled rooms = λ slot. if bit filled slot then slice_get rooms slot else None
+abbrev pub taken_by : (filled : ℕ) → List TakenCommand → ℕ → Option TakenCommand
+taken_by filled rooms = λ slot. if bit filled slot then slice_get rooms slot else None
 
 -- the same as a list, from a slot on
-abbrev pub held_from : (slot filled : ℕ) → List TakenCommand → List (Option TakenCommand)
-held_from slot filled [] = []
-held_from slot filled (room ∷ rooms) = (if bit filled slot then Some room else None) ∷ held_from (slot + 1) filled rooms
+abbrev pub taken_from : (slot filled : ℕ) → List TakenCommand → List (Option TakenCommand)
+taken_from slot filled [] = []
+taken_from slot filled (room ∷ rooms) = (if bit filled slot then Some room else None) ∷ taken_from
+    (slot + 1) filled rooms
 
 -- Where a trim is taken, no other command is; and where it has brought its block, this is it. The first sector of each
 -- command has a number of 48 bits.

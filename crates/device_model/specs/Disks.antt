@@ -7,7 +7,7 @@ use Rattle.adapter.specs.declared.command.Operation.TheVariants.{Flush}
 use Rattle.sector_store.specs.declared.store.Failures.{Failures}
 use Rattle.device_model.specs.Cached.{HasOldRoom, KeepsNone, TurnsBack, lasting_in}
 use Rattle.device_model.specs.declared.bay.Bay.{Bay}
-use Rattle.device_model.specs.declared.bay.PageContents.{PageContents}
+use Rattle.device_model.specs.declared.bay.PageSource.{PageSource}
 use Rattle.device_model.specs.declared.disks.Disks.{Disks}
 use Rattle.device_model.specs.declared.disks.ModelDisk.{ModelDisk}
 use Rattle.device_model.specs.declared.disks.Plugged.{Plugged, Nothing, After'}
@@ -77,7 +77,7 @@ abbrev pub which_of : {S : Type 0} → Model S → ℕ → Option DiskIndex
 which_of {S} m port = option_map (λ (b : Bay S). b.which) (bay_of m port)
 
 -- what both say of themselves
-abbrev pub says_of : {S : Type 0} → Model S → ℕ → Option PageContents
+abbrev pub says_of : {S : Type 0} → Model S → ℕ → Option PageSource
 says_of {S} m port = option_map (λ (b : Bay S). b.says) (bay_of m port)
 
 -- the one or the other of them
@@ -107,8 +107,8 @@ abbrev pub has_cache : {S : Type 0} → Option (Bay S) → Bool
 has_cache None = false
 has_cache (Some b) = b.cache.is_on
 
-abbrev pub caches : {S : Type 0} → Model S → ℕ → Bool
-caches m port = has_cache (bay_of m port)
+abbrev pub port_has_cache : {S : Type 0} → Model S → ℕ → Bool
+port_has_cache m port = has_cache (bay_of m port)
 
 -- without growing, that of a port has room for the old bytes of so many sectors more
 abbrev pub HasOldRoomIn : {S : Type 0} → Option (Bay S) → ℕ → Type 0
@@ -147,7 +147,7 @@ pub record LosesCache {S : Type 0} (size : S → ℕ) (told : S → Option (ℕ 
   pub as_it_was : old.cache.is_on ≡ false → new.disk.store ≡ old.disk.store
 
 -- what the disks of this port say is another, if it has some, and nothing else
-abbrev pub SaysOnly : {S : Type 0} → (PageContents → PageContents) → ℕ → (old new : List (Option (Bay S))) → Type 0
+abbrev pub SaysOnly : {S : Type 0} → (PageSource → PageSource) → ℕ → (old new : List (Option (Bay S))) → Type 0
 SaysOnly {S} says port old new =
     new ≡ slice_set old port (option_map (λ (b : Bay S). record b { says = says b.says })
     (slice_index_or old port None))

@@ -1,7 +1,7 @@
 -- What a model makes of a step that it is told: when the step is possible, what it changes where it is done, and what
 -- stays where it is left (this project's own).
 use Rattle.std.specs.Prelude.{ℕ, Bool, true, false, ◌≡◌, ◌≢◌, ◌+◌, ◌-◌, min, ◌^◌, ◌<◌, ◌≤◌, ◌⊎◌, List, [], ◌∷◌, ◌++◌, Option, None, Some, if◌then◌else◌, nat_eq, option_map, IfSome}
-use Rattle.adapter.specs.Asked.{DoesClear, DoneOf, SlotGoesOn, busy, fatal_bit}
+use Rattle.adapter.specs.Asked.{DoesClear, DoesToldStep, SlotGoesOn, busy, fatal_bit}
 use Rattle.adapter.specs.Commands.{Meaning, is_queued, is_ranged, reads_memory}
 use Rattle.adapter.specs.Device.{Device, FetchedCommand}
 use Rattle.adapter.specs.Steps.{Can, device_after, done_entry, next_sector}
@@ -14,7 +14,7 @@ use Rattle.ata_types.specs.declared.Port.{Port}
 use Rattle.ata_types.specs.declared.Slot.{Slot}
 use Rattle.sector_store.specs.declared.store.Failures.{Failures}
 use Rattle.device_model.specs.Cached.{CallFails}
-use Rattle.device_model.specs.Disks.{HasOldRoomAt, HasOldRoomOf, LosesCache, bay_of, caches, disk_number, numbered_disk, disk_failures, identity, says_of, which_of}
+use Rattle.device_model.specs.Disks.{HasOldRoomAt, HasOldRoomOf, LosesCache, bay_of, port_has_cache, disk_number, numbered_disk, disk_failures, identity, says_of, which_of}
 use Rattle.device_model.specs.Finishing.{HasMove, TapeHasRoom, MayFinish}
 use Rattle.device_model.specs.Held.{held_after}
 use Rattle.device_model.specs.Modelled.{device_at}
@@ -27,7 +27,7 @@ use Rattle.device_model.specs.declared.disks.DiskIndex.TheVariants.{Disk0, Disk1
 use Rattle.device_model.specs.declared.hardware.Hardware.{Hardware}
 use Rattle.device_model.specs.Whole.{HasDisks}
 use Rattle.device_model.specs.declared.bay.Bay.{Bay}
-use Rattle.device_model.specs.declared.bay.PageContents.{PageContents}
+use Rattle.device_model.specs.declared.bay.PageSource.{PageSource}
 use Rattle.device_model.specs.declared.model.Model.{Model}
 use Rattle.device_model.specs.declared.model.StepOutcome.{StepOutcome}
 use Rattle.device_model.specs.declared.model.StepOutcome.TheVariants.{Left}
@@ -112,10 +112,10 @@ AsksStore step d = ⊥
 
 -- Each place of the memory has an address of 32 bits, for a step to which that matters: a Move, or a Finish of a
 -- command that is taken already.
-abbrev pub NeedsAddresses : DeviceStep → Device → Type 0
-NeedsAddresses (asked.Move p s) d = d.size ≤ 2 ^ 32
-NeedsAddresses (asked.Finish p s) d = (t : FetchedCommand) → (d.port p.0).taken s.0 ≡ Some t → d.size ≤ 2 ^ 32
-NeedsAddresses step d = Unit {0}
+abbrev pub IsAddressable : DeviceStep → Device → Type 0
+IsAddressable (asked.Move p s) d = d.size ≤ 2 ^ 32
+IsAddressable (asked.Finish p s) d = (t : FetchedCommand) → (d.port p.0).taken s.0 ≡ Some t → d.size ≤ 2 ^ 32
+IsAddressable step d = Unit {0}
 
 -- ---- what a step makes of a model
 
@@ -145,13 +145,13 @@ asked_port (asked.LosePlug p) = p.0
 
 -- what the disks of a port say of themselves once a command that is taken in a slot has failed with an error: the log
 -- names it, if it is queued
-abbrev pub says_failed : Option FetchedCommand → (slot error : ℕ) → Option PageContents → Option PageContents
+abbrev pub says_failed : Option FetchedCommand → (slot error : ℕ) → Option PageSource → Option PageSource
 says_failed None slot error says = says
 says_failed (Some t) slot error says =
     if is_queued t.meaning.operation then option_map (naming (record { tag = slot; error = error })) says else says
 
 -- and those of a step's port after the step, on this device: they lie once more, or not any more, or a command failed
-abbrev pub says_after : DeviceStep → Device → Option PageContents → Option PageContents
+abbrev pub says_after : DeviceStep → Device → Option PageSource → Option PageSource
 says_after (asked.Lie p page offset bits) d says = option_map (lying page offset bits) says
 says_after (asked.Truth p) d says = option_map truthful says
 says_after (asked.Fault p s error) d says = says_failed ((d.port p.0).taken s.0) s.0 error says
@@ -177,7 +177,7 @@ pub record StepKeeps {S : Type 0} (size : S → ℕ) (old new : Model S) : Type 
       → numbered_disk new port which ≡ numbered_disk old port which
   pub identities : (port : ℕ) (which : DiskIndex) → option_map (identity size) (numbered_disk new port which)
       ≡ option_map (identity size) (numbered_disk old port which)
-  pub caches : (port : ℕ) → caches new port ≡ caches old port
+  pub port_has_cache : (port : ℕ) → port_has_cache new port ≡ port_has_cache old port
   pub queue : new.queue ≡ old.queue
   pub accesses : new.accesses ≡ old.accesses
 
@@ -186,14 +186,14 @@ pub record StepKeeps {S : Type 0} (size : S → ℕ) (old new : Model S) : Type 
 -- Why a command fails on a sector, with this error (ACS-3, 6.2): the sector is past the disk (10h, ID not found); or
 -- one more call on the store of the disk has failed, that for this sector, or for what a cache keeps of it (40h,
 -- uncorrectable data).
-abbrev pub IsCause : (cached writes : Bool) (sector size error : ℕ) → (was now : Option Failures) → Type 0
-IsCause cached writes sector size error was now =
+abbrev pub IsSectorFault : (cached writes : Bool) (sector size error : ℕ) → (was now : Option Failures) → Type 0
+IsSectorFault cached writes sector size error was now =
     ((size ≤ sector) × (error ≡ 0x10) × (now ≡ was))
     ⊎ ((sector < size) × (error ≡ 0x40) × CallFails cached writes sector was now)
 
 -- What is issued in the slot fails as it is to be taken, since its bytes mean no command: with 04h, aborted. It is told
 -- as a plain one.
-pub record FailsToFetch (port slot : ℕ) (was now : Option Failures) (says after_it : Option PageContents)
+pub record FailsToFetch (port slot : ℕ) (was now : Option Failures) (says after_it : Option PageSource)
     (old new : Device) : Type 0 where
   pub can : Can (FetchFault port slot false 0) old
   pub sends : SendsFault false port (device_after (FetchFault port slot false 0) old) new
@@ -201,25 +201,26 @@ pub record FailsToFetch (port slot : ℕ) (was now : Option Failures) (says afte
   pub log : after_it ≡ says
 
 -- the slot's command fails on the sector that it moves next;
-pub record FailsToMove (cached : Bool) (port slot : ℕ) (was now : Option Failures) (says after_it : Option PageContents)
+pub record FailsToMove (cached : Bool) (port slot : ℕ) (was now : Option Failures) (says after_it : Option PageSource)
     (old new : Device) : Type 0 where
   pub t : FetchedCommand
   pub move : HasMove old port slot t
   pub ranged : is_ranged t.meaning.operation ≡ true
   pub error : ℕ
-  pub cause : IsCause cached (reads_memory t.meaning.operation) (next_sector t) (old.port port).disk.size error was now
+  pub cause : IsSectorFault cached (reads_memory t.meaning.operation) (next_sector t)
+      (old.port port).disk.size error was now
   pub can : Can (Fault port slot error 0 t) old
   pub sends : SendsFault (is_queued t.meaning.operation) port (device_after (Fault port slot error 0 t) old) new
   pub log : after_it ≡ says_failed (Some t) slot error says
 
 -- or on the one that it clears next
 pub record FailsToClear (cached : Bool) (port slot : ℕ) (was now : Option Failures)
-    (says after_it : Option PageContents)
+    (says after_it : Option PageSource)
     (old new : Device) : Type 0 where
   pub t : FetchedCommand
   pub clear : HasClear old port slot 1 t
   pub error : ℕ
-  pub cause : IsCause cached true (next_uncleared t) (old.port port).disk.size error was now
+  pub cause : IsSectorFault cached true (next_uncleared t) (old.port port).disk.size error was now
   pub can : Can (Fault port slot error 0 t) old
   pub sends : SendsFault (is_queued t.meaning.operation) port (device_after (Fault port slot error 0 t) old) new
   pub log : after_it ≡ says
@@ -236,7 +237,7 @@ ClearsFewer port slot most old new = (did : DoesClear port slot most old new) ×
 -- Finish as they come to a sector of those that they ask for on which it fails, a Move as it begins, and the others
 -- once they have done what comes before it. What the disks say after it tells of a queued one.
 abbrev pub StepFails : DeviceStep → (cached : Bool) → (was now : Option Failures)
-    → (says after_it : Option PageContents) → Device → Device → Type 0
+    → (says after_it : Option PageSource) → Device → Device → Type 0
 StepFails (asked.Fetch p s) cached was now says after_it old new = FailsToFetch p.0 s.0 was now says after_it old new
 StepFails (asked.Move p s) cached was now says after_it old new = FailsToMove cached p.0 s.0 was now says after_it old
     new
@@ -299,7 +300,7 @@ EndsIt step old new = Unit {0}
 -- what they say after it.
 pub record Completes {S : Type 0} (size : S → ℕ) (told : S → Option (ℕ → List ℕ)) (failures : S → Option Failures)
     (s : DeviceStep) (old new : Model S) : Type 0 where
-  pub asked : DoneOf (Sends s) s (device_at size told old) (device_at size told new)
+  pub asked : DoesToldStep (Sends s) s (device_at size told old) (device_at size told new)
   pub fine : is_losing s ≡ false → NoCallFailed failures old new
   pub says : says_of new (asked_port s) ≡ says_after s (device_at size told old) (says_of old (asked_port s))
   pub ends : (device_at size told old).size ≤ 2 ^ 32 → EndsIt s (device_at size told old) (device_at size told new)
@@ -311,7 +312,7 @@ abbrev pub CommandFails : {S : Type 0} → (S → ℕ) → (S → Option (ℕ �
     → Model S
     → Model S → Type 0
 CommandFails size told failures s old new =
-    StepFails s (caches old (asked_port s)) (disk_failures failures old (asked_port s))
+    StepFails s (port_has_cache old (asked_port s)) (disk_failures failures old (asked_port s))
     (disk_failures failures new (asked_port s))
     (says_of old (asked_port s)) (says_of new (asked_port s))
     (device_at size told old) (device_at size told new)
@@ -321,7 +322,7 @@ CommandFails size told failures s old new =
 -- is moved, cleared or written back; the disks of all other ports are as they were; each page that the tape has gained
 -- is as the disk that was in said before, and the log; and that nothing was left out for want of memory is told as it
 -- was.
-pub record Did {S : Type 0} (size : S → ℕ) (told : S → Option (ℕ → List ℕ)) (failures : S → Option Failures)
+pub record DidStep {S : Type 0} (size : S → ℕ) (told : S → Option (ℕ → List ℕ)) (failures : S → Option Failures)
     (s : DeviceStep) (old new : Model S) : Type 0 where
   pub came : Completes size told failures s old new ⊎ CommandFails size told failures s old new
   pub held : new.held ≡ held_after s old.held
@@ -345,7 +346,7 @@ pub record IsLeftOut {S : Type 0} (size : S → ℕ) (told : S → Option (ℕ �
   pub which : which_of new (asked_port s) ≡ which_of old (asked_port s)
   pub others : (port : ℕ) → port ≢ asked_port s → bay_of new port ≡ bay_of old port
   pub disks : (which : DiskIndex) → numbered_disk new (asked_port s) which ≡ numbered_disk old (asked_port s) which
-  pub why : NeedsAddresses s (device_at size told old) → Possible s (device_at size told old) →
+  pub why : IsAddressable s (device_at size told old) → Possible s (device_at size told old) →
       LacksMemory s (device_at size told old) old.hardware old.bays.items × (new.hardware.starved ≡ true)
   pub keeps : StepKeeps size old new
   pub starved_on : old.hardware.starved ≡ true → new.hardware.starved ≡ true
@@ -356,13 +357,14 @@ pub record IsLeftOut {S : Type 0} (size : S → ℕ) (told : S → Option (ℕ �
 -- it is left
 abbrev pub AnswersStep : {S : Type 0} → (S → ℕ) → (S → Option (ℕ → List ℕ)) → (S → Option Failures) → DeviceStep → Bool
     → Model S → Model S → Type 0
-AnswersStep size told failures s true old new = Possible s (device_at size told old) × Did size told failures s old new
+AnswersStep size told failures s true old new = Possible s (device_at size told old)
+    × DidStep size told failures s old new
 AnswersStep size told failures s false old new = IsLeftOut size told failures s old new
 
 -- What the model does by itself leaves: which ports are held, which disk is in each port, what the disks say of
 -- themselves, as each page tells that the tape has gained, and what no step changes. What was told of want of memory
 -- stays told.
-pub record GoesOnSo {S : Type 0} (size : S → ℕ) (old new : Model S) : Type 0 where
+pub record OwnStepsKeep {S : Type 0} (size : S → ℕ) (old new : Model S) : Type 0 where
   pub held : new.held ≡ old.held
   pub says : (port : ℕ) → says_of new port ≡ says_of old port
   pub which : (port : ℕ) → which_of new port ≡ which_of old port

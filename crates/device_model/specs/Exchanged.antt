@@ -8,12 +8,12 @@ use Rattle.sector_store.specs.declared.store.Failures.{Failures}
 use Rattle.device_model.specs.Cached.{CallFails, HasOldRoom}
 use Rattle.device_model.specs.Disks.{disk_over, identity, lasting_of}
 use Rattle.device_model.specs.Fetched.{bytes_of}
-use Rattle.device_model.specs.Paged.{IsItsLog, IsItsPage}
+use Rattle.device_model.specs.Paged.{IsSentLog, IsSentIdentify}
 use Rattle.device_model.specs.Trims.{written_ahead}
 use Rattle.device_model.specs.View.{transfer_operation}
 use Rattle.device_model.specs.declared.bay.Bay.{Bay}
 use Rattle.device_model.specs.declared.hardware.Hardware.{Hardware}
-use Rattle.device_model.specs.declared.port.Transfer.TheVariants.{Identify, ReadLog}
+use Rattle.device_model.specs.declared.port.CommandKind.TheVariants.{Identify, ReadLog}
 use Rattle.device_model.specs.declared.steps.NextMove.{NextMove}
 
 -- the bytes of memory that it moves
@@ -21,7 +21,7 @@ abbrev pub piece_of : Hardware → NextMove → List ℕ
 piece_of h next = bytes_at (bytes_of h.memory.items) next.address 512
 
 -- it was exchanged: it stands in memory, where nothing else is another; what the device reads there is as it was
-pub record IsExchanged (old new : Hardware) (next : NextMove) : Type 0 where
+pub record IsTransferred (old new : Hardware) (next : NextMove) : Type 0 where
   pub rest : new ≡ record old { memory = new.memory }
   pub size : length new.memory.items ≡ length old.memory.items
   pub put : bytes_of new.memory.items
@@ -31,7 +31,7 @@ pub record IsExchanged (old new : Hardware) (next : NextMove) : Type 0 where
 -- Bytes of memory, as they were and as they are now. The disk that is in has given them: the sector of a read, or its
 -- page. Or it has taken them as a write's sector, or they are a trim's block. Or the store has failed: it tells what it
 -- told, and the bytes are as they were. What is lasting of the disk stays so.
-pub record Exchanges {S : Type 0} (size : S → ℕ) (told : S → Option (ℕ → List ℕ)) (failures : S → Option Failures)
+pub record TransfersPiece {S : Type 0} (size : S → ℕ) (told : S → Option (ℕ → List ℕ)) (failures : S → Option Failures)
     (old new : Bay S) (next : NextMove) (before after : List ℕ) (done : Bool) : Type 0 where
   pub inside : done ≡ true → is_ranged (transfer_operation next.transfer) ≡ true → next.sector < size old.disk.store
   pub sector : IsSector after
@@ -40,8 +40,8 @@ pub record Exchanges {S : Type 0} (size : S → ℕ) (told : S → Option (ℕ �
       IfSome (told old.disk.store) (λ told. after ≡ told next.sector)
   pub takes : reads_memory (transfer_operation next.transfer) ≡ true → after ≡ before
   pub left : done ≡ false → after ≡ before
-  pub page : done ≡ true → next.transfer ≡ Identify → IsItsPage (identity size old.disk) old.says after
-  pub log : done ≡ true → next.transfer ≡ ReadLog → IsItsLog old.says after
+  pub page : done ≡ true → next.transfer ≡ Identify → IsSentIdentify (identity size old.disk) old.says after
+  pub log : done ≡ true → next.transfer ≡ ReadLog → IsSentLog old.says after
   pub same : is_ranged (transfer_operation next.transfer) ≡ false → new ≡ old
   pub disk : done ≡ true → disk_over old.which (size new.disk.store) (told new.disk.store)
       ≡ disk_after (transfer_operation next.transfer) (disk_over old.which (size old.disk.store) (told old.disk.store))

@@ -24,8 +24,9 @@ TapeHasRoom h n = vec_len h.tape + n ≤ vec_capacity h.tape
 
 -- A step wasn't done: it isn't possible, and nothing is another; or it is, and the tape had no memory for its one
 -- entry, which is told.
-abbrev pub IsPassed : Hardware → Hardware → Type 0 → Type 0
-IsPassed old new possible = ((possible → ⊥) × (new ≡ old)) ⊎ (possible × (TapeHasRoom old 1 → ⊥) × (new.starved ≡ true))
+abbrev pub IsStepSkipped : Hardware → Hardware → Type 0 → Type 0
+IsStepSkipped old new possible = ((possible → ⊥) × (new ≡ old))
+    ⊎ (possible × (TapeHasRoom old 1 → ⊥) × (new.starved ≡ true))
 
 -- each of these pieces is in a memory of this size
 abbrev pub AreInside : ℕ → List ℕ → Type 0
@@ -81,7 +82,7 @@ pub record HasPageCommand (d : Device) (port slot : ℕ) : Type 0 where
   pub low : AreInside (2 ^ 32) ready.t.places
 
 -- one that is issued in this slot may be taken, wherever its page is to go
-pub record MayPage (d : Device) (port slot : ℕ) : Type 0 where
+pub record MayTakePage (d : Device) (port slot : ℕ) : Type 0 where
   pub meaning : Meaning
   pub places : List ℕ
   pub sends : sends_page meaning.operation ≡ true
@@ -91,12 +92,12 @@ pub record MayPage (d : Device) (port slot : ℕ) : Type 0 where
 -- taken, but can't be done to its end; or neither.
 abbrev pub LooksForPage : Device → (port slot : ℕ) → Option Bool → Type 0
 LooksForPage d port slot (Some true) = HasPageCommand d port slot
-LooksForPage d port slot (Some false) = MayPage d port slot × (HasPageCommand d port slot → ⊥)
-LooksForPage d port slot None = (MayPage d port slot → ⊥) × (HasPageCommand d port slot → ⊥)
+LooksForPage d port slot (Some false) = MayTakePage d port slot × (HasPageCommand d port slot → ⊥)
+LooksForPage d port slot None = (MayTakePage d port slot → ⊥) × (HasPageCommand d port slot → ⊥)
 
 -- some command is taken on the port: so none that sends a page may be, which is alone
-abbrev pub IsBusy : Device → ℕ → Type 0
-IsBusy d port = (slot : ℕ) × (t : FetchedCommand) × ((d.port port).taken slot ≡ Some t)
+abbrev pub HasTakenCommand : Device → ℕ → Type 0
+HasTakenCommand d port = (slot : ℕ) × (t : FetchedCommand) × ((d.port port).taken slot ≡ Some t)
 
 -- there is room for the old bytes of each sector that the slot's command is going to change, of so many moves
 abbrev pub HasRoomAhead : Cache → (port slot left : ℕ) → Device → Type 0
@@ -106,8 +107,8 @@ HasRoomAhead cache port slot left d = (t : FetchedCommand) → (d.port port).tak
 -- ---- a command that is to be done to its end
 
 -- so many moves, and then so many clears, are left of this command, all of them possible with this memory
-abbrev pub IsRest : TakenCommand → List ℕ → (left clears : ℕ) → Type 0
-IsRest t memory left clears =
+abbrev pub IsRemaining : TakenCommand → List ℕ → (left clears : ℕ) → Type 0
+IsRemaining t memory left clears =
     IsCovered (taken_of t) (length memory) left
     × WillClear (transfer_operation t.transfer) (bytes_of memory) (taken_of t)
     clears

@@ -12,7 +12,7 @@ use Rattle.device_model.specs.Paged.{no_lies}
 use Rattle.device_model.specs.View.{Media}
 use Rattle.device_model.specs.Whole.{Outside, device_of, no_media}
 use Rattle.device_model.specs.declared.bay.Bay.{Bay}
-use Rattle.device_model.specs.declared.bay.PageContents.{PageContents}
+use Rattle.device_model.specs.declared.bay.PageSource.{PageSource}
 use Rattle.device_model.specs.declared.config.ModelConfig.{ModelConfig}
 use Rattle.device_model.specs.declared.disks.Disks.{Disks}
 use Rattle.device_model.specs.declared.disks.PortDisks.{PortDisks}
@@ -59,7 +59,7 @@ cap_of pi slots ncq = (count_ones pi - 1) + 256 * (slots - 1) + (if ncq then 2 ^
 -- A port's registers as a reset of the adapter leaves them: no device is seen, no link is due to come up, no first FIS
 -- came, no error and no cause is told (AHCI 1.3.1, 3.3 and 10.4.3); and neither a fault nor a fatal error has stopped
 -- it. Nothing was read or written yet, PxCLB and PxFB neither.
-pub record IsReset (p : DevicePort) : Type 0 where
+pub record HasResetValues (p : DevicePort) : Type 0 where
   pub addresses : p.bases ≡ record {
     clb = 0;
     fb = 0;
@@ -114,12 +114,12 @@ pub record IsNewAdapter {S : Type 0} (config : ModelConfig) (size : S → ℕ) (
   pub off : d.ae ≡ false
   pub silent : d.ie ≡ false
   pub zeros : (at : ℕ) → d.memory at ≡ 0
-  pub ports : (port : ℕ) → port < 4 → IsReset (d.port port)
+  pub ports : (port : ℕ) → port < 4 → HasResetValues (d.port port)
   pub idle : IsIdle d
 
 -- what disks say of themselves at first: they have the abilities of the configuration, and tell no lies, and the log
 -- names no command
-abbrev pub new_says : ModelConfig → PageContents
+abbrev pub new_says : ModelConfig → PageSource
 new_says config =
     record {
       abilities = record { ncq = config.ncq; depth = config.depth; trim = config.trim };

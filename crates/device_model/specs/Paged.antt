@@ -6,10 +6,10 @@ use Rattle.adapter.specs.declared.command.Operation.TheVariants.{Identify, ReadL
 use Rattle.adapter.specs.declared.tape.Entry.{Entry}
 use Rattle.adapter.specs.declared.tape.Entry.TheVariants as entry
 use Rattle.adapter.specs.declared.tape.Move.{Move}
-use Rattle.sector_store.specs.Pages.{IsLogPage, IsPage}
+use Rattle.sector_store.specs.Pages.{IsLogPage, IsIdentifyPage}
 use Rattle.sector_store.specs.declared.pages.LoggedError.{LoggedError}
 use Rattle.device_model.specs.Disks.{Identity, identity_of, says_of}
-use Rattle.device_model.specs.declared.bay.PageContents.{PageContents}
+use Rattle.device_model.specs.declared.bay.PageSource.{PageSource}
 use Rattle.device_model.specs.declared.model.Model.{Model}
 
 -- a disk that tells no lies
@@ -24,25 +24,25 @@ pub record IsTurned (page bits bytes : List ℕ) : Type 0 where
 
 -- the page of IDENTIFY DEVICE of a disk with this serial number and so many sectors, and these abilities, with the bits
 -- turned on which it lies
-pub record IsItsPage (disk : Identity) (says : PageContents) (bytes : List ℕ) : Type 0 where
+pub record IsSentIdentify (disk : Identity) (says : PageSource) (bytes : List ℕ) : Type 0 where
   pub page : List ℕ
-  pub true_page : IsPage disk.serial disk.size says.abilities page
+  pub true_page : IsIdentifyPage disk.serial disk.size says.abilities page
   pub turned : IsTurned page says.lies bytes
 
 -- the page of log 10h, which names the queued command that failed last, or none, with the bits turned on which the
 -- disks lie
-pub record IsItsLog (says : PageContents) (bytes : List ℕ) : Type 0 where
+pub record IsSentLog (says : PageSource) (bytes : List ℕ) : Type 0 where
   pub page : List ℕ
   pub true_page : IsLogPage says.log page
   pub turned : IsTurned page says.log_lies bytes
 
 -- the move is of no page, or brings the page of the disk, or of the log
-pub record BringsIts (disk : Identity) (says : PageContents) (m : Move) : Type 0 where
-  pub identity : m.operation ≡ Identify → IsItsPage disk says m.bytes.value
-  pub log : m.operation ≡ ReadLog → IsItsLog says m.bytes.value
+pub record BringsIts (disk : Identity) (says : PageSource) (m : Move) : Type 0 where
+  pub identity : m.operation ≡ Identify → IsSentIdentify disk says m.bytes.value
+  pub log : m.operation ≡ ReadLog → IsSentLog says m.bytes.value
 
 -- the same of what is in a port; where there are no disks, nothing is moved
-abbrev pub BringsOf : Option Identity → Option PageContents → Move → Type 0
+abbrev pub BringsOf : Option Identity → Option PageSource → Move → Type 0
 BringsOf (Some disk) (Some says) m = BringsIts disk says m
 BringsOf _ _ m = ⊥
 
@@ -59,14 +59,14 @@ abbrev pub turned : List ℕ → ℕ → ℕ → List ℕ
 turned lies offset bits = slice_set lies offset (bit_xor (slice_index lies offset) bits)
 
 -- one more lie of this page
-abbrev pub lying : DiskPage → (offset bits : ℕ) → PageContents → PageContents
+abbrev pub lying : DiskPage → (offset bits : ℕ) → PageSource → PageSource
 lying disk_page.Identity offset bits says = record says { lies = turned says.lies offset bits }
 lying disk_page.Log offset bits says = record says { log_lies = turned says.log_lies offset bits }
 
 -- no lies any more
-abbrev pub truthful : PageContents → PageContents
+abbrev pub truthful : PageSource → PageSource
 truthful says = record says { lies = no_lies; log_lies = no_lies }
 
 -- the log names this command
-abbrev pub naming : LoggedError → PageContents → PageContents
+abbrev pub naming : LoggedError → PageSource → PageSource
 naming failed says = record says { log = Some failed }

@@ -1,8 +1,8 @@
 -- A command that sends a page to the driver is taken, as the model does by itself.
 use Rattle.std.specs.Prelude.{ℕ, ◌≡◌, ◌≢◌, List, Bool, Option}
 use Rattle.device_model.specs.Disks.{numbered_disk}
-use Rattle.device_model.specs.Does.{GoesOnSo}
-use Rattle.device_model.specs.Finishing.{HasPageCommand, IsBusy, MayPage, TapeHasRoom}
+use Rattle.device_model.specs.Does.{OwnStepsKeep}
+use Rattle.device_model.specs.Finishing.{HasPageCommand, HasTakenCommand, MayTakePage, TapeHasRoom}
 use Rattle.device_model.specs.Held.{IsPortLoose}
 use Rattle.device_model.specs.Modelled.{device_at}
 use Rattle.device_model.specs.Settled.{IsSettled, LeadsOwn, SendsPages}
@@ -19,14 +19,14 @@ pub record TakesPage {S : Type 0} (size : S → ℕ) (told : S → Option (ℕ �
       → LeadsOwn (SendsPages held) (device_at size told old) (device_at size told new)
   pub settled : (held : List Bool) → IsSettled held (device_at size told old)
       → IsSettled held (device_at size told new)
-  pub taken : IsBusy (device_at size told new) port
-  pub stuck : MayPage (device_at size told old) port slot → (other : ℕ)
+  pub taken : HasTakenCommand (device_at size told new) port
+  pub stuck : MayTakePage (device_at size told old) port slot → (other : ℕ)
       → HasPageCommand (device_at size told new) port other → HasPageCommand (device_at size told old) port slot
   pub left : (has : HasPageCommand (device_at size told old) port slot)
       → (now : HasPageCommand (device_at size told new) port slot) × (now.left ≡ has.left)
   pub others : (q : ℕ) → q ≢ port → (device_at size told new).port q ≡ (device_at size told old).port q
   pub as_large : (device_at size told new).size ≡ (device_at size told old).size
-  pub rest : GoesOnSo size old new
+  pub rest : OwnStepsKeep size old new
   pub room : (n : ℕ) → TapeHasRoom new.hardware n → TapeHasRoom old.hardware n
   pub starved : new.hardware.starved ≡ old.hardware.starved
   pub disks : (q : ℕ) (w : DiskIndex) → numbered_disk new q w ≡ numbered_disk old q w

@@ -13,14 +13,14 @@ use Rattle.device_model.specs.Settled.{DoesOwn, EndsReset, LeavesOne}
 use Rattle.device_model.specs.Modelled.{device_at}
 use Rattle.device_model.specs.declared.disks.DiskIndex.{DiskIndex}
 use Rattle.device_model.specs.declared.model.Model.{Model}
-use Rattle.device_model.specs.declared.model.Queued.{Queued}
+use Rattle.device_model.specs.declared.model.QueuedStep.{QueuedStep}
 
 -- the steps that are due by this access, in their order
-abbrev pub due : ℕ → List Queued → List DeviceStep
+abbrev pub due : ℕ → List QueuedStep → List DeviceStep
 due access queue = map (λ q. q.step) (filter (λ q. nat_le q.access access) queue)
 
 -- those that are not due yet, in their order
-abbrev pub not_due : ℕ → List Queued → List Queued
+abbrev pub not_due : ℕ → List QueuedStep → List QueuedStep
 not_due access queue = filter (λ q. nat_lt access q.access) queue
 
 -- these steps one after another, each done where it is possible then, or left

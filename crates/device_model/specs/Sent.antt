@@ -1,6 +1,6 @@
 -- The FISes that the model sends, in the received FIS area of a port (Serial ATA; AHCI 1.3.1, 4.2.1).
 use Rattle.std.specs.Prelude.{ℕ, Bool, true, false, ◌≡◌, ◌+◌, ◌/◌, ◌%◌, ◌^◌, ◌&&◌, List, bit_and, bit_or, nat_le}
-use Rattle.ata_types.specs.declared.memory.TheConstants.{RECEIVED_BYTES}
+use Rattle.ata_types.specs.declared.memory.TheConstants.{RECEIVED_FIS_BYTES}
 use Rattle.adapter.specs.Asked.{IsPosted, PostsNone}
 use Rattle.adapter.specs.Commands.{is_queued}
 use Rattle.adapter.specs.Device.{DevicePort, Device}
@@ -41,30 +41,37 @@ end_fis p = record { interrupt = true; status = p.tfd % 256; error = p.tfd / 256
 
 -- the queued command of a slot ended without error: its tag, and the status without BSY and DRQ, which this FIS doesn't
 -- set
-abbrev pub tag_of : ℕ → DevicePort → SetDeviceBits
-tag_of slot p = record { interrupt = true; status = bit_and (p.tfd % 256) 0x77; error = p.tfd / 256; tags = 2 ^ slot }
+abbrev pub tag_fis : ℕ → DevicePort → SetDeviceBits
+tag_fis slot p = record { interrupt = true; status = bit_and (p.tfd % 256) 0x77; error = p.tfd / 256; tags = 2 ^ slot }
 
 -- a queued command failed: no tag is named, since none has ended
-abbrev pub no_tag_of : DevicePort → SetDeviceBits
-no_tag_of p = record (tag_of 0 p) { tags = 0 }
+abbrev pub no_tag_fis : DevicePort → SetDeviceBits
+no_tag_fis p = record (tag_fis 0 p) { tags = 0 }
 
 -- the first FIS of an ATA disk: its signature has LBA 1 and count 1 (ACS-3), as PxSIG shows it; it asks for no
 -- interrupt
-abbrev pub signature_of : DevicePort → DeviceToHost
-signature_of p = record { interrupt = false; status = p.tfd % 256; error = p.tfd / 256; lba = 1; device = 0; count = 1 }
+abbrev pub signature_fis : DevicePort → DeviceToHost
+signature_fis p = record {
+  interrupt = false;
+  status = p.tfd % 256;
+  error = p.tfd / 256;
+  lba = 1;
+  device = 0;
+  count = 1;
+}
 
 -- ---- where it comes
 
 -- The port receives FISes, and its area is in the memory.
-abbrev pub is_received : DevicePort → ℕ → Bool
-is_received p size = p.fre && nat_le (p.bases.fb + RECEIVED_BYTES) size
+abbrev pub receives_fis : DevicePort → ℕ → Bool
+receives_fis p size = p.fre && nat_le (p.bases.fb + RECEIVED_FIS_BYTES) size
 
 -- The bytes stand at this place of the port's received FIS area, and nothing else is another; or they are lost, where
 -- the port doesn't receive them.
 pub record IsSent (port place : ℕ) (bytes : List ℕ) (old new : Device) : Type 0 where
-  pub posted : is_received (old.port port) old.size ≡ true → IsPosted port ((old.port port).bases.fb + place) bytes old
+  pub posted : receives_fis (old.port port) old.size ≡ true → IsPosted port ((old.port port).bases.fb + place) bytes old
       new
-  pub lost : is_received (old.port port) old.size ≡ false → new ≡ old
+  pub lost : receives_fis (old.port port) old.size ≡ false → new ≡ old
 
 -- where a PIO Setup FIS, a Register FIS and a Set Device Bits FIS stand in the area (AHCI 1.3.1, 4.2.1)
 abbrev pub SendsSetup : ℕ → PioSetup → Device → Device → Type 0
@@ -85,14 +92,14 @@ SendsBits port fis old new = (bytes : List ℕ) × EncodesSetDeviceBits bytes fi
 abbrev pub SendsEnd : (slot port flag : ℕ) → Operation → Device → Device → Type 0
 SendsEnd slot port flag Identify old new = (flag ≡ 1) × SendsSetup port (page_setup (old.port port)) old new
 SendsEnd slot port flag ReadLog old new = (flag ≡ 1) × SendsSetup port (page_setup (old.port port)) old new
-SendsEnd slot port flag ReadQueued old new = (flag ≡ 3) × SendsBits port (tag_of slot (old.port port)) old new
-SendsEnd slot port flag WriteQueued old new = (flag ≡ 3) × SendsBits port (tag_of slot (old.port port)) old new
+SendsEnd slot port flag ReadQueued old new = (flag ≡ 3) × SendsBits port (tag_fis slot (old.port port)) old new
+SendsEnd slot port flag WriteQueued old new = (flag ≡ 3) × SendsBits port (tag_fis slot (old.port port)) old new
 SendsEnd slot port flag _ old new = (flag ≡ 0) × SendsRegisters port (end_fis (old.port port)) old new
 
 -- As a command fails, with TFES of PxIS: of a queued one a Set Device Bits FIS, and of another one, or of what means
 -- none, a Register FIS (TFES: AHCI 1.3.1, 3.3.5).
 abbrev pub SendsFault : (queued : Bool) → (port : ℕ) → Device → Device → Type 0
-SendsFault true port old new = SendsBits port (no_tag_of (old.port port)) old new
+SendsFault true port old new = SendsBits port (no_tag_fis (old.port port)) old new
 SendsFault false port old new = SendsRegisters port (end_fis (old.port port)) old new
 
 abbrev pub SendsFailed : (port flag : ℕ) → Operation → Device → Device → Type 0
@@ -109,5 +116,5 @@ Sends step = PostsNone
 -- after a step that the model does by itself: as a command ends, and as the link comes up
 abbrev pub SendsAfter : DeviceTransition → Device → Device → Type 0
 SendsAfter (Done port slot flag t) old new = SendsEnd slot port flag t.meaning.operation old new
-SendsAfter (LinkUp port sig n) old new = SendsRegisters port (signature_of (old.port port)) old new
+SendsAfter (LinkUp port sig n) old new = SendsRegisters port (signature_fis (old.port port)) old new
 SendsAfter step old new = new ≡ old

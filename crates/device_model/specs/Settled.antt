@@ -3,7 +3,7 @@ use Rattle.std.specs.Prelude.{ℕ, Bool, true, false, ◌≡◌, ◌≢◌, ◌+
 use Rattle.adapter.specs.Device.{DevicePort, Device}
 use Rattle.adapter.specs.Steps.{DeviceTransition, Can, MayLinkUp, device_after, with_port}
 use Rattle.adapter.specs.Steps.DeviceTransition.{Fetch, Move, Done, Fall, FrFall, LinkUp, ResetEnds}
-use Rattle.device_model.specs.Finishing.{HasPageCommand, TapeHasRoom, MayPage, sends_page}
+use Rattle.device_model.specs.Finishing.{HasPageCommand, TapeHasRoom, MayTakePage, sends_page}
 use Rattle.device_model.specs.Held.{IsPortHeld, IsPortLoose, all_held, none_held}
 use Rattle.device_model.specs.Sent.{SendsAfter}
 use Rattle.device_model.specs.Whole.{HasDisks}
@@ -28,11 +28,11 @@ IsSettling (LinkUp port sig n) = Unit {0}
 IsSettling step = ⊥
 
 -- IDENTIFY DEVICE or READ LOG EXT is taken, moved or ended
-abbrev pub IsPaging : DeviceTransition → Type 0
-IsPaging (Fetch port slot meaning places) = Unit {0}
-IsPaging (Move port slot t bytes) = Unit {0}
-IsPaging (Done port slot flag t) = Unit {0}
-IsPaging step = ⊥
+abbrev pub IsPageStep : DeviceTransition → Type 0
+IsPageStep (Fetch port slot meaning places) = Unit {0}
+IsPageStep (Move port slot t bytes) = Unit {0}
+IsPageStep (Done port slot flag t) = Unit {0}
+IsPageStep step = ⊥
 
 -- such a step of the model's own
 abbrev pub Settles : List Bool → DeviceTransition → Type 0
@@ -40,7 +40,7 @@ Settles held step = IsOwn held step × IsSettling step
 
 -- or such a one
 abbrev pub SendsPages : List Bool → DeviceTransition → Type 0
-SendsPages held step = IsOwn held step × IsPaging step
+SendsPages held step = IsOwn held step × IsPageStep step
 
 -- steps one after another, each with the FIS that is sent after it
 abbrev pub LeadsSending : List DeviceTransition → Device → Device → Type 0
@@ -91,7 +91,7 @@ pub record IsSettled (held : List Bool) (d : Device) : Type 0 where
 -- unless the port is held; nor one that can be done to its end, unless the port is held, or it is told that something
 -- was left out for want of memory. To take one needs no memory.
 pub record NoneIsLeft (held : List Bool) (starved : Bool) (d : Device) : Type 0 where
-  pub taken : (port slot : ℕ) → port < 4 → slot < 32 → HasDisks d port → MayPage d port slot → IsPortHeld held port
+  pub taken : (port slot : ℕ) → port < 4 → slot < 32 → HasDisks d port → MayTakePage d port slot → IsPortHeld held port
   pub done : (port slot : ℕ) → port < 4 → slot < 32 → HasDisks d port → HasPageCommand d port slot
       → IsPortHeld held port
       ⊎ (starved ≡ true)

@@ -3,22 +3,22 @@ use Rattle.std.specs.Prelude.{ℕ, true, ◌≡◌, ◌+◌, ◌*◌, ◌^◌, �
 use Rattle.adapter.specs.Commands.{is_ranged}
 use Rattle.adapter.specs.Device.{DevicePort}
 use Rattle.adapter.specs.Decoding.{pieces}
-use Rattle.adapter.specs.Steps.{IsFetchable, IsWorking, IsAlone, WorksOn, admits, next_sector}
+use Rattle.adapter.specs.Steps.{IsFetchable, IsWorking, IsUnmixed, WorksOn, admits, next_sector}
 use Rattle.adapter.specs.declared.command.Operation.{Operation}
-use Rattle.device_model.specs.View.{Media, halt_of, held_in, port_of, transfer_operation, taken_of, blank_port}
+use Rattle.device_model.specs.View.{Media, halt_of, taken_in, port_of, transfer_operation, taken_of, blank_port}
 use Rattle.device_model.specs.declared.port.TakenCommand.{TakenCommand}
 use Rattle.device_model.specs.declared.port.PortModel.{PortModel}
 use Rattle.device_model.specs.declared.hardware.Hardware.{Hardware}
 use Rattle.device_model.specs.declared.steps.NextMove.{NextMove}
 use Rattle.device_model.specs.declared.clearing.SectorExtent.{SectorExtent}
-use Rattle.device_model.specs.declared.port.Transfer.TheVariants.{Trim}
+use Rattle.device_model.specs.declared.port.CommandKind.TheVariants.{Trim}
 use Rattle.device_model.specs.Trims.{next_uncleared, span, uncleared}
 
 -- a command of this operation in this slot may be taken, if its bytes say one
 pub record MayTake (p : DevicePort) (slot : ℕ) (operation : Operation) : Type 0 where
   pub fetchable : IsFetchable p slot
   pub working : IsWorking p operation
-  pub alone : IsAlone p operation
+  pub alone : IsUnmixed p operation
 
 -- the slot has a command that is issued and not taken, on a port that works: it may be taken, if its bytes say one that
 -- may be now
@@ -29,11 +29,11 @@ HasUntaken p slot =
 
 -- such a command may be now: no fault keeps it waiting, and it goes beside those that are taken
 abbrev pub IsOpenTo : PortModel → Operation → Type 0
-IsOpenTo p operation = (admits (halt_of p.halting) operation ≡ true) × ((m : Media) → IsAlone (port_of p m) operation)
+IsOpenTo p operation = (admits (halt_of p.halting) operation ≡ true) × ((m : Media) → IsUnmixed (port_of p m) operation)
 
 -- the port works on this command, which it has taken in this slot
 pub record WorksOnIn (p : PortModel) (slot : ℕ) (t : TakenCommand) : Type 0 where
-  pub held : held_in p.taken slot ≡ Some t
+  pub held : taken_in p.taken slot ≡ Some t
   pub works : (m : Media) → WorksOn (port_of p m) slot (taken_of t) (transfer_operation t.transfer)
 
 -- so many of the next sectors of this command can be cleared: a trim whose block was moved, and of which as many are

@@ -1,7 +1,7 @@
 -- Why the adapter's law on its disks holds of a model: each model tells its disks' sectors if it is one that tells.
 use Rattle.std.proofs.Common.{ℕ, Bool, zero, suc, true, false, ◌≡◌, ◌&&◌, List, [], ◌∷◌, Option, None, Some, refl, subst, slice_index_or}
 use Rattle.std.specs.Prelude.{is_some}
-use Rattle.adapter.specs.Device.{TellsItsSectors}
+use Rattle.adapter.specs.Device.{HasKnownSectors}
 use Rattle.device_model.specs.Modelled.{all_tell, media_of, outside_of, tells}
 use Rattle.device_model.specs.declared.bay.Bay.{Bay}
 
@@ -10,7 +10,7 @@ is_told None other telling = absurd (let e : false ≡ true = telling in cc)
 is_told (Some f) other telling = (f, refl)
 
 module _ {S : Type 0} (size : S → ℕ) (told : S → Option (ℕ → List ℕ)) where
-  pub bay_told : (b : Option (Bay S)) → tells told b ≡ true → TellsItsSectors (media_of size told b).disk
+  pub bay_told : (b : Option (Bay S)) → tells told b ≡ true → HasKnownSectors (media_of size told b).disk
   bay_told None telling = ((λ k. []), refl)
   bay_told (Some b) telling = is_told (told b.disk.store) (told b.other.store) telling
 
@@ -29,5 +29,5 @@ module _ {S : Type 0} (size : S → ℕ) (told : S → Option (ℕ → List ℕ)
       by false e = absurd (let no : false ≡ true = e in cc)
 
   pub disks_told : (bays : List (Option (Bay S))) → all_tell told bays ≡ true → (port : ℕ)
-      → TellsItsSectors ((outside_of size told bays).media port).disk
+      → HasKnownSectors ((outside_of size told bays).media port).disk
   disks_told bays telling port = bay_told (slice_index_or bays port None) (each_tells bays telling port)

@@ -4,7 +4,7 @@ use Rattle.adapter.specs.Asked.{busy}
 use Rattle.adapter.specs.Device.{Disk, FetchedCommand, Bases, Halt, Notes, DevicePort}
 use Rattle.adapter.specs.Device.Halt.{NotHalted, HaltedPlain, HaltedQueued, LogOnly}
 use Rattle.adapter.specs.Decoding.{pieces}
-use Rattle.adapter.specs.Access.{unacknowledged}
+use Rattle.adapter.specs.Access.{with_is_cleared}
 use Rattle.adapter.specs.Steps.{next_sector, disk_after, disk_cleared}
 use Rattle.hba_regs.specs.Bits.{bit}
 use Rattle.adapter.specs.declared.command.Operation.{Operation}
@@ -16,8 +16,8 @@ use Rattle.device_model.specs.declared.halt.Halting.TheVariants as halting
 use Rattle.device_model.specs.declared.port.Addresses.{Addresses}
 use Rattle.device_model.specs.declared.port.Readings.{Readings}
 use Rattle.device_model.specs.declared.port.TakenCommand.{TakenCommand}
-use Rattle.device_model.specs.declared.port.Transfer.{Transfer}
-use Rattle.device_model.specs.declared.port.Transfer.TheVariants as transfer
+use Rattle.device_model.specs.declared.port.CommandKind.{CommandKind}
+use Rattle.device_model.specs.declared.port.CommandKind.TheVariants as transfer
 use Rattle.device_model.specs.declared.port.PortModel.{PortModel}
 
 abbrev pub bases_of : Addresses → Bases
@@ -49,7 +49,7 @@ notes_of r =
       acknowledged = r.acknowledged;
     }
 
-abbrev pub transfer_operation : Transfer → Operation
+abbrev pub transfer_operation : CommandKind → Operation
 transfer_operation transfer.Read = Read
 transfer_operation transfer.Write = Write
 transfer_operation transfer.ReadQueued = ReadQueued
@@ -61,7 +61,7 @@ transfer_operation transfer.ReadLog = ReadLog
 
 -- the cause in PxIS that its end sets: PSS where its data go by PIO, SDBS where it was queued, and else DHRS (AHCI
 -- 1.3.1, 3.3.5)
-abbrev pub cause_of : Transfer → ℕ
+abbrev pub cause_of : CommandKind → ℕ
 cause_of transfer.Identify = 1
 cause_of transfer.ReadLog = 1
 cause_of transfer.ReadQueued = 3
@@ -69,8 +69,8 @@ cause_of transfer.WriteQueued = 3
 cause_of _ = 0
 
 -- which of BSY and DRQ a command that failed has left set: BSY, where its disk is left busy
-abbrev pub kept_by : Bool → ℕ
-kept_by left_busy = if left_busy then busy else 0
+abbrev pub busy_if_left : Bool → ℕ
+busy_if_left left_busy = if left_busy then busy else 0
 
 -- what a fault has made of a port
 abbrev pub halt_of : Halting → Halt
@@ -90,8 +90,8 @@ taken_of t =
     }
 
 -- what is in each slot, of a list of them
-abbrev pub held_in : List (Option TakenCommand) → ℕ → Option TakenCommand
-held_in slots = λ slot. slice_index_or slots slot None
+abbrev pub taken_in : List (Option TakenCommand) → ℕ → Option TakenCommand
+taken_in slots = λ slot. slice_index_or slots slot None
 
 -- the command that is taken in each slot
 abbrev pub taken_slots : (ℕ → Option TakenCommand) → ℕ → Option FetchedCommand
@@ -148,13 +148,13 @@ port_of p m =
       link_due = p.link_due;
       halt = halt_of p.halting;
       broken = p.broken;
-      taken = taken_slots (held_in p.taken);
+      taken = taken_slots (taken_in p.taken);
       notes = notes_of p.readings;
     }
 
 -- what becomes of each port where these bits of IS are written
 abbrev pub acknowledging : ℕ → ℕ → DevicePort → DevicePort
-acknowledging value port p = if bit value port then unacknowledged p else p
+acknowledging value port p = if bit value port then with_is_cleared p else p
 
 -- a port that isn't there, as after a reset
 abbrev pub blank_port : PortModel

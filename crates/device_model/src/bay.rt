@@ -5,20 +5,20 @@ ghost use Rattle.adapter.specs.Device.{Disk, IsSector};
 ghost use Rattle.adapter.specs.Steps.{disk_after, disk_cleared};
 ghost use Rattle.device_model.specs.Cached.{CallFails, HasOldRoom, KeepsTheSame, lasting_in};
 ghost use Rattle.device_model.specs.Disks.{EndsOnly, EndsCommand, LosesCache, SaysOnly, disk_in_bay, disk_over, identity, is_same, lasting_of, plugged_as};
-ghost use Rattle.device_model.specs.Exchanged.{Exchanges, IsExchanged, piece_of};
+ghost use Rattle.device_model.specs.Exchanged.{TransfersPiece, IsTransferred, piece_of};
 ghost use Rattle.device_model.specs.Finishing.{HasRoomAhead, IsBegun, IsUnbegun};
 ghost use Rattle.device_model.specs.Modelled.{AreNewDisks};
-ghost use Rattle.device_model.specs.Paged.{IsItsLog, IsItsPage, IsTurned, lying, naming, truthful};
+ghost use Rattle.device_model.specs.Paged.{IsSentLog, IsSentIdentify, IsTurned, lying, naming, truthful};
 ghost use Rattle.device_model.specs.Trims.{written_ahead};
 ghost use Rattle.device_model.specs.View.{transfer_operation};
 ghost use Rattle.device_model.specs.Whole.{Outside, device_of};
 ghost use Rattle.device_model.specs.Zeroed.{MakesZero};
 
-use crate::cache::{Cache, put_sector, write_back};
+use crate::cache::{Cache, put_sector, roll_back};
 use crate::clearing::SectorExtent;
 use crate::disks::{DiskIndex, ModelDisk, Plugged, PortDisks};
 use crate::hardware::Hardware;
-use crate::port::Transfer;
+use crate::port::CommandKind;
 use crate::steps::{CommandToFinish, NextMove};
 use adapter::DiskPage;
 use sector_store::SectorStore;
@@ -35,7 +35,7 @@ const ZEROS: [u8; 512] = [0; 512];
 /// What the disks of a port say of themselves by their pages of IDENTIFY DEVICE, beside their sizes and serial numbers,
 /// and by the page of log 10h.
 #[derive(Clone, Copy, Debug)]
-pub struct PageContents {
+pub struct PageSource {
     pub abilities: Abilities,
     /// The queued command that failed last.
     pub log: Option<LoggedError>,
@@ -55,7 +55,7 @@ pub struct Bay<S> {
     /// The other one.
     pub other: ModelDisk<S>,
     /// What the pages of both say of them.
-    pub says: PageContents,
+    pub says: PageSource,
     /// The disk that was in at first, as it was then, for proofs alone.
     pub first: Snapshot<S>,
     /// Those that were put in after it, for proofs alone.
@@ -111,7 +111,7 @@ impl<S: SectorStore> Bay<S> {
             which: DiskIndex::Disk0,
             disk: disks.first,
             other: disks.spare,
-            says: PageContents {
+            says: PageSource {
                 abilities,
                 log: None,
                 lies: [0; PAGE_BYTES],
@@ -128,7 +128,7 @@ impl<S: SectorStore> Bay<S> {
     /// for this page alone, since its frame has room for one, which is cleared at each entry.
     #[inline(never)]
     fn give_identity(&self, bytes: &mut [u8; 512])
-        ensures page { IsItsPage (identity S.size self.now.disk) self.now.says bytes.new }
+        ensures page { IsSentIdentify (identity S.size self.now.disk) self.now.says bytes.new }
         ensures bytes { IsSector bytes.new }
     {
         *bytes = self.disk.page(self.says.abilities);
@@ -139,7 +139,7 @@ impl<S: SectorStore> Bay<S> {
     /// `give_identity`.
     #[inline(never)]
     fn give_log(&self, bytes: &mut [u8; 512])
-        ensures page { IsItsLog self.now.says bytes.new }
+        ensures page { IsSentLog self.now.says bytes.new }
         ensures bytes { IsSector bytes.new }
     {
         *bytes = log_page(self.says.log);
@@ -152,25 +152,25 @@ impl<S: SectorStore> Bay<S> {
     #[inline(always)]
     fn transfer_bytes(&mut self, next: NextMove, ahead: u32, bytes: &mut [u8; 512]) -> bool
         requires { HasOldRoom self.old.cache (written_ahead (transfer_operation next.transfer) 1) }
-        ensures { Exchanges S.size S.told S.failures self.old self.new next bytes.old bytes.new result }
+        ensures { TransfersPiece S.size S.told S.failures self.old self.new next bytes.old bytes.new result }
     {
         match next.transfer {
-            Transfer::Read | Transfer::ReadQueued => {
+            CommandKind::Read | CommandKind::ReadQueued => {
                 self.disk.store.read_ahead(next.sector, ahead, bytes)
             }
-            Transfer::Write | Transfer::WriteQueued => {
+            CommandKind::Write | CommandKind::WriteQueued => {
                 put_sector(&mut self.disk.store, &mut self.cache, next.sector, bytes)
             }
-            Transfer::Identify => {
+            CommandKind::Identify => {
                 self.give_identity(bytes);
                 true
             }
-            Transfer::ReadLog => {
+            CommandKind::ReadLog => {
                 self.give_log(bytes);
                 true
             }
             // A trim's block is in memory. A flush has no piece that could bring anything.
-            Transfer::Trim | Transfer::Flush => true,
+            CommandKind::Trim | CommandKind::Flush => true,
         }
     }
 
@@ -179,7 +179,7 @@ impl<S: SectorStore> Bay<S> {
     fn transfer_within(&mut self, next: NextMove, ahead: u32, piece: &mut [u8]) -> bool
         requires long { length piece.old ≡ 512 }
         requires room { HasOldRoom self.old.cache (written_ahead (transfer_operation next.transfer) 1) }
-        ensures { Exchanges S.size S.told S.failures self.old self.new next piece.old piece.new result }
+        ensures { TransfersPiece S.size S.told S.failures self.old self.new next piece.old piece.new result }
     {
         let Some(bytes) = piece.as_mut_array() else {
             unreachable!()
@@ -193,9 +193,9 @@ impl<S: SectorStore> Bay<S> {
     pub fn transfer_piece(&mut self, hardware: &mut Hardware, next: NextMove, ahead: u32) -> bool
         requires inside { next.address + 512 ≤ length hardware.old.memory.items }
         requires room { HasOldRoom self.old.cache (written_ahead (transfer_operation next.transfer) 1) }
-        ensures exchanges { Exchanges S.size S.told S.failures self.old self.new next
+        ensures exchanges { TransfersPiece S.size S.told S.failures self.old self.new next
             (piece_of hardware.old next) (piece_of hardware.new next) result }
-        ensures memory { IsExchanged hardware.old hardware.new next }
+        ensures memory { IsTransferred hardware.old hardware.new next }
         ensures stays { result ≡ false → (o : Outside) → device_of hardware.new o ≡ device_of hardware.old o }
     {
         let at = next.address as usize;
@@ -278,11 +278,11 @@ impl<S: SectorStore> Bay<S> {
     }
 
     /// Such a command has ended: a flush makes lasting what the disk that is in holds.
-    pub fn end(&mut self, transfer: Transfer)
+    pub fn end(&mut self, transfer: CommandKind)
         ensures { EndsCommand (transfer_operation transfer) self.old self.new }
     {
         match transfer {
-            Transfer::Flush => {
+            CommandKind::Flush => {
                 self.lasting = Snapshot::of(&self.disk.store);
                 self.cache.forget();
             }
@@ -309,7 +309,7 @@ impl<S: SectorStore> Bay<S> {
             mem::swap(&mut self.disk, &mut self.other);
             self.which = which;
             // Of another disk all is lasting, as after a flush.
-            self.end(Transfer::Flush);
+            self.end(CommandKind::Flush);
         }
     }
 
@@ -337,7 +337,7 @@ impl<S: SectorStore> Bay<S> {
 
     /// Puts the disk in again that was last in, and what was in its cache is lost. What it may lose is kept: another
     /// one that is put in so loses the same.
-    pub fn put_back(&mut self)
+    pub fn put_in_lossy(&mut self)
         ensures loses { LosesCache S.size S.told S.failures self.old self.new }
         ensures later { (disk : DiskIndex → S → Disk) → plugged_as disk self.new.later
             ≡ plugged_as disk self.old.later ++ disk self.old.which self.new.disk.store ∷ [] }
@@ -345,14 +345,18 @@ impl<S: SectorStore> Bay<S> {
             { disk = record self.old.disk { store = self.new.disk.store }; later = self.new.later } }
     {
         if self.cache.is_on {
-            write_back(&mut self.disk.store, &self.cache.kept);
+            roll_back(&mut self.disk.store, &self.cache.kept);
         }
         self.later.note(self.which, &self.disk.store);
     }
 }
 
 /// Has the disks of a port know that such a command of it has ended, if it has disks.
-pub fn end_in<S: SectorStore>(bays: &mut Vec<Option<Bay<S>>>, port: usize, transfer: Transfer)
+pub fn note_end_of<S: SectorStore>(
+    bays: &mut Vec<Option<Bay<S>>>,
+    port: usize,
+    transfer: CommandKind,
+)
     ensures { EndsOnly (transfer_operation transfer) port bays.old.items bays.new.items }
 {
     if port < bays.len() {

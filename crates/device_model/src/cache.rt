@@ -104,7 +104,7 @@ pub fn put_sector<S: SectorStore>(
 }
 
 /// Writes back what is kept, the lowest sector first. A sector on which the store fails keeps what it holds.
-pub fn write_back<S: SectorStore>(store: &mut S, kept: &OldSectors)
+pub fn roll_back<S: SectorStore>(store: &mut S, kept: &OldSectors)
     ensures { TurnsBack S.size S.told S.failures (option_map (with_old kept.now.sectors.items) (S.told store.old))
         store.old store.new }
 {

@@ -5,7 +5,7 @@ ghost use Rattle.adapter.specs.Decoding.{DecodesTo};
 ghost use Rattle.device_model.specs.Fetched.{IsUntouched, bytes_of};
 ghost use Rattle.device_model.specs.View.{taken_of};
 
-use crate::fetch::read_into;
+use crate::fetch::decode_into;
 use crate::port::TakenCommand;
 use std::alloc::{AllocError, Global};
 use std::marker::Model;
@@ -45,7 +45,7 @@ impl CommandRoom {
     {
         let command = &mut self.room[0];
         command.prds.clear();
-        if read_into(memory, list, slot, command) {
+        if decode_into(memory, list, slot, command) {
             Some(&self.room[0])
         } else {
             None

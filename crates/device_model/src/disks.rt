@@ -1,7 +1,7 @@
 // The disks of a port.
 ghost use Rattle.std.specs.Prelude.{◌≡◌, ◌≤◌, ◌++◌, ◌∷◌, [], IfSome, Some, None};
 ghost use Rattle.adapter.specs.Device.{Disk};
-ghost use Rattle.sector_store.specs.Pages.{IsPage};
+ghost use Rattle.sector_store.specs.Pages.{IsIdentifyPage};
 ghost use Rattle.sector_store.specs.Stores.{IsStoredSector};
 ghost use Rattle.device_model.specs.Disks.{disk_number, is_same, plugged_as, port_0_alone};
 
@@ -83,7 +83,7 @@ impl DiskIndex {
 impl<S: SectorStore> ModelDisk<S> {
     /// Its page of IDENTIFY DEVICE, with these abilities.
     pub fn page(&self, abilities: Abilities) -> [u8; 512]
-        ensures page { IsPage self.now.serial (S.size self.now.store) abilities result }
+        ensures page { IsIdentifyPage self.now.serial (S.size self.now.store) abilities result }
         ensures bytes { IsStoredSector result }
     {
         identify_page(&self.serial, self.store.sectors(), abilities)

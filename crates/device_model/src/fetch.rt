@@ -10,7 +10,7 @@ ghost use Rattle.device_model.specs.Fetched.{ArePrds, IsUntouched, bytes_of};
 ghost use Rattle.device_model.specs.Finishing.{sends_page};
 ghost use Rattle.device_model.specs.View.{transfer_operation, taken_of};
 
-use crate::port::{TakenCommand, Transfer};
+use crate::port::{CommandKind, TakenCommand};
 use crate::prds::PrdTable;
 use adapter::Prd;
 use ata_types::{
@@ -219,7 +219,7 @@ fn decode_log(bytes: &[u8]) -> Option<Sectors>
 }
 
 /// The sectors that the bytes name, if they are the FIS of such a command in this slot; none where it names none.
-fn decode_sectors(bytes: &[u8], slot: u8, transfer: Transfer) -> Option<Sectors>
+fn decode_sectors(bytes: &[u8], slot: u8, transfer: CommandKind) -> Option<Sectors>
     requires size { length bytes.now ≡ 20 }
     requires slot { slot < 32 }
     ensures found { IfSome result
@@ -231,14 +231,14 @@ fn decode_sectors(bytes: &[u8], slot: u8, transfer: Transfer) -> Option<Sectors>
         EncodesCommand bytes.now (command_of (transfer_operation transfer) slot s.first s.count) → result ≡ Some s }
 {
     match transfer {
-        Transfer::Read => decode_range(bytes, READ_DMA_EXT),
-        Transfer::Write => decode_range(bytes, WRITE_DMA_EXT),
-        Transfer::ReadQueued => decode_queued(bytes, READ_FPDMA_QUEUED, slot),
-        Transfer::WriteQueued => decode_queued(bytes, WRITE_FPDMA_QUEUED, slot),
-        Transfer::Identify => decode_bare(bytes, IDENTIFY_DEVICE, 0),
-        Transfer::Flush => decode_bare(bytes, FLUSH_CACHE_EXT, 0),
-        Transfer::Trim => decode_bare(bytes, DATA_SET_MANAGEMENT, 1),
-        Transfer::ReadLog => decode_log(bytes),
+        CommandKind::Read => decode_range(bytes, READ_DMA_EXT),
+        CommandKind::Write => decode_range(bytes, WRITE_DMA_EXT),
+        CommandKind::ReadQueued => decode_queued(bytes, READ_FPDMA_QUEUED, slot),
+        CommandKind::WriteQueued => decode_queued(bytes, WRITE_FPDMA_QUEUED, slot),
+        CommandKind::Identify => decode_bare(bytes, IDENTIFY_DEVICE, 0),
+        CommandKind::Flush => decode_bare(bytes, FLUSH_CACHE_EXT, 0),
+        CommandKind::Trim => decode_bare(bytes, DATA_SET_MANAGEMENT, 1),
+        CommandKind::ReadLog => decode_log(bytes),
     }
 }
 
@@ -381,7 +381,7 @@ fn decode_command(
     header: &[u8; 32],
     fis: &[u8; 20],
     slot: u8,
-    transfer: Transfer,
+    transfer: CommandKind,
     command: &mut TakenCommand,
 ) -> bool
     requires slot { slot < 32 }
@@ -428,7 +428,7 @@ fn decode_command(
 
 /// Whether the bytes of a slot may say a command that sends a page: `false` where their code is another one's. No more
 /// than the code is looked at, since slots are before each reading of a register.
-pub fn may_say_page(memory: &[u8], list: u32, slot: u8) -> bool
+pub fn may_decode_page(memory: &[u8], list: u32, slot: u8) -> bool
     requires { slot < 32 }
     ensures { result ≡ false → (m : Meaning) (places : List ℕ) → sends_page m.operation ≡ true
         → DecodesTo (bytes_of memory.now) list slot m places → ⊥ }
@@ -442,7 +442,7 @@ pub fn may_say_page(memory: &[u8], list: u32, slot: u8) -> bool
 }
 
 /// The command that the bytes of a slot say, if it is one that sends a page: its code tells.
-pub fn read_page(memory: &[u8], list: u32, slot: u8) -> Option<TakenCommand>
+pub fn decode_page_cmd(memory: &[u8], list: u32, slot: u8) -> Option<TakenCommand>
     requires { slot < 32 }
     ensures found { IfSome result (λ t. IsUntouched t × DecodesTo (bytes_of memory.now) list slot (taken_of t).meaning
         (taken_of t).places) }
@@ -472,28 +472,28 @@ fn header_place(list: u32, slot: u8) -> usize
     list as usize + HEADER_BYTES as usize * usize::from(slot)
 }
 
-/// The transfer whose command has this code (ACS-3, 7).
-fn transfer_coded(code: u8) -> Option<Transfer>
-    ensures { (transfer : Transfer) (slot first count : ℕ)
+/// The kind of command that has this code (ACS-3, 7).
+fn transfer_coded(code: u8) -> Option<CommandKind>
+    ensures { (transfer : CommandKind) (slot first count : ℕ)
         → (command_of (transfer_operation transfer) slot first count).code
         ≡ code → result ≡ Some transfer }
 {
     match code {
-        READ_DMA_EXT => Some(Transfer::Read),
-        WRITE_DMA_EXT => Some(Transfer::Write),
-        READ_FPDMA_QUEUED => Some(Transfer::ReadQueued),
-        WRITE_FPDMA_QUEUED => Some(Transfer::WriteQueued),
-        IDENTIFY_DEVICE => Some(Transfer::Identify),
-        FLUSH_CACHE_EXT => Some(Transfer::Flush),
-        DATA_SET_MANAGEMENT => Some(Transfer::Trim),
-        READ_LOG_EXT => Some(Transfer::ReadLog),
+        READ_DMA_EXT => Some(CommandKind::Read),
+        WRITE_DMA_EXT => Some(CommandKind::Write),
+        READ_FPDMA_QUEUED => Some(CommandKind::ReadQueued),
+        WRITE_FPDMA_QUEUED => Some(CommandKind::WriteQueued),
+        IDENTIFY_DEVICE => Some(CommandKind::Identify),
+        FLUSH_CACHE_EXT => Some(CommandKind::Flush),
+        DATA_SET_MANAGEMENT => Some(CommandKind::Trim),
+        READ_LOG_EXT => Some(CommandKind::ReadLog),
         _ => None,
     }
 }
 
 /// Reads the command that the bytes of a slot say, into its room; `false` says that it is none that the model takes.
 /// Its code tells which, so that it is read once.
-pub fn read_into(memory: &[u8], list: u32, slot: u8, command: &mut TakenCommand) -> bool
+pub fn decode_into(memory: &[u8], list: u32, slot: u8, command: &mut TakenCommand) -> bool
     requires slot { slot < 32 }
     requires empty { command.old.prds ≡ [] }
     ensures found { result ≡ true → IsUntouched command.new
@@ -518,7 +518,7 @@ pub fn read_command(memory: &[u8], list: u32, slot: u8) -> Option<TakenCommand>
         → ⊥ }
 {
     let mut command = TakenCommand::room();
-    if read_into(memory, list, slot, &mut command) {
+    if decode_into(memory, list, slot, &mut command) {
         Some(command)
     } else {
         None
@@ -526,7 +526,7 @@ pub fn read_command(memory: &[u8], list: u32, slot: u8) -> Option<TakenCommand>
 }
 
 /// Whether the bytes of a slot say a command.
-pub fn says_command(memory: &[u8], list: u32, slot: u8) -> bool
+pub fn decodes_command(memory: &[u8], list: u32, slot: u8) -> bool
     requires { slot < 32 }
     ensures said { result ≡ true → (m : Meaning) × (places : List ℕ)
         × DecodesTo (bytes_of memory.now) list slot m places }
@@ -534,5 +534,5 @@ pub fn says_command(memory: &[u8], list: u32, slot: u8) -> bool
         → ⊥ }
 {
     let mut command = TakenCommand::room();
-    read_into(memory, list, slot, &mut command)
+    decode_into(memory, list, slot, &mut command)
 }

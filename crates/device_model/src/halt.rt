@@ -1,9 +1,9 @@
 // Whether a fault has halted a port, and what goes on then (AHCI 1.3.1, 6.2.2; ACS-3, 4.15).
 ghost use Rattle.std.specs.Prelude.{◌≡◌};
-ghost use Rattle.adapter.specs.Steps.{admits, halted, restarted};
+ghost use Rattle.adapter.specs.Steps.{admits, halted, halt_after_start};
 ghost use Rattle.device_model.specs.View.{halt_of, transfer_operation};
 
-use crate::port::Transfer;
+use crate::port::CommandKind;
 
 /// What a fault has made of a port. A fault needs no disk in, and may come to a port that is halted already: the halt
 /// is then of the kind of the last.
@@ -21,12 +21,12 @@ pub enum Halting {
 
 impl Halting {
     /// Whether such a command goes on.
-    pub fn admits(self, transfer: Transfer) -> bool
+    pub fn admits(self, transfer: CommandKind) -> bool
         ensures { result ≡ admits (halt_of self) (transfer_operation transfer) }
     {
         match self {
             Halting::Running => true,
-            Halting::LogOnly => matches!(transfer, Transfer::ReadLog),
+            Halting::LogOnly => matches!(transfer, CommandKind::ReadLog),
             Halting::Plain | Halting::Queued => false,
         }
     }
@@ -44,7 +44,7 @@ impl Halting {
 
     /// What it is once ST was set again.
     pub fn after_start(self) -> Halting
-        ensures { halt_of result ≡ restarted (halt_of self) }
+        ensures { halt_of result ≡ halt_after_start (halt_of self) }
     {
         match self {
             Halting::Queued | Halting::LogOnly => Halting::LogOnly,

@@ -1,6 +1,6 @@
 // The model without its disks.
 ghost use Rattle.std.specs.Prelude.{Bool, List, ◌≡◌, ◌≢◌, ◌+◌, ◌<◌, ◌≤◌, ◌++◌, ℕ, true, false, if◌then◌else◌, All, length, take, drop, slice_index_or};
-ghost use Rattle.adapter.specs.Access.{Shows, is_pending, noted, written, unacknowledged};
+ghost use Rattle.adapter.specs.Access.{Shows, is_pending, noted, written, with_is_cleared};
 ghost use Rattle.adapter.specs.Memory.{patched, bytes_at};
 ghost use Rattle.adapter.specs.Device.{Device};
 ghost use Rattle.adapter.specs.Steps.{device_after, with_reset};
@@ -65,14 +65,14 @@ fn get(memory: &[u8], at: usize, out: &mut [u8])
 }
 
 /// Bits of IS were written.
-fn unacknowledge(ports: &mut [PortModel; 4], value: u32)
+fn clear_is_bit(ports: &mut [PortModel; 4], value: u32)
     ensures { (m : Media) (port : ℕ) → port_of (slice_index_or ports.new port blank_port) m ≡
-        (if bit value port then unacknowledged (port_of (slice_index_or ports.old port blank_port) m) else port_of
+        (if bit value port then with_is_cleared (port_of (slice_index_or ports.old port blank_port) m) else port_of
         (slice_index_or ports.old port blank_port) m) }
 {
     for port in 0..4u32 {
         if is_set(value, port) {
-            ports[port as usize].unacknowledge();
+            ports[port as usize].clear_is_bit();
         }
     }
 }
@@ -146,7 +146,7 @@ impl Hardware {
     {
         match r {
             Reg::Ghc => self.set_global(value),
-            Reg::Is => unacknowledge(&mut self.ports, value),
+            Reg::Is => clear_is_bit(&mut self.ports, value),
             Reg::Px(port, r) => {
                 let tape = self.tape.len();
                 self.ports[usize::from(port.0)].write(r, value, tape);
@@ -213,7 +213,7 @@ impl Hardware {
             q }
         ensures spares { SparesAdapter self.old self.new }
     {
-        self.ports[port].settle_links();
+        self.ports[port].settle_state();
         if self.ports[port].link() {
             self.send_signature(port);
         }
@@ -222,7 +222,7 @@ impl Hardware {
     /// What the adapter does by itself before a register is read: a pending reset ends unless all ports are held, and
     /// ends all holds; then each port that isn't held does what it does by itself. Afterwards none of this is possible
     /// any more.
-    pub fn settle_links(&mut self, held: &mut [bool; PORTS])
+    pub fn settle_state(&mut self, held: &mut [bool; PORTS])
         ensures own { (o : Outside) → (reset : Device) × EndsReset held.old held.new (device_of self.old o) reset
             × LeadsOwn (Settles held.new) reset (device_of self.new o) }
         ensures settled { (o : Outside) → IsSettled held.new (device_of self.new o) }

@@ -11,7 +11,7 @@ ghost use Rattle.adapter.specs.declared.access.DeviceStep.{DeviceStep};
 ghost use Rattle.adapter.specs.declared.access.DeviceStep.TheVariants as asked;
 ghost use Rattle.device_model.specs.Cached.{sector_told};
 ghost use Rattle.device_model.specs.Disks.{bay_of, numbered_disk, lasting_of, which_of};
-ghost use Rattle.device_model.specs.Does.{Did, Possible, PutsIn};
+ghost use Rattle.device_model.specs.Does.{DidStep, Possible, PutsIn};
 ghost use Rattle.device_model.specs.Finishing.{HasDisk};
 ghost use Rattle.device_model.specs.Held.{IsPortHeld};
 ghost use Rattle.device_model.specs.Modelled.{device_at};
@@ -25,7 +25,7 @@ use sector_store::SectorStore;
 
 /// A model's disks tell their sectors if it is one that tells, whatever it did since it was made. Over stores that tell
 /// theirs at all times, as those in memory do, each model is one that tells.
-pub fn law_disks_are_told<S: SectorStore>()
+pub fn law_disks_tell_sectors<S: SectorStore>()
     ensures tells { (m : Model S) → TellsDisks (device_at S.size S.told m) }
     ensures telling { ((store : S) → is_some (S.told store) ≡ true) → (m : Model S)
         → (device_at S.size S.told m).telling ≡ true }
@@ -81,7 +81,7 @@ pub fn law_queued_commands_go_on_side_by_side<S: SectorStore>()
         Can (Fetch p.0 slot.0 m xs) (device_at S.size S.told old)
         → Can (Fetch p.0 other.0 n ys) (device_at S.size S.told old) →
         Possible (asked.Fetch p slot) (device_at S.size S.told old)
-        × (Did S.size S.told S.failures (asked.Fetch p slot) old new
+        × (DidStep S.size S.told S.failures (asked.Fetch p slot) old new
         → Can (Fetch p.0 other.0 n ys) (device_at S.size S.told new)
         × Possible (asked.Fetch p other) (device_at S.size S.told new)) }
     ensures ended { (old new : Model S) (p : Port) (slot other : Slot) (t u : FetchedCommand) → slot.0 < 32
@@ -90,7 +90,8 @@ pub fn law_queued_commands_go_on_side_by_side<S: SectorStore>()
         WorksOn ((device_at S.size S.told old).port p.0) slot.0 t t.meaning.operation →
         WorksOn ((device_at S.size S.told old).port p.0) other.0 u u.meaning.operation → IsFinished t → IsFinished u →
         Possible (asked.Done p slot) (device_at S.size S.told old)
-        × (Did S.size S.told S.failures (asked.Done p slot) old new → WorksOn ((device_at S.size S.told new).port p.0)
+        × (DidStep S.size S.told S.failures (asked.Done p slot) old new
+        → WorksOn ((device_at S.size S.told new).port p.0)
         other.0 u u.meaning.operation
         × Possible (asked.Done p other) (device_at S.size S.told new)) }
 {}
@@ -100,13 +101,13 @@ pub fn law_queued_commands_go_on_side_by_side<S: SectorStore>()
 /// writes have failed says `TurnsBack`.)
 pub fn law_lost_caches_leave_what_is_lasting<S: SectorStore>()
     ensures each { (old new : Model S) (p : Port) (a b : Bay S) → bay_of old p.0 ≡ Some a → bay_of new p.0 ≡ Some b
-        → a.cache.is_on ≡ true → Did S.size S.told S.failures (asked.LosePlug p) old new → (sector : ℕ)
+        → a.cache.is_on ≡ true → DidStep S.size S.told S.failures (asked.LosePlug p) old new → (sector : ℕ)
         → sector < S.size a.disk.store →
         (sector_told (S.told b.disk.store) sector ≡ sector_told (lasting_of S.told a) sector)
         ⊎ ((sector_told (S.told b.disk.store) sector ≡ sector_told (S.told a.disk.store) sector)
         × (S.failures b.disk.store ≢ S.failures a.disk.store)) }
     ensures whole { (old new : Model S) (p : Port) (a b : Bay S) → bay_of old p.0 ≡ Some a → bay_of new p.0 ≡ Some b
-        → a.cache.is_on ≡ true → Did S.size S.told S.failures (asked.LosePlug p) old new
+        → a.cache.is_on ≡ true → DidStep S.size S.told S.failures (asked.LosePlug p) old new
         → S.failures b.disk.store ≡ S.failures a.disk.store → (sector : ℕ) → sector < S.size a.disk.store →
         sector_told (S.told b.disk.store) sector ≡ sector_told (lasting_of S.told a) sector }
 {}

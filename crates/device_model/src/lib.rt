@@ -40,4 +40,4 @@ pub use config::{ModelConfig, NoMemory};
 pub use disks::{Disks, ModelDisk, PortDisks, Serial};
 pub use model::Model;
 pub use sector_store::pages::Trim;
-pub use watched::{Shown, Watched};
+pub use watched::{Inspectable, TapedAdapter};

@@ -13,11 +13,11 @@ ghost use Rattle.device_model.specs.Fetched.{bytes_of};
 ghost use Rattle.adapter.specs.OneCommand.{IsFreeSlot};
 ghost use Rattle.device_model.specs.Disks.{EndsOnly, HasOldRoomAt, SaysOnly, numbered_disk, given_for, port_0_alone};
 ghost use Rattle.device_model.specs.View.{transfer_operation};
-ghost use Rattle.device_model.specs.Finishing.{LooksForPage, HasPageCommand, HasMove, TapeHasRoom, IsBusy, MayPage, sends_page};
+ghost use Rattle.device_model.specs.Finishing.{LooksForPage, HasPageCommand, HasMove, TapeHasRoom, HasTakenCommand, MayTakePage, sends_page};
 ghost use Rattle.device_model.specs.Held.{IsPortLoose};
 ghost use Rattle.device_model.specs.Paged.{lying, naming, truthful};
 ghost use Rattle.device_model.specs.Pending.{TakesPage};
-ghost use Rattle.device_model.specs.Does.{AnswersStep, Completes, GoesOnSo, HasCleared, CommandFails, ReadiesNext, answer_of, asked_fault};
+ghost use Rattle.device_model.specs.Does.{AnswersStep, Completes, OwnStepsKeep, HasCleared, CommandFails, ReadiesNext, answer_of, asked_fault};
 ghost use Rattle.device_model.specs.Tells.{disks_told};
 ghost use Rattle.device_model.specs.Queue.{BeginsAccess, DoesRead, DoesThen};
 ghost use Rattle.device_model.specs.Modelled.{IsNewBay, IsNewMedia, IsNewModel, all_given_tell, all_tell, cap_of, device_at, given_tell, media_of, tells};
@@ -27,15 +27,17 @@ ghost use Rattle.device_model.specs.Settled.{SendsPages, IsSettled, LeadsOwn, Le
 ghost use Rattle.device_model.specs.Trims.{span, written_ahead};
 ghost use Rattle.device_model.specs.Whole.{HasDisks, HasRegister};
 
-use crate::bay::{Bay, PAGE_BYTES, end_in, end_lies, lie_of, log_failed};
+use crate::bay::{Bay, PAGE_BYTES, end_lies, lie_of, log_failed, note_end_of};
 use crate::clearing::SectorExtent;
 use crate::command_room::CommandRoom;
 use crate::config::{ModelConfig, NoMemory};
 use crate::disks::{DiskIndex, Disks, PortDisks};
 use crate::hardware::Hardware;
-use crate::port::{PortModel, Transfer};
+use crate::port::{CommandKind, PortModel};
 use crate::steps::{CommandToFinish, NextMove, PendingPage};
-use adapter::{Accesses, Adapter, DeviceStep, DiskNumber, DiskPage, Entry, FatalError, Stepped};
+use adapter::{
+    AccessCounter, Adapter, DeviceStep, DiskNumber, DiskPage, Entry, FatalError, Stepped,
+};
 use ata_types::{FEWEST_FRAMES, FRAME_BYTES, MOST_FRAMES, PORTS, Port, Slot};
 use hba_regs::Reg;
 use sector_store::SectorStore;
@@ -73,7 +75,7 @@ const STORE_FAILED: u8 = 0x40;
 
 /// A step that is done before the access with this number.
 #[derive(Clone, Copy, Debug)]
-struct Queued {
+struct QueuedStep {
     access: u64,
     step: DeviceStep,
 }
@@ -90,9 +92,9 @@ pub struct Model<S> {
     /// On which of ports 0 to 3 it does nothing by itself.
     held: [bool; PORTS],
     /// In the order in which they were queued.
-    queue: Vec<Queued>,
+    queue: Vec<QueuedStep>,
     /// How many accesses were made.
-    accesses: Accesses,
+    accesses: AccessCounter,
 }
 
 /// Whether a port has disks.
@@ -204,7 +206,7 @@ impl<S: SectorStore> Model<S> {
             bays: bays_for(alloc, disks, config)?,
             held: [false; PORTS],
             queue: Vec::new(alloc),
-            accesses: Accesses::none(),
+            accesses: AccessCounter::none(),
         })
     }
 
@@ -252,7 +254,7 @@ impl<S: SectorStore> Model<S> {
     {
         let access = self.accesses.shown.saturating_add(n.max(1));
         self.queue
-            .push(Queued { access, step })
+            .push(QueuedStep { access, step })
             .map_err(|_full| NoMemory)
     }
 
@@ -283,7 +285,7 @@ impl<S: SectorStore> Model<S> {
         let Some(transfer) = self.hardware.done(port.0, slot.0) else {
             return false;
         };
-        end_in(&mut self.bays, usize::from(port.0), transfer);
+        note_end_of(&mut self.bays, usize::from(port.0), transfer);
         true
     }
 
@@ -536,7 +538,7 @@ impl<S: SectorStore> Model<S> {
     fn take_page(&mut self, port: u8, slot: u8)
         requires port { port < 4 }
         requires small { slot < 32 }
-        requires there { MayPage (device_at S.size S.told self.old) port slot
+        requires there { MayTakePage (device_at S.size S.told self.old) port slot
             ⊎ HasPageCommand (device_at S.size S.told self.old) port slot }
         ensures { TakesPage S.size S.told port slot self.old self.new }
     {
@@ -577,7 +579,7 @@ impl<S: SectorStore> Model<S> {
         ensures settled { (held : List Bool) → IsSettled held (device_at S.size S.told self.old)
             → IsSettled held (device_at S.size S.told self.new) }
         ensures left { NoneIsLeft self.new.held self.new.hardware.starved (device_at S.size S.told self.new) }
-        ensures rest { GoesOnSo S.size self.old self.new }
+        ensures rest { OwnStepsKeep S.size self.old self.new }
         ensures told { self.new.hardware.starved ≡ true → (self.old.hardware.starved ≡ true)
             ⊎ LeavesOne self.new.hardware (device_at S.size S.told self.new) }
         ensures disks { (port : ℕ) (which : DiskIndex)
@@ -651,7 +653,7 @@ impl<S: SectorStore> Model<S> {
         if !self.hardware.plug(port.0, bay.which.number(), true) {
             return false;
         }
-        bay.put_back();
+        bay.put_in_lossy();
         true
     }
 
@@ -685,7 +687,7 @@ impl<S: SectorStore> Model<S> {
     /// Before an access, the steps that are queued before it, in their order; each leaves the queue, whether it was
     /// possible or not.
     #[inline(always)]
-    fn do_queued(&mut self)
+    fn do_queued_steps(&mut self)
         ensures { BeginsAccess S.size S.told S.failures self.old self.new }
     {
         self.accesses.add();
@@ -728,8 +730,8 @@ impl<S: SectorStore> Adapter for Model<S> {
         ensures left { NoneIsLeft self.new.held self.new.hardware.starved (device_at S.size S.told self.new) }
         ensures alone { DoesRead S.size S.told S.failures r result self.old self.new }
     {
-        self.do_queued();
-        self.hardware.settle_links(&mut self.held);
+        self.do_queued_steps();
+        self.hardware.settle_state(&mut self.held);
         self.send_pages();
         let value = self.hardware.shown(r);
         self.hardware.note(r, value);
@@ -742,7 +744,7 @@ impl<S: SectorStore> Adapter for Model<S> {
         ensures counted { self.new.accesses.count.made ≡ self.old.accesses.count.made + 1 }
         ensures alone { DoesThen S.size S.told S.failures (written r v) self.old self.new }
     {
-        self.do_queued();
+        self.do_queued_steps();
         self.hardware.write(r, v);
     }
 
@@ -752,7 +754,7 @@ impl<S: SectorStore> Adapter for Model<S> {
         ensures counted { self.new.accesses.count.made ≡ self.old.accesses.count.made + 1 }
         ensures alone { BeginsAccess S.size S.told S.failures self.old self.new }
     {
-        self.do_queued();
+        self.do_queued_steps();
         self.hardware.load(addr as usize, out);
     }
 
@@ -763,7 +765,7 @@ impl<S: SectorStore> Adapter for Model<S> {
         ensures alone { DoesThen S.size S.told S.failures (λ d. record d { memory = patched d.memory addr bytes.now })
             self.old self.new }
     {
-        self.do_queued();
+        self.do_queued_steps();
         self.hardware.store(addr as usize, bytes);
     }
 

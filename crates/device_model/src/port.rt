@@ -1,11 +1,11 @@
 // One port of the model.
 ghost use Rattle.std.specs.Prelude.{◌≡◌, ◌↔◌, [], unwrap_or, IfOk, IsTrue};
-ghost use Rattle.adapter.specs.Commands.{direction_of, is_queued, is_ranged, pieces_moved, reads_memory};
+ghost use Rattle.adapter.specs.Commands.{direction_of, is_queued, is_ranged, piece_count, reads_memory};
 ghost use Rattle.adapter.specs.Device.{Disk, Lasting};
 ghost use Rattle.adapter.specs.Idle.{IsIdlePort};
 ghost use Rattle.adapter.specs.Steps.{lasting_after};
 ghost use Rattle.device_model.specs.Finishing.{sends_page};
-ghost use Rattle.device_model.specs.Modelled.{IsReset};
+ghost use Rattle.device_model.specs.Modelled.{HasResetValues};
 ghost use Rattle.device_model.specs.Trims.{written_ahead};
 ghost use Rattle.device_model.specs.View.{Media, cause_of, transfer_operation, port_of};
 
@@ -49,7 +49,7 @@ pub struct Readings {
 /// LOG EXT, the block of a trim, and FLUSH CACHE EXT, which moves nothing. They stand in the order of `Operation`, so
 /// that the one is told from the other at once.
 #[derive(Clone, Copy, Debug)]
-pub enum Transfer {
+pub enum CommandKind {
     /// IDENTIFY DEVICE.
     Identify,
     /// READ DMA EXT.
@@ -76,20 +76,20 @@ const PSS: u32 = 1;
 
 const SDBS: u32 = 3;
 
-impl Transfer {
+impl CommandKind {
     /// The command that it is.
     pub fn operation(self) -> Operation
         ensures { result ≡ transfer_operation self }
     {
         match self {
-            Transfer::Read => Operation::Read,
-            Transfer::Write => Operation::Write,
-            Transfer::ReadQueued => Operation::ReadQueued,
-            Transfer::WriteQueued => Operation::WriteQueued,
-            Transfer::Identify => Operation::Identify,
-            Transfer::Flush => Operation::Flush,
-            Transfer::Trim => Operation::Trim,
-            Transfer::ReadLog => Operation::ReadLog,
+            CommandKind::Read => Operation::Read,
+            CommandKind::Write => Operation::Write,
+            CommandKind::ReadQueued => Operation::ReadQueued,
+            CommandKind::WriteQueued => Operation::WriteQueued,
+            CommandKind::Identify => Operation::Identify,
+            CommandKind::Flush => Operation::Flush,
+            CommandKind::Trim => Operation::Trim,
+            CommandKind::ReadLog => Operation::ReadLog,
         }
     }
 
@@ -98,12 +98,12 @@ impl Transfer {
         ensures { result ≡ reads_memory (transfer_operation self) }
     {
         match self {
-            Transfer::Write | Transfer::WriteQueued | Transfer::Trim => true,
-            Transfer::Read
-            | Transfer::ReadQueued
-            | Transfer::Identify
-            | Transfer::Flush
-            | Transfer::ReadLog => false,
+            CommandKind::Write | CommandKind::WriteQueued | CommandKind::Trim => true,
+            CommandKind::Read
+            | CommandKind::ReadQueued
+            | CommandKind::Identify
+            | CommandKind::Flush
+            | CommandKind::ReadLog => false,
         }
     }
 
@@ -112,13 +112,13 @@ impl Transfer {
         ensures { result ≡ written_ahead (transfer_operation self) left }
     {
         match self {
-            Transfer::Write | Transfer::WriteQueued => left,
-            Transfer::Read
-            | Transfer::ReadQueued
-            | Transfer::Identify
-            | Transfer::Flush
-            | Transfer::Trim
-            | Transfer::ReadLog => 0,
+            CommandKind::Write | CommandKind::WriteQueued => left,
+            CommandKind::Read
+            | CommandKind::ReadQueued
+            | CommandKind::Identify
+            | CommandKind::Flush
+            | CommandKind::Trim
+            | CommandKind::ReadLog => 0,
         }
     }
 
@@ -127,23 +127,23 @@ impl Transfer {
         ensures { result ≡ is_queued (transfer_operation self) }
     {
         match self {
-            Transfer::ReadQueued | Transfer::WriteQueued => true,
-            Transfer::Read
-            | Transfer::Write
-            | Transfer::Identify
-            | Transfer::Flush
-            | Transfer::Trim
-            | Transfer::ReadLog => false,
+            CommandKind::ReadQueued | CommandKind::WriteQueued => true,
+            CommandKind::Read
+            | CommandKind::Write
+            | CommandKind::Identify
+            | CommandKind::Flush
+            | CommandKind::Trim
+            | CommandKind::ReadLog => false,
         }
     }
 
     /// How many pieces it moves, for so many sectors.
     pub fn pieces(self, count: u32) -> u32
-        ensures { result ≡ pieces_moved (transfer_operation self) count }
+        ensures { result ≡ piece_count (transfer_operation self) count }
     {
         match self {
-            Transfer::Flush => 0,
-            Transfer::Identify | Transfer::Trim | Transfer::ReadLog => 1,
+            CommandKind::Flush => 0,
+            CommandKind::Identify | CommandKind::Trim | CommandKind::ReadLog => 1,
             _ => count,
         }
     }
@@ -154,9 +154,9 @@ impl Transfer {
         ensures { result ≡ cause_of self }
     {
         match self {
-            Transfer::Identify | Transfer::ReadLog => PSS,
-            Transfer::ReadQueued | Transfer::WriteQueued => SDBS,
-            Transfer::Read | Transfer::Write | Transfer::Flush | Transfer::Trim => DHRS,
+            CommandKind::Identify | CommandKind::ReadLog => PSS,
+            CommandKind::ReadQueued | CommandKind::WriteQueued => SDBS,
+            CommandKind::Read | CommandKind::Write | CommandKind::Flush | CommandKind::Trim => DHRS,
         }
     }
 
@@ -165,8 +165,12 @@ impl Transfer {
         ensures { result ≡ is_ranged (transfer_operation self) }
     {
         match self {
-            Transfer::Read | Transfer::Write | Transfer::ReadQueued | Transfer::WriteQueued => true,
-            Transfer::Identify | Transfer::Flush | Transfer::Trim | Transfer::ReadLog => false,
+            CommandKind::Read
+            | CommandKind::Write
+            | CommandKind::ReadQueued
+            | CommandKind::WriteQueued => true,
+            CommandKind::Identify | CommandKind::Flush | CommandKind::Trim | CommandKind::ReadLog =>
+                false,
         }
     }
 
@@ -174,7 +178,7 @@ impl Transfer {
     pub fn sends_page(self) -> bool
         ensures { result ≡ sends_page (transfer_operation self) }
     {
-        matches!(self, Transfer::Identify | Transfer::ReadLog)
+        matches!(self, CommandKind::Identify | CommandKind::ReadLog)
     }
 
     /// How long the tape was when the disk last ended a flush, once this has ended: so long, if it is one, and else as
@@ -184,16 +188,16 @@ impl Transfer {
             → result ≡ (lasting_after (transfer_operation self) lasting disk here).since }
     {
         match self {
-            Transfer::Flush => here,
+            CommandKind::Flush => here,
             _ => was,
         }
     }
 
     /// Whether it clears the sectors of a block that it moves.
     pub fn is_trim(self) -> bool
-        ensures { IsTrue result ↔ (self ≡ Transfer.Trim) }
+        ensures { IsTrue result ↔ (self ≡ CommandKind.Trim) }
     {
-        matches!(self, Transfer::Trim)
+        matches!(self, CommandKind::Trim)
     }
 
     /// Where the bytes of its moves go.
@@ -201,12 +205,13 @@ impl Transfer {
         ensures { result ≡ direction_of (transfer_operation self) }
     {
         match self {
-            Transfer::Read
-            | Transfer::ReadQueued
-            | Transfer::Identify
-            | Transfer::Flush
-            | Transfer::ReadLog => Direction::ToMemory,
-            Transfer::Write | Transfer::WriteQueued | Transfer::Trim => Direction::FromMemory,
+            CommandKind::Read
+            | CommandKind::ReadQueued
+            | CommandKind::Identify
+            | CommandKind::Flush
+            | CommandKind::ReadLog => Direction::ToMemory,
+            CommandKind::Write | CommandKind::WriteQueued | CommandKind::Trim =>
+                Direction::FromMemory,
         }
     }
 }
@@ -214,7 +219,7 @@ impl Transfer {
 /// A command that the device has taken.
 #[derive(Drop)]
 pub struct TakenCommand {
-    pub transfer: Transfer,
+    pub transfer: CommandKind,
     pub first: u64,
     pub count: u32,
     /// The regions that its sectors go to or come from.
@@ -233,7 +238,7 @@ impl TakenCommand {
         ensures { result.prds ≡ [] }
     {
         TakenCommand {
-            transfer: Transfer::Read,
+            transfer: CommandKind::Read,
             first: 0,
             count: 0,
             prds: PrdTable::new(),
@@ -288,7 +293,7 @@ impl PortModel {
     pub fn new(alloc: Global, present: bool) -> Result<PortModel, AllocError>
         ensures idle { IfOk result (λ p. (m : Media) → IsIdlePort (port_of p m)) }
         ensures present { IfOk result (λ p. p.present ≡ present) }
-        ensures reset { IfOk result (λ p. (m : Media) → IsReset (port_of p m)) }
+        ensures reset { IfOk result (λ p. (m : Media) → HasResetValues (port_of p m)) }
         ensures lasting { IfOk result (λ p. p.lasting_at ≡ 0) }
     {
         let taken = TakenCommands::new(alloc)?;

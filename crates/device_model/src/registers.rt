@@ -2,7 +2,7 @@
 ghost use Rattle.std.specs.Prelude.{◌≡◌, ℕ, true, false};
 ghost use Rattle.adapter.specs.Asked.{fatal_bit};
 ghost use Rattle.adapter.specs.Memory.{changed};
-ghost use Rattle.adapter.specs.Access.{PortShows, note, port_written, unacknowledged, counted as count_after, link_counted as link_count_after};
+ghost use Rattle.adapter.specs.Access.{PortShows, note, port_written, with_is_cleared, counted as count_after, link_counted as link_count_after};
 ghost use Rattle.device_model.specs.View.{Media, port_of};
 
 use crate::bits::{bit_if, with_bit_as, without_ones};
@@ -210,8 +210,8 @@ impl PortModel {
     }
 
     /// The port's bit of IS was written.
-    pub fn unacknowledge(&mut self)
-        ensures { (m : Media) → port_of self.new m ≡ unacknowledged (port_of self.old m) }
+    pub fn clear_is_bit(&mut self)
+        ensures { (m : Media) → port_of self.new m ≡ with_is_cleared (port_of self.old m) }
     {
         self.ips = false;
         self.other_causes = enables_others(self.enabled);

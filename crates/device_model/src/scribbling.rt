@@ -5,12 +5,12 @@ ghost use Rattle.ata_types.specs.declared.memory.TheConstants.{HEADER_BYTES};
 ghost use Rattle.adapter.specs.Asked.{DoesScribble, memory_filled};
 ghost use Rattle.adapter.specs.Memory.{patched};
 ghost use Rattle.device_model.specs.Fetched.{bytes_of};
-ghost use Rattle.device_model.specs.View.{blank_port, held_in};
+ghost use Rattle.device_model.specs.View.{blank_port, taken_in};
 ghost use Rattle.device_model.specs.Whole.{Outside, device_of};
 
 use crate::hardware::{Hardware, put};
-use adapter::laws::law_a_scribble_goes_on;
-use ata_types::{HEADER_BYTES, RECEIVED_BYTES};
+use adapter::laws::law_scribble_slot_by_slot;
+use ata_types::{HEADER_BYTES, RECEIVED_FIS_BYTES};
 
 /// Where PRDBC stands in a command header, and how many bytes it has (AHCI 1.3.1, 4.2.2).
 const COUNT: usize = 4;
@@ -35,7 +35,7 @@ impl Hardware {
         requires port { port < 4 }
         requires slot { slot < 32 }
         ensures filled { bytes_of self.new.memory.items ≡
-            (if is_some (held_in (slice_index_or self.old.ports port blank_port).taken slot) then
+            (if is_some (taken_in (slice_index_or self.old.ports port blank_port).taken slot) then
             memory_filled (length self.old.memory.items)
             ((slice_index_or self.old.ports port blank_port).addresses.clb + HEADER_BYTES * slot + 4) 4 byte
             (bytes_of self.old.memory.items) else bytes_of self.old.memory.items) }
@@ -63,9 +63,9 @@ impl Hardware {
         if !self.ports[place].fre {
             return false;
         }
-        law_a_scribble_goes_on();
+        law_scribble_slot_by_slot();
         let area = self.ports[place].addresses.fb as usize;
-        put_within(&mut self.memory, area, &[byte; RECEIVED_BYTES as usize]);
+        put_within(&mut self.memory, area, &[byte; RECEIVED_FIS_BYTES as usize]);
         for slot in 0..32u8 {
             self.scribble_count(place, slot, byte);
         }

@@ -1,13 +1,13 @@
 // The FISes that the model sends, in the received FIS area of a port (Serial ATA; AHCI 1.3.1, 4.2.1).
 ghost use Rattle.std.specs.Prelude.{◌≡◌, ◌+◌, ◌<◌, ◌≤◌, ◌/◌, ◌%◌, true, false, length};
-ghost use Rattle.ata_types.specs.declared.memory.TheConstants.{RECEIVED_BYTES};
-ghost use Rattle.device_model.specs.Sent.{IsSent, SendsEnd, SendsFault, SendsRegisters, end_fis, no_tag_of, page_setup, signature_of, tag_of};
+ghost use Rattle.ata_types.specs.declared.memory.TheConstants.{RECEIVED_FIS_BYTES};
+ghost use Rattle.device_model.specs.Sent.{IsSent, SendsEnd, SendsFault, SendsRegisters, end_fis, no_tag_fis, page_setup, signature_fis, tag_fis};
 ghost use Rattle.device_model.specs.View.{Media, cause_of, transfer_operation, port_of};
 ghost use Rattle.device_model.specs.Whole.{Outside, device_of};
 
 use crate::hardware::{Hardware, put};
-use crate::port::{PortModel, Transfer};
-use ata_types::RECEIVED_BYTES;
+use crate::port::{CommandKind, PortModel};
+use ata_types::RECEIVED_FIS_BYTES;
 use fis::{
     DeviceToHost, PioSetup, SetDeviceBits, encode_d2h, encode_pio_setup, encode_set_device_bits,
 };
@@ -73,7 +73,7 @@ impl PortModel {
     /// What a Set Device Bits FIS tells of the queued command of a slot, which has ended.
     fn ended_tag(&self, slot: u8) -> SetDeviceBits
         requires { slot < 32 }
-        ensures { (m : Media) → result ≡ tag_of slot (port_of self.now m) }
+        ensures { (m : Media) → result ≡ tag_fis slot (port_of self.now m) }
     {
         let (status, error) = self.status_and_error();
         SetDeviceBits {
@@ -86,7 +86,7 @@ impl PortModel {
 
     /// What a Set Device Bits FIS tells of a queued command that has failed: it names no tag.
     fn failed_bits(&self) -> SetDeviceBits
-        ensures { (m : Media) → result ≡ no_tag_of (port_of self.now m) }
+        ensures { (m : Media) → result ≡ no_tag_fis (port_of self.now m) }
     {
         let (status, error) = self.status_and_error();
         SetDeviceBits {
@@ -99,7 +99,7 @@ impl PortModel {
 
     /// What the first FIS of an ATA disk tells: its signature.
     fn signature(&self) -> DeviceToHost
-        ensures { (m : Media) → result ≡ signature_of (port_of self.now m) }
+        ensures { (m : Media) → result ≡ signature_fis (port_of self.now m) }
     {
         let (status, error) = self.status_and_error();
         DeviceToHost {
@@ -118,19 +118,19 @@ impl Hardware {
     /// the memory.
     fn send(&mut self, port: usize, place: usize, fis: &[u8])
         requires port { port < 4 }
-        requires place { place + length fis.now ≤ RECEIVED_BYTES }
+        requires place { place + length fis.now ≤ RECEIVED_FIS_BYTES }
         ensures sent { (o : Outside) → IsSent port place fis.now (device_of self.old o) (device_of self.new o) }
         ensures rest { self.new ≡ record self.old { memory = self.new.memory } }
     {
         let area = self.ports[port].addresses.fb as usize;
-        if self.ports[port].fre && area + RECEIVED_BYTES as usize <= self.memory.len() {
+        if self.ports[port].fre && area + RECEIVED_FIS_BYTES as usize <= self.memory.len() {
             put(&mut self.memory, area + place, fis);
         }
     }
 
     /// Sends the FIS of a slot's command that has ended: of IDENTIFY DEVICE and READ LOG EXT, whose pages go by PIO, a
     /// PIO Setup FIS; of a queued one a Set Device Bits FIS; and of the others a Register FIS.
-    pub fn send_end(&mut self, port: usize, slot: u8, transfer: Transfer)
+    pub fn send_end(&mut self, port: usize, slot: u8, transfer: CommandKind)
         requires port { port < 4 }
         requires slot { slot < 32 }
         ensures sent { (o : Outside) → SendsEnd slot port (cause_of transfer) (transfer_operation transfer)
@@ -138,15 +138,15 @@ impl Hardware {
         ensures rest { self.new ≡ record self.old { memory = self.new.memory } }
     {
         match transfer {
-            Transfer::Identify | Transfer::ReadLog => {
+            CommandKind::Identify | CommandKind::ReadLog => {
                 let fis = encode_pio_setup(&self.ports[port].page_setup());
                 self.send(port, SETUP, &fis);
             }
-            Transfer::ReadQueued | Transfer::WriteQueued => {
+            CommandKind::ReadQueued | CommandKind::WriteQueued => {
                 let fis = encode_set_device_bits(&self.ports[port].ended_tag(slot));
                 self.send(port, DEVICE_BITS, &fis);
             }
-            Transfer::Read | Transfer::Write | Transfer::Flush | Transfer::Trim => {
+            CommandKind::Read | CommandKind::Write | CommandKind::Flush | CommandKind::Trim => {
                 let fis = encode_d2h(&self.ports[port].end_registers());
                 self.send(port, REGISTERS, &fis);
             }
@@ -171,7 +171,7 @@ impl Hardware {
     /// Sends the first FIS of a disk, whose link has come up.
     pub fn send_signature(&mut self, port: usize)
         requires { port < 4 }
-        ensures sent { (o : Outside) → SendsRegisters port (signature_of ((device_of self.old o).port port))
+        ensures sent { (o : Outside) → SendsRegisters port (signature_fis ((device_of self.old o).port port))
             (device_of self.old o) (device_of self.new o) }
         ensures rest { self.new ≡ record self.old { memory = self.new.memory } }
     {

@@ -73,7 +73,7 @@ impl PortModel {
     }
 
     /// CR and FR fall where they may.
-    pub fn settle_links(&mut self)
+    pub fn settle_state(&mut self)
         ensures does { (m : Media) → GoesTo (port_of self.old m) (port_of self.new m) }
         ensures fallen { self.new.st ≡ false → self.new.cr ≡ true → false ≡ true }
         ensures area { self.new.fre ≡ false → self.new.cr ≡ false → self.new.fr ≡ true → false ≡ true }

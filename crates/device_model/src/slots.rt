@@ -1,17 +1,17 @@
 // The slots of a port: which command is taken, and how it goes on.
 ghost use Rattle.std.specs.Prelude.{◌≡◌, ◌↔◌, ◌<◌, ◌≤◌, ◌^◌, ◌+◌, ◌||◌, ℕ, IsTrue, None, Some, true, false, is_some, slice_index_or, IfSome, List};
-ghost use Rattle.adapter.specs.Steps.{IsAlone, IsFetchable, IsWorking, admits, with_clear, with_done, with_fault, with_fetch, with_flush, with_move};
+ghost use Rattle.adapter.specs.Steps.{IsUnmixed, IsFetchable, IsWorking, admits, with_clear, with_done, with_fault, with_fetch, with_flush, with_move};
 ghost use Rattle.adapter.specs.declared.command.Operation.{Operation};
 ghost use Rattle.device_model.specs.Bits.{word_bits};
 ghost use Rattle.device_model.specs.Fetched.{IsUntouched};
 ghost use Rattle.device_model.specs.Slots.{IsOpenTo, MayTake, HasUntaken, WorksOnIn};
-ghost use Rattle.device_model.specs.View.{Media, cause_of, halt_of, held_in, kept_by, media_after, media_cleared, media_ended, transfer_operation, port_of, taken_of, blank_port};
+ghost use Rattle.device_model.specs.View.{Media, cause_of, halt_of, taken_in, busy_if_left, media_after, media_cleared, media_ended, transfer_operation, port_of, taken_of, blank_port};
 ghost use Rattle.device_model.specs.declared.port.TakenCommand.{TakenCommand};
 
 use crate::bits::{is_clear_from, with_bit_as};
 use crate::clearing::SectorExtent;
 use crate::halt::Halting;
-use crate::port::{PortModel, TakenCommand, Transfer};
+use crate::port::{CommandKind, PortModel, TakenCommand};
 use hba_regs::is_set;
 
 /// The status of a command that failed: DRDY and ERR (ACS-3, 6.3).
@@ -25,7 +25,7 @@ const TFES: u32 = 30;
 
 /// The status that a command leaves that failed: DRDY and ERR, and BSY where its disk is left busy.
 pub fn failed_status(busy: bool) -> u8
-    ensures { result ≡ 0x41 + kept_by busy }
+    ensures { result ≡ 0x41 + busy_if_left busy }
 {
     if busy {
         FAILED_STATUS + BUSY
@@ -39,7 +39,7 @@ impl PortModel {
     pub fn take(&mut self, slot: u8, command: &TakenCommand)
         requires slot { slot < 32 }
         requires new { IsUntouched command.now }
-        requires alone { (m : Media) → IsAlone (port_of self.old m) (transfer_operation command.now.transfer) }
+        requires alone { (m : Media) → IsUnmixed (port_of self.old m) (transfer_operation command.now.transfer) }
         ensures { (m : Media) → port_of self.new m ≡ with_fetch (port_of self.old m) slot (taken_of command.now).meaning
             (taken_of command.now).places }
     {
@@ -54,15 +54,15 @@ impl PortModel {
 
     /// A piece of a slot's command was moved, these bytes.
     #[inline(always)]
-    pub fn advance(&mut self, slot: u8, transfer: Transfer, bytes: &[u8; 512])
+    pub fn advance(&mut self, slot: u8, transfer: CommandKind, bytes: &[u8; 512])
         requires slot { slot < 32 }
-        requires held { (t : TakenCommand) × (held_in self.old.taken slot ≡ Some t) × (t.transfer ≡ transfer)
+        requires held { (t : TakenCommand) × (taken_in self.old.taken slot ≡ Some t) × (t.transfer ≡ transfer)
             × (t.moved + 1 < 2 ^ 32) }
-        ensures moved { (m : Media) (t : TakenCommand) → held_in self.old.taken slot ≡ Some t →
+        ensures moved { (m : Media) (t : TakenCommand) → taken_in self.old.taken slot ≡ Some t →
             port_of self.new (media_after m (taken_of t) bytes.now) ≡ with_move (port_of self.old m) slot (taken_of t)
             bytes.now }
-        ensures held { (t : TakenCommand) → held_in self.old.taken slot ≡ Some t → (transfer ≡ Transfer.Trim → ⊥) →
-            held_in self.new.taken slot ≡ Some (record t { moved = t.moved + 1 }) }
+        ensures held { (t : TakenCommand) → taken_in self.old.taken slot ≡ Some t → (transfer ≡ CommandKind.Trim → ⊥) →
+            taken_in self.new.taken slot ≡ Some (record t { moved = t.moved + 1 }) }
         ensures rest { self.new ≡ record self.old { taken = self.new.taken } }
     {
         if transfer.is_trim() {
@@ -75,8 +75,8 @@ impl PortModel {
     /// Sectors of a slot's trim were cleared.
     pub fn clear(&mut self, slot: u8, run: SectorExtent)
         requires slot { slot < 32 }
-        requires room { IfSome (held_in self.old.taken slot) (λ t. t.cleared + run.count < 2 ^ 32) }
-        ensures { (m : Media) (t : TakenCommand) → held_in self.old.taken slot ≡ Some t →
+        requires room { IfSome (taken_in self.old.taken slot) (λ t. t.cleared + run.count < 2 ^ 32) }
+        ensures { (m : Media) (t : TakenCommand) → taken_in self.old.taken slot ≡ Some t →
             port_of self.new (media_cleared m run.first run.count) ≡ with_clear (port_of self.old m) slot (taken_of t)
             run.first run.count }
     {
@@ -85,7 +85,7 @@ impl PortModel {
 
     /// The command of a slot ends without error, with the tape so long: a queued one leaves PxSACT, and a plain one
     /// PxCI.
-    pub fn end(&mut self, slot: u8, transfer: Transfer, here: usize)
+    pub fn end(&mut self, slot: u8, transfer: CommandKind, here: usize)
         requires { slot < 32 }
         ensures { (m : Media) → port_of self.new (media_ended m (transfer_operation transfer)) ≡ with_flush
             (with_done (port_of self.old m) slot (cause_of transfer) (transfer_operation transfer))
@@ -107,7 +107,7 @@ impl PortModel {
     /// A command failed with this error, a queued one or a plain one (AHCI 1.3.1, 6.2.2): PxTFD shows ERR and DRDY, BSY
     /// where its disk is left busy, and the error, TFES is set, and the port is halted. The bits of its slot stay.
     pub fn fail(&mut self, queued: bool, error: u8, busy: bool)
-        ensures { (m : Media) → port_of self.new m ≡ with_fault (port_of self.old m) queued error (kept_by busy) }
+        ensures { (m : Media) → port_of self.new m ≡ with_fault (port_of self.old m) queued error (busy_if_left busy) }
     {
         self.tfd = Some(u16::from(failed_status(busy)) + 256 * u16::from(error));
         self.is = with_bit_as(self.is, TFES, true);
@@ -117,7 +117,7 @@ impl PortModel {
     /// Whether a command is issued or taken in a slot.
     pub fn is_used(&self, slot: u8) -> bool
         requires { slot < 32 }
-        ensures { result ≡ (word_bits self.now.ci slot || is_some (held_in self.now.taken slot)) }
+        ensures { result ≡ (word_bits self.now.ci slot || is_some (taken_in self.now.taken slot)) }
     {
         is_set(self.ci, u32::from(slot)) || self.taken.is_taken(slot)
     }
@@ -126,13 +126,13 @@ impl PortModel {
     pub fn is_unused_from(&self, slot: u8) -> bool
         requires { slot < 32 }
         ensures { IsTrue result ↔ ((k : ℕ) → slot ≤ k
-            → (word_bits self.now.ci k ≡ false) × (held_in self.now.taken k ≡ None)) }
+            → (word_bits self.now.ci k ≡ false) × (taken_in self.now.taken k ≡ None)) }
     {
         is_clear_from(self.ci, u32::from(slot)) && self.taken.is_empty_from(slot)
     }
 
     /// Whether the port works on such commands.
-    pub fn is_working_on(&self, transfer: Transfer) -> bool
+    pub fn is_working_on(&self, transfer: CommandKind) -> bool
         ensures works { result ≡ true → (m : Media) → IsWorking (port_of self.now m) (transfer_operation transfer) }
         ensures only { result ≡ false → (m : Media) → IsWorking (port_of self.now m) (transfer_operation transfer) → ⊥ }
     {
@@ -141,20 +141,20 @@ impl PortModel {
 
     /// Whether such a command may be taken now, if the port works: no fault keeps it waiting, and it goes beside those
     /// that are taken.
-    pub fn may_take_command(&self, transfer: Transfer) -> bool
+    pub fn may_take_command(&self, transfer: CommandKind) -> bool
         ensures open { result ≡ true → IsOpenTo self.now (transfer_operation transfer) }
         ensures only { result ≡ false → (m : Media)
             → admits (halt_of self.now.halting) (transfer_operation transfer) ≡ true
-            → IsAlone (port_of self.now m) (transfer_operation transfer) → ⊥ }
+            → IsUnmixed (port_of self.now m) (transfer_operation transfer) → ⊥ }
     {
-        self.halting.admits(transfer) && self.is_alone(transfer)
+        self.halting.admits(transfer) && self.is_unmixed(transfer)
     }
 
     /// Whether such a command may be taken beside those that are: a queued one beside queued ones, and a plain one
     /// alone.
-    fn is_alone(&self, transfer: Transfer) -> bool
-        ensures alone { result ≡ true → (m : Media) → IsAlone (port_of self.now m) (transfer_operation transfer) }
-        ensures only { result ≡ false → (m : Media) → IsAlone (port_of self.now m) (transfer_operation transfer) → ⊥ }
+    fn is_unmixed(&self, transfer: CommandKind) -> bool
+        ensures alone { result ≡ true → (m : Media) → IsUnmixed (port_of self.now m) (transfer_operation transfer) }
+        ensures only { result ≡ false → (m : Media) → IsUnmixed (port_of self.now m) (transfer_operation transfer) → ⊥ }
     {
         if transfer.is_queued() {
             self.taken.are_queued()

@@ -10,22 +10,23 @@ ghost use Rattle.adapter.specs.Steps.DeviceTransition.{Fetch as FetchStep, Fetch
 ghost use Rattle.adapter.specs.Asked.{DoesFatal, DoesFault, DoesFetch, EndsAndPosts, fatal_bit};
 ghost use Rattle.device_model.specs.Block.{brought};
 ghost use Rattle.device_model.specs.Cached.{HasOldRoom, KeepsTheSame};
-ghost use Rattle.device_model.specs.Exchanged.{IsExchanged, piece_of};
+ghost use Rattle.device_model.specs.Exchanged.{IsTransferred, piece_of};
 ghost use Rattle.device_model.specs.Fetched.{bytes_of};
-ghost use Rattle.device_model.specs.Finishing.{TapeHasRoom, HasRoomAhead, LooksForPage, IsInside, AreInside, IsBegun, IsCovered, IsPassed, IsRest, IsUnbegun};
+ghost use Rattle.device_model.specs.Finishing.{TapeHasRoom, HasRoomAhead, LooksForPage, IsInside, AreInside, IsBegun, IsCovered, IsStepSkipped, IsRemaining, IsUnbegun};
 ghost use Rattle.device_model.specs.Sent.{SendsEnd};
 ghost use Rattle.device_model.specs.Slots.{WorksOnIn, IsNext, HasUntaken};
 ghost use Rattle.device_model.specs.Trims.{changes_ahead};
-ghost use Rattle.device_model.specs.View.{held_in, kept_by, transfer_operation, taken_of, blank_port};
+ghost use Rattle.device_model.specs.View.{taken_in, busy_if_left, transfer_operation, taken_of, blank_port};
 ghost use Rattle.device_model.specs.Whole.{Outside, device_of, outside_after, outside_ended, outside_plugged};
 ghost use Rattle.device_model.specs.declared.port.TakenCommand.{TakenCommand};
 
 use crate::cache::Cache;
 use crate::fetch::{
-    PiecePlace, count_pieces, may_say_page, place_at, read_command, read_page, says_command,
+    PiecePlace, count_pieces, decode_page_cmd, decodes_command, may_decode_page, place_at,
+    read_command,
 };
 use crate::hardware::Hardware;
-use crate::port::{TakenCommand, Transfer};
+use crate::port::{CommandKind, TakenCommand};
 use crate::slots::{FAILED_STATUS, failed_status, has_untaken, working_on};
 use crate::trims::{clears_of, is_finished};
 use adapter::{Done, Entry, FatalError, Fault, Move, Prd};
@@ -36,15 +37,15 @@ use std::snapshot::Snapshot;
 const ABORTED: u8 = 0x04;
 
 /// What a command moves next: a sector, or 0 where it names none, and the address that the bytes go to or come from.
-/// Each number has a whole word, so that none of them is taken out of another's word for each sector.
+/// Its fields have 15 bytes, so that it is copied in two registers for each sector, and not by memory.
 #[derive(Clone, Copy, Debug)]
 pub struct NextMove {
-    pub transfer: Transfer,
     pub sector: u64,
-    pub address: u64,
-    /// How many pieces behind it can be moved without a look for their places: those of its region, where the command
-    /// names sectors.
-    pub behind: u64,
+    pub address: u32,
+    /// How many pieces behind it can be moved without a look for their places: those of its region, if the command
+    /// names sectors. (A region has 8,192 pieces at most; AHCI 1.3.1, 4.2.3.3.)
+    pub behind: u16,
+    pub transfer: CommandKind,
 }
 
 /// What is left of a command, but for its end: so many moves, and then so many clears.
@@ -104,19 +105,19 @@ impl NextMove {
     }
 }
 
-/// How many pieces behind one can be moved without a look for their places: all of its region, where such a command
-/// names sectors, and each has its place in a memory of this size, and an address of 32 bits; and else none.
-fn behind(transfer: Transfer, place: PiecePlace, size: usize) -> u64
+/// How many pieces behind one can be moved without a look for their places: all of its region (65,535 at most), if such
+/// a command names sectors, and each has its place in a memory of this size, and an address of 32 bits; and else none.
+fn behind(transfer: CommandKind, place: PiecePlace, size: usize) -> u16
     requires { place.address < 2 ^ 32 }
     ensures few { result ≤ place.behind }
     ensures inside { place.address + 512 ≤ size → place.address + 512 * result + 512 ≤ size }
     ensures low { place.address + 512 * result < 2 ^ 32 }
     ensures ranged { 1 ≤ result → is_ranged (transfer_operation transfer) ≡ true }
 {
-    let pieces = u64::from(place.behind);
+    let pieces = u64::from(place.behind).min(u64::from(u16::MAX));
     let end = place.address + 512 * pieces + 512;
     if transfer.is_ranged() && end <= (size as u64).min(1 << 32) {
-        pieces
+        pieces as u16
     } else {
         0
     }
@@ -178,11 +179,11 @@ fn left_of(command: &TakenCommand, size: usize) -> Option<u32>
 fn rest_of(command: &TakenCommand, block: &[u8], memory: &[u8]) -> Option<Remaining>
     requires block { block.now ≡ brought command.now.block }
     requires few { length block.now ≤ 512 }
-    ensures rest { IfSome result (λ rest. IsRest command.now memory.now rest.left rest.clears) }
+    ensures rest { IfSome result (λ rest. IsRemaining command.now memory.now rest.left rest.clears) }
     ensures changes { IfSome result (λ rest. rest.changes
         ≡ changes_ahead (transfer_operation command.now.transfer) (bytes_of memory.now)
         (taken_of command.now) rest.left) }
-    ensures only { (left clears : ℕ) → IsRest command.now memory.now left clears
+    ensures only { (left clears : ℕ) → IsRemaining command.now memory.now left clears
         → IsSomeAnd result (λ rest. (rest.left ≡ left) × (rest.clears ≡ clears)) }
 {
     let left = left_of(command, memory.len())?;
@@ -197,25 +198,25 @@ fn rest_of(command: &TakenCommand, block: &[u8], memory: &[u8]) -> Option<Remain
 /// How far what a step notes and keeps has to grow before it is done: the tape by so many entries, and the old bytes by
 /// those of so many sectors, where they are kept.
 #[derive(Clone, Copy, Debug)]
-pub struct Growths {
+pub struct Reservations {
     pub entries: usize,
     pub old_sectors: usize,
 }
 
 /// What a command needs to be done to its end: an entry of each move and each clear, and one of the end; and the old
 /// bytes of each sector that it changes.
-fn growths_of(rest: Remaining) -> Growths
+fn reservations_of(rest: Remaining) -> Reservations
     ensures entries { result.entries ≡ rest.left + rest.clears + 1 }
     ensures old_sectors { result.old_sectors ≡ rest.changes }
 {
-    Growths {
+    Reservations {
         entries: rest.left as usize + rest.clears as usize + 1,
         old_sectors: rest.changes,
     }
 }
 
 /// Finds memory for these; `false` says that there was none.
-fn grow(tape: &mut Vec<Entry>, cache: &mut Cache, growths: Growths) -> bool
+fn reserve_all(tape: &mut Vec<Entry>, cache: &mut Cache, growths: Reservations) -> bool
     ensures items { tape.new.items ≡ tape.old.items }
     ensures kept { vec_capacity tape.old ≤ vec_capacity tape.new }
     ensures same { KeepsTheSame cache.old cache.new }
@@ -230,7 +231,7 @@ fn grow(tape: &mut Vec<Entry>, cache: &mut Cache, growths: Growths) -> bool
 }
 
 /// Tells that there was no memory, from then on.
-fn starve(starved: &mut bool)
+fn note_no_memory(starved: &mut bool)
     ensures { starved.new ≡ true }
 {
     *starved = true;
@@ -296,13 +297,13 @@ impl Hardware {
         ensures tape { self.new.tape ≡ self.old.tape }
         ensures starved { self.new.starved ≡ self.old.starved }
     {
-        has_untaken(&self.ports, usize::from(port), slot) && self.fetch_said(port, slot)
+        has_untaken(&self.ports, usize::from(port), slot) && self.fetch_decoded(port, slot)
     }
 
     /// Takes the command that the bytes of a slot say, which may be taken; `false` says that they say none that the
     /// model takes. It is entered only then, since its frame has room for a command.
     #[inline(never)]
-    fn fetch_said(&mut self, port: u8, slot: u8) -> bool
+    fn fetch_decoded(&mut self, port: u8, slot: u8) -> bool
         requires there { (port < 4) × (slot < 32) }
         requires may { HasUntaken (slice_index_or self.old.ports port blank_port) slot }
         ensures did { result ≡ true → (o : Outside)
@@ -328,14 +329,14 @@ impl Hardware {
     /// Whether the IDENTIFY DEVICE or READ LOG EXT that the bytes of a slot say, which may be taken, can be done to its
     /// end; `None` where they say none, or a fault or another command keeps it waiting.
     #[inline(never)]
-    fn says_page(&self, port: usize, slot: u8) -> Option<bool>
+    fn decodes_page(&self, port: usize, slot: u8) -> Option<bool>
         requires port { port < 4 }
         requires slot { slot < 32 }
         requires may { HasUntaken (slice_index_or self.now.ports port blank_port) slot }
         ensures { (o : Outside) → LooksForPage (device_of self.now o) port slot result }
     {
         let list = self.ports[port].addresses.clb;
-        let command = read_page(&self.memory, list, slot)?;
+        let command = decode_page_cmd(&self.memory, list, slot)?;
         if self.ports[port].may_take_command(command.transfer) {
             Some(can_end(&command, self.memory.len()))
         } else {
@@ -354,10 +355,10 @@ impl Hardware {
             return None;
         }
         if has_untaken(&self.ports, port, slot) {
-            if !may_say_page(&self.memory, self.ports[port].addresses.clb, slot) {
+            if !may_decode_page(&self.memory, self.ports[port].addresses.clb, slot) {
                 return None;
             }
-            return self.says_page(port, slot);
+            return self.decodes_page(port, slot);
         }
         let command = working_on(&self.ports, port, slot)?;
         if !command.transfer.sends_page() {
@@ -436,7 +437,7 @@ impl Hardware {
         Some(NextMove {
             transfer: command.transfer,
             sector: sector_of(command),
-            address: place.address,
+            address: place.address as u32,
             behind: behind(command.transfer, place, self.memory.len()),
         })
     }
@@ -448,7 +449,7 @@ impl Hardware {
         requires there { (port < 4) × (slot < 32) }
         requires next { (t : TakenCommand) × IsNext self.old port slot next t }
         requires room { TapeHasRoom self.old 1 }
-        ensures moved { (old : Hardware) (o : Outside) (t : TakenCommand) → IsExchanged old self.old next →
+        ensures moved { (old : Hardware) (o : Outside) (t : TakenCommand) → IsTransferred old self.old next →
             IsNext old port slot next t →
             device_of self.new (outside_after o port (taken_of t) (piece_of self.old next))
             ≡ device_after (MoveStep port slot (taken_of t) (piece_of self.old next)) (device_of old o) }
@@ -461,7 +462,7 @@ impl Hardware {
             slot: Slot(slot),
             operation: next.transfer.operation(),
             sector: next.sector,
-            address: next.address as u32,
+            address: next.address,
             direction: next.transfer.direction(),
             bytes: Snapshot::of(piece_in(&self.memory, next)),
         });
@@ -472,7 +473,7 @@ impl Hardware {
     }
 
     /// What the slot's command is, where nothing is left of it to move or to clear.
-    fn finished_at(&self, port: u8, slot: u8) -> Option<Transfer>
+    fn kind_if_finished(&self, port: u8, slot: u8) -> Option<CommandKind>
         requires port { port < 4 }
         requires slot { slot < 32 }
         ensures found { IfSome result (λ transfer. (t : TakenCommand)
@@ -491,19 +492,19 @@ impl Hardware {
     }
 
     /// What is left of a slot's command that is taken, if each move and each clear is possible.
-    fn rest_at(&self, port: u8, slot: u8) -> Option<Remaining>
+    fn remaining_at(&self, port: u8, slot: u8) -> Option<Remaining>
         requires port { port < 4 }
         requires slot { slot < 32 }
         ensures found { IfSome result
             (λ rest. (t : TakenCommand) × WorksOnIn (slice_index_or self.now.ports port blank_port)
             slot t
-            × IsRest t self.now.memory.items rest.left rest.clears) }
+            × IsRemaining t self.now.memory.items rest.left rest.clears) }
         ensures changes { IfSome result (λ rest. (t : TakenCommand)
             → WorksOnIn (slice_index_or self.now.ports port blank_port) slot t → rest.changes ≡ changes_ahead
             (transfer_operation t.transfer) (bytes_of self.now.memory.items) (taken_of t) rest.left) }
         ensures only { (t : TakenCommand) (left clears : ℕ)
             → WorksOnIn (slice_index_or self.now.ports port blank_port) slot t
-            → IsRest t self.now.memory.items left clears
+            → IsRemaining t self.now.memory.items left clears
             → IsSomeAnd result (λ rest. (rest.left ≡ left) × (rest.clears ≡ clears)) }
     {
         let command = working_on(&self.ports, usize::from(port), slot)?;
@@ -513,18 +514,19 @@ impl Hardware {
 
     /// Ends a slot's command, of which nothing is left to move or to clear, sends its FIS, and tells what it was.
     /// `None` says that there is none, or that the tape found no memory.
-    pub fn done(&mut self, port: u8, slot: u8) -> Option<Transfer>
+    pub fn done(&mut self, port: u8, slot: u8) -> Option<CommandKind>
         requires port { port < 4 }
         requires slot { slot < 32 }
         ensures did { IfSome result
             (λ transfer. (o : Outside) → EndsAndPosts (SendsEnd slot) port slot (device_of self.old o)
             (device_of self.new (outside_ended o port (transfer_operation transfer)))) }
         ensures refused { result ≡ None → (o : Outside) → device_of self.new o ≡ device_of self.old o }
-        ensures left { result ≡ None → (o : Outside) → IsPassed self.old self.new ((flag : ℕ) × (t : FetchedCommand)
+        ensures left { result ≡ None → (o : Outside)
+            → IsStepSkipped self.old self.new ((flag : ℕ) × (t : FetchedCommand)
             × Can (DoneStep port slot flag t) (device_of self.old o)) }
         ensures fed { IfSome result (λ transfer. self.new.starved ≡ self.old.starved) }
     {
-        let Some(transfer) = self.finished_at(port, slot) else {
+        let Some(transfer) = self.kind_if_finished(port, slot) else {
             return None;
         };
         let here = self.tape.len();
@@ -543,15 +545,15 @@ impl Hardware {
     }
 
     /// Whether a slot has a queued command that is taken, or a plain one, on an engine that hasn't fallen.
-    fn running_at(&self, port: u8, slot: u8) -> Option<bool>
+    fn queued_if_running(&self, port: u8, slot: u8) -> Option<bool>
         requires port { port < 4 }
         requires slot { slot < 32 }
         ensures found { IfSome result (λ queued. (t : TakenCommand)
-            × (held_in (slice_index_or self.now.ports port blank_port).taken slot ≡ Some t)
+            × (taken_in (slice_index_or self.now.ports port blank_port).taken slot ≡ Some t)
             × ((slice_index_or self.now.ports port blank_port).cr ≡ true)
             × (queued ≡ is_queued (transfer_operation t.transfer))) }
         ensures none { result ≡ None → (t : TakenCommand)
-            → held_in (slice_index_or self.now.ports port blank_port).taken
+            → taken_in (slice_index_or self.now.ports port blank_port).taken
             slot ≡ Some t →
             (slice_index_or self.now.ports port blank_port).cr ≡ true → ⊥ }
     {
@@ -569,15 +571,16 @@ impl Hardware {
         requires port { port < 4 }
         requires slot { slot < 32 }
         ensures did { IfSome result (λ queued. (o : Outside)
-            → (f : DoesFault port slot error (kept_by busy) (device_of self.old o) (device_of self.new o))
+            → (f : DoesFault port slot error (busy_if_left busy) (device_of self.old o) (device_of self.new o))
             × (queued ≡ is_queued f.t.meaning.operation)) }
         ensures refused { result ≡ None → (o : Outside) → device_of self.new o ≡ device_of self.old o }
         ensures left { result ≡ None → (o : Outside)
-            → IsPassed self.old self.new ((t : FetchedCommand) × Can (FaultStep port slot error (kept_by busy) t)
+            → IsStepSkipped self.old self.new ((t : FetchedCommand)
+            × Can (FaultStep port slot error (busy_if_left busy) t)
             (device_of self.old o)) }
         ensures fed { IfSome result (λ _. self.new.starved ≡ self.old.starved) }
     {
-        let queued = self.running_at(port, slot)?;
+        let queued = self.queued_if_running(port, slot)?;
         let entry = Entry::Fault(Fault {
             port: Port(port),
             slot: Slot(slot),
@@ -601,18 +604,18 @@ impl Hardware {
             × (device_of self.new o ≡ device_after (FetchFaultStep port slot false 0) (device_of self.old o)) }
         ensures refused { result ≡ false → (o : Outside) → device_of self.new o ≡ device_of self.old o }
         ensures left { result ≡ false → (o : Outside)
-            → IsPassed self.old self.new (Can (FetchFaultStep port slot false 0) (device_of self.old o)) }
+            → IsStepSkipped self.old self.new (Can (FetchFaultStep port slot false 0) (device_of self.old o)) }
         ensures fed { result ≡ true → self.new.starved ≡ self.old.starved }
     {
         let place = usize::from(port);
         if !has_untaken(&self.ports, place, slot) {
             return false;
         }
-        if !self.ports[place].halting.admits(Transfer::Identify) {
+        if !self.ports[place].halting.admits(CommandKind::Identify) {
             return false;
         }
         let list = self.ports[place].addresses.clb;
-        if says_command(&self.memory, list, slot) {
+        if decodes_command(&self.memory, list, slot) {
             return false;
         }
         let entry = Entry::Fault(Fault {
@@ -632,7 +635,7 @@ impl Hardware {
     /// possible, the tape finds memory for them and the end, and the cache of the port's disks for what the sectors
     /// held that they change. Want of memory is told.
     #[inline(never)]
-    fn begin_said(&mut self, port: u8, slot: u8, cache: &mut Cache) -> Option<CommandToFinish>
+    fn begin_decoded(&mut self, port: u8, slot: u8, cache: &mut Cache) -> Option<CommandToFinish>
         requires port { port < 4 }
         requires slot { slot < 32 }
         requires may { HasUntaken (slice_index_or self.old.ports port blank_port) slot }
@@ -651,8 +654,8 @@ impl Hardware {
             return None;
         }
         let rest = rest_of(command, &[], &self.memory)?;
-        if !grow(&mut self.tape, cache, growths_of(rest)) {
-            starve(&mut self.starved);
+        if !reserve_all(&mut self.tape, cache, reservations_of(rest)) {
+            note_no_memory(&mut self.starved);
             return None;
         }
         model.take(slot, command);
@@ -676,10 +679,10 @@ impl Hardware {
     {
         let place = usize::from(port);
         if has_untaken(&self.ports, place, slot) {
-            return self.begin_said(port, slot, cache);
+            return self.begin_decoded(port, slot, cache);
         }
-        let rest = self.rest_at(port, slot)?;
-        if !grow(&mut self.tape, cache, growths_of(rest)) {
+        let rest = self.remaining_at(port, slot)?;
+        if !reserve_all(&mut self.tape, cache, reservations_of(rest)) {
             self.starved = true;
             return None;
         }
@@ -696,7 +699,7 @@ impl Hardware {
             → DoesFatal port error (device_of self.old o) (device_of self.new o) }
         ensures refused { result ≡ false → (o : Outside) → device_of self.new o ≡ device_of self.old o }
         ensures left { result ≡ false → (o : Outside)
-            → IsPassed self.old self.new (Can (FatalStep port (fatal_bit error)) (device_of self.old o)) }
+            → IsStepSkipped self.old self.new (Can (FatalStep port (fatal_bit error)) (device_of self.old o)) }
         ensures fed { result ≡ true → self.new.starved ≡ self.old.starved }
     {
         let place = usize::from(port);
@@ -717,7 +720,7 @@ impl Hardware {
             × (device_of self.new o ≡ device_after (UnplugStep port) (device_of self.old o)) }
         ensures refused { result ≡ false → (o : Outside) → device_of self.new o ≡ device_of self.old o }
         ensures left { result ≡ false → (o : Outside)
-            → IsPassed self.old self.new (Can (UnplugStep port) (device_of self.old o)) }
+            → IsStepSkipped self.old self.new (Can (UnplugStep port) (device_of self.old o)) }
         ensures fed { result ≡ true → self.new.starved ≡ self.old.starved }
     {
         let place = usize::from(port);
@@ -742,7 +745,7 @@ impl Hardware {
             (device_of self.old o) }
         ensures refused { result ≡ false → (o : Outside) → device_of self.new o ≡ device_of self.old o }
         ensures left { result ≡ false → (o : Outside)
-            → IsPassed self.old self.new (((device_of self.old o).port port).present ≡ false) }
+            → IsStepSkipped self.old self.new (((device_of self.old o).port port).present ≡ false) }
         ensures fed { result ≡ true → self.new.starved ≡ self.old.starved }
     {
         let place = usize::from(port);

@@ -3,12 +3,12 @@ ghost use Rattle.std.specs.Prelude.{◌≡◌, ◌≢◌, ◌<◌, ◌≤◌, �
 ghost use Rattle.adapter.specs.Commands.{is_queued};
 ghost use Rattle.adapter.specs.Memory.{changed};
 ghost use Rattle.adapter.specs.Steps.{noted_bytes};
-ghost use Rattle.device_model.specs.Block.{brought, held_by};
-ghost use Rattle.device_model.specs.View.{held_in, transfer_operation};
+ghost use Rattle.device_model.specs.Block.{brought, taken_by};
+ghost use Rattle.device_model.specs.View.{taken_in, transfer_operation};
 ghost use Rattle.device_model.specs.declared.port.TakenCommand.{TakenCommand};
 
 use crate::bits::{is_clear_from, with_bit_as};
-use crate::port::{TakenCommand, Transfer};
+use crate::port::{CommandKind, TakenCommand};
 use ata_types::SLOTS;
 use hba_regs::is_set;
 use std::alloc::{AllocError, Global};
@@ -29,20 +29,20 @@ pub struct TakenCommands {
 
 impl Model for TakenCommands {
     ghost use Rattle.std.specs.Prelude.{◌≡◌, List, Option, length};
-    ghost use Rattle.device_model.specs.Block.{HasBlock, held_by, held_from};
+    ghost use Rattle.device_model.specs.Block.{HasBlock, taken_by, taken_from};
     ghost use Rattle.device_model.specs.declared.port.TakenCommand.{TakenCommand};
 
     ghost Value = { List (Option TakenCommand) };
 
-    ghost view = { λ s. held_from 0 s.filled s.slots.items };
+    ghost view = { λ s. taken_from 0 s.filled s.slots.items };
 
-    ghost invariant = { λ s. (length s.slots.items ≡ 32) × HasBlock (held_by s.filled s.slots.items) s.block };
+    ghost invariant = { λ s. (length s.slots.items ≡ 32) × HasBlock (taken_by s.filled s.slots.items) s.block };
 }
 
 impl TakenCommands {
     /// None is taken.
     pub fn new(alloc: Global) -> Result<TakenCommands, AllocError>
-        ensures { IfOk result (λ taken. held_in taken ≡ (λ slot. None)) }
+        ensures { IfOk result (λ taken. taken_in taken ≡ (λ slot. None)) }
     {
         let mut slots = Vec::with_capacity(alloc, SLOTS)?;
         for _slot in 0..SLOTS {
@@ -58,9 +58,9 @@ impl TakenCommands {
     /// The command that is taken in a slot.
     pub fn get(&self, slot: u8) -> Option<&TakenCommand>
         requires { slot < 32 }
-        ensures found { IfSome result (λ command. held_in self.now slot ≡ Some command.now) }
+        ensures found { IfSome result (λ command. taken_in self.now slot ≡ Some command.now) }
         ensures low { IfSome result (λ command. command.now.first < 2 ^ 48) }
-        ensures none { result ≡ None → held_in self.now slot ≡ None }
+        ensures none { result ≡ None → taken_in self.now slot ≡ None }
     {
         if is_set(self.filled, u32::from(slot)) {
             Some(&self.slots[usize::from(slot)])
@@ -72,7 +72,7 @@ impl TakenCommands {
     /// Whether a command is taken in a slot: its bit tells.
     pub fn is_taken(&self, slot: u8) -> bool
         requires { slot < 32 }
-        ensures { result ≡ is_some (held_in self.now slot) }
+        ensures { result ≡ is_some (taken_in self.now slot) }
     {
         is_set(self.filled, u32::from(slot))
     }
@@ -80,7 +80,7 @@ impl TakenCommands {
     /// Whether none is taken in a slot and in those after it.
     pub fn is_empty_from(&self, slot: u8) -> bool
         requires { slot < 32 }
-        ensures { IsTrue result ↔ ((k : ℕ) → slot ≤ k → held_in self.now k ≡ None) }
+        ensures { IsTrue result ↔ ((k : ℕ) → slot ≤ k → taken_in self.now k ≡ None) }
     {
         is_clear_from(self.filled, u32::from(slot))
     }
@@ -91,9 +91,9 @@ impl TakenCommands {
         requires slot { slot < 32 }
         requires new { command.now.block ≡ None }
         requires low { command.now.first < 2 ^ 48 }
-        requires alone { (other : ℕ) (u : TakenCommand) → other ≢ slot → held_in self.old other ≡ Some u →
-            (command.now.transfer ≡ Transfer.Trim → ⊥) × (u.transfer ≡ Transfer.Trim → ⊥) }
-        ensures { held_in self.new ≡ changed (held_in self.old) slot (Some command.now) }
+        requires alone { (other : ℕ) (u : TakenCommand) → other ≢ slot → taken_in self.old other ≡ Some u →
+            (command.now.transfer ≡ CommandKind.Trim → ⊥) × (u.transfer ≡ CommandKind.Trim → ⊥) }
+        ensures { taken_in self.new ≡ changed (taken_in self.old) slot (Some command.now) }
     {
         let room = &mut self.slots[usize::from(slot)];
         room.transfer = command.transfer;
@@ -109,9 +109,9 @@ impl TakenCommands {
     /// One more piece of a slot's command was moved.
     pub fn add_moved(&mut self, slot: u8)
         requires slot { slot < 32 }
-        requires room { IfSome (held_in self.old slot) (λ t. t.moved + 1 < 2 ^ 32) }
-        ensures { (t : TakenCommand) → held_in self.old slot ≡ Some t
-            → held_in self.new ≡ changed (held_in self.old) slot (Some (record t { moved = t.moved + 1 })) }
+        requires room { IfSome (taken_in self.old slot) (λ t. t.moved + 1 < 2 ^ 32) }
+        ensures { (t : TakenCommand) → taken_in self.old slot ≡ Some t
+            → taken_in self.new ≡ changed (taken_in self.old) slot (Some (record t { moved = t.moved + 1 })) }
     {
         if is_set(self.filled, u32::from(slot)) {
             self.slots[usize::from(slot)].moved += 1;
@@ -121,10 +121,10 @@ impl TakenCommands {
     /// The block of a slot's trim was moved.
     pub fn add_block(&mut self, slot: u8, bytes: &[u8; 512])
         requires slot { slot < 32 }
-        requires trim { (t : TakenCommand) × (held_in self.old slot ≡ Some t) × (t.transfer ≡ Transfer.Trim)
+        requires trim { (t : TakenCommand) × (taken_in self.old slot ≡ Some t) × (t.transfer ≡ CommandKind.Trim)
             × (t.moved + 1 < 2 ^ 32) }
-        ensures { (t : TakenCommand) → held_in self.old slot ≡ Some t →
-            held_in self.new ≡ changed (held_in self.old) slot
+        ensures { (t : TakenCommand) → taken_in self.old slot ≡ Some t →
+            taken_in self.new ≡ changed (taken_in self.old) slot
             (Some (record t { moved = t.moved + 1; block = Some (noted_bytes bytes.now) })) }
     {
         self.block = *bytes;
@@ -136,9 +136,9 @@ impl TakenCommands {
     /// So many more sectors of a slot's trim were cleared.
     pub fn add_cleared(&mut self, slot: u8, count: u32)
         requires slot { slot < 32 }
-        requires room { IfSome (held_in self.old slot) (λ t. t.cleared + count < 2 ^ 32) }
-        ensures { (t : TakenCommand) → held_in self.old slot ≡ Some t
-            → held_in self.new ≡ changed (held_in self.old) slot (Some (record t { cleared = t.cleared + count })) }
+        requires room { IfSome (taken_in self.old slot) (λ t. t.cleared + count < 2 ^ 32) }
+        ensures { (t : TakenCommand) → taken_in self.old slot ≡ Some t
+            → taken_in self.new ≡ changed (taken_in self.old) slot (Some (record t { cleared = t.cleared + count })) }
     {
         if is_set(self.filled, u32::from(slot)) {
             self.slots[usize::from(slot)].cleared += count;
@@ -148,7 +148,7 @@ impl TakenCommands {
     /// The block that a slot's command has brought; none where it hasn't.
     pub fn block(&self, slot: u8) -> &[u8]
         requires { slot < 32 }
-        ensures block { (t : TakenCommand) → held_in self.now slot ≡ Some t → result.now ≡ brought t.block }
+        ensures block { (t : TakenCommand) → taken_in self.now slot ≡ Some t → result.now ≡ brought t.block }
         ensures few { length result.now ≤ 512 }
     {
         match self.get(slot) {
@@ -160,28 +160,28 @@ impl TakenCommands {
     /// A slot's command is taken no more.
     pub fn remove(&mut self, slot: u8)
         requires { slot < 32 }
-        ensures { held_in self.new ≡ changed (held_in self.old) slot None }
+        ensures { taken_in self.new ≡ changed (taken_in self.old) slot None }
     {
         self.filled = with_bit_as(self.filled, u32::from(slot), false);
     }
 
     /// No command is taken any more.
     pub fn clear(&mut self)
-        ensures { held_in self.new ≡ (λ slot. None) }
+        ensures { taken_in self.new ≡ (λ slot. None) }
     {
         self.filled = 0;
     }
 
     /// Whether none is taken.
     pub fn is_empty(&self) -> bool
-        ensures { IsTrue result ↔ ((slot : ℕ) → held_in self.now slot ≡ None) }
+        ensures { IsTrue result ↔ ((slot : ℕ) → taken_in self.now slot ≡ None) }
     {
         self.filled == 0
     }
 
     /// Whether each that is taken is queued.
     pub fn are_queued(&self) -> bool
-        ensures { IsTrue result ↔ ((slot : ℕ) (t : TakenCommand) → held_in self.now slot ≡ Some t
+        ensures { IsTrue result ↔ ((slot : ℕ) (t : TakenCommand) → taken_in self.now slot ≡ Some t
             → is_queued (transfer_operation t.transfer) ≡ true) }
     {
         self.is_empty() || hold_queued(&self.slots, self.filled)
@@ -191,7 +191,7 @@ impl TakenCommands {
 /// Whether each command that is taken, of these rooms, is queued.
 fn hold_queued(rooms: &[TakenCommand], filled: u32) -> bool
     requires { length rooms.now ≡ 32 }
-    ensures { IsTrue result ↔ ((slot : ℕ) (t : TakenCommand) → held_by filled rooms.now slot ≡ Some t
+    ensures { IsTrue result ↔ ((slot : ℕ) (t : TakenCommand) → taken_by filled rooms.now slot ≡ Some t
         → is_queued (transfer_operation t.transfer) ≡ true) }
 {
     for slot in 0..SLOTS {

@@ -10,7 +10,7 @@ use hba_regs::Reg;
 use sector_store::SectorStore;
 
 /// An adapter that tells what its device did, and whether it can go on.
-pub trait Watched: Stepped {
+pub trait TapedAdapter: Stepped {
     /// Nothing more is to be asked of it: what it answers isn't what it should be any more.
     ghost ended: { Self → Bool };
 
@@ -24,7 +24,7 @@ pub trait Watched: Stepped {
 }
 
 /// An adapter whose registers can be looked at without an access.
-pub trait Shown: Watched {
+pub trait Inspectable: TapedAdapter {
     /// What a register shows now, of the adapter or of one of its ports 0 to 3. Nothing is done first, and nothing is
     /// noted.
     fn shown(&self, r: Reg) -> u32
@@ -33,7 +33,7 @@ pub trait Shown: Watched {
 }
 
 /// A model can go on until memory was refused: to note a step, or to keep what sectors held that it changes.
-impl<S: SectorStore> Watched for Model<S> {
+impl<S: SectorStore> TapedAdapter for Model<S> {
     ghost ended = { is_starved };
 
     fn tape(&self) -> &[Entry] {
@@ -45,7 +45,7 @@ impl<S: SectorStore> Watched for Model<S> {
     }
 }
 
-impl<S: SectorStore> Shown for Model<S> {
+impl<S: SectorStore> Inspectable for Model<S> {
     fn shown(&self, r: Reg) -> u32 {
         Model::shown(self, r)
     }

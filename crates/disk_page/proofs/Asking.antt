@@ -12,7 +12,7 @@ use Rattle.hba_regs.specs.declared.reg.Reg.TheVariants.{Ghc, Px}
 use Rattle.hba_regs.specs.declared.reg.PortReg.TheVariants.{Ci, Sact}
 use Rattle.adapter.specs.Access.{Access, Does, Reads, Writes, Loads, counted}
 use Rattle.adapter.specs.Access.Access.{Reading, Writing, Loading, Storing}
-use Rattle.adapter.specs.Commands.{Meaning, command_of, is_ranged, pieces_moved}
+use Rattle.adapter.specs.Commands.{Meaning, command_of, is_ranged, piece_count}
 use Rattle.adapter.specs.Device.{Bases, Notes, DevicePort, Device}
 use Rattle.adapter.specs.Device.Halt.{NotHalted}
 use Rattle.adapter.specs.Kept.{Keeps, KeepsControls, KeepsPort}
@@ -21,22 +21,22 @@ use Rattle.adapter.specs.Decoding.{pieces, IsWholePieces}
 use Rattle.adapter.specs.declared.command.Command.{Command}
 use Rattle.adapter.specs.declared.command.Operation.{Operation}
 use Rattle.adapter.specs.declared.command.Prd.{Prd}
-use Rattle.adapter.specs.Seen.{SeenAt, PutAt}
+use Rattle.adapter.specs.Seen.{PortRegisterRead, PortRegisterWritten}
 use Rattle.adapter.specs.declared.tape.Entry.{Entry}
-use Rattle.refinement.specs.Driven.{IsRelated, IsDrivenBy, IsSimulated, IsSimulatedTo, IsOf, IsSimulatedAlong, IsSimulatedAlongTo, AnyUse, NoneWrites, AnyAccess, SendsNone}
+use Rattle.refinement.specs.Driven.{IsRelated, IsDrivenBy, IsSimulated, IsSimulatedTo, SparesOtherPorts, IsSimulatedAlong, IsSimulatedAlongTo, AnyUse, NoneWrites, AnyAccess, GainsNoMove}
 use Rattle.refinement.specs.Driver.{IsOwnPrepared}
 use Rattle.refinement.specs.Facts.{IsSlotClear}
 use Rattle.refinement.specs.Places.{list_of, scratch_of}
 use Rattle.refinement.specs.Slots.{Free, Own, SlotStates, put as used, SlotDecodesTo, IsOver, op_of, Brought}
 use Rattle.command_table.specs.Places.{places_of}
 use Rattle.command_table.specs.Written.{IsTableFor, IsTableStore, IsUnused}
-use Rattle.disk_page.specs.Asking.{page_operation, AreInVain, MayAsk, IsAsking, BringsLastPage, ShowsIssued, WaitsInVain}
+use Rattle.disk_page.specs.Asking.{page_operation, AreInVain, MayAsk, IsPageAccess, BringsLastPage, ShowsIssued, WaitsInVain}
 use Rattle.disk_page.specs.Waiting.{IsPageAwaited}
 use Rattle.disk_page.specs.declared.Page.{Page}
 use Rattle.disk_page.specs.declared.Page.TheVariants.{Identity, Errors}
 use Rattle.disk_page.specs.Laws.{Laws}
 use Rattle.std.proofs.lemmas.List.Elements.{All-nil, All-cons, All-append, All-weaker}
-use Rattle.disk_page.specs.Laws.AccessKind.{Asking, Awaiting, Storing as Stored}
+use Rattle.disk_page.specs.Laws.AccessPurpose.{Asking, Awaiting, Storing as Stored}
 use Rattle.refinement.specs.Links.{SameAdapter}
 use Rattle.std.proofs.lemmas.Nat.Bits.{bit_at_ones_above}
 
@@ -56,7 +56,7 @@ pub record IsPending (port : Port) (start : Device) (n : ℕ) (d : Device) : Typ
   pub on : IsOn d
   pub there : HasPort d port.0
   pub det : (d.port port.0).sctl_det ≡ 0
-  pub told : IsSimulatedAlong (AreInVain port n) (IsAsking port) AnyUse start d
+  pub told : IsSimulatedAlong (AreInVain port n) (IsPageAccess port) AnyUse start d
   pub waiting : (o : Operation) (since : ℕ) (uses : SlotStates) (begun : Device) → IsPageAwaited port o since uses begun start → IsPageAwaited port o since uses begun d
   pub low : n ≤ (d.port port.0).notes.command_count
   pub high : 0 < n → (d.port port.0).notes.command_count ≤ MOST_READINGS
@@ -64,7 +64,7 @@ pub record IsPending (port : Port) (start : Device) (n : ℕ) (d : Device) : Typ
 -- and one without it
 pub record IsFoundOver (port : Port) (start d : Device) : Type 0 where
   pub on : IsOn d
-  pub followed : IsSimulated (IsAsking port) AnyUse start d
+  pub followed : IsSimulated (IsPageAccess port) AnyUse start d
   pub waiting : (o : Operation) (since : ℕ) (uses : SlotStates) (begun : Device) → IsPageAwaited port o since uses begun start → IsPageAwaited port o since uses begun d
   pub over : (o : Operation) (since : ℕ) (uses : SlotStates) (begun : Device) → IsPageAwaited port o since uses begun start → IsSlotClear (d.port port.0) 0
 
@@ -79,9 +79,9 @@ pub bit_one_other : (k : ℕ) → k ≢ 0 → bit 1 k ≡ false
 bit_one_other k other = ap (λ (n : ℕ). n == 1) (bit_at_ones_above 1 k (omega (arith, other)))
 
 -- none is of a register of another port
-pub asking_is_of : (port : Port) (access : Access) → IsAsking port access → IsOf port access
-asking_is_of port (Reading r v) is = subst (λ (q : Reg). IsOf port (Reading q v)) (sym is) refl
-asking_is_of port (Writing r v) is = subst (λ (q : Reg). IsOf port (Writing q v)) (sym is.0) refl
+pub asking_is_of : (port : Port) (access : Access) → IsPageAccess port access → SparesOtherPorts port access
+asking_is_of port (Reading r v) is = subst (λ (q : Reg). SparesOtherPorts port (Reading q v)) (sym is) refl
+asking_is_of port (Writing r v) is = subst (λ (q : Reg). SparesOtherPorts port (Writing q v)) (sym is.0) refl
 asking_is_of port (Loading at bytes) is = tt
 asking_is_of port (Storing at bytes) is = tt
 
@@ -93,7 +93,7 @@ pub unranged : (page : Page) → is_ranged (page_operation page) ≡ false
 unranged Identity = refl
 unranged Errors = refl
 
-pub one_piece : (page : Page) → pieces_moved (page_operation page) 0 ≡ 1
+pub one_piece : (page : Page) → piece_count (page_operation page) 0 ≡ 1
 one_piece Identity = refl
 one_piece Errors = refl
 
@@ -160,11 +160,11 @@ vain_since port early late w = record {
 
 module _ (laws : Laws) where
   -- stores are accesses of any port, so of the next one
-  stores_of : (port : Port) (old new : Device) → IsDrivenBy (IsTableStore port.0 0) old new → IsDrivenBy (IsOf (next port)) old new
+  stores_of : (port : Port) (old new : Device) → IsDrivenBy (IsTableStore port.0 0) old new → IsDrivenBy (SparesOtherPorts (next port)) old new
   stores_of port old new a = record {
     accesses = a.accesses;
     all = a.all;
-    only = All-weaker (IsTableStore port.0 0) (IsOf (next port)) (laws.stores_any (next port) port.0 0) a.accesses a.only;
+    only = All-weaker (IsTableStore port.0 0) (SparesOtherPorts (next port)) (laws.stores_any (next port) port.0 0) a.accesses a.only;
   }
 
   any : (May : Access → Type 0) (old new : Device) → IsDrivenBy May old new → IsDrivenBy AnyAccess old new
@@ -185,8 +185,8 @@ module _ (laws : Laws) where
   -- a reading
   pub reading_leaves : (port : Port) (v : ℕ) (old new : Device) → IsOn old → Reads (Px port Ci) v old new → Leaves port.0 old new
   reading_leaves port v old new on x =
-      let s : SeenAt port.0 Ci v old new = laws.seen_at port Ci v old new x on.no_reset in
-      let k : Keeps old x.mid = laws.law_steps_keep _ _ x.steps in
+      let s : PortRegisterRead port.0 Ci v old new = laws.seen_at port Ci v old new x on.no_reset in
+      let k : Keeps old x.mid = laws.law_steps_guarantee _ _ x.steps in
       record {
         same = laws.access_same (Reading (Px port Ci) v) old new x;
         keeps = s.keeps.port port.0;
@@ -195,12 +195,12 @@ module _ (laws : Laws) where
         later = grown old.tape new.tape k.gained (ap (λ (d : Device). d.tape) x.effect ∙ k.tape);
       }
 
-  pub asking_spares_ghc : (port : Port) → NoneWrites (IsAsking port) Ghc
+  pub asking_spares_ghc : (port : Port) → NoneWrites (IsPageAccess port) Ghc
   asking_spares_ghc port access is = laws.of_spares_ghc port access (asking_is_of port access is)
 
   -- an access brings a page of the command in slot 0 alone
   access_silent : (port : Port) (uses : SlotStates) (other : Operation) (access : Access) (old new : Device) → IsRelated uses old → op_of other ≡ None → (uses port.0 0 ≡ Own other → ⊥) → Does access old new →
-      SendsNone port.0 other old new
+      GainsNoMove port.0 other old new
   access_silent port uses other access old new a page none x =
       let g = laws.tape.access_grows access old new x in
       (g.0, g.1, laws.access_pages uses a.machine access old new port.0 other g.0 a.reached a.knows.agrees x g.1 page (λ is. absurd (none is)))
@@ -234,10 +234,10 @@ module _ (laws : Laws) where
     ask_permitted uses free a = laws.own_is_permitted uses a.machine mid a.reached a.knows.agrees port (page_operation page) 1 on there (prepared uses free)
 
     module _ (call : Writes (Px port Ci) 1 mid new) where
-      pub asked_to : IsSimulatedTo (IsAsking port) (IsUnused port.0 0) (λ uses. used uses port.0 0 (Own (page_operation page))) mid new
+      pub asked_to : IsSimulatedTo (IsPageAccess port) (IsUnused port.0 0) (λ uses. used uses port.0 0 (Own (page_operation page))) mid new
       asked_to = laws.fragments.asks (Asking port) port (page_operation page) 1 mid new (refl, refl) on.no_reset prepared call
 
-      put_ci : PutAt port.0 Ci 1 mid new
+      put_ci : PortRegisterWritten port.0 Ci 1 mid new
       put_ci = laws.put_at port Ci 1 mid new call on.no_reset
 
       pub asked_det : (new.port port.0).sctl_det ≡ 0
@@ -251,11 +251,11 @@ module _ (laws : Laws) where
 
       pub asked_later : length mid.tape ≤ length new.tape
       asked_later =
-          let k : Keeps mid put_ci.mid = laws.law_steps_keep _ _ put_ci.steps in
+          let k : Keeps mid put_ci.mid = laws.law_steps_guarantee _ _ put_ci.steps in
           let l = grown mid.tape put_ci.mid.tape k.gained k.tape in
           let same = ap (λ (es : List Entry). length es) put_ci.tape in omega (arith, l, same)
 
-      pub asked_waits : (start : Device) (uses : SlotStates) → IsUnused port.0 0 uses → IsRelated uses mid → ((other : Operation) → op_of other ≡ None → SendsNone port.0 other start mid) →
+      pub asked_waits : (start : Device) (uses : SlotStates) → IsUnused port.0 0 uses → IsRelated uses mid → ((other : Operation) → op_of other ≡ None → GainsNoMove port.0 other start mid) →
           IsPageAwaited port (page_operation page) (length new.tape) (used uses port.0 0 (Own (page_operation page))) start new
       asked_waits start uses free a before = record {
         on = laws.access_on (Writing (Px port Ci) 1) mid new on (λ v e. absurd cc) call;
@@ -271,18 +271,18 @@ module _ (laws : Laws) where
   -- ---- stretches, one after another
 
   -- it is asked for after the stores
-  pub stored_then : (port : Port) (next : SlotStates → SlotStates) (old mid new : Device) → IsSimulated (IsAsking port) (IsUnused port.0 0) old mid → IsSimulatedTo (IsAsking port) (IsUnused port.0 0) next mid new →
-      IsSimulatedTo (IsAsking port) (IsUnused port.0 0) next old new
+  pub stored_then : (port : Port) (next : SlotStates → SlotStates) (old mid new : Device) → IsSimulated (IsPageAccess port) (IsUnused port.0 0) old mid → IsSimulatedTo (IsPageAccess port) (IsUnused port.0 0) next mid new →
+      IsSimulatedTo (IsPageAccess port) (IsUnused port.0 0) next old new
   stored_then port next old mid new a b = (laws.fragments.both (Asking port) (Asking port) (λ uses. uses) next (λ access may. may) (λ uses free. free) old mid new a b).followed
 
   -- what was asked for is awaited
-  pub asked_then : (port : Port) (next : SlotStates → SlotStates) (old mid new : Device) → IsSimulatedTo (IsAsking port) (IsUnused port.0 0) next old mid → IsSimulated (IsAsking port) AnyUse mid new →
-      IsSimulatedTo (IsAsking port) (IsUnused port.0 0) next old new
+  pub asked_then : (port : Port) (next : SlotStates → SlotStates) (old mid new : Device) → IsSimulatedTo (IsPageAccess port) (IsUnused port.0 0) next old mid → IsSimulated (IsPageAccess port) AnyUse mid new →
+      IsSimulatedTo (IsPageAccess port) (IsUnused port.0 0) next old new
   asked_then port next old mid new a b = (laws.fragments.both (Asking port) (Awaiting port) next (λ uses. uses) (λ access may. may) (λ uses free. tt) old mid new a b).followed
 
   -- in vain, as is told of the accesses
-  pub asked_in_vain : (port : Port) (next : SlotStates → SlotStates) (old mid new : Device) → IsSimulatedTo (IsAsking port) (IsUnused port.0 0) next old mid → IsSimulatedAlong (AreInVain port MOST_READINGS) (IsAsking port) AnyUse mid new →
-      IsSimulatedAlongTo (WaitsInVain port) (IsAsking port) (IsUnused port.0 0) next old new
+  pub asked_in_vain : (port : Port) (next : SlotStates → SlotStates) (old mid new : Device) → IsSimulatedTo (IsPageAccess port) (IsUnused port.0 0) next old mid → IsSimulatedAlong (AreInVain port MOST_READINGS) (IsPageAccess port) AnyUse mid new →
+      IsSimulatedAlongTo (WaitsInVain port) (IsPageAccess port) (IsUnused port.0 0) next old new
   asked_in_vain port next old mid new a b =
       let both = laws.fragments.both (Asking port) (Awaiting port) next (λ uses. uses) (λ access may. may) (λ uses free. tt) old mid new a b.followed in
       let early = a.driven.accesses in
@@ -293,12 +293,12 @@ module _ (laws : Laws) where
             (record { before = early; waits = waits; later = []; here = ap (λ (rest : List Access). early ++ rest) (sym (append-nil waits)); vain = b.tells });
       }
 
-  awaited_then : (port : Port) (old mid new : Device) → IsSimulated (IsAsking port) AnyUse old mid → IsSimulated (IsAsking port) AnyUse mid new → IsSimulated (IsAsking port) AnyUse old new
+  awaited_then : (port : Port) (old mid new : Device) → IsSimulated (IsPageAccess port) AnyUse old mid → IsSimulated (IsPageAccess port) AnyUse mid new → IsSimulated (IsPageAccess port) AnyUse old new
   awaited_then port old mid new a b = (laws.fragments.both (Awaiting port) (Awaiting port) (λ uses. uses) (λ uses. uses) (λ access may. may) (λ uses any. tt) old mid new a b).followed
 
   -- a page that came leaves its slot
-  pub asked_back : (port : Port) (o : Operation) (old new : Device) → IsOver (new.port port.0) 0 → IsSimulatedTo (IsAsking port) (IsUnused port.0 0) (λ uses. used uses port.0 0 (Own o)) old new →
-      IsSimulated (IsAsking port) (IsUnused port.0 0) old new
+  pub asked_back : (port : Port) (o : Operation) (old new : Device) → IsOver (new.port port.0) 0 → IsSimulatedTo (IsPageAccess port) (IsUnused port.0 0) (λ uses. used uses port.0 0 (Own o)) old new →
+      IsSimulated (IsPageAccess port) (IsUnused port.0 0) old new
   asked_back port o old new over a = (laws.fragments.over (Asking port) port o 1 old new (refl, refl) (λ uses free. free) over a).followed
 
   -- ---- header and table are stored first
@@ -307,10 +307,10 @@ module _ (laws : Laws) where
     pub stores_leave : Leaves port.0 old mid
     stores_leave = tables_leave port old mid on stores.driven
 
-    pub stores_asking : IsSimulated (IsAsking port) (IsUnused port.0 0) old mid
+    pub stores_asking : IsSimulated (IsPageAccess port) (IsUnused port.0 0) old mid
     stores_asking = (laws.fragments.wider (Stored port) (Asking port) (λ uses. uses) kind (λ uses free. free) old mid stores).followed
       where
-        kind : (access : Access) → IsTableStore port.0 0 access → IsAsking port access
+        kind : (access : Access) → IsTableStore port.0 0 access → IsPageAccess port access
         kind (Storing at bytes) here = here
         kind (Reading r v) here = absurd here
         kind (Writing r v) here = absurd here
@@ -319,7 +319,7 @@ module _ (laws : Laws) where
     pub stores_agree : (uses : SlotStates) → IsUnused port.0 0 uses → IsRelated uses old → IsRelated uses mid
     stores_agree uses free = laws.fragments.agreed (Stored port) (λ uses. uses) uses old mid free stores
 
-    pub stores_silent : (uses : SlotStates) (other : Operation) → IsUnused port.0 0 uses → IsRelated uses old → op_of other ≡ None → SendsNone port.0 other old mid
+    pub stores_silent : (uses : SlotStates) (other : Operation) → IsUnused port.0 0 uses → IsRelated uses old → op_of other ≡ None → GainsNoMove port.0 other old mid
     stores_silent uses other free a page = laws.fragments.silent (Stored port) (λ uses. uses) uses port other old mid free (laws.stores_spare port.0 0 (Px port Ci)) (laws.stores_spare port.0 0 (Px port Sact)) page
         (λ is. let e : Free ≡ Own other = sym free ∙ is in absurd cc) stores a
 
@@ -333,7 +333,7 @@ module _ (laws : Laws) where
     reads_on : IsOn e
     reads_on = laws.access_on (Reading (Px port Ci) v) d e on (λ w f. absurd cc) call
 
-    reads_followed : IsSimulated (IsAsking port) AnyUse d e
+    reads_followed : IsSimulated (IsPageAccess port) AnyUse d e
     reads_followed = (laws.fragments.reads (Awaiting port) (Px port Ci) v d e refl call).followed
 
     -- the driver goes on to wait
@@ -364,7 +364,7 @@ module _ (laws : Laws) where
 
     count_read : (d.port port.0).sctl_det ≡ 0 → (e.port port.0).notes.command_count ≡ counted (bit v 0) (d.port port.0).notes.command_count
     count_read det =
-        let s : SeenAt port.0 Ci v d e = laws.seen_at port Ci v d e call on.no_reset in
+        let s : PortRegisterRead port.0 Ci v d e = laws.seen_at port Ci v d e call on.no_reset in
         let P : ℕ → Type 0 = λ x. (e.port port.0).notes.command_count ≡ (if nat_eq x 0 then counted (bit v 0) (d.port port.0).notes.command_count else (d.port port.0).notes.command_count) in
         subst P (reads_det det) (ap (λ (n : Notes). n.command_count) s.notes)
 
@@ -434,7 +434,7 @@ module _ (laws : Laws) where
       pub load_clear : IsSlotClear (new.port port.0) 0
       load_clear = laws.access_clear port 0 (Loading (scratch_of port.0) bytes) old new (λ v e. absurd cc) (λ v e. absurd cc) call clear
 
-      pub load_followed : IsSimulated (IsAsking port) AnyUse old new
+      pub load_followed : IsSimulated (IsPageAccess port) AnyUse old new
       load_followed = (laws.fragments.loads (Awaiting port) (scratch_of port.0) bytes old new (refl, size) call).followed
 
       pub load_brings : (early : ℕ) → early ≤ since → BringsLastPage port.0 o early bytes new
@@ -456,6 +456,6 @@ module _ (laws : Laws) where
             | inr running ↦ running
           ]
 
-      pub load_silent : (other : Operation) → op_of other ≡ None → other ≢ o → SendsNone port.0 other begun new
+      pub load_silent : (other : Operation) → op_of other ≡ None → other ≢ o → GainsNoMove port.0 other begun new
       load_silent other page differs = laws.silent_more port.0 other begun old new (w.silent other page differs)
           (access_silent port uses other (Loading (scratch_of port.0) bytes) old new w.agreed page (other_own port.0 o other uses w.awaits.own differs) call)

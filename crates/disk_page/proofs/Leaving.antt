@@ -12,17 +12,17 @@ use Rattle.adapter.specs.Memory.{patched}
 use Rattle.adapter.specs.Rules.{IsOn}
 use Rattle.adapter.specs.Steps.{Steps}
 use Rattle.adapter.specs.declared.tape.Entry.{Entry}
-use Rattle.adapter.specs.Seen.{SeenAt}
-use Rattle.adapter.specs.Seen.{PutAt}
+use Rattle.adapter.specs.Seen.{PortRegisterRead}
+use Rattle.adapter.specs.Seen.{PortRegisterWritten}
 use Rattle.refinement.specs.Driven.{HasNoCommand, IsDrivenBy}
 use Rattle.refinement.specs.Slots.{IsOver}
-use Rattle.disk_page.specs.Asking.{IsAsking, LeavesRunning, SameButIssued}
+use Rattle.disk_page.specs.Asking.{IsPageAccess, LeavesRunning, SameButCiNotes}
 use Rattle.disk_page.proofs.Asking.{reading_leaves, grown, asking_spares_ghc, bit_one_other}
 use Rattle.disk_page.specs.Laws.{Laws}
 use Rattle.std.specs.List.{All}
 use Rattle.std.proofs.lemmas.Bool.{cases_eq}
 use Rattle.std.proofs.lemmas.List.Elements.{All-head, All-tail}
-use Rattle.refinement.specs.Links.{SparesRegister}
+use Rattle.refinement.specs.Links.{DoesNotWrite}
 
 -- the same of one port's state
 record HasAfter (port : ℕ) (old : Device) (p : DevicePort) : Type 0 where
@@ -31,16 +31,16 @@ record HasAfter (port : ℕ) (old : Device) (p : DevicePort) : Type 0 where
   ci : (slot : ℕ) → slot ≢ 0 → (old.port port).ci slot ≡ false → p.ci slot ≡ false
   taken : (slot : ℕ) → slot ≢ 0 → (old.port port).ci slot ≡ false → (old.port port).taken slot ≡ None → p.taken slot ≡ None
   sact : (slot : ℕ) → (old.port port).sact slot ≡ false → p.sact slot ≡ false
-  notes : SameButIssued (old.port port).notes p.notes
+  notes : SameButCiNotes (old.port port).notes p.notes
 
 -- readings of PxCI, one after another
-same_more : (a b c : Notes) → SameButIssued a b → SameButIssued b c → SameButIssued a c
+same_more : (a b c : Notes) → SameButCiNotes a b → SameButCiNotes b c → SameButCiNotes a c
 same_more a b c p q =
     let P : Notes → Type 0 = λ n. c ≡ record n { last_ci = c.last_ci; command_count = c.command_count } in
     subst P p q
 
-same_notes : (old new : Notes) → new ≡ old → SameButIssued old new
-same_notes old new is = let P : Notes → Type 0 = λ n. SameButIssued old n in subst P (sym is) refl
+same_notes : (old new : Notes) → new ≡ old → SameButCiNotes old new
+same_notes old new is = let P : Notes → Type 0 = λ n. SameButCiNotes old n in subst P (sym is) refl
 
 -- a port that has as many of these words as another
 with_memory : (port at : ℕ) (bytes : List ℕ) (old mid : Device) → LeavesRunning port old mid → LeavesRunning port old (record mid { memory = patched mid.memory at bytes })
@@ -48,9 +48,9 @@ with_memory port at bytes old mid l =
     record { controls = l.controls; bases = l.bases; ci = l.ci; taken = l.taken; sact = l.sact; notes = l.notes; later = l.later; recorded = l.recorded }
 
 -- a reading of PxCI noted its value alone
-same_read : (v : ℕ) (old : Notes) (p : DevicePort) → p.notes ≡ note Ci v (record p { notes = old }) → SameButIssued old p.notes
+same_read : (v : ℕ) (old : Notes) (p : DevicePort) → p.notes ≡ note Ci v (record p { notes = old }) → SameButCiNotes old p.notes
 same_read v old p is =
-    let P : Notes → Type 0 = λ n. SameButIssued old n in
+    let P : Notes → Type 0 = λ n. SameButCiNotes old n in
     subst P (sym is) refl
 
 -- a port without a command, but for slot 0's, which is over
@@ -88,7 +88,7 @@ module _ (laws : Laws) where
   -- what the device alone leaves
   by_device : (port : ℕ) (old new : Device) → old.hr ≡ false → Steps old new → LeavesRunning port old new
   by_device port old new off steps =
-      let k : Keeps old new = laws.law_steps_keep _ _ steps in
+      let k : Keeps old new = laws.law_steps_guarantee _ _ steps in
       let p : KeepsPort (old.port port) (new.port port) = k.port port in
       record {
         controls = (k.on off).controls port;
@@ -112,14 +112,14 @@ module _ (laws : Laws) where
     notes = l.notes;
   }
 
-  asking_leaves : (port : Port) (access : Access) (old new : Device) → IsOn old → IsAsking port access → Does access old new → LeavesRunning port.0 old new
+  asking_leaves : (port : Port) (access : Access) (old new : Device) → IsOn old → IsPageAccess port access → Does access old new → LeavesRunning port.0 old new
   asking_leaves port (Loading at bytes) old new on here x = by_device port.0 old new on.no_reset x.steps
   asking_leaves port (Storing at bytes) old new on here x =
       let P : Device → Type 0 = λ d. LeavesRunning port.0 old d in subst P (sym x.effect) (with_memory port.0 at bytes old x.mid (by_device port.0 old x.mid on.no_reset x.steps))
   asking_leaves port (Reading r v) old new on here x =
       let R : Reg → Type 0 = λ q. Reads q v old new in
       let call : Reads (Px port Ci) v old new = subst R here x in
-      let s : SeenAt port.0 Ci v old new = laws.seen_at port Ci v old new call on.no_reset in
+      let s : PortRegisterRead port.0 Ci v old new = laws.seen_at port Ci v old new call on.no_reset in
       record {
         controls = s.keeps.on.controls port.0;
         bases = (s.keeps.port port.0).bases;
@@ -134,7 +134,7 @@ module _ (laws : Laws) where
       let R : Reg → Type 0 = λ q. Writes q v old new in
       let V : ℕ → Type 0 = λ n. Writes (Px port Ci) n old new in
       let call : Writes (Px port Ci) 1 old new = subst V here.1 (subst R here.0 x) in
-      let w : PutAt port.0 Ci 1 old new = laws.put_at port Ci 1 old new call on.no_reset in
+      let w : PortRegisterWritten port.0 Ci 1 old new = laws.put_at port Ci 1 old new call on.no_reset in
       let d : LeavesRunning port.0 old w.mid = by_device port.0 old w.mid on.no_reset w.steps in
       let P : DevicePort → Type 0 = λ p. HasAfter port.0 old p in
       let h : HasAfter port.0 old (new.port port.0) = subst P (sym w.here) (issued_leaves port.0 old w.mid d) in
@@ -149,13 +149,13 @@ module _ (laws : Laws) where
         recorded = laws.issues_recorded port.0 port 1 old new call;
       }
 
-  leaves_over : (port : Port) (accesses : List Access) (old new : Device) → IsOn old → All (IsAsking port) accesses → DoesAll accesses old new → LeavesRunning port.0 old new
+  leaves_over : (port : Port) (accesses : List Access) (old new : Device) → IsOn old → All (IsPageAccess port) accesses → DoesAll accesses old new → LeavesRunning port.0 old new
   leaves_over port [] old new on all is = subst (LeavesRunning port.0 old) (sym is) (running_none port.0 old)
   leaves_over port (access ∷ accesses) old new on all (mid, does, rest) =
-      let here = All-head (IsAsking port) access accesses all in
+      let here = All-head (IsPageAccess port) access accesses all in
       let host = asking_spares_ghc laws port access here in
-      let later = laws.access_on access old mid on (λ v is. absurd (subst (SparesRegister Ghc) is host refl)) does in
-      running_more port.0 old mid new (asking_leaves port access old mid on here does) (leaves_over port accesses mid new later (All-tail (IsAsking port) access accesses all) rest)
+      let later = laws.access_on access old mid on (λ v is. absurd (subst (DoesNotWrite Ghc) is host refl)) does in
+      running_more port.0 old mid new (asking_leaves port access old mid on here does) (leaves_over port accesses mid new later (All-tail (IsPageAccess port) access accesses all) rest)
 
-  pub asking_leaves_running : (port : Port) (old new : Device) → IsOn old → IsDrivenBy (IsAsking port) old new → LeavesRunning port.0 old new
+  pub asking_leaves_running : (port : Port) (old new : Device) → IsOn old → IsDrivenBy (IsPageAccess port) old new → LeavesRunning port.0 old new
   asking_leaves_running port old new on a = leaves_over port a.accesses old new on a.only a.all

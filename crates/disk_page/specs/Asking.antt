@@ -14,9 +14,9 @@ use Rattle.adapter.specs.Kept.{KeepsControls}
 use Rattle.adapter.specs.Rules.{IsOn, HasPort}
 use Rattle.adapter.specs.declared.command.Operation.{Operation}
 use Rattle.adapter.specs.declared.command.Operation.TheVariants.{Identify, ReadLog}
-use Rattle.refinement.specs.Driven.{RelatesWith, IsRelated, IsSimulated, IsSimulatedAlongTo, SendsNone}
+use Rattle.refinement.specs.Driven.{RelatesWith, IsRelated, IsSimulated, IsSimulatedAlongTo, GainsNoMove}
 use Rattle.refinement.specs.Driver.{AllFree}
-use Rattle.refinement.specs.Facts.{IsSlotClear, IsRecorded}
+use Rattle.refinement.specs.Facts.{IsSlotClear, FaultsOnRecord}
 use Rattle.refinement.specs.Places.{list_of, scratch_of}
 use Rattle.refinement.specs.Slots.{Own, SlotStates, op_of, put, Brought}
 use Rattle.command_table.specs.Written.{IsTableStore, IsUnused}
@@ -50,16 +50,16 @@ pub record MayGetPage (port : Port) (d : Device) : Type 0 where
   pub may : MayAsk port.0 d
 
 -- all that readings noted is as it was, but for those of PxCI
-abbrev pub SameButIssued : Notes → Notes → Type 0
-SameButIssued old new = new ≡ record old { last_ci = new.last_ci; command_count = new.command_count }
+abbrev pub SameButCiNotes : Notes → Notes → Type 0
+SameButCiNotes old new = new ≡ record old { last_ci = new.last_ci; command_count = new.command_count }
 
 -- It stores slot 0's header, with PRDBC zero, or its table, reads PxCI, writes it with bit 0 alone, or loads the page
 -- from the scratch frame.
-abbrev pub IsAsking : Port → Access → Type 0
-IsAsking port (Reading r v) = r ≡ Px port Ci
-IsAsking port (Writing r v) = (r ≡ Px port Ci) × (v ≡ 1)
-IsAsking port (Loading at bytes) = (at ≡ scratch_of port.0) × (length bytes ≡ 512)
-IsAsking port (Storing at bytes) = IsTableStore port.0 0 (Storing at bytes)
+abbrev pub IsPageAccess : Port → Access → Type 0
+IsPageAccess port (Reading r v) = r ≡ Px port Ci
+IsPageAccess port (Writing r v) = (r ≡ Px port Ci) × (v ≡ 1)
+IsPageAccess port (Loading at bytes) = (at ≡ scratch_of port.0) × (length bytes ≡ 512)
+IsPageAccess port (Storing at bytes) = IsTableStore port.0 0 (Storing at bytes)
 
 -- What asking leaves of the port: its controls and its addresses; every slot but slot 0, which has no command if it had
 -- none; all that readings noted but of PxCI; the bits of PxSACT that were clear; and the record of its faults since ST
@@ -71,9 +71,9 @@ pub record LeavesRunning (port : ℕ) (old new : Device) : Type 0 where
   pub taken : (slot : ℕ) → slot ≢ 0 → (old.port port).ci slot ≡ false → (old.port port).taken slot ≡ None
       → (new.port port).taken slot ≡ None
   pub sact : (slot : ℕ) → (old.port port).sact slot ≡ false → (new.port port).sact slot ≡ false
-  pub notes : SameButIssued (old.port port).notes (new.port port).notes
+  pub notes : SameButCiNotes (old.port port).notes (new.port port).notes
   pub later : length old.tape ≤ length new.tape
-  pub recorded : IsRecorded old.tape (old.port port) port → IsRecorded new.tape (new.port port) port
+  pub recorded : FaultsOnRecord old.tape (old.port port) port → FaultsOnRecord new.tape (new.port port) port
 
 -- it reads PxCI, which shows slot 0's command
 abbrev pub ShowsIssued : Port → Access → Type 0
@@ -104,9 +104,9 @@ pub record BringsLastPage (port : ℕ) (o : Operation) (since : ℕ) (bytes : Li
 -- command may be in slot 0 still.
 abbrev pub ReadsPage : Port → Operation → Option (List ℕ) → Device → Device → Type 0
 ReadsPage port o (Some bytes) old new = BringsLastPage port.0 o (length old.tape) bytes new
-    × IsSimulated (IsAsking port) (IsUnused port.0 0) old new
+    × IsSimulated (IsPageAccess port) (IsUnused port.0 0) old new
 ReadsPage port o None old new = ((new.port port.0).notes.command_count ≡ MOST_READINGS)
-    × IsSimulatedAlongTo (WaitsInVain port) (IsAsking port) (IsUnused port.0 0)
+    × IsSimulatedAlongTo (WaitsInVain port) (IsPageAccess port) (IsUnused port.0 0)
     (λ uses. put uses port.0 0 (Own o)) old new
 
 -- Some machine agrees with the slots used as they were; or with the command in slot 0.
@@ -123,4 +123,4 @@ pub record GetsPage (port : Port) (page : Page) (result : Option (List ℕ)) (ol
   pub reads : ReadsPage port (page_operation page) result old new
   pub running : IfSome result (λ _. RelatesWith (λ uses. AllFree uses port.0) old
       → (new.port port.0).halt ≡ NotHalted)
-  pub silent : (o : Operation) → op_of o ≡ None → o ≢ page_operation page → SendsNone port.0 o old new
+  pub silent : (o : Operation) → op_of o ≡ None → o ≢ page_operation page → GainsNoMove port.0 o old new

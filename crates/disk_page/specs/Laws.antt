@@ -4,7 +4,7 @@ use Rattle.ata_types.specs.declared.Port.{Port}
 use Rattle.adapter.specs.Access.{Access, Does, Loads, Reads, Writes}
 use Rattle.refinement.specs.Laws.{FragmentLaws, TapeLaws}
 use Rattle.refinement.specs.Relation.{StateRelation}
-use Rattle.refinement.specs.Driven.{AnyAccess, AnyUse, IsRelated, IsDrivenBy, IsOf, LeavesPort, NoneWrites, SendsNone}
+use Rattle.refinement.specs.Driven.{AnyAccess, AnyUse, IsRelated, IsDrivenBy, SparesOtherPorts, LeavesPort, NoneWrites, GainsNoMove}
 use Rattle.refinement.specs.Awaits.{AwaitsPage}
 use Rattle.refinement.specs.Recovering.{EndsHalt}
 use Rattle.refinement.specs.Slots.{Brought, Free, IsMove, IsOver, Own, SlotState, SlotStates, op_of, put}
@@ -12,10 +12,10 @@ use Rattle.hba_regs.specs.declared.reg.PortReg.TheVariants.{Ci, Sact}
 use Rattle.refinement.specs.Started.{ClearsNoStart}
 use Rattle.adapter.specs.Device.{Device, DevicePort}
 use Rattle.adapter.specs.declared.tape.Entry.{Entry}
-use Rattle.refinement.specs.Facts.{FindsOwnPage, IsSlotClear, IsRecorded}
+use Rattle.refinement.specs.Facts.{FindsOwnPage, IsSlotClear, FaultsOnRecord}
 use Rattle.hba_regs.specs.declared.reg.Reg.TheVariants.{Ghc, Px}
 use Rattle.adapter.specs.Rules.{HasPort, IsUnowned, IsOn, MayWrite, IsStable}
-use Rattle.disk_page.specs.Asking.{IsAsking}
+use Rattle.disk_page.specs.Asking.{IsPageAccess}
 use Rattle.refinement.specs.Driver.{IsOwnPrepared}
 use Rattle.block_machine.specs.Histories.{IsReachable}
 use Rattle.command_table.specs.Written.{IsTableStore, IsUnused}
@@ -24,9 +24,9 @@ use Rattle.adapter.specs.Access.Access.{Writing}
 use Rattle.block_machine.specs.State.{Machine}
 use Rattle.adapter.specs.declared.command.Operation.{Operation}
 use Rattle.hba_regs.specs.declared.reg.PortReg.{PortReg}
-use Rattle.adapter.specs.Seen.{PutAt, SeenAt}
+use Rattle.adapter.specs.Seen.{PortRegisterWritten, PortRegisterRead}
 use Rattle.hba_regs.specs.declared.reg.Reg.{Reg}
-use Rattle.refinement.specs.Links.{SameAdapter, SparesRegister}
+use Rattle.refinement.specs.Links.{SameAdapter, DoesNotWrite}
 use Rattle.adapter.specs.Steps.{Steps}
 use Rattle.hba_regs.specs.Bits.{bit}
 use Rattle.refinement.specs.Places.{scratch_of}
@@ -35,17 +35,17 @@ use Rattle.refinement.specs.Places.{scratch_of}
 
 -- A page is asked for in slot 0, which isn't used; or it is awaited and loaded, whatever the slots are used for; or
 -- header and table of slot 0 are stored first.
-pub data AccessKind : Type 0 where
-  Asking : Port → AccessKind
-  Awaiting : Port → AccessKind
-  Storing : Port → AccessKind
+pub data AccessPurpose : Type 0 where
+  Asking : Port → AccessPurpose
+  Awaiting : Port → AccessPurpose
+  Storing : Port → AccessPurpose
 
-abbrev pub may_of : AccessKind → Access → Type 0
-may_of (Asking port) = IsAsking port
-may_of (Awaiting port) = IsAsking port
+abbrev pub may_of : AccessPurpose → Access → Type 0
+may_of (Asking port) = IsPageAccess port
+may_of (Awaiting port) = IsPageAccess port
 may_of (Storing port) = IsTableStore port.0 0
 
-abbrev pub fits_of : AccessKind → SlotStates → Type 0
+abbrev pub fits_of : AccessPurpose → SlotStates → Type 0
 fits_of (Asking port) = IsUnused port.0 0
 fits_of (Awaiting port) = AnyUse
 fits_of (Storing port) = IsUnused port.0 0
@@ -55,10 +55,10 @@ fits_of (Storing port) = IsUnused port.0 0
 pub record Laws : Type 0 where
   -- accesses
   pub seen_at : (port : Port) (r : PortReg) (v : ℕ) (old new : Device) → Reads (Px port r) v old new → old.hr ≡ false
-      → SeenAt port.0 r v old new
+      → PortRegisterRead port.0 r v old new
   pub put_at : (port : Port) (r : PortReg) (v : ℕ) (old new : Device) → Writes (Px port r) v old new → old.hr ≡ false
-      → PutAt port.0 r v old new
-  pub law_steps_keep : (old new : Device) → Steps old new → Keeps old new
+      → PortRegisterWritten port.0 r v old new
+  pub law_steps_guarantee : (old new : Device) → Steps old new → Keeps old new
   pub controls_none : (p : DevicePort) → KeepsControls p p
   pub controls_more : (old mid new : DevicePort) → KeepsControls old mid → KeepsControls mid new → KeepsControls old new
   pub access_on : (access : Access) (old new : Device) → IsOn old
@@ -68,21 +68,23 @@ pub record Laws : Type 0 where
       → ((v : ℕ) → access ≡ Writing (Px port Ci) v → bit v slot ≡ false)
       → ((v : ℕ) → access ≡ Writing (Px port Sact) v → bit v slot ≡ false) → Does access old new
       → IsSlotClear (old.port port.0) slot → IsSlotClear (new.port port.0) slot
-  pub steps_recorded : (port : ℕ) (old new : Device) → Steps old new → IsRecorded old.tape (old.port port) port
-      → IsRecorded new.tape (new.port port) port
+  pub steps_recorded : (port : ℕ) (old new : Device) → Steps old new → FaultsOnRecord old.tape (old.port port) port
+      → FaultsOnRecord new.tape (new.port port) port
   pub reads_recorded : (port : ℕ) (r : Reg) (v : ℕ) (old new : Device) → Reads r v old new
-      → IsRecorded old.tape (old.port port) port → IsRecorded new.tape (new.port port) port
+      → FaultsOnRecord old.tape (old.port port) port → FaultsOnRecord new.tape (new.port port) port
   pub issues_recorded : (port : ℕ) (at : Port) (v : ℕ) (old new : Device) → Writes (Px at Ci) v old new
-      → IsRecorded old.tape (old.port port) port → IsRecorded new.tape (new.port port) port
+      → FaultsOnRecord old.tape (old.port port) port → FaultsOnRecord new.tape (new.port port) port
   -- stores
-  pub stores_any : (port : Port) (at slot : ℕ) (access : Access) → IsTableStore at slot access → IsOf port access
+  pub stores_any : (port : Port) (at slot : ℕ) (access : Access) → IsTableStore at slot access
+      → SparesOtherPorts port access
   pub stores_spare : (port slot : ℕ) (r : Reg) → NoneWrites (IsTableStore port slot) r
-  pub left : (port : Port) (q : ℕ) (old new : Device) → q ≢ port.0 → IsOn old → IsDrivenBy (IsOf port) old new
+  pub left : (port : Port) (q : ℕ) (old new : Device) → q ≢ port.0 → IsOn old
+      → IsDrivenBy (SparesOtherPorts port) old new
       → LeavesPort (old.port q) (new.port q)
   pub same_over : (old new : Device) → IsDrivenBy AnyAccess old new → SameAdapter old new
   pub tape_over : (old new : Device) → IsDrivenBy AnyAccess old new → (gained : List Entry)
       × (new.tape ≡ old.tape ++ gained)
-  pub of_spares_ghc : (port : Port) (access : Access) → IsOf port access → SparesRegister Ghc access
+  pub of_spares_ghc : (port : Port) (access : Access) → SparesOtherPorts port access → DoesNotWrite Ghc access
   -- the page
   pub own_is_permitted : (uses : SlotStates) (m : Machine) (d : Device) → IsReachable m → StateRelation uses m d
       → (port : Port) (o : Operation) (v : ℕ) → IsOn d → HasPort d port.0 → IsOwnPrepared uses d port.0 o v
@@ -112,17 +114,17 @@ pub record Laws : Type 0 where
       → EndsHalt (put uses port.0 0 (Own o)) port.0 new
   pub access_ends_halt : (uses : SlotStates) (m : Machine) (port : Port) (access : Access) (old new : Device)
       → IsReachable m
-      → StateRelation uses m old → ClearsNoStart port access → SparesRegister (Px port Sact) access → new.hr ≡ false
+      → StateRelation uses m old → ClearsNoStart port access → DoesNotWrite (Px port Sact) access → new.hr ≡ false
       → Does access old new → EndsHalt uses port.0 old → EndsHalt uses port.0 new
   pub tape : TapeLaws
   pub access_pages : (uses : SlotStates) (m : Machine) (access : Access) (old new : Device) (port : ℕ) (o : Operation)
       (gained : List Entry) → IsReachable m → StateRelation uses m old → Does access old new
       → new.tape ≡ old.tape ++ gained
       → op_of o ≡ None → (uses port 0 ≡ Own o → IsOver (old.port port) 0) → All (λ e. IsMove port o e → ⊥) gained
-  pub silent_more : (port : ℕ) (o : Operation) (old mid new : Device) → SendsNone port o old mid
-      → SendsNone port o mid new → SendsNone port o old new
+  pub silent_more : (port : ℕ) (o : Operation) (old mid new : Device) → GainsNoMove port o old mid
+      → GainsNoMove port o mid new → GainsNoMove port o old new
   pub put_others : (uses : SlotStates) (port slot : ℕ) (u : SlotState) (other_port other_slot : ℕ)
       → (other_port ≡ port → other_slot ≡ slot → ⊥) → put uses port slot u other_port other_slot ≡ uses other_port
       other_slot
   -- this crate's kinds of accesses
-  pub fragments : FragmentLaws AccessKind may_of fits_of
+  pub fragments : FragmentLaws AccessPurpose may_of fits_of

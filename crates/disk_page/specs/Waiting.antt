@@ -6,11 +6,11 @@ use Rattle.adapter.specs.Device.{Device}
 use Rattle.adapter.specs.Rules.{IsOn, HasPort}
 use Rattle.adapter.specs.declared.command.Operation.{Operation}
 use Rattle.refinement.specs.Awaits.{AwaitsPage}
-use Rattle.refinement.specs.Driven.{IsRelated, IsSimulatedTo, SendsNone}
+use Rattle.refinement.specs.Driven.{IsRelated, IsSimulatedTo, GainsNoMove}
 use Rattle.refinement.specs.Recovering.{EndsHalt}
 use Rattle.refinement.specs.Slots.{Free, Own, SlotStates, op_of, put}
 use Rattle.command_table.specs.Written.{IsUnused}
-use Rattle.disk_page.specs.Asking.{IsAsking, page_operation}
+use Rattle.disk_page.specs.Asking.{IsPageAccess, page_operation}
 use Rattle.disk_page.specs.declared.Page.{Page}
 
 -- Slot 0 has the command, which was issued when the tape was so long; and some machine agrees. Where no other slot of
@@ -21,11 +21,11 @@ pub record IsPageAwaited (port : Port) (o : Operation) (since : ℕ) (uses : Slo
   pub agreed : IsRelated uses d
   pub awaits : AwaitsPage uses port.0 o since d
   pub ends : ((slot : ℕ) → slot ≢ 0 → uses port.0 slot ≡ Free) → EndsHalt uses port.0 d
-  pub silent : (other : Operation) → op_of other ≡ None → other ≢ o → SendsNone port.0 other start d
+  pub silent : (other : Operation) → op_of other ≡ None → other ≢ o → GainsNoMove port.0 other start d
 
 -- The command that brings the page was issued in slot 0, as an access of asking: from then on it is waited for.
 pub record AsksForPage (port : Port) (page : Page) (old new : Device) : Type 0 where
-  pub followed : IsSimulatedTo (IsAsking port) (IsUnused port.0 0)
+  pub followed : IsSimulatedTo (IsPageAccess port) (IsUnused port.0 0)
       (λ uses. put uses port.0 0 (Own (page_operation page)))
       old new
   pub waiting : (uses : SlotStates) → IsUnused port.0 0 uses → IsRelated uses old

@@ -1,7 +1,7 @@
 // What laws of the crates below say of this crate's accesses, for its proofs. Nothing comes of calling it.
 ghost use Rattle.disk_page.specs.Laws.{Laws};
 
-use adapter::laws::{law_controls_are_kept, law_port_registers_are_accessed, law_steps_keep};
+use adapter::laws::{law_kept_controls_compose, law_port_register_accesses, law_steps_guarantee};
 use command_table::laws::law_stores_are_of_one_port;
 use refinement::facts::{
     law_adapter_stays, law_faults_are_recorded, law_over_stays, law_page_is_awaited,
@@ -21,9 +21,9 @@ use std::marker::Brand;
 pub fn law_base()
     ensures { Laws }
 {
-    law_controls_are_kept();
-    law_port_registers_are_accessed();
-    law_steps_keep();
+    law_kept_controls_compose();
+    law_port_register_accesses();
+    law_steps_guarantee();
     law_adapter_stays();
     law_faults_are_recorded();
     law_over_stays();

@@ -13,7 +13,7 @@ ghost use Rattle.adapter.specs.declared.command.Operation.{Operation};
 ghost use Rattle.refinement.specs.Driven.{AnyUse, IsSimulated, IsSimulatedAlong};
 ghost use Rattle.refinement.specs.Facts.{IsSlotClear};
 ghost use Rattle.refinement.specs.Slots.{SlotStates};
-ghost use Rattle.disk_page.specs.Asking.{AreInVain, GetsPage, IsAsking, MayAwaitPage, MayGetPage, page_operation};
+ghost use Rattle.disk_page.specs.Asking.{AreInVain, GetsPage, IsPageAccess, MayAwaitPage, MayGetPage, page_operation};
 ghost use Rattle.disk_page.specs.Waiting.{AsksForPage, IsPageAwaited};
 ghost use Rattle.adapter.specs.Counted.{MakesAtMost};
 ghost use Rattle.disk_page.specs.Costs.{ASK_ACCESSES, PAGE_ACCESSES};
@@ -78,7 +78,7 @@ fn ask<A: Adapter>(adapter: &mut A, port: Port, page: Page)
 /// Waits until the command in slot 0 isn't issued any more, for 64 readings of PxCI at most.
 fn wait<A: Adapter>(adapter: &mut A, port: Port) -> bool
     requires may { MayAwaitPage port (A.device adapter.old) }
-    ensures followed { IsSimulated (IsAsking port) AnyUse (A.device adapter.old) (A.device adapter.new) }
+    ensures followed { IsSimulated (IsPageAccess port) AnyUse (A.device adapter.old) (A.device adapter.new) }
     ensures on { IsOn (A.device adapter.new) }
     ensures waiting { (o : Operation) (since : ℕ) (uses : SlotStates) (start : Device)
         → IsPageAwaited port o since uses start (A.device adapter.old)
@@ -88,7 +88,7 @@ fn wait<A: Adapter>(adapter: &mut A, port: Port) -> bool
         → IsSlotClear ((A.device adapter.new).port port.0) 0 }
     ensures vain { result ≡ false
         → (((A.device adapter.new).port port.0).notes.command_count ≡ MOST_READINGS)
-        × IsSimulatedAlong (AreInVain port MOST_READINGS) (IsAsking port) AnyUse (A.device adapter.old)
+        × IsSimulatedAlong (AreInVain port MOST_READINGS) (IsPageAccess port) AnyUse (A.device adapter.old)
         (A.device adapter.new) }
     ensures cost { MakesAtMost MOST_READINGS (A.access_count adapter.old) (A.access_count adapter.new) }
 {

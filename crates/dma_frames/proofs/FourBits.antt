@@ -5,7 +5,7 @@ use Rattle.std.specs.Int.{bit_at}
 use Rattle.std.proofs.lemmas.Bool.{cases_lt}
 use Rattle.std.proofs.lemmas.Nat.{pow-add}
 use Rattle.std.proofs.lemmas.Nat.Bits.{bit_at_or, bit_at-zero, bit_at_above, bit_at_cat_low, bit_at_cat_high, same_from_bits_below}
-use Rattle.dma_frames.specs.Words.{number_at}
+use Rattle.dma_frames.specs.Words.{nibble_at}
 
 -- the bits of what is shifted
 bit_at_shifted : (n s i : ℕ) → bit_at (n / 2 ^ s) i ≡ bit_at n (s + i)
@@ -20,18 +20,18 @@ low_bits x (suc (suc (suc zero))) lt = omega arith
 low_bits x (suc (suc (suc (suc i)))) lt = absurd (omega arith)
 
 -- the bits of the k-th number
-number_bits : (word k i : ℕ) → i < 4 → bit_at (number_at word k) i ≡ bit_at word (4 * k + i)
+number_bits : (word k i : ℕ) → i < 4 → bit_at (nibble_at word k) i ≡ bit_at word (4 * k + i)
 number_bits word k i lt = low_bits (word / 2 ^ (4 * k)) i lt ∙ bit_at_shifted word (4 * k) i
 
-number_small : (word k : ℕ) → number_at word k < 2 ^ 4
+number_small : (word k : ℕ) → nibble_at word k < 2 ^ 4
 number_small word k = omega arith
 
 -- two numbers are the same where their bits are
-same_number : (a b j k : ℕ) → ((i : ℕ) → i < 4 → bit_at a (4 * j + i) ≡ bit_at b (4 * k + i)) → number_at a j ≡ number_at b k
-same_number a b j k same = same_from_bits_below 4 (number_at a j) (number_at b k) (number_small a j) (number_small b k)
+same_number : (a b j k : ℕ) → ((i : ℕ) → i < 4 → bit_at a (4 * j + i) ≡ bit_at b (4 * k + i)) → nibble_at a j ≡ nibble_at b k
+same_number a b j k same = same_from_bits_below 4 (nibble_at a j) (nibble_at b k) (number_small a j) (number_small b k)
     (λ i lt. number_bits a j i lt ∙ (same i lt ∙ sym (number_bits b k i lt)))
 
-module _ (word n k : ℕ) (small : n < 16) (free : number_at word k ≡ 0) where
+module _ (word n k : ℕ) (small : n < 16) (free : nibble_at word k ≡ 0) where
   -- the bits of the number at its place: none before, and none from the next place on
   placed_before : (i : ℕ) → i < 4 * k → bit_at (n * 2 ^ (4 * k)) i ≡ 0
   placed_before i lt = ap (λ (x : ℕ). bit_at x i) (let e : n * 2 ^ (4 * k) ≡ n * 2 ^ (4 * k) + 0 = omega arith in e) ∙ (bit_at_cat_low n (4 * k) 0 i lt ∙ bit_at-zero i)
@@ -41,14 +41,14 @@ module _ (word n k : ℕ) (small : n < 16) (free : number_at word k ≡ 0) where
       ap (λ (x : ℕ). bit_at x (4 * k + i)) (let e : n * 2 ^ (4 * k) ≡ n * 2 ^ (4 * k) + 0 = omega arith in e)
       ∙ (bit_at_cat_high n (4 * k) 0 (4 * k + i) (one-le-pow (4 * k) 2 (omega arith)) (omega arith) ∙ ap (bit_at n) (let e : 4 * k + i - 4 * k ≡ i = omega arith in e))
 
-  pub put_here : number_at (bit_or word (n * 2 ^ (4 * k))) k ≡ n
-  put_here = same_from_bits_below 4 (number_at (bit_or word (n * 2 ^ (4 * k))) k) n (number_small _ k) small (λ i lt.
+  pub put_here : nibble_at (bit_or word (n * 2 ^ (4 * k))) k ≡ n
+  put_here = same_from_bits_below 4 (nibble_at (bit_or word (n * 2 ^ (4 * k))) k) n (number_small _ k) small (λ i lt.
       let had : bit_at word (4 * k + i) ≡ 0 = sym (number_bits word k i lt) ∙ (ap (λ (x : ℕ). bit_at x i) free ∙ bit_at-zero i) in
       let put = placed_from i in
       let both = bit_at_or word (n * 2 ^ (4 * k)) (4 * k + i) in
       number_bits (bit_or word (n * 2 ^ (4 * k))) k i lt ∙ omega (arith, had, put, both))
 
-  pub others_stay : (j : ℕ) → j ≢ k → number_at (bit_or word (n * 2 ^ (4 * k))) j ≡ number_at word j
+  pub others_stay : (j : ℕ) → j ≢ k → nibble_at (bit_or word (n * 2 ^ (4 * k))) j ≡ nibble_at word j
   others_stay j other = same_number (bit_or word (n * 2 ^ (4 * k))) word j j (λ i lt.
       let both = bit_at_or word (n * 2 ^ (4 * k)) (4 * j + i) in
       let none = empty i lt in

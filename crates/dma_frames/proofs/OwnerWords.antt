@@ -5,7 +5,7 @@ use Rattle.std.proofs.Math.Nat.{zero-div}
 use Rattle.std.proofs.lemmas.Bool.{cases_eq, cases_lt, cond-false, eqb-true, false_from_ne_true}
 use Rattle.std.proofs.lemmas.List.{get_or-set_other, get_or-set_same, get_or_past, length-set}
 use Rattle.std.proofs.lemmas.List.FromFn.{get_or-map-range_with_len, length-map-range_with_len}
-use Rattle.dma_frames.specs.Words.{number_at, client_of, owner_in, owners_of}
+use Rattle.dma_frames.specs.Words.{nibble_at, client_of, owner_in, owners_of}
 use Rattle.dma_frames.proofs.FourBits.{put_here, others_stay, stays_in_word}
 
 pub owner_is : (words : List ℕ) (f : ℕ) → f < 16 * length words → get_or (owners_of words) f None ≡ owner_in words f
@@ -35,8 +35,8 @@ module _ (words : List ℕ) (f n : ℕ) (within : f < 16 * length words) (some :
   in_words : f / 16 < length words
   in_words = omega (arith, within)
 
-  empty : number_at word (f % 16) ≡ 0
-  empty = no_client (number_at word (f % 16)) (sym (owner_is words f within) ∙ free)
+  empty : nibble_at word (f % 16) ≡ 0
+  empty = no_client (nibble_at word (f % 16)) (sym (owner_is words f within) ∙ free)
 
   same_length : length later ≡ length words
   same_length = length-set words (f / 16) (bit_or word (n * 2 ^ (4 * (f % 16)) % 2 ^ 64))
@@ -51,7 +51,7 @@ module _ (words : List ℕ) (f n : ℕ) (within : f < 16 * length words) (some :
   owner_put =
       let length = same_length in
       owner_is later f (omega (arith, within, length))
-      ∙ (ap (λ (w : ℕ). client_of (number_at w (f % 16))) here
+      ∙ (ap (λ (w : ℕ). client_of (nibble_at w (f % 16))) here
       ∙ (ap client_of (put_here word n (f % 16) small empty) ∙ some_client n some))
 
   pub owners_stay : (k : ℕ) → k ≢ f → get_or (owners_of later) k None ≡ get_or (owners_of words) k None
@@ -63,15 +63,15 @@ module _ (words : List ℕ) (f n : ℕ) (within : f < 16 * length words) (some :
     where
       inside : (k / 16 ≡ f / 16) ⊎ (k / 16 ≢ f / 16) → owner_in later k ≡ owner_in words k
       inside (inl same) =
-          ap (λ (i : ℕ). client_of (number_at (get_or later i 0) (k % 16))) same
-          ∙ (ap (λ (w : ℕ). client_of (number_at w (k % 16))) here
+          ap (λ (i : ℕ). client_of (nibble_at (get_or later i 0) (k % 16))) same
+          ∙ (ap (λ (w : ℕ). client_of (nibble_at w (k % 16))) here
           ∙ (ap client_of (others_stay word n (f % 16) small empty (k % 16) (λ e. other (omega (arith, same, e))))
-          ∙ ap (λ (i : ℕ). client_of (number_at (get_or words i 0) (k % 16))) (sym same)))
-      inside (inr not) = ap (λ (w : ℕ). client_of (number_at w (k % 16))) (get_or-set_other words (f / 16) (k / 16) (bit_or word (n * 2 ^ (4 * (f % 16)) % 2 ^ 64)) 0 not)
+          ∙ ap (λ (i : ℕ). client_of (nibble_at (get_or words i 0) (k % 16))) (sym same)))
+      inside (inr not) = ap (λ (w : ℕ). client_of (nibble_at w (k % 16))) (get_or-set_other words (f / 16) (k / 16) (bit_or word (n * 2 ^ (4 * (f % 16)) % 2 ^ 64)) 0 not)
 
 -- where all words are zero, nobody owns a frame
 pub nobody_owns : (words : List ℕ) → ((i : ℕ) → get_or words i 0 ≡ 0) → (f : ℕ) → get_or (owners_of words) f None ≡ None
 nobody_owns words none f = elim (cases_lt f (16 * length words)) [
-  | inl lt ↦ owner_is words f lt ∙ (ap (λ (w : ℕ). client_of (number_at w (f % 16))) (none (f / 16)) ∙ ap (λ (n : ℕ). client_of (n % 16)) (zero-div (2 ^ (4 * (f % 16)))))
+  | inl lt ↦ owner_is words f lt ∙ (ap (λ (w : ℕ). client_of (nibble_at w (f % 16))) (none (f / 16)) ∙ ap (λ (n : ℕ). client_of (n % 16)) (zero-div (2 ^ (4 * (f % 16)))))
   | inr past ↦ owner_past words f past
 ]

@@ -7,8 +7,8 @@ use Rattle.ata_types.specs.declared.request.ClientId.{ClientId}
 use Rattle.ata_types.specs.declared.request.RequestId.{RequestId}
 
 -- the k-th of a word's sixteen numbers of four bits
-abbrev pub number_at : ℕ → ℕ → ℕ
-number_at word k = word / 2 ^ (4 * k) % 16
+abbrev pub nibble_at : ℕ → ℕ → ℕ
+nibble_at word k = word / 2 ^ (4 * k) % 16
 
 -- the client of that number; 0 is nobody
 abbrev pub client_of : ℕ → Option ClientId
@@ -16,7 +16,7 @@ client_of n = if n == 0 then None else Some (record { 0 = n })
 
 -- the owner of a frame of the memory
 abbrev pub owner_in : List ℕ → ℕ → Option ClientId
-owner_in words frame = client_of (number_at (slice_index words (frame / 16)) (frame % 16))
+owner_in words frame = client_of (nibble_at (slice_index words (frame / 16)) (frame % 16))
 
 -- the owners of all frames, sixteen to a word
 abbrev pub owners_of : List ℕ → List (Option ClientId)
@@ -33,7 +33,7 @@ AreMarked words ids = (frame : ℕ) → frame < MOST_FRAMES
 
 -- What stands in a table: the owners in 64 words, a bit for each frame in 16 words, and the id of the request that each
 -- frame is lent to.
-pub record AgreeWith (owners lent : List ℕ) (ids : List (Option RequestId)) : Type 0 where
+pub record WordsAgree (owners lent : List ℕ) (ids : List (Option RequestId)) : Type 0 where
   pub owner_words : length owners ≡ 64
   pub lent_words : length lent ≡ 16
   pub frames : length ids ≡ MOST_FRAMES

@@ -1,11 +1,11 @@
 //! Which client owns each frame of memory, and which request it is lent to.
 //!
 //! (This project's own.) A `Loan` is a linear value: it can't be dropped, copied or used twice, and
-//! `give_back` alone takes it apart. So a frame that is lent stays lent until it is given back.
+//! it ends in `give_back` or `give_back_at` alone. So a frame that is lent stays lent until then.
 //! What holds loans, as a book or a server, can't be dropped either.
 #![tactic(auto)]
 
-ghost use Rattle.std.specs.Prelude.{◌≡◌, ℕ, ◌<◌, ◌≤◌, length, All, AllPairs, Contains, None, Some, IsSome, IsTrue, ◌↔◌, OnOk, IfOk, IfErr, slice_index_or};
+ghost use Rattle.std.specs.Prelude.{[], ◌≡◌, ℕ, ◌<◌, ◌≤◌, length, All, AllPairs, Contains, None, Some, IsSome, IsTrue, ◌↔◌, OnOk, IfOk, IfErr, slice_index_or};
 ghost use Rattle.block_machine.specs.Rules.{IsForeignAt, IsTwiceAt, IsLentAt, HasNoFault, IsFirstFault};
 ghost use Rattle.dma_frames.specs.Loan.{Lending};
 ghost use Rattle.dma_frames.specs.Places.{IsLeastPlace};
@@ -14,7 +14,6 @@ ghost use Rattle.dma_frames.specs.Words.{AreMarked};
 
 mod words;
 
-use arrayvec::ArrayVec;
 use ata_types::{ClientId, Frame, FrameFault, MOST_FRAMES, MOST_REQUEST_FRAMES, RequestId};
 use std::alloc::{AllocError, Global};
 use std::marker::Model;
@@ -24,23 +23,25 @@ use words::{BIT_WORDS, OWNER_WORDS};
 /// The number of frames of the largest memory.
 pub const FRAMES: usize = MOST_FRAMES as usize;
 
-/// Frames that are lent to one request, at most 128. A loan can't be dropped or copied: it ends in
-/// `FrameTable::give_back` alone.
+/// Frames that are lent to one request, at most 128. A loan can't be dropped or copied: it ends in `give_back` or
+/// `give_back_at` of `FrameTable` alone.
 pub struct Loan {
-    frames: ArrayVec<Frame, MOST_REQUEST_FRAMES>,
+    /// The frames, and behind them what is left of an earlier loan.
+    frames: [Frame; MOST_REQUEST_FRAMES],
+    count: usize,
     request: RequestId,
 }
 
 impl Model for Loan {
-    ghost use Rattle.std.specs.Prelude.{◌≤◌, length};
+    ghost use Rattle.std.specs.Prelude.{◌≡◌, ◌≤◌, length, take};
     ghost use Rattle.ata_types.specs.declared.limits.TheConstants.{MOST_REQUEST_FRAMES};
     ghost use Rattle.dma_frames.specs.Loan.{Lending};
 
     ghost Value = { Lending };
 
-    ghost view = { λ l. record { frames = l.frames.items; request = l.request } };
+    ghost view = { λ l. record { frames = take l.count l.frames; request = l.request } };
 
-    ghost invariant = { λ l. length l.frames.items ≤ MOST_REQUEST_FRAMES };
+    ghost invariant = { λ l. (l.count ≤ MOST_REQUEST_FRAMES) × (length l.frames ≡ MOST_REQUEST_FRAMES) };
 }
 
 impl Loan {
@@ -49,7 +50,7 @@ impl Loan {
         ensures frames { result.now ≡ self.now.frames }
         ensures few { length result.now ≤ MOST_REQUEST_FRAMES }
     {
-        self.frames.as_slice()
+        &self.frames[..self.count]
     }
 
     /// The request that they are lent to.
@@ -60,8 +61,8 @@ impl Loan {
     }
 }
 
-/// A place for a loan. A loan has room for many frames: it is moved into its place once, and ends where it stands. As a
-/// loan, its place can't be dropped.
+/// A place for a loan. A loan has room for many frames: it begins in its place, and ends where it stands. As a loan,
+/// its place can't be dropped.
 pub struct LoanPlace {
     /// Where nothing is held, what is left of a loan that ended.
     loan: Loan,
@@ -83,24 +84,9 @@ impl LoanPlace {
         ensures { result ≡ None }
     {
         LoanPlace {
-            loan: Loan {
-                frames: ArrayVec::new(),
-                request: RequestId(0),
-            },
+            loan: no_frames(),
             is_held: false,
         }
-    }
-
-    /// Puts a loan here.
-    pub fn put(&mut self, loan: Loan)
-        requires { self.old ≡ None }
-        ensures { self.new ≡ Some loan }
-    {
-        let Loan {
-            frames: _,
-            request: _,
-        } = mem::replace(&mut self.loan, loan);
-        self.is_held = true;
     }
 
     /// The loan that is held here.
@@ -122,14 +108,14 @@ impl LoanPlace {
     }
 
     /// Ends a place that holds no loan.
-    pub fn end(self)
+    pub fn destroy(self)
         requires { self ≡ None }
     {
-        let LoanPlace { loan, is_held: _ } = self;
-        let Loan {
-            frames: _,
-            request: _,
-        } = loan;
+        let LoanPlace {
+            loan: ended,
+            is_held: _,
+        } = self;
+        destroy(ended);
     }
 }
 
@@ -146,13 +132,13 @@ pub struct FrameTable {
 
 impl Model for FrameTable {
     ghost use Rattle.dma_frames.specs.Table.{Table};
-    ghost use Rattle.dma_frames.specs.Words.{AgreeWith, owners_of};
+    ghost use Rattle.dma_frames.specs.Words.{WordsAgree, owners_of};
 
     ghost Value = { Table };
 
     ghost view = { λ t. record { owners = owners_of t.owners; lent = t.ids } };
 
-    ghost invariant = { λ t. AgreeWith t.owners t.lent t.ids };
+    ghost invariant = { λ t. WordsAgree t.owners t.lent t.ids };
 }
 
 impl FrameTable {
@@ -264,16 +250,30 @@ impl FrameTable {
         ensures request { result.request ≡ request }
         ensures lent { LendsOnly self.old self.new frames.now (Some request) }
     {
-        let mut taken = ArrayVec::new();
-        match taken.try_extend_from_slice(frames) {
-            Ok(()) => {}
-            Err(_) => unreachable!(),
-        }
+        let mut loan = no_frames();
+        begin(&mut loan, frames, request);
         set_lent(&mut self.lent, &mut self.ids, frames, Some(request));
-        Loan {
-            frames: taken,
-            request,
-        }
+        loan
+    }
+
+    /// Lends frames as `lend` does, and the loan begins in a place that holds none. So it isn't moved.
+    pub fn lend_at(
+        &mut self,
+        client: ClientId,
+        frames: &[Frame],
+        request: RequestId,
+        place: &mut LoanPlace,
+    )
+        requires clear { HasNoFault (owner_of self.old) (lent_to self.old) client frames.now }
+        requires few { length frames.now ≤ MOST_REQUEST_FRAMES }
+        requires empty { place.old ≡ None }
+        ensures held { place.new ≡ Some (record { frames = frames.now; request = request }) }
+        ensures lent { LendsOnly self.old self.new frames.now (Some request) }
+    {
+        begin(&mut place.loan, frames, request);
+        place.is_held = true;
+        let to = Some(request);
+        set_lent(&mut self.lent, &mut self.ids, frames, to);
     }
 
     /// Takes the frames of a loan back: they are lent to none.
@@ -281,8 +281,8 @@ impl FrameTable {
         requires { All (λ f. lent_to self.old f ≡ Some loan.request) loan.frames }
         ensures { LendsOnly self.old self.new loan.frames None }
     {
-        let Loan { frames, request: _ } = loan;
-        set_lent(&mut self.lent, &mut self.ids, frames.as_slice(), None);
+        set_lent(&mut self.lent, &mut self.ids, loan.frames(), None);
+        destroy(loan);
     }
 
     /// Takes the frames of the loan that a place holds back: they are lent to none, and the place holds nothing.
@@ -346,6 +346,36 @@ impl FrameTable {
     }
 }
 
+/// A loan of no frames.
+fn no_frames() -> Loan
+    ensures { result.frames ≡ [] }
+{
+    Loan {
+        frames: [Frame(0); MOST_REQUEST_FRAMES],
+        count: 0,
+        request: RequestId(0),
+    }
+}
+
+/// Makes what was a loan one of these frames, to this request.
+fn begin(loan: &mut Loan, frames: &[Frame], request: RequestId)
+    requires { length frames.now ≤ MOST_REQUEST_FRAMES }
+    ensures { loan.new ≡ record { frames = frames.now; request = request } }
+{
+    loan.frames[..frames.len()].copy_from_slice(frames);
+    loan.count = frames.len();
+    loan.request = request;
+}
+
+/// Takes a loan apart. Its callers have its frames lent to none.
+fn destroy(loan: Loan) {
+    let Loan {
+        frames: _,
+        count: _,
+        request: _,
+    } = loan;
+}
+
 /// The first place whose frame stands at an earlier place too. Each frame that was seen has its bit set.
 fn first_twice(frames: &[Frame]) -> Option<usize>
     requires { All (λ f. f.0 < FRAMES) frames.now }
@@ -378,7 +408,8 @@ fn set_lent(
         → slice_index_or ids.new f.0 None ≡ slice_index_or ids.old f.0 None }
 {
     for frame in frames {
-        words::set_bit(lent, *frame, to.is_some());
+        let frame = *frame;
+        words::set_bit(lent, frame, to.is_some());
         ids[frame.0 as usize] = to;
     }
 }

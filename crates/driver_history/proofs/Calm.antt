@@ -12,29 +12,29 @@ use Rattle.adapter.specs.declared.tape.Entry.{Entry}
 use Rattle.adapter.specs.declared.tape.Entry.TheVariants as entry
 use Rattle.refinement.specs.Errors.{IsFatalOf}
 use Rattle.refinement.specs.Facts.{Undisturbed, IsDisturbance, IsFaultOf, ShowsNoTrouble}
-use Rattle.refinement.specs.Links.{IsPlugging}
-use Rattle.refinement.specs.Tape.{TellsAmong}
-use Rattle.block_machine.specs.Events.{Ask, AbstractState, Submit, StoreAt, LoadAt, Service, Tick, Reset, RevokeOf, State, Device as Told, CallResult, Submitted, Stored, Loaded, Served, WasReset, WasRevoked, Shown, Stepped, IsAnswered, HasTimedOut, RestartsTimedOut, changes_disk, abstract_after}
+use Rattle.refinement.specs.Links.{IsPlugEvent}
+use Rattle.refinement.specs.Tape.{TellsDeviceSteps}
+use Rattle.block_machine.specs.Events.{AbstractCall, AbstractState, Submit, StoreAt, LoadAt, Service, Tick, Reset, RevokeOf, State, Device as Told, CallResult, Submitted, Stored, Loaded, Served, WasReset, WasRevoked, Shown, Stepped, IsAnswered, HasTimedOut, RestartsTimedOut, changes_disk, abstract_after}
 use Rattle.block_machine.specs.Histories.{JointState, Happening}
-use Rattle.block_machine.specs.Ports.{Ports, Evidence, IsInterrupted}
+use Rattle.block_machine.specs.Ports.{Ports, Evidence, IsStoppedOrStuck}
 use Rattle.block_machine.specs.State.{Machine}
 use Rattle.block_machine.specs.Steps.{Step}
 use Rattle.identify.specs.declared.wanted.Wanted.{Wanted}
 use Rattle.driver_history.specs.Heeding.{IsDisturbed, IsLeftAlone, ServesReady, HeedsAt}
 use Rattle.driver_history.specs.Claims.{IsFaultFreeOutcome, IsSpared}
 use Rattle.driver_history.specs.Evidence.{Gains, HasErrors, HasFatalErrors, IsEvidencedOf, IsGone, ShowsFailure, StaysHealthy}
-use Rattle.error_recovery.specs.Evidence.{GainsRunning, ShowsFatal}
+use Rattle.error_recovery.specs.Evidence.{GainsSinceStart, ShowsFatal}
 use Rattle.driver_history.specs.Histories.{LosesNoPortError, CallCorresponds}
 use Rattle.driver_history.specs.Trace.{LeavesEngine}
 
 -- what the law on disks says
 abbrev pub EntryIsTold : Type 0
-EntryIsTold = (port : Port) (m : Machine) (gained : List Entry) (steps : List Step) → TellsAmong m gained steps
-    → list_any (changes_disk port) steps ≡ true → (e : Entry) × Contains gained e × IsPlugging port.0 e
+EntryIsTold = (port : Port) (m : Machine) (gained : List Entry) (steps : List Step) → TellsDeviceSteps m gained steps
+    → list_any (changes_disk port) steps ≡ true → (e : Entry) × Contains gained e × IsPlugEvent port.0 e
 
 -- ---- what disturbs a port
 
-plugging_disturbs : (port : ℕ) (e : Entry) → IsPlugging port e → IsDisturbance port e
+plugging_disturbs : (port : ℕ) (e : Entry) → IsPlugEvent port e → IsDisturbance port e
 plugging_disturbs port (entry.Unplug at) is = is
 plugging_disturbs port (entry.Plug at name) is = is
 plugging_disturbs port (entry.Move x) is = absurd is
@@ -74,7 +74,7 @@ no_failure : (p : DevicePort) → ShowsNoTrouble p → ShowsFailure p → ⊥
 no_failure p quiet f = ⊎_elim (no_fatal p quiet) (λ fault. false≢true (sym (quiet.quiet 30 (omega arith) (omega arith)) ∙ fault)) f
 
 -- what was gained while ST was one was gained
-pub gains_of : (port : ℕ) (Is : Entry → Type 0) (old new : Device) → GainsRunning Is port old new → Gains Is old new
+pub gains_of : (port : ℕ) (Is : Entry → Type 0) (old new : Device) → GainsSinceStart Is port old new → Gains Is old new
 gains_of port Is old new g = record {
   gained = g.before ++ (g.entry ∷ g.later);
   tape = g.tape;
@@ -95,10 +95,10 @@ untroubled evidence old ports new port healthy = record {
       port_error);
   fault = λ ready g. absurd (none_gained port.0 (IsFaultOf port.0) old.device new (fault_disturbs port.0) healthy.undisturbed (gains_of port.0 (IsFaultOf port.0) old.device new g));
   fatal = λ ready g. absurd (none_gained port.0 (IsFatalOf port.0) old.device new (fatal_disturbs port.0) healthy.undisturbed (gains_of port.0 (IsFatalOf port.0) old.device new g));
-  disk = λ ready g. absurd (none_gained port.0 (IsPlugging port.0) old.device new (plugging_disturbs port.0) healthy.undisturbed (gains_of port.0 (IsPlugging port.0) old.device new g));
+  disk = λ ready g. absurd (none_gained port.0 (IsPlugEvent port.0) old.device new (plugging_disturbs port.0) healthy.undisturbed (gains_of port.0 (IsPlugEvent port.0) old.device new g));
   changes = λ ready port_error. absurd (⊎_elim
       (λ change. ⊎_elim (λ n. false≢true (sym healthy.well.quiet.serr_n ∙ n)) (λ x. false≢true (sym healthy.well.quiet.serr_x ∙ x)) change)
-      (none_gained port.0 (IsPlugging port.0) old.device new (plugging_disturbs port.0) healthy.undisturbed)
+      (none_gained port.0 (IsPlugEvent port.0) old.device new (plugging_disturbs port.0) healthy.undisturbed)
       port_error);
 }
 
@@ -119,8 +119,8 @@ module _ (port : Port) (old : JointState Device) (new : Device) (healthy : Stays
       (none_gained port.0 (IsFatalOf port.0) old.device new (fatal_disturbs port.0) healthy.undisturbed)
       e.1
 
-  pub no_plugging : Gains (IsPlugging port.0) old.device new → ⊥
-  no_plugging = none_gained port.0 (IsPlugging port.0) old.device new (plugging_disturbs port.0) healthy.undisturbed
+  pub no_plugging : Gains (IsPlugEvent port.0) old.device new → ⊥
+  no_plugging = none_gained port.0 (IsPlugEvent port.0) old.device new (plugging_disturbs port.0) healthy.undisturbed
 
   pub not_gone : IsGone port old new → ⊥
   not_gone g = ⊎_elim
@@ -149,7 +149,7 @@ module _ (told : EntryIsTold) (wanted : List Wanted) (old : JointState Device) (
   module _ (asks : h.event.ask ≡ Service) (ready : old.abstract.ports.state port ≡ Ready) where
     serves : ServesReady old.abstract h.event.evidence h.event.steps (abstract_after old.abstract h.event) port
     serves =
-        let Heeded : Ask DeviceStep → Type 0 = λ ask. HeedsAt port ask old.abstract h.event.evidence h.event.steps (abstract_after old.abstract h.event) in
+        let Heeded : AbstractCall DeviceStep → Type 0 = λ ask. HeedsAt port ask old.abstract h.event.evidence h.event.steps (abstract_after old.abstract h.event) in
         let its : Heeded Service = subst Heeded asks (t.port port).heeds in
         its ready
 
@@ -159,13 +159,13 @@ module _ (told : EntryIsTold) (wanted : List Wanted) (old : JointState Device) (
     pub spared : IsSpared old h t.accesses port
     spared = record {
       same = alone.same;
-      told = λ e o here at. subst (λ (ask : Ask DeviceStep). IsFaultFreeOutcome ask o) (sym asks) (⊎_elim (λ x. x) (λ x. x) (alone.told e o here at));
+      told = λ e o here at. subst (λ (ask : AbstractCall DeviceStep). IsFaultFreeOutcome ask o) (sym asks) (⊎_elim (λ x. x) (λ x. x) (alone.told e o here at));
       engine = ⊎_elim (λ a. a) (λ i. absurd (alone.uninterrupted i)) ev.stopped_all;
     }
 
   -- nothing stopped it, unless it is a tick that restarts it, or a reset
-  no_interrupt : (ask : Ask DeviceStep) → HeedsAt port ask old.abstract h.event.evidence h.event.steps (abstract_after old.abstract h.event) → ask ≢ Reset
-      → (ask ≡ Tick → IsInterrupted h.event.evidence port → ⊥) → old.abstract.ports.state port ≡ Ready → IsInterrupted h.event.evidence port → ⊥
+  no_interrupt : (ask : AbstractCall DeviceStep) → HeedsAt port ask old.abstract h.event.evidence h.event.steps (abstract_after old.abstract h.event) → ask ≢ Reset
+      → (ask ≡ Tick → IsStoppedOrStuck h.event.evidence port → ⊥) → old.abstract.ports.state port ≡ Ready → IsStoppedOrStuck h.event.evidence port → ⊥
   no_interrupt Service heeds other spares ready i = ⊎_elim undisturbed (λ (a : IsLeftAlone old.abstract.ports h.event.evidence h.event.steps h.event.ports port). a.uninterrupted i) (heeds ready).calm
   no_interrupt Tick heeds other spares ready i = spares refl i
   no_interrupt Reset heeds other spares ready i = other refl
@@ -176,7 +176,7 @@ module _ (told : EntryIsTold) (wanted : List Wanted) (old : JointState Device) (
   no_interrupt (State at) heeds other spares ready i = heeds i
   no_interrupt (Told step) heeds other spares ready i = heeds i
 
-  pub engine_left : h.event.ask ≢ Reset → (h.event.ask ≡ Tick → IsInterrupted h.event.evidence port → ⊥) → old.abstract.ports.state port ≡ Ready → All (LeavesEngine port) t.accesses
+  pub engine_left : h.event.ask ≢ Reset → (h.event.ask ≡ Tick → IsStoppedOrStuck h.event.evidence port → ⊥) → old.abstract.ports.state port ≡ Ready → All (LeavesEngine port) t.accesses
   engine_left other spares ready = ⊎_elim (λ a. a) (λ i. absurd (no_interrupt h.event.ask (t.port port).heeds other spares ready i)) ev.stopped_all
 
 tick_restarts : (said : CallResult) (old : AbstractState) (evidence : Evidence) (steps : List Step) (new : AbstractState) → IsAnswered {D = DeviceStep} Tick said old evidence steps new → RestartsTimedOut old evidence steps new
@@ -189,11 +189,11 @@ tick_restarts (WasRevoked r) old evidence steps new a = absurd a
 tick_restarts (Shown r) old evidence steps new a = absurd a
 tick_restarts (Stepped r) old evidence steps new a = absurd a
 
-pub restarts_of : (ask : Ask DeviceStep) (said : CallResult) (old : AbstractState) (evidence : Evidence) (steps : List Step) (new : AbstractState) → IsAnswered ask said old evidence steps new → ask ≡ Tick
+pub restarts_of : (ask : AbstractCall DeviceStep) (said : CallResult) (old : AbstractState) (evidence : Evidence) (steps : List Step) (new : AbstractState) → IsAnswered ask said old evidence steps new → ask ≡ Tick
     → RestartsTimedOut old evidence steps new
-restarts_of ask said old evidence steps new answered asks = tick_restarts said old evidence steps new (subst (λ (a : Ask DeviceStep). IsAnswered a said old evidence steps new) asks answered)
+restarts_of ask said old evidence steps new answered asks = tick_restarts said old evidence steps new (subst (λ (a : AbstractCall DeviceStep). IsAnswered a said old evidence steps new) asks answered)
 
 -- a tick interrupts none that it doesn't bring to its limit
-pub tick_spares : (ask : Ask DeviceStep) (said : CallResult) (old : AbstractState) (evidence : Evidence) (steps : List Step) (new : AbstractState) (port : Port) → IsAnswered ask said old evidence steps new
-    → (ask ≡ Tick → HasTimedOut old port → ⊥) → ask ≡ Tick → IsInterrupted evidence port → ⊥
+pub tick_spares : (ask : AbstractCall DeviceStep) (said : CallResult) (old : AbstractState) (evidence : Evidence) (steps : List Step) (new : AbstractState) (port : Port) → IsAnswered ask said old evidence steps new
+    → (ask ≡ Tick → HasTimedOut old port → ⊥) → ask ≡ Tick → IsStoppedOrStuck evidence port → ⊥
 tick_spares ask said old evidence steps new port answered young asks i = young asks (((restarts_of ask said old evidence steps new answered asks).interrupts port).1 i)

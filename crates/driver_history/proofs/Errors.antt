@@ -16,7 +16,7 @@ use Rattle.adapter.specs.declared.tape.Entry.{Entry}
 use Rattle.refinement.specs.Driven.{Grows}
 use Rattle.refinement.specs.Errors.{IsFatalOf, NoneFails, NoneFatal}
 use Rattle.refinement.specs.Facts.{IsFaultOf}
-use Rattle.refinement.specs.Links.{IsPlugging, PlugsNone, SparesRegister}
+use Rattle.refinement.specs.Links.{IsPlugEvent, NoPlugEvents, DoesNotWrite}
 use Rattle.error_recovery.specs.Evidence.{ShowsFatal}
 use Rattle.driver_history.specs.Evidence.{Gains, ShowsChange, ShowsFailure}
 use Rattle.driver_history.specs.Laws.{Laws}
@@ -56,7 +56,7 @@ Shows links p = p.serr_x ≡ true
 abbrev pub IsOne : TroubleKind → ℕ → Entry → Type 0
 IsOne faults port = IsFaultOf port
 IsOne fatals port = IsFatalOf port
-IsOne disks port = IsPlugging port
+IsOne disks port = IsPlugEvent port
 IsOne links port = λ e. ⊥
 
 -- the register with its bits
@@ -135,9 +135,9 @@ module _ (laws : Laws) where
       let b = by_bit (IsFaultOf port) old new ((old.port port).is 30) ((new.port port).is 30) (λ clear. let t = tells clear in (t.0, (t.1.gained, t.1.tape, t.1.none))) in
       record { still = b.0; came = b.1 }
 
-  of_disks : (port : ℕ) (old new : Device) → ((new.port port).serr_n ≡ false → ((old.port port).serr_n ≡ false) × PlugsNone port old new) → AreShown disks port old new
+  of_disks : (port : ℕ) (old new : Device) → ((new.port port).serr_n ≡ false → ((old.port port).serr_n ≡ false) × NoPlugEvents port old new) → AreShown disks port old new
   of_disks port old new tells =
-      let b = by_bit (IsPlugging port) old new (old.port port).serr_n (new.port port).serr_n (λ clear. let t = tells clear in (t.0, (t.1.gained, t.1.tape, t.1.none))) in
+      let b = by_bit (IsPlugEvent port) old new (old.port port).serr_n (new.port port).serr_n (λ clear. let t = tells clear in (t.0, (t.1.gained, t.1.tape, t.1.none))) in
       record { still = b.0; came = b.1 }
 
   pub of_links : (port : ℕ) (old new : Device) → ((old.port port).serr_x ≡ true → (new.port port).serr_x ≡ true) → AreShown links port old new
@@ -159,7 +159,7 @@ module _ (laws : Laws) where
   steps_show links port old new on steps = of_links port old new (laws.changes_steps port old new on steps).serr_x
 
   -- nor does an access that doesn't write their register
-  pub access_shows : (kind : TroubleKind) (port : Port) (access : Access) (old new : Device) → old.hr ≡ false → SparesRegister (Px port (register_of kind)) access → Does access old new → AreShown kind port.0 old new
+  pub access_shows : (kind : TroubleKind) (port : Port) (access : Access) (old new : Device) → old.hr ≡ false → DoesNotWrite (Px port (register_of kind)) access → Does access old new → AreShown kind port.0 old new
   access_shows faults port access old new on spares does = of_faults port.0 old new (laws.faults_access port access old new on spares does)
   access_shows fatals port access old new on spares does = of_fatals port.0 old new (laws.fatals_access port access old new on spares does)
   access_shows disks port access old new on spares does = of_disks port.0 old new (laws.disks_access port access old new on spares does)

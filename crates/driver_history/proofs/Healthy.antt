@@ -5,7 +5,7 @@ use Rattle.ata_types.specs.declared.Port.{Port}
 use Rattle.ata_types.specs.declared.request.Outcome.{Outcome}
 use Rattle.adapter.specs.Device.{Device}
 use Rattle.adapter.specs.declared.access.DeviceStep.{DeviceStep}
-use Rattle.block_machine.specs.Events.{Ask, Submit, StoreAt, LoadAt, Service, Tick, Reset, RevokeOf, State, Device as Told, CallResult, Submitted, Stored, Loaded, WasRevoked, Shown, Stepped, AbstractState, IsAnswered, HasTimedOut, IsByServer, abstract_after}
+use Rattle.block_machine.specs.Events.{AbstractCall, Submit, StoreAt, LoadAt, Service, Tick, Reset, RevokeOf, State, Device as Told, CallResult, Submitted, Stored, Loaded, WasRevoked, Shown, Stepped, AbstractState, IsAnswered, HasTimedOut, IsByServer, abstract_after}
 use Rattle.block_machine.specs.Histories.{JointState, Happening, now}
 use Rattle.block_machine.specs.Ports.{Ports, Evidence, SamePort}
 use Rattle.block_machine.specs.State.{Pending}
@@ -20,7 +20,7 @@ use Rattle.driver_history.proofs.Leaving.{left_well}
 use Rattle.driver_history.proofs.Resting.{belongs_of}
 
 -- calls that are neither a service, nor a tick, nor a reset leave each port what it is, and answer nobody but where a grant is revoked
-same_port : (ask : Ask DeviceStep) (said : CallResult) (old : AbstractState) (evidence : Evidence) (steps : List Step) (new : AbstractState) (port : Port) → IsAnswered ask said old evidence steps new
+same_port : (ask : AbstractCall DeviceStep) (said : CallResult) (old : AbstractState) (evidence : Evidence) (steps : List Step) (new : AbstractState) (port : Port) → IsAnswered ask said old evidence steps new
     → ask ≢ Service → ask ≢ Tick → ask ≢ Reset → SamePort old.ports new.ports port
 same_port (Submit r) (Submitted (Ok id)) old evidence steps new port a one two three = a.2 port
 same_port (Submit r) (Submitted (Err refusal)) old evidence steps new port a one two three = a.2 port
@@ -38,7 +38,7 @@ same_port Tick said old evidence steps new port a one two three = absurd (two re
 same_port Reset said old evidence steps new port a one two three = absurd (three refl)
 same_port ask said old evidence steps new port a one two three = absurd a
 
-tells_calmly : (ask : Ask DeviceStep) (ports : Ports) (e : Pending) (o : Outcome) → IsByServer ask ports (Answer e o) → ask ≢ Service → ask ≢ Tick → ask ≢ Reset → IsFaultFreeOutcome ask o
+tells_calmly : (ask : AbstractCall DeviceStep) (ports : Ports) (e : Pending) (o : Outcome) → IsByServer ask ports (Answer e o) → ask ≢ Service → ask ≢ Tick → ask ≢ Reset → IsFaultFreeOutcome ask o
 tells_calmly (RevokeOf client number) ports e o s one two three = s
 tells_calmly (Submit r) ports e o s one two three = absurd s
 tells_calmly (StoreAt client frame offset bytes) ports e o s one two three = absurd s
@@ -50,13 +50,13 @@ tells_calmly Tick ports e o s one two three = absurd (two refl)
 tells_calmly Reset ports e o s one two three = absurd (three refl)
 
 -- whether it is a service, a tick, a reset, or none of these
-data Kind (ask : Ask DeviceStep) : Type 0 where
+data Kind (ask : AbstractCall DeviceStep) : Type 0 where
   service : ask ≡ Service → Kind ask
   tick : ask ≡ Tick → Kind ask
   reset : ask ≡ Reset → Kind ask
   other : ask ≢ Service → ask ≢ Tick → ask ≢ Reset → Kind ask
 
-kind_of : (ask : Ask DeviceStep) → Kind ask
+kind_of : (ask : AbstractCall DeviceStep) → Kind ask
 kind_of Service = service refl
 kind_of Tick = tick refl
 kind_of Reset = reset refl

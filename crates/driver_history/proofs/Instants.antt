@@ -9,43 +9,43 @@ use Rattle.ata_types.specs.declared.PortState.TheVariants.{Absent, Ready}
 use Rattle.ata_types.specs.declared.request.RequestId.{RequestId}
 use Rattle.adapter.specs.Device.{Device}
 use Rattle.adapter.specs.declared.access.DeviceStep.{DeviceStep}
-use Rattle.refinement.specs.Acts.{InSlots}
+use Rattle.refinement.specs.Acts.{DriverSlots}
 use Rattle.refinement.specs.Slots.{Free, Serves, ServesRequest, RelatesSlot, SlotState}
 use Rattle.block_machine.specs.Histories.{JointState, Happening, now}
 use Rattle.block_machine.specs.Histories as histories
-use Rattle.block_machine.specs.Ports.{AreFit}
+use Rattle.block_machine.specs.Ports.{PortsWellFormed}
 use Rattle.block_machine.specs.State.{Pending}
 use Rattle.host_boot.specs.Taken.{wanted_of}
 use Rattle.identify.specs.declared.wanted.Wanted.{Wanted}
 use Rattle.driver_history.specs.Histories.{IsDriverHistory}
-use Rattle.driver_history.specs.Holds.{HoldsAt, HoldsOf, HoldsWith, IsReadyAt}
+use Rattle.driver_history.specs.Holds.{DriverInvariant, PortStateInvariant, DriverInvariantWith, IsReadyAt}
 
 -- the ports of a history are fit
 pub history_fit : {D E : Type 0} (Begins : JointState D → Type 0) (Relation : JointState D → Happening D E → Type 0) (first : JointState D) (past : List (Happening D E))
-    → histories.IsHistory Begins Relation first past → AreFit (now first past).abstract.ports
+    → histories.IsHistory Begins Relation first past → PortsWellFormed (now first past).abstract.ports
 history_fit Begins Relation first [] h = h.0.1
 history_fit Begins Relation first (x ∷ past) h = h.1.fit
 
 -- a port that is ready is served, and one of the four
-pub ready_low : (i : JointState Device) (port : Port) → AreFit i.abstract.ports → i.abstract.ports.state port ≡ Ready → (i.abstract.ports.served port ≡ true) × (port.0 < 4)
+pub ready_low : (i : JointState Device) (port : Port) → PortsWellFormed i.abstract.ports → i.abstract.ports.state port ≡ Ready → (i.abstract.ports.served port ≡ true) × (port.0 < 4)
 ready_low i port fit ready = ⊎_elim
     (λ (served : i.abstract.ports.served port ≡ true). (served, fit.few port served))
     (λ (other : i.abstract.ports.served port ≡ false). let z : Absent ≡ Ready = sym (fit.absent port other) ∙ ready in absurd cc)
     (cases_Bool (i.abstract.ports.served port))
 
-pub ready_at : (wanted : List Wanted) (i : JointState Device) (port : Port) → AreFit i.abstract.ports → (s : InSlots) → HoldsWith wanted s i → i.abstract.ports.state port ≡ Ready
+pub ready_at : (wanted : List Wanted) (i : JointState Device) (port : Port) → PortsWellFormed i.abstract.ports → (s : DriverSlots) → DriverInvariantWith wanted s i → i.abstract.ports.state port ≡ Ready
     → IsReadyAt (wanted_of wanted port.0) s i port
 ready_at wanted i port fit s holds ready =
     let low = ready_low i port fit ready in
-    subst (λ (state : PortState). HoldsOf (wanted_of wanted port.0) s i port true state) ready
-    (subst (λ (b : Bool). HoldsOf (wanted_of wanted port.0) s i port b (i.abstract.ports.state port)) low.0 (holds.port port low.1))
+    subst (λ (state : PortState). PortStateInvariant (wanted_of wanted port.0) s i port true state) ready
+    (subst (λ (b : Bool). PortStateInvariant (wanted_of wanted port.0) s i port b (i.abstract.ports.state port)) low.0 (holds.port port low.1))
 
 module _ (wanted : List Wanted) where
-  pub holds_at : (first : JointState Device) (past : List (Happening Device DeviceStep)) → IsDriverHistory wanted first past → HoldsAt wanted (now first past)
+  pub holds_at : (first : JointState Device) (past : List (Happening Device DeviceStep)) → IsDriverHistory wanted first past → DriverInvariant wanted (now first past)
   holds_at first [] h = h.1.0
   holds_at first (x ∷ past) h = h.2.holds
 
-  pub fit_at : (first : JointState Device) (past : List (Happening Device DeviceStep)) → IsDriverHistory wanted first past → AreFit (now first past).abstract.ports
+  pub fit_at : (first : JointState Device) (past : List (Happening Device DeviceStep)) → IsDriverHistory wanted first past → PortsWellFormed (now first past).abstract.ports
   fit_at first [] h = h.0.1
   fit_at first (x ∷ past) h = h.1.fit
 
@@ -54,10 +54,10 @@ module _ (wanted : List Wanted) where
     abbrev i : JointState Device
     i = now first past
 
-    abbrev s : InSlots
+    abbrev s : DriverSlots
     s = (holds_at first past h).0
 
-    holds : HoldsWith wanted s i
+    holds : DriverInvariantWith wanted s i
     holds = (holds_at first past h).1
 
     ready : IsReadyAt (wanted_of wanted e.request.port.0) s i e.request.port

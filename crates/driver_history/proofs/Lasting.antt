@@ -14,21 +14,21 @@ use Rattle.adapter.specs.Rules.{IsOn}
 use Rattle.adapter.specs.Steps.{Steps}
 use Rattle.adapter.specs.declared.access.DeviceStep.{DeviceStep}
 use Rattle.refinement.specs.Facts.{RunsWell, Undisturbed}
-use Rattle.refinement.specs.Links.{SparesRegister}
-use Rattle.block_machine.specs.Events.{Ask, Submit, StoreAt, LoadAt, Service, Tick, Reset, RevokeOf, Device as Told, CallResult, Submitted, Stored, Loaded, Served, WasRevoked, Stepped, HasTimedOut, AbstractState}
-use Rattle.driver_history.specs.Histories.{ExplainsAccesses, IssuesOn, IsPortAlive}
-use Rattle.driver_history.specs.Trace.{IsServing, LeavesEngine}
+use Rattle.refinement.specs.Links.{DoesNotWrite}
+use Rattle.block_machine.specs.Events.{AbstractCall, Submit, StoreAt, LoadAt, Service, Tick, Reset, RevokeOf, Device as Told, CallResult, Submitted, Stored, Loaded, Served, WasRevoked, Stepped, HasTimedOut, AbstractState}
+use Rattle.driver_history.specs.Histories.{ExplainsAccesses, IsIssuingAccess, IsPortAlive}
+use Rattle.driver_history.specs.Trace.{IsAccessForPorts, LeavesEngine}
 use Rattle.port_boot.specs.States.{RunsOn}
 
 -- it writes neither GHC, nor PxCMD or PxSCTL of the port
 abbrev pub LeavesRunning : Port → Access → Type 0
-LeavesRunning port access = SparesRegister Ghc access × LeavesEngine port access
+LeavesRunning port access = DoesNotWrite Ghc access × LeavesEngine port access
 
 -- such accesses, or none
 abbrev pub IsCalm : Port → List Access → Device → Device → Type 0
 IsCalm port accesses old new = (All (LeavesRunning port) accesses × DoesAll accesses old new) ⊎ Steps old new
 
-issuing_leaves : (port at : Port) (access : Access) → IssuesOn at access → LeavesRunning port access
+issuing_leaves : (port at : Port) (access : Access) → IsIssuingAccess at access → LeavesRunning port access
 issuing_leaves port at (Writing r v) (inl e) =
     (λ q. absurd (let z : Px at Sact ≡ Ghc = sym e ∙ q in cc), ((λ q. absurd (let z : Px at Sact ≡ Px port Cmd = sym e ∙ q in cc)), (λ q. absurd (let z : Px at Sact ≡ Px port Sctl = sym e ∙ q in cc))))
 issuing_leaves port at (Writing r v) (inr e) =
@@ -41,7 +41,7 @@ one_leaves : (port : Port) (access : Access) → LeavesRunning port access → A
 one_leaves port access is = All-cons (LeavesRunning port) access [] is (All-nil (LeavesRunning port))
 
 -- the call isn't a reset
-abbrev pub IsNoReset : Ask DeviceStep → Type 0
+abbrev pub IsNoReset : AbstractCall DeviceStep → Type 0
 IsNoReset ask = ask ≢ Reset
 
 -- what laws say of a port that runs well
@@ -51,22 +51,22 @@ pub record KeepsWell : Type 0 where
   -- over the device's steps
   pub steps : (port : ℕ) (old new : Device) → old.hr ≡ false → Steps old new → Undisturbed port old new → RunsWell (old.port port) → RunsWell (new.port port)
   -- and over accesses
-  pub runs : (port : Port) (accesses : List Access) (old new : Device) → IsOn old → DoesAll accesses old new → All (SparesRegister Ghc) accesses → All (SparesRegister (Px port Sctl)) accesses
-      → All (SparesRegister (Px port Cmd)) accesses → RunsOn port.0 old new
+  pub runs : (port : Port) (accesses : List Access) (old new : Device) → IsOn old → DoesAll accesses old new → All (DoesNotWrite Ghc) accesses → All (DoesNotWrite (Px port Sctl)) accesses
+      → All (DoesNotWrite (Px port Cmd)) accesses → RunsOn port.0 old new
   pub well : (port : ℕ) (old new : Device) → RunsOn port old new → Undisturbed port old new → RunsWell (old.port port) → RunsWell (new.port port)
 
 module _ (port : Port) (m : AbstractState) (accesses : List Access) (old new : Device) where
   abbrev Calm : Type 0
   Calm = IsCalm port accesses old new
 
-  serving : (Such : Port → Type 0) → All (IsServing Such) accesses → All (LeavesEngine port) accesses → All (LeavesRunning port) accesses
+  serving : (Such : Port → Type 0) → All (IsAccessForPorts Such) accesses → All (LeavesEngine port) accesses → All (LeavesRunning port) accesses
   serving Such serves leaves i e small = ((serves i e small).1, leaves i e small)
 
   none : accesses ≡ [] → new ≡ old → Calm
   none made same = inl (subst (λ (list : List Access). All (LeavesRunning port) list × DoesAll list old new) (sym made) (All-nil (LeavesRunning port), same))
 
   -- how the call came there, if it leaves the engine alone
-  pub came_calmly : KeepsWell → (ask : Ask DeviceStep) (said : CallResult) → ExplainsAccesses m ask said accesses old new → IsNoReset ask → All (LeavesEngine port) accesses → Calm
+  pub came_calmly : KeepsWell → (ask : AbstractCall DeviceStep) (said : CallResult) → ExplainsAccesses m ask said accesses old new → IsNoReset ask → All (LeavesEngine port) accesses → Calm
   came_calmly laws (Told step) (Stepped true) c other leaves = inr (laws.asked step old new c.1)
   came_calmly laws (Submit r) (Submitted (Ok id)) c other leaves = inl ((λ i e small. issuing_leaves port c.1.0.port _ (c.1.2 i e small)), c.0)
   came_calmly laws (RevokeOf client number) (WasRevoked (Some replies)) c other leaves = inl ((λ i e small. issuing_leaves port c.1.0.0.port _ (c.1.1 i e small)), c.0)
@@ -82,5 +82,5 @@ module _ (port : Port) (m : AbstractState) (accesses : List Access) (old new : D
 pub runs_well : KeepsWell → (port : Port) (accesses : List Access) (old new : Device) → IsOn old → IsCalm port accesses old new → Undisturbed port.0 old new → RunsWell (old.port port.0) → RunsWell (new.port port.0)
 runs_well laws port accesses old new on (inr moves) calm well = laws.steps port.0 old new on.no_reset moves calm well
 runs_well laws port accesses old new on (inl (only, does)) calm well =
-    laws.well port.0 old new (laws.runs port accesses old new on does (All-weaker (LeavesRunning port) (SparesRegister Ghc) (λ access is. is.0) accesses only)
-    (All-weaker (LeavesRunning port) (SparesRegister (Px port Sctl)) (λ access is. is.1.1) accesses only) (All-weaker (LeavesRunning port) (SparesRegister (Px port Cmd)) (λ access is. is.1.0) accesses only)) calm well
+    laws.well port.0 old new (laws.runs port accesses old new on does (All-weaker (LeavesRunning port) (DoesNotWrite Ghc) (λ access is. is.0) accesses only)
+    (All-weaker (LeavesRunning port) (DoesNotWrite (Px port Sctl)) (λ access is. is.1.1) accesses only) (All-weaker (LeavesRunning port) (DoesNotWrite (Px port Cmd)) (λ access is. is.1.0) accesses only)) calm well

@@ -11,17 +11,17 @@ use Rattle.hba_regs.specs.declared.reg.PortReg.TheVariants as register
 use Rattle.adapter.specs.Access.{Access, Does, DoesAll, Writes}
 use Rattle.adapter.specs.Access.Access.{Loading, Reading, Storing, Writing}
 use Rattle.adapter.specs.Device.{Device, DevicePort}
-use Rattle.adapter.specs.Seen.{PutAt}
+use Rattle.adapter.specs.Seen.{PortRegisterWritten}
 use Rattle.adapter.specs.Rules.{IsOn}
 use Rattle.refinement.specs.Relation.{port_at}
 use Rattle.refinement.specs.Errors.{IsFatalOf}
 use Rattle.refinement.specs.Facts.{IsFaultOf}
-use Rattle.refinement.specs.Links.{IsPlugging, SparesRegister}
+use Rattle.refinement.specs.Links.{IsPlugEvent, DoesNotWrite}
 use Rattle.block_machine.specs.Histories.{JointState}
 use Rattle.block_machine.specs.Ports.{Evidence, Ports}
 use Rattle.driver_history.specs.Histories.{LosesNoPortError}
 use Rattle.driver_history.specs.Laws.{Laws}
-use Rattle.driver_history.specs.Trace.{ClearsNone}
+use Rattle.driver_history.specs.Trace.{ClearsNoError}
 use Rattle.driver_history.proofs.Calm.{gains_of}
 use Rattle.driver_history.proofs.Errors.{AreShown, Shows, TroubleKind, access_shows, change_still, disks, failure_still, faults, fatals, links, register_of, shown_more, shown_none, steps_show}
 use Rattle.driver_history.proofs.Parting.{grows_over}
@@ -48,7 +48,7 @@ is_its links r = is_errors r
 
 module _ (laws : Laws) (port : Port) where
   module _ (kind : TroubleKind) where
-    writes_or_spares : (access : Access) → SparesRegister (Px port (register_of kind)) access ⊎ ((v : ℕ) × (access ≡ Writing (Px port (register_of kind)) v))
+    writes_or_spares : (access : Access) → DoesNotWrite (Px port (register_of kind)) access ⊎ ((v : ℕ) × (access ≡ Writing (Px port (register_of kind)) v))
     writes_or_spares (Writing (Px at r) v) = ⊎_elim
         (λ (same : at.0 ≡ port.0). ⊎_elim
         (λ (its : r ≡ register_of kind). inr (v, ap (λ (n : ℕ). Writing (Px (port_at n) r) v) same ∙ ap (λ (r : PortReg). Writing (Px port r) v) its))
@@ -67,13 +67,13 @@ module _ (laws : Laws) (port : Port) where
 
   -- a write of a kind's register that leaves its bits
   module _ (v : ℕ) (old new : Device) where
-    module _ (x : PutAt port.0 register.Is v old new) (leaves : ClearsNone port (Writing (Px port register.Is) v)) where
+    module _ (x : PortRegisterWritten port.0 register.Is v old new) (leaves : ClearsNoError port (Writing (Px port register.Is) v)) where
       cause_left : (place : ℕ) → 27 ≤ place → place ≤ 30 → (x.mid.port port.0).is place ≡ true → (new.port port.0).is place ≡ true
       cause_left place low high set =
           ap (λ (p : DevicePort). p.is place) x.here
           ∙ cleared_of ((x.mid.port port.0).is place) (bit v place) (leaves.is refl place low high) set
 
-    module _ (x : PutAt port.0 register.Serr v old new) (leaves : ClearsNone port (Writing (Px port register.Serr) v)) where
+    module _ (x : PortRegisterWritten port.0 register.Serr v old new) (leaves : ClearsNoError port (Writing (Px port register.Serr) v)) where
       disk_left : (x.mid.port port.0).serr_n ≡ true → (new.port port.0).serr_n ≡ true
       disk_left set =
           ap (λ (p : DevicePort). p.serr_n) x.here
@@ -84,7 +84,7 @@ module _ (laws : Laws) (port : Port) where
           ap (λ (p : DevicePort). p.serr_x) x.here
           ∙ cleared_of (x.mid.port port.0).serr_x (bit v 26) (leaves.serr refl).1 set
 
-    left_set : (kind : TroubleKind) → ClearsNone port (Writing (Px port (register_of kind)) v) → (x : PutAt port.0 (register_of kind) v old new) → Shows kind (x.mid.port port.0) → Shows kind (new.port port.0)
+    left_set : (kind : TroubleKind) → ClearsNoError port (Writing (Px port (register_of kind)) v) → (x : PortRegisterWritten port.0 (register_of kind) v old new) → Shows kind (x.mid.port port.0) → Shows kind (new.port port.0)
     left_set faults leaves x set = cause_left x leaves 30 (omega arith) (omega arith) set
     left_set fatals leaves x shown =
         let high = shown.to in
@@ -92,7 +92,7 @@ module _ (laws : Laws) (port : Port) where
     left_set disks leaves x set = disk_left x leaves set
     left_set links leaves x set = link_left x leaves set
 
-    write_shows : (kind : TroubleKind) → old.hr ≡ false → ClearsNone port (Writing (Px port (register_of kind)) v) → Writes (Px port (register_of kind)) v old new → AreShown kind port.0 old new
+    write_shows : (kind : TroubleKind) → old.hr ≡ false → ClearsNoError port (Writing (Px port (register_of kind)) v) → Writes (Px port (register_of kind)) v old new → AreShown kind port.0 old new
     write_shows kind on leaves writes =
         let x = laws.put port (register_of kind) v old new writes on in
         let y = steps_show laws kind port.0 old x.mid on x.steps in
@@ -101,21 +101,21 @@ module _ (laws : Laws) (port : Port) where
           came = λ g. left_set kind leaves x (y.came (record { gained = g.gained; tape = sym x.tape ∙ g.tape; entry = g.entry; here = g.here; is = g.is }));
         }
 
-  one_shows : (kind : TroubleKind) (access : Access) (old new : Device) → old.hr ≡ false → ClearsNone port access → Does access old new → AreShown kind port.0 old new
+  one_shows : (kind : TroubleKind) (access : Access) (old new : Device) → old.hr ≡ false → ClearsNoError port access → Does access old new → AreShown kind port.0 old new
   one_shows kind access old new on clears does = ⊎_elim
-      (λ (spares : SparesRegister (Px port (register_of kind)) access). access_shows laws kind port access old new on spares does)
+      (λ (spares : DoesNotWrite (Px port (register_of kind)) access). access_shows laws kind port access old new on spares does)
       (λ (w : (v : ℕ) × (access ≡ Writing (Px port (register_of kind)) v)).
-      write_shows w.0 old new kind on (subst (ClearsNone port) w.1 clears) (subst (λ (a : Access). Does a old new) w.1 does))
+      write_shows w.0 old new kind on (subst (ClearsNoError port) w.1 clears) (subst (λ (a : Access). Does a old new) w.1 does))
       (writes_or_spares kind access)
 
   -- accesses that clear none of it, while the adapter is on
-  pub accesses_show : (accesses : List Access) (old new : Device) → IsOn old → DoesAll accesses old new → All (SparesRegister Ghc) accesses → All (ClearsNone port) accesses → (kind : TroubleKind) → AreShown kind port.0 old new
+  pub accesses_show : (accesses : List Access) (old new : Device) → IsOn old → DoesAll accesses old new → All (DoesNotWrite Ghc) accesses → All (ClearsNoError port) accesses → (kind : TroubleKind) → AreShown kind port.0 old new
   accesses_show [] old new on same spares clears kind = subst (AreShown kind port.0 old) (sym same) (shown_none kind port.0 old)
   accesses_show (access ∷ accesses) old new on (mid, does, rest) spares clears kind =
-      let on_mid = laws.on_all (access ∷ []) old mid on (All-cons (SparesRegister Ghc) access [] (All-head (SparesRegister Ghc) access accesses spares) (All-nil (SparesRegister Ghc))) (mid, does, refl) in
+      let on_mid = laws.on_all (access ∷ []) old mid on (All-cons (DoesNotWrite Ghc) access [] (All-head (DoesNotWrite Ghc) access accesses spares) (All-nil (DoesNotWrite Ghc))) (mid, does, refl) in
       shown_more kind port.0 old mid new (laws.tape.access_grows access old mid does) (grows_over laws port accesses mid new rest)
-      (one_shows kind access old mid on.no_reset (All-head (ClearsNone port) access accesses clears) does)
-      (accesses_show accesses mid new on_mid rest (All-tail (SparesRegister Ghc) access accesses spares) (All-tail (ClearsNone port) access accesses clears) kind)
+      (one_shows kind access old mid on.no_reset (All-head (ClearsNoError port) access accesses clears) does)
+      (accesses_show accesses mid new on_mid rest (All-tail (DoesNotWrite Ghc) access accesses spares) (All-tail (ClearsNoError port) access accesses clears) kind)
 
   -- ---- trouble is shown
 
@@ -129,5 +129,5 @@ module _ (laws : Laws) (port : Port) where
     changes = λ tends port_error. inr (⊎_elim (change_still port.0 old.device new shows) (λ g. inl ((shows disks).came g)) port_error);
     fault = λ ready g. (shows faults).came (gains_of port.0 (IsFaultOf port.0) old.device new g);
     fatal = λ ready g. (shows fatals).came (gains_of port.0 (IsFatalOf port.0) old.device new g);
-    disk = λ ready g. (shows disks).came (gains_of port.0 (IsPlugging port.0) old.device new g);
+    disk = λ ready g. (shows disks).came (gains_of port.0 (IsPlugEvent port.0) old.device new g);
   }

@@ -14,19 +14,19 @@ use Rattle.adapter.specs.declared.tape.Entry.{Entry}
 use Rattle.adapter.specs.declared.tape.Entry.TheVariants as entry
 use Rattle.adapter.specs.declared.tape.Fault as tape_fault
 use Rattle.adapter.specs.declared.command.Operation.TheVariants.{ReadLog}
-use Rattle.refinement.specs.Driven.{IsDrivenBy, IsOf, Grows, LeavesPort, SendsNone}
+use Rattle.refinement.specs.Driven.{IsDrivenBy, SparesOtherPorts, Grows, LeavesPort, GainsNoMove}
 use Rattle.refinement.specs.Slots.{IsMove}
 use Rattle.refinement.specs.Errors.{ChangesByDisks, ChangesByErrors, IsFatalOf}
 use Rattle.refinement.specs.Facts.{IsFaultOf}
-use Rattle.refinement.specs.Links.{ComesUp, IsPlugging, PlugsNone, SameLink}
-use Rattle.block_machine.specs.Events.{Ask, AbstractState, CallResult}
+use Rattle.refinement.specs.Links.{ComesUp, IsPlugEvent, NoPlugEvents, SameLink}
+use Rattle.block_machine.specs.Events.{AbstractCall, AbstractState, CallResult}
 use Rattle.block_machine.specs.Histories.{JointState}
-use Rattle.block_machine.specs.Ports.{Ports, SamePort, Evidence, IsInterrupted}
+use Rattle.block_machine.specs.Ports.{Ports, SamePort, Evidence, IsStoppedOrStuck}
 use Rattle.driver_history.specs.Evidence.{Gains, HasErrors, HasFatalErrors, IsEvidencedOf, IsGone, IsLost, ShowsChange, ShowsLoss}
 use Rattle.error_recovery.specs.Evidence.{BringsLog, HasFailed, ShowsFatal}
 use Rattle.driver_history.specs.Laws.{Laws}
-use Rattle.driver_history.specs.Parts.{HasTurnIn, IsOfOther, NamesAlike, all_of}
-use Rattle.driver_history.specs.Trace.{LeavesCommand, LeavesEngine}
+use Rattle.driver_history.specs.Parts.{HasTurnIn, IsOfOther, EvidenceAgreesOn, call_accesses}
+use Rattle.driver_history.specs.Trace.{DoesNotWriteCmd, LeavesEngine}
 use Rattle.driver_history.proofs.Errors.{AreShown, TroubleKind, access_shows, change_still, failure_still, fatals, register_of, shown_more, shown_none}
 
 -- ---- entries of a kind, or none
@@ -52,7 +52,7 @@ gains_or_none Is decides old new grows = ⊎_elim
     (λ none. inr (grows.0, grows.1, none))
     (one_or_none Is decides grows.0)
 
-is_plugging : (port : ℕ) (e : Entry) → IsPlugging port e ⊎ (IsPlugging port e → ⊥)
+is_plugging : (port : ℕ) (e : Entry) → IsPlugEvent port e ⊎ (IsPlugEvent port e → ⊥)
 is_plugging port (entry.Unplug at) = cases_eq at.0 port
 is_plugging port (entry.Plug at name) = cases_eq at.0 port
 is_plugging port (entry.Move x) = inr (λ is. is)
@@ -80,9 +80,9 @@ is_fatal port (entry.Done x) = inr (λ is. is)
 is_fatal port (entry.Fault x) = inr (λ is. is)
 
 -- a disk of the port went or came, or none did
-pub plugged_or_not : (port : ℕ) (old new : Device) → Grows old new → Gains (IsPlugging port) old new ⊎ PlugsNone port old new
+pub plugged_or_not : (port : ℕ) (old new : Device) → Grows old new → Gains (IsPlugEvent port) old new ⊎ NoPlugEvents port old new
 unfolding GainsOrNone
-plugged_or_not port old new grows = ⊎_elim (λ g. inl g) (λ none. inr (record { gained = none.0; tape = none.1; none = none.2 })) (gains_or_none (IsPlugging port) (is_plugging port) old new grows)
+plugged_or_not port old new grows = ⊎_elim (λ g. inl g) (λ none. inr (record { gained = none.0; tape = none.1; none = none.2 })) (gains_or_none (IsPlugEvent port) (is_plugging port) old new grows)
 
 -- what a part of a call gained, the call did
 pub gains_within : (Is : Entry → Type 0) (old start end new : Device) → Grows old start → Grows end new → Gains Is start end → Gains Is old new
@@ -106,9 +106,9 @@ module _ (laws : Laws) (port : Port) where
     pub errors : ChangesByErrors port.0 old new
     pub undue : (old.port port.0).link_due ≡ false → (new.port port.0).link_due ≡ false
     pub disks : (old.port port.0).link_due ≡ false → ChangesByDisks port.0 old new
-    pub shows : (old.port port.0).link_due ≡ false → PlugsNone port.0 old new → (new.port port.0).ssts_det ≡ (old.port port.0).ssts_det
-    pub shown : PlugsNone port.0 old new → (old.port port.0).ssts_det ≡ 3 → (new.port port.0).ssts_det ≡ 3
-    pub fresh : (old.port port.0).link_due ≡ false → PlugsNone port.0 old new → (new.port port.0).fresh ≡ (old.port port.0).fresh
+    pub shows : (old.port port.0).link_due ≡ false → NoPlugEvents port.0 old new → (new.port port.0).ssts_det ≡ (old.port port.0).ssts_det
+    pub shown : NoPlugEvents port.0 old new → (old.port port.0).ssts_det ≡ 3 → (new.port port.0).ssts_det ≡ 3
+    pub fresh : (old.port port.0).link_due ≡ false → NoPlugEvents port.0 old new → (new.port port.0).fresh ≡ (old.port port.0).fresh
     pub trouble_shown : (kind : TroubleKind) → AreShown kind port.0 old new
 
   pub errors_none : (d : Device) → ChangesByErrors port.0 d d
@@ -126,7 +126,7 @@ module _ (laws : Laws) (port : Port) where
 
   one_left : (access : Access) (old new : Device) → IsOn old → IsOfOther port access → Does access old new → IsLeft old new
   one_left access old new on (other, apart, of) does =
-      let driven : IsDrivenBy (IsOf other) old new = record { accesses = access ∷ []; all = (new, does, refl); only = All-cons (IsOf other) access [] of (All-nil (IsOf other)) } in
+      let driven : IsDrivenBy (SparesOtherPorts other) old new = record { accesses = access ∷ []; all = (new, does, refl); only = All-cons (SparesOtherPorts other) access [] of (All-nil (SparesOtherPorts other)) } in
       record {
         on = laws.on other old new on driven;
         leaves = laws.left other port.0 old new apart on driven;
@@ -218,9 +218,9 @@ module _ (laws : Laws) (port : Port) where
       since : Grows t.start new
       since = laws.tape.grows_more t.start t.end new middle last
 
-  module _ (old : JointState Device) (begun : AbstractState) (ended ports : Ports) (new : Device) (turn call : Evidence) (ask : Ask DeviceStep) (said : CallResult)
+  module _ (old : JointState Device) (begun : AbstractState) (ended ports : Ports) (new : Device) (turn call : Evidence) (ask : AbstractCall DeviceStep) (said : CallResult)
       (on : IsOn old.device) (linked : (old.abstract.ports.state port ≡ Ready) ⊎ Contains turn.lost port → (old.device.port port.0).link_due ≡ false) (t : HasTurnIn port old.device new) (on_then : IsOn t.end)
-      (was : SamePort old.abstract.ports begun.ports port) (stays : SamePort ended ports port) (alike : NamesAlike port turn call)
+      (was : SamePort old.abstract.ports begun.ports port) (stays : SamePort ended ports port) (alike : EvidenceAgreesOn port turn call)
       (its : IsEvidencedOf ask said t.turn (record { device = t.start; abstract = begun }) ended t.end turn port) where
     first : IsLeft old.device t.start
     first = others_leave t.before old.device t.start on t.first t.others
@@ -239,22 +239,22 @@ module _ (laws : Laws) (port : Port) where
     before Is = gains_within Is old.device old.device t.start new (laws.tape.grows_none old.device) since
 
     -- a disk went or came before the turn, or none did
-    plugged : Gains (IsPlugging port.0) old.device t.start ⊎ PlugsNone port.0 old.device t.start
+    plugged : Gains (IsPlugEvent port.0) old.device t.start ⊎ NoPlugEvents port.0 old.device t.start
     plugged = plugged_or_not port.0 old.device t.start first.grows
 
     -- what the port shows when its turn begins, it showed when the call began, or the call gained what it tells of
-    changes : (old.device.port port.0).link_due ≡ false → ShowsChange (t.start.port port.0) → ShowsChange (old.device.port port.0) ⊎ Gains (IsPlugging port.0) old.device new
-    changes undue shown = ⊎_elim (λ g. inr (before (IsPlugging port.0) g)) (λ none. inl (⊎_elim (n none) (x none) shown)) plugged
+    changes : (old.device.port port.0).link_due ≡ false → ShowsChange (t.start.port port.0) → ShowsChange (old.device.port port.0) ⊎ Gains (IsPlugEvent port.0) old.device new
+    changes undue shown = ⊎_elim (λ g. inr (before (IsPlugEvent port.0) g)) (λ none. inl (⊎_elim (n none) (x none) shown)) plugged
       where
-        n : PlugsNone port.0 old.device t.start → (t.start.port port.0).serr_n ≡ true → ShowsChange (old.device.port port.0)
+        n : NoPlugEvents port.0 old.device t.start → (t.start.port port.0).serr_n ≡ true → ShowsChange (old.device.port port.0)
         n none is = ⊎_elim (λ set. inl set) (λ clear. absurd (false≢true (sym ((first.disks undue).serr_n none clear) ∙ is))) (cases_Bool (old.device.port port.0).serr_n)
 
-        x : PlugsNone port.0 old.device t.start → (t.start.port port.0).serr_x ≡ true → ShowsChange (old.device.port port.0)
+        x : NoPlugEvents port.0 old.device t.start → (t.start.port port.0).serr_x ≡ true → ShowsChange (old.device.port port.0)
         x none is = ⊎_elim (λ set. inr set) (λ clear. absurd (false≢true (sym ((first.disks undue).serr_x (laws.tape.plugs_come port.0 old.device t.start none) clear) ∙ is)))
             (cases_Bool (old.device.port port.0).serr_x)
 
-    missing : (old.device.port port.0).link_due ≡ false → (t.start.port port.0).ssts_det ≢ 3 → ((old.device.port port.0).ssts_det ≢ 3) ⊎ Gains (IsPlugging port.0) old.device new
-    missing undue gone = ⊎_elim (λ g. inr (before (IsPlugging port.0) g)) (λ none. inl (λ there. gone (first.shows undue none ∙ there))) plugged
+    missing : (old.device.port port.0).link_due ≡ false → (t.start.port port.0).ssts_det ≢ 3 → ((old.device.port port.0).ssts_det ≢ 3) ⊎ Gains (IsPlugEvent port.0) old.device new
+    missing undue gone = ⊎_elim (λ g. inr (before (IsPlugEvent port.0) g)) (λ none. inl (λ there. gone (first.shows undue none ∙ there))) plugged
 
     fatal : ShowsFatal (t.start.port port.0) → ShowsFatal (old.device.port port.0) ⊎ Gains (IsFatalOf port.0) old.device new
     unfolding GainsOrNone
@@ -289,7 +289,7 @@ module _ (laws : Laws) (port : Port) where
     lost : (old.device.port port.0).link_due ≡ false → IsLost port (record { device = t.start; abstract = begun }) ended t.end → IsLost port old ports new
     lost undue (inl shown) = ⊎_elim (λ change. inl change) (λ g. inr (inr (inl g))) (changes undue shown)
     lost undue (inr (inl gone)) = ⊎_elim (λ out. inr (inl out)) (λ g. inr (inr (inl g))) (missing undue gone)
-    lost undue (inr (inr (inl g))) = inr (inr (inl (within (IsPlugging port.0) g)))
+    lost undue (inr (inr (inl g))) = inr (inr (inl (within (IsPlugEvent port.0) g)))
     lost undue (inr (inr (inr end))) = inr (inr (inr (
       (λ dead. end.0 (sym stays.1 ∙ dead)),
       (λ is same. end.1 (sym stays.1 ∙ is) (sym stays.2 ∙ same.0 ∙ sym was.2, sym stays.3 ∙ same.1 ∙ sym was.3)),
@@ -298,7 +298,7 @@ module _ (laws : Laws) (port : Port) where
     gone_only : IsGone port (record { device = t.start; abstract = begun }) t.end → IsGone port old new
     gone_only (is, inl shown) = (ready_then is, ⊎_elim (λ change. inl change) (λ g. inr (inr g)) (changes (linked (inl (ready_then is))) shown))
     gone_only (is, inr (inl gone)) = (ready_then is, ⊎_elim (λ out. inr (inl out)) (λ g. inr (inr g)) (missing (linked (inl (ready_then is))) gone))
-    gone_only (is, inr (inr g)) = (ready_then is, inr (inr (within (IsPlugging port.0) g)))
+    gone_only (is, inr (inr g)) = (ready_then is, inr (inr (within (IsPlugEvent port.0) g)))
 
     errors : HasErrors port (record { device = t.start; abstract = begun }) t.end → HasErrors port old new
     errors (is, inl (inl shown)) = (ready_then is, ⊎_elim (λ f. inl (inl f)) (λ g. inr (inr g)) (fatal shown))
@@ -310,7 +310,7 @@ module _ (laws : Laws) (port : Port) where
     fatal_errors (is, inl shown) = (ready_then is, ⊎_elim (λ f. inl f) (λ g. inr g) (fatal shown))
     fatal_errors (is, inr g) = (ready_then is, inr (within (IsFatalOf port.0) g))
 
-    pub evidence_is_the_calls : IsEvidencedOf ask said (all_of t) old ports new call port
+    pub evidence_is_the_calls : IsEvidencedOf ask said (call_accesses t) old ports new call port
     evidence_is_the_calls = record {
       lost = λ named. lost (linked (inr (alike.lost.1 named))) (its.lost (alike.lost.1 named));
       gone_all = λ is loss. alike.gone.0 (its.gone_all (ready is) (loss_then old.device new on (linked (inl is)) t loss));
@@ -322,7 +322,7 @@ module _ (laws : Laws) (port : Port) where
       stopped_all = ⊎_elim
           (λ left. inl (All-append (LeavesEngine port) t.before (t.turn ++ t.later) (others_leave_engine t.before t.others)
           (All-append (LeavesEngine port) t.turn t.later left (others_leave_engine t.later t.others_later))))
-          (λ (i : IsInterrupted turn port). inr (⊎_elim (λ a. inl (alike.stopped.0 a)) (λ b. inr (alike.stuck.0 b)) i))
+          (λ (i : IsStoppedOrStuck turn port). inr (⊎_elim (λ a. inl (alike.stopped.0 a)) (λ b. inr (alike.stuck.0 b)) i))
           its.stopped_all;
       stopped_only = λ named. ⊎_elim
           (λ stops. inl (laws.falls_since t.before (t.turn ++ t.later) 0 15 port (laws.falls_then t.turn t.later 0 15 port stops)))
@@ -344,7 +344,7 @@ module _ (laws : Laws) (port : Port) where
     ahead = others_leave t.before old t.start on t.first t.others
 
     -- a fault on the tape at a moment of the turn before the port was stopped stands there before it was stopped in the call
-    pub failed_in_call : (fault : tape_fault.Fault) → HasFailed port t.turn t.start t.end fault → HasFailed port (all_of t) old new fault
+    pub failed_in_call : (fault : tape_fault.Fault) → HasFailed port t.turn t.start t.end fault → HasFailed port (call_accesses t) old new fault
     failed_in_call fault f = record {
       at = f.at;
       running = record {
@@ -353,8 +353,8 @@ module _ (laws : Laws) (port : Port) where
         here = ap (λ (turn : List Access). t.before ++ (turn ++ t.later)) f.running.here
             ∙ ap (λ (rest : List Access). t.before ++ rest) (append_assoc f.running.early f.running.late t.later)
             ∙ sym (append_assoc t.before f.running.early (f.running.late ++ t.later));
-        running = All-append (LeavesCommand port) t.before f.running.early
-            (All-weaker (LeavesEngine port) (LeavesCommand port) (λ access leaves. leaves.0) t.before (others_leave_engine t.before t.others)) f.running.running;
+        running = All-append (DoesNotWriteCmd port) t.before f.running.early
+            (All-weaker (LeavesEngine port) (DoesNotWriteCmd port) (λ access leaves. leaves.0) t.before (others_leave_engine t.before t.others)) f.running.running;
         first = laws.does_append t.before f.running.early old t.start f.at t.first f.running.first;
         rest = laws.does_append f.running.late t.later f.at t.end new f.running.rest t.last;
       };
@@ -363,7 +363,7 @@ module _ (laws : Laws) (port : Port) where
     }
 
     -- the last page of the log that the turn brought is the call's last
-    pub brought_in_call : (page : List ℕ) → SendsNone port.0 ReadLog t.end new → BringsLog port t.start t.end page → BringsLog port old new page
+    pub brought_in_call : (page : List ℕ) → GainsNoMove port.0 ReadLog t.end new → BringsLog port t.start t.end page → BringsLog port old new page
     brought_in_call page (later, tape, none) b = record {
       gained = ahead.grows.0 ++ (b.gained ++ later);
       tape = tape ∙ ap (λ (xs : List Entry). xs ++ later) (b.tape ∙ ap (λ (xs : List Entry). xs ++ b.gained) ahead.grows.1)

@@ -12,7 +12,7 @@ use Rattle.adapter.specs.declared.tape.Move as tape_move
 use Rattle.adapter.specs.declared.tape.Clear as tape_clear
 use Rattle.refinement.specs.Slots.{op_of}
 use Rattle.refinement.specs.Places.{scratch_of}
-use Rattle.refinement.specs.Tape.{MovesSector, ClearsSectors, TellsAmong, TellsEntry, TellsMove}
+use Rattle.refinement.specs.Tape.{MovesSector, ClearsSectors, TellsDeviceSteps, TellsEntry, TellsMove}
 use Rattle.block_machine.specs.Events.{IsRun, steps_of}
 use Rattle.block_machine.specs.Histories.{JointState, Happening, events_of, now}
 use Rattle.block_machine.specs.Left.{after, IsLegal}
@@ -21,7 +21,7 @@ use Rattle.block_machine.specs.Steps.{Step, Touch}
 use Rattle.identify.specs.declared.wanted.Wanted.{Wanted}
 use Rattle.driver_history.specs.Histories.{IsDriverHistory}
 use Rattle.driver_history.specs.Laws.{RunLaws}
-use Rattle.driver_history.specs.Moves.{IsConfinedClear, IsConfinedMove, KeepsMoves, KeepsToItsFrames}
+use Rattle.driver_history.specs.Moves.{IsConfinedClear, IsConfinedMove, MovesConfined, KeepsToItsFrames}
 use Rattle.driver_history.proofs.Telling.{history_runs, machine_is}
 
 -- ---- among a call's steps
@@ -75,7 +75,7 @@ goes_later laws (Some Flush) m move rest early a = a
 abbrev GoesAs : Machine → List Step → Entry → Type 0
 GoesAs m steps e = (move : tape_move.Move) → e ≡ entry.Move move → Goes (op_of move.operation) m steps move
 
-all_go : RunLaws → (m : Machine) (entries : List Entry) (steps : List Step) → TellsAmong m entries steps → All (GoesAs m steps) entries
+all_go : RunLaws → (m : Machine) (entries : List Entry) (steps : List Step) → TellsDeviceSteps m entries steps → All (GoesAs m steps) entries
 all_go laws m [] steps tells = All-nil (GoesAs m steps)
 all_go laws m (e ∷ entries) steps (own, first, rest, alone, tells, more, is) = All-cons (GoesAs m steps) e entries
     (λ move same. subst (λ (all : List Step). Goes (op_of move.operation) m all move) (sym is)
@@ -84,7 +84,7 @@ all_go laws m (e ∷ entries) steps (own, first, rest, alone, tells, more, is) =
     (λ x later move same. subst (λ (all : List Step). Goes (op_of move.operation) m all move) (sym is) (goes_later laws (op_of move.operation) m move rest (first ++ own) (later move same)))
     entries (all_go laws (after m (first ++ own)) entries rest more))
 
-goes : RunLaws → (m : Machine) (entries : List Entry) (steps : List Step) → TellsAmong m entries steps → (move : tape_move.Move) → Contains entries (entry.Move move) → Goes (op_of move.operation) m steps move
+goes : RunLaws → (m : Machine) (entries : List Entry) (steps : List Step) → TellsDeviceSteps m entries steps → (move : tape_move.Move) → Contains entries (entry.Move move) → Goes (op_of move.operation) m steps move
 goes laws m entries steps tells move here = All-contains (GoesAs m steps) entries (entry.Move move) (all_go laws m entries steps tells) here move refl
 
 -- the clear is among the steps, from this machine on
@@ -111,7 +111,7 @@ cleared_later laws m clear rest early c = record {
 abbrev ClearsAs : Machine → List Step → Entry → Type 0
 ClearsAs m steps e = (clear : tape_clear.Clear) → e ≡ entry.Clear clear → IsCleared m steps clear
 
-all_cleared : RunLaws → (m : Machine) (entries : List Entry) (steps : List Step) → TellsAmong m entries steps → All (ClearsAs m steps) entries
+all_cleared : RunLaws → (m : Machine) (entries : List Entry) (steps : List Step) → TellsDeviceSteps m entries steps → All (ClearsAs m steps) entries
 all_cleared laws m [] steps tells = All-nil (ClearsAs m steps)
 all_cleared laws m (e ∷ entries) steps (own, first, rest, alone, tells, more, is) = All-cons (ClearsAs m steps) e entries
     (λ clear same. subst (λ (all : List Step). IsCleared m all clear) (sym is)
@@ -120,7 +120,7 @@ all_cleared laws m (e ∷ entries) steps (own, first, rest, alone, tells, more, 
     (λ x later clear same. subst (λ (all : List Step). IsCleared m all clear) (sym is) (cleared_later laws m clear rest (first ++ own) (later clear same)))
     entries (all_cleared laws (after m (first ++ own)) entries rest more))
 
-cleared : RunLaws → (m : Machine) (entries : List Entry) (steps : List Step) → TellsAmong m entries steps → (clear : tape_clear.Clear) → Contains entries (entry.Clear clear) → IsCleared m steps clear
+cleared : RunLaws → (m : Machine) (entries : List Entry) (steps : List Step) → TellsDeviceSteps m entries steps → (clear : tape_clear.Clear) → Contains entries (entry.Clear clear) → IsCleared m steps clear
 cleared laws m entries steps tells clear here = All-contains (ClearsAs m steps) entries (entry.Clear clear) (all_cleared laws m entries steps tells) here clear refl
 
 legal_before : (start : Machine) (late early : List Step) → IsLegal start (late ++ early) → IsLegal start early
@@ -185,7 +185,7 @@ module _ (laws : RunLaws) (wanted : List Wanted) (first : JointState Device) (pa
       split : h.event.steps ++ early ≡ (c.later ++ c.touches) ++ (c.before ++ early)
       split = ap (λ (steps : List Step). steps ++ early) (c.here ∙ sym (append_assoc c.later c.touches c.before)) ∙ append_assoc (c.later ++ c.touches) c.before early
 
-  pub keeps_moves : KeepsMoves start early h.event.steps (now first past).device h.device
+  pub keeps_moves : MovesConfined start early h.event.steps (now first past).device h.device
   keeps_moves = record {
     gained = history.2.backed.gained;
     tape = history.2.backed.tape;

@@ -12,25 +12,25 @@ use Rattle.ata_types.specs.declared.request.Outcome.{Outcome}
 use Rattle.ata_types.specs.declared.request.Outcome.TheVariants as outcome
 use Rattle.adapter.specs.Device.{Device}
 use Rattle.adapter.specs.declared.access.DeviceStep.{DeviceStep}
-use Rattle.block_machine.specs.Events.{Ask, Submit, StoreAt, LoadAt, Service, Tick, Reset, RevokeOf, State, Device as Told, CallResult, AbstractState, AllLawful, AllMay, AreStepsOfCall, Happens, IsByDevice, IsLawful, IsByServer, abstract_after}
+use Rattle.block_machine.specs.Events.{AbstractCall, Submit, StoreAt, LoadAt, Service, Tick, Reset, RevokeOf, State, Device as Told, CallResult, AbstractState, AllLawful, AllMay, AreStepsOfCall, Happens, IsByDevice, IsLawful, IsByServer, abstract_after}
 use Rattle.block_machine.specs.Histories.{JointState, Happening}
-use Rattle.block_machine.specs.Ports.{Ports, Evidence, AreFit}
+use Rattle.block_machine.specs.Ports.{Ports, Evidence, PortsWellFormed}
 use Rattle.block_machine.specs.State.{Pending, Machine}
 use Rattle.block_machine.specs.Steps.{Step, Again, Answer, HasGrant, May}
 use Rattle.block_machine.specs.Left.{after}
 use Rattle.host_boot.specs.Taken.{wanted_of}
 use Rattle.identify.specs.declared.wanted.Wanted.{Wanted}
-use Rattle.driver_history.specs.Claims.{AnswerRests}
+use Rattle.driver_history.specs.Claims.{AnswerJustified}
 use Rattle.driver_history.specs.Evidence.{IsEndedReset, IsLost}
 use Rattle.driver_history.specs.Histories.{CallCorresponds}
-use Rattle.driver_history.specs.Holds.{HoldsAt, HoldsOf, IsDeadAt}
+use Rattle.driver_history.specs.Holds.{DriverInvariant, PortStateInvariant, IsDeadAt}
 
 -- a dead port is one of the four, and dead
-dead_at : (wanted : List Wanted) (i : JointState Device) (port : Port) → AreFit i.abstract.ports → HoldsAt wanted i → i.abstract.ports.state port ≡ Dead → IsDeadAt (wanted_of wanted port.0) i port
+dead_at : (wanted : List Wanted) (i : JointState Device) (port : Port) → PortsWellFormed i.abstract.ports → DriverInvariant wanted i → i.abstract.ports.state port ≡ Dead → IsDeadAt (wanted_of wanted port.0) i port
 dead_at wanted i port fit (s, holds) dead = ⊎_elim
     (λ (served : i.abstract.ports.served port ≡ true).
-    subst (λ (state : PortState). HoldsOf (wanted_of wanted port.0) s i port true state) dead
-    (subst (λ (b : Bool). HoldsOf (wanted_of wanted port.0) s i port b (i.abstract.ports.state port)) served (holds.port port (fit.few port served))))
+    subst (λ (state : PortState). PortStateInvariant (wanted_of wanted port.0) s i port true state) dead
+    (subst (λ (b : Bool). PortStateInvariant (wanted_of wanted port.0) s i port b (i.abstract.ports.state port)) served (holds.port port (fit.few port served))))
     (λ (other : i.abstract.ports.served port ≡ false). let z : Absent ≡ Dead = sym (fit.absent port other) ∙ dead in absurd cc)
     (cases_Bool (i.abstract.ports.served port))
 
@@ -55,15 +55,15 @@ lawful_of : (old : AbstractState) (evidence : Evidence) (ports : Ports) (steps :
 lawful_of old evidence ports steps l e o h =
     All-contains (λ step. (e : Pending) (o : Outcome) → step ≡ Answer e o → IsLawful old evidence ports e o) steps (Answer e o) (all_lawful old evidence ports steps l) h e o refl
 
-all_belong : (ask : Ask DeviceStep) (ports : Ports) (steps : List Step) → AreStepsOfCall ask ports steps → All (λ step. IsByDevice step ⊎ IsByServer ask ports step) steps
+all_belong : (ask : AbstractCall DeviceStep) (ports : Ports) (steps : List Step) → AreStepsOfCall ask ports steps → All (λ step. IsByDevice step ⊎ IsByServer ask ports step) steps
 all_belong ask ports [] l = All-nil (λ step. IsByDevice step ⊎ IsByServer ask ports step)
 all_belong ask ports (x ∷ before) l = All-cons (λ step. IsByDevice step ⊎ IsByServer ask ports step) x before l.1 (all_belong ask ports before l.0)
 
-pub belongs_of : (ask : Ask DeviceStep) (ports : Ports) (steps : List Step) → AreStepsOfCall ask ports steps → (step : Step) → Contains steps step → IsByDevice step ⊎ IsByServer ask ports step
+pub belongs_of : (ask : AbstractCall DeviceStep) (ports : Ports) (steps : List Step) → AreStepsOfCall ask ports steps → (step : Step) → Contains steps step → IsByDevice step ⊎ IsByServer ask ports step
 belongs_of ask ports steps l step h = All-contains (λ step. IsByDevice step ⊎ IsByServer ask ports step) steps step (all_belong ask ports steps l) h
 
 -- a reset tells no fault
-no_fault : (ask : Ask DeviceStep) (said : CallResult) (ports : Ports) (e : Pending) (status error : _) → IsEndedReset ask said → IsByServer ask ports (Answer e (outcome.DeviceError status error)) → ⊥
+no_fault : (ask : AbstractCall DeviceStep) (said : CallResult) (ports : Ports) (e : Pending) (status error : _) → IsEndedReset ask said → IsByServer ask ports (Answer e (outcome.DeviceError status error)) → ⊥
 no_fault Reset said ports e status error ends s = s
 no_fault (Submit r) said ports e status error ends s = ends
 no_fault (RevokeOf c n) said ports e status error ends s = ends
@@ -103,7 +103,7 @@ module _ (wanted : List Wanted) (old : JointState Device) (h : Happening Device 
   lost_then e here = (t.evidenced.port e.request.port).lost (lawful e outcome.Unplugged here).0
 
   module _ (shrink : RowsShrink) where
-    rests : (e : Pending) (o : Outcome) → Contains h.event.steps (Answer e o) → IsLawful old.abstract h.event.evidence h.event.ports e o → AnswerRests old h t.accesses e o
+    rests : (e : Pending) (o : Outcome) → Contains h.event.steps (Answer e o) → IsLawful old.abstract h.event.evidence h.event.ports e o → AnswerJustified old h t.accesses e o
     rests e outcome.Ok here l = l
     rests e (outcome.DeviceError status error) here l = (
       t.evidenced.faults _ l.2,
@@ -128,5 +128,5 @@ module _ (wanted : List Wanted) (old : JointState Device) (h : Happening Device 
           l,
     )
 
-    pub answer_rests : (e : Pending) (o : Outcome) → Contains h.event.steps (Answer e o) → AnswerRests old h t.accesses e o
+    pub answer_rests : (e : Pending) (o : Outcome) → Contains h.event.steps (Answer e o) → AnswerJustified old h t.accesses e o
     answer_rests e o here = rests e o here (lawful e o here)

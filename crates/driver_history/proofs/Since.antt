@@ -8,8 +8,8 @@ use Rattle.adapter.specs.declared.tape.Entry.TheVariants as entry
 use Rattle.refinement.specs.Driven.{Grows}
 use Rattle.refinement.specs.Errors.{IsFatalOf}
 use Rattle.refinement.specs.Facts.{IsDisturbance, IsFaultOf, Undisturbed}
-use Rattle.refinement.specs.Links.{IsPlugging, PlugsNone}
-use Rattle.error_recovery.specs.Evidence.{GainsRunning}
+use Rattle.refinement.specs.Links.{IsPlugEvent, NoPlugEvents}
+use Rattle.error_recovery.specs.Evidence.{GainsSinceStart}
 use Rattle.driver_history.specs.Laws.{Laws}
 
 -- an entry that the later part of a stretch gained, at its place in the whole
@@ -22,8 +22,8 @@ gained_later {X} old early before e later last p q r =
     ∙ ap (λ (xs : List X). old ++ xs) (sym (append_assoc early before (e ∷ (later ++ last))))
 
 -- what a part of a stretch gained since ST was set, the stretch did, where ST was not set again after the part
-pub running_in_part : (Such : Entry → Type 0) (port : ℕ) (old start end new : Device) → Grows old start → Grows end new → (new.port port).notes.st_set_at ≡ (end.port port).notes.st_set_at → GainsRunning Such port start end
-    → GainsRunning Such port old new
+pub running_in_part : (Such : Entry → Type 0) (port : ℕ) (old start end new : Device) → Grows old start → Grows end new → (new.port port).notes.st_set_at ≡ (end.port port).notes.st_set_at → GainsSinceStart Such port start end
+    → GainsSinceStart Such port old new
 running_in_part Such port old start end new first last same g =
     let since = g.since in
     let long = ap (λ (xs : List Entry). length xs) first.1 ∙ length-append old.tape first.0 in
@@ -38,7 +38,7 @@ running_in_part Such port old start end new first last same g =
     }
 
 module _ (laws : Laws) (port : ℕ) (old mid new : Device) (early : Grows old mid) (late : Grows mid new) (set : (new.port port).notes.st_set_at ≤ length mid.tape) where
-  running : (Such : Entry → Type 0) (before : List Entry) (e : Entry) (later : List Entry) → new.tape ≡ mid.tape ++ (before ++ e ∷ later) → Such e → GainsRunning Such port old new
+  running : (Such : Entry → Type 0) (before : List Entry) (e : Entry) (later : List Entry) → new.tape ≡ mid.tape ++ (before ++ e ∷ later) → Such e → GainsSinceStart Such port old new
   running Such before e later tape is =
       let long = ap (λ (xs : List Entry). length xs) early.1 ∙ length-append old.tape early.0 in
       let more = length-append early.0 before in
@@ -52,8 +52,8 @@ module _ (laws : Laws) (port : ℕ) (old mid new : Device) (early : Grows old mi
         since = omega (arith, set, long, more);
       }
 
-  module _ (unfailed : GainsRunning (IsFaultOf port) port old new → ⊥) (unbroken : GainsRunning (IsFatalOf port) port old new → ⊥) where
-    one_calm : (before : List Entry) (e : Entry) (later : List Entry) → new.tape ≡ mid.tape ++ (before ++ e ∷ later) → (IsPlugging port e → ⊥) → IsDisturbance port e → ⊥
+  module _ (unfailed : GainsSinceStart (IsFaultOf port) port old new → ⊥) (unbroken : GainsSinceStart (IsFatalOf port) port old new → ⊥) where
+    one_calm : (before : List Entry) (e : Entry) (later : List Entry) → new.tape ≡ mid.tape ++ (before ++ e ∷ later) → (IsPlugEvent port e → ⊥) → IsDisturbance port e → ⊥
     one_calm before (entry.Fault fault) later tape none is = unfailed (running (IsFaultOf port) before (entry.Fault fault) later tape is)
     one_calm before (entry.Fatal at) later tape none is = unbroken (running (IsFatalOf port) before (entry.Fatal at) later tape is)
     one_calm before (entry.Unplug at) later tape none is = none is
@@ -62,13 +62,13 @@ module _ (laws : Laws) (port : ℕ) (old mid new : Device) (early : Grows old mi
     one_calm before (entry.Clear x) later tape none is = absurd is
     one_calm before (entry.Done x) later tape none is = absurd is
 
-    all_calm : (before later : List Entry) → new.tape ≡ mid.tape ++ (before ++ later) → All (λ e. IsPlugging port e → ⊥) later → All (λ e. IsDisturbance port e → ⊥) later
+    all_calm : (before later : List Entry) → new.tape ≡ mid.tape ++ (before ++ later) → All (λ e. IsPlugEvent port e → ⊥) later → All (λ e. IsDisturbance port e → ⊥) later
     all_calm before [] tape none = All-nil (λ e. IsDisturbance port e → ⊥)
     all_calm before (e ∷ later) tape none =
-        All-cons (λ e. IsDisturbance port e → ⊥) e later (one_calm before e later tape (All-head (λ e. IsPlugging port e → ⊥) e later none))
-        (all_calm (before ++ e ∷ []) later (tape ∙ ap (λ (xs : List Entry). mid.tape ++ xs) (sym (append_assoc before (e ∷ []) later))) (All-tail (λ e. IsPlugging port e → ⊥) e later none))
+        All-cons (λ e. IsDisturbance port e → ⊥) e later (one_calm before e later tape (All-head (λ e. IsPlugEvent port e → ⊥) e later none))
+        (all_calm (before ++ e ∷ []) later (tape ∙ ap (λ (xs : List Entry). mid.tape ++ xs) (sym (append_assoc before (e ∷ []) later))) (All-tail (λ e. IsPlugEvent port e → ⊥) e later none))
 
-  pub calm_since : PlugsNone port old new → (GainsRunning (IsFaultOf port) port old new → ⊥) → (GainsRunning (IsFatalOf port) port old new → ⊥) → Undisturbed port mid new
+  pub calm_since : NoPlugEvents port old new → (GainsSinceStart (IsFaultOf port) port old new → ⊥) → (GainsSinceStart (IsFatalOf port) port old new → ⊥) → Undisturbed port mid new
   calm_since none unfailed unbroken =
       let after = (laws.tape.plugs_parts port old mid new early.0 late.0 early.1 late.1 none).1 in
       record { gained = after.gained; tape = after.tape; calm = all_calm unfailed unbroken [] after.gained after.tape after.none }

@@ -17,9 +17,9 @@ use Rattle.adapter.specs.declared.access.DeviceStep.{DeviceStep}
 use Rattle.adapter.specs.declared.tape.Entry.{Entry}
 use Rattle.refinement.specs.Relation.{StateRelation, port_at}
 use Rattle.refinement.specs.Facts.{DeviceSparesFrame}
-use Rattle.refinement.specs.Links.{IsPlugging, PlugsNone}
+use Rattle.refinement.specs.Links.{IsPlugEvent, NoPlugEvents}
 use Rattle.refinement.specs.Slots.{ServesRequest, Stage, SlotStates}
-use Rattle.block_machine.specs.Events.{Ask, Service, abstract_after}
+use Rattle.block_machine.specs.Events.{AbstractCall, Service, abstract_after}
 use Rattle.block_machine.specs.Histories.{JointState, Happening, IsReachable, now}
 use Rattle.block_machine.specs.Ports.{SameDisk}
 use Rattle.block_machine.specs.State.{Accepted, Machine, Pending}
@@ -71,7 +71,7 @@ seen_answered wanted first past h port slot id history asks asked serves ci sact
     let same_port : serves.pending.request.port ≡ port = ap port_at serves.port_is in
     let booked : Contains old.abstract.machine.book serves.pending = ⊎_elim (λ b. b.0) (λ k. absurd (at.kept serves.pending k same_port)) serves.moves in
     let ended : serves.pending.ended ≡ true = ended_of old.device.memory (old.device.port port.0) port.0 slot serves.pending serves.command serves.places serves.stage at.runs.st ci sact in
-    let Heeded : Ask DeviceStep → Type 0 = λ ask. HeedsAt port ask old.abstract h.event.evidence h.event.steps (abstract_after old.abstract h.event) in
+    let Heeded : AbstractCall DeviceStep → Type 0 = λ ask. HeedsAt port ask old.abstract h.event.evidence h.event.steps (abstract_after old.abstract h.event) in
     let served : Heeded Service = subst Heeded asks (t.port port).heeds in
     let answer = (served asked).ended serves.pending booked same_port ended in
     (answer.0, ap (λ (r : Accepted). r.id) answer.1 ∙ serves.id_is, answer.2)
@@ -79,14 +79,14 @@ seen_answered wanted first past h port slot id history asks asked serves ci sact
 -- ---- Unplugged
 
 -- none of a kind was gained
-none_of : (port : ℕ) (old new : Device) → PlugsNone port old new → Gains (IsPlugging port) old new → ⊥
+none_of : (port : ℕ) (old new : Device) → NoPlugEvents port old new → Gains (IsPlugEvent port) old new → ⊥
 none_of port old new u g =
     let same : g.gained ≡ u.gained = append_cancel_left old.tape g.gained u.gained (sym g.tape ∙ u.tape) in
-    All-contains (λ e. IsPlugging port e → ⊥) u.gained g.entry u.none (subst (λ (xs : List Entry). Contains xs g.entry) same g.here) g.is
+    All-contains (λ e. IsPlugEvent port e → ⊥) u.gained g.entry u.none (subst (λ (xs : List Entry). Contains xs g.entry) same g.here) g.is
 
 pub unplugged_refused : (wanted : List Wanted) (first : JointState Device) (past : List (Happening Device DeviceStep)) (h : Happening Device DeviceStep) (e : Pending)
     → IsDriverHistory wanted first (h ∷ past) → (ShowsChange ((now first past).device.port e.request.port.0) → ⊥) → ((now first past).device.port e.request.port.0).ssts_det ≡ 3
-    → PlugsNone e.request.port.0 (now first past).device h.device
+    → NoPlugEvents e.request.port.0 (now first past).device h.device
     → (h.event.ports.state e.request.port ≡ Dead) ⊎ ((h.event.ports.state e.request.port ≡ Ready) × SameDisk (now first past).abstract.ports h.event.ports e.request.port)
     → Contains h.event.steps (Answer e outcome.Unplugged) → ⊥
 unplugged_refused wanted first past h e history quiet det none ends here =

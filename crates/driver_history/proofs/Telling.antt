@@ -4,7 +4,7 @@ use Rattle.adapter.specs.Device.{Device}
 use Rattle.adapter.specs.declared.access.DeviceStep.{DeviceStep}
 use Rattle.block_machine.specs.Events.{CallRecord, AbstractState, Happens, IsRun, EveryReadHolds, abstract_after, abstract_after_all, steps_of}
 use Rattle.block_machine.specs.Histories.{JointState, Happening, IsReachable, now, events_of}
-use Rattle.block_machine.specs.Left.{after, AllTellSectors}
+use Rattle.block_machine.specs.Left.{after, AllStepsFaithful}
 use Rattle.block_machine.specs.State.{Machine}
 use Rattle.durability.specs.Durable.{EveryPlugFinds}
 use Rattle.identify.specs.declared.wanted.Wanted.{Wanted}
@@ -35,15 +35,15 @@ module _ (laws : RunLaws) (wanted : List Wanted) where
       let run = laws.legal first.abstract (events_of past) (history_runs wanted first past h) in
       record { first = first.abstract.machine; past = steps_of (events_of past); starts = run.0; legal = run.1; is = machine_is first past h }
 
-  all_told : (first : JointState Device) (past : List (Happening Device DeviceStep)) → IsDriverHistory wanted first past → first.device.telling ≡ true → AllTellSectors first.abstract.machine (steps_of (events_of past))
+  all_told : (first : JointState Device) (past : List (Happening Device DeviceStep)) → IsDriverHistory wanted first past → first.device.telling ≡ true → AllStepsFaithful first.abstract.machine (steps_of (events_of past))
   all_told first [] h tells = tt
   all_told first (x ∷ past) h tells = laws.told first.abstract.machine x.event.steps (steps_of (events_of past)) (all_told first past h.0 tells)
-      (subst (λ (m : Machine). AllTellSectors m x.event.steps) (machine_is first past h.0) (h.2.backed.told (telling_stays wanted first past h.0 ∙ tells)))
+      (subst (λ (m : Machine). AllStepsFaithful m x.event.steps) (machine_is first past h.0) (h.2.backed.told (telling_stays wanted first past h.0 ∙ tells)))
 
   pub reads_hold : (first : JointState Device) (past : List (Happening Device DeviceStep)) → IsDriverHistory wanted first past → first.device.telling ≡ true → EveryReadHolds first.abstract (events_of past)
   reads_hold first past h tells = laws.reads first.abstract (events_of past) (history_runs wanted first past h) (all_told first past h tells)
 
   -- what is said of the runs of disks that tell
-  pub plugs_find : ((first : AbstractState) (run : List (CallRecord DeviceStep)) → IsRun first run → AllTellSectors first.machine (steps_of run) → EveryPlugFinds first.machine (steps_of run))
+  pub plugs_find : ((first : AbstractState) (run : List (CallRecord DeviceStep)) → IsRun first run → AllStepsFaithful first.machine (steps_of run) → EveryPlugFinds first.machine (steps_of run))
       → (first : JointState Device) (past : List (Happening Device DeviceStep)) → IsDriverHistory wanted first past → first.device.telling ≡ true → EveryPlugFinds first.abstract.machine (steps_of (events_of past))
   plugs_find finds first past h tells = finds first.abstract (events_of past) (history_runs wanted first past h) (all_told first past h tells)

@@ -13,18 +13,18 @@ use Rattle.adapter.specs.Device.{Device, DevicePort}
 use Rattle.adapter.specs.Rules.{IsOn}
 use Rattle.adapter.specs.declared.tape.Entry.{Entry}
 use Rattle.refinement.specs.Driven.{Grows}
-use Rattle.refinement.specs.Errors.{ChangesByErrors, IsFatalOf, NoneComes, NoneFatal}
+use Rattle.refinement.specs.Errors.{ChangesByErrors, IsFatalOf, NoDiskComes, NoneFatal}
 use Rattle.refinement.specs.Facts.{IsFaultOf}
-use Rattle.refinement.specs.Links.{HasDeviceOrNone, IsPlugging, PlugsNone, SparesRegister}
+use Rattle.refinement.specs.Links.{ShowsDiskIfIn, IsPlugEvent, NoPlugEvents, DoesNotWrite}
 use Rattle.refinement.specs.Vacant.{IsFreshIfShown, IsVacant}
 use Rattle.block_machine.specs.Events.{AbstractState, CallResult, Service}
 use Rattle.block_machine.specs.Histories.{JointState}
-use Rattle.block_machine.specs.Ports.{Evidence, IsInterrupted, Ports, SamePort}
-use Rattle.error_recovery.specs.Evidence.{GainsRunning, ShowsFatal}
+use Rattle.block_machine.specs.Ports.{Evidence, IsStoppedOrStuck, Ports, SamePort}
+use Rattle.error_recovery.specs.Evidence.{GainsSinceStart, ShowsFatal}
 use Rattle.driver_history.specs.Evidence.{Gains, ShowsChange, ShowsFailure}
-use Rattle.driver_history.specs.Histories.{BootsAnew, IsUnfitOrForeign, HasFaultAlone, IsFreshOrUnshown, LosesNoPortError, RunsWellAnew, IsPortAlive, ProbesDisk}
+use Rattle.driver_history.specs.Histories.{BootsAnew, HasUnservedDisk, HasOnlyTaskFileError, HasSignatureOrNoDevice, LosesNoPortError, RunsWellAnew, IsPortAlive, ProbesDisk}
 use Rattle.driver_history.specs.Laws.{Laws}
-use Rattle.driver_history.specs.Parts.{EndsLinked, HasTurnIn, IsOfOther, NamesAlike, all_of}
+use Rattle.driver_history.specs.Parts.{EndsNoLinkDue, HasTurnIn, IsOfOther, EvidenceAgreesOn, call_accesses}
 use Rattle.driver_history.specs.Trace.{ResetsLink}
 use Rattle.driver_history.proofs.Parting.{IsLeft, gains_within, grows_over, loss_then, others_leave, plugged_or_not}
 use Rattle.driver_history.proofs.Since.{calm_since, running_in_part}
@@ -41,16 +41,16 @@ gained_at Such old new before e later tape is = record {
   is = is;
 }
 
-fresh_or_gone : (p : DevicePort) → IsFreshIfShown p → IsFreshOrUnshown p
+fresh_or_gone : (p : DevicePort) → IsFreshIfShown p → HasSignatureOrNoDevice p
 fresh_or_gone p fresh = ⊎_elim (λ (shows : p.ssts_det ≡ 3). inl (fresh shows)) (λ gone. inr gone) (cases_eq p.ssts_det 3)
 
-fresh_if_shown : (p : DevicePort) → IsFreshOrUnshown p → IsFreshIfShown p
+fresh_if_shown : (p : DevicePort) → HasSignatureOrNoDevice p → IsFreshIfShown p
 fresh_if_shown p fresh shows = ⊎_elim (λ came. came) (λ gone. absurd (gone shows)) fresh
 
 module _ (laws : Laws) (port : Port) where
   -- what each access leaves of the port where no disk of it comes, accesses one after another do
-  stays_over : (P : DevicePort → Type 0) → ((access : Access) (old new : Device) → NoneComes port.0 old new → Does access old new → P (old.port port.0) → P (new.port port.0))
-      → (accesses : List Access) (old new : Device) → DoesAll accesses old new → NoneComes port.0 old new → P (old.port port.0) → P (new.port port.0)
+  stays_over : (P : DevicePort → Type 0) → ((access : Access) (old new : Device) → NoDiskComes port.0 old new → Does access old new → P (old.port port.0) → P (new.port port.0))
+      → (accesses : List Access) (old new : Device) → DoesAll accesses old new → NoDiskComes port.0 old new → P (old.port port.0) → P (new.port port.0)
   stays_over P one [] old new same none so = subst (λ (d : Device). P (d.port port.0)) (sym same) so
   stays_over P one (access ∷ accesses) old new (mid, does, rest) none so =
       let early = laws.tape.access_grows access old mid does in
@@ -86,7 +86,7 @@ module _ (laws : Laws) (port : Port) where
 
     -- ---- what didn't come in the call didn't in the turn
 
-    plug_parts : PlugsNone port.0 old.device new → PlugsNone port.0 old.device t.start × PlugsNone port.0 t.start t.end
+    plug_parts : NoPlugEvents port.0 old.device new → NoPlugEvents port.0 old.device t.start × NoPlugEvents port.0 t.start t.end
     plug_parts none =
         let a = laws.tape.plugs_parts port.0 old.device t.start new first.grows.0 since.0 first.grows.1 since.1 none in
         (a.0, (laws.tape.plugs_parts port.0 t.start t.end new middle.0 last.grows.0 middle.1 last.grows.1 a.1).0)
@@ -96,17 +96,17 @@ module _ (laws : Laws) (port : Port) where
     module _ (ended ports : Ports) (stays : SamePort ended ports port) where
       -- boots
 
-      spares_other : (accesses : List Access) → All (IsOfOther port) accesses → All (SparesRegister (Px port Sctl)) accesses
-      spares_other accesses of = All-weaker (IsOfOther port) (SparesRegister (Px port Sctl)) (λ access x. laws.spares x.0 port Sctl x.1 access x.2) accesses of
+      spares_other : (accesses : List Access) → All (IsOfOther port) accesses → All (DoesNotWrite (Px port Sctl)) accesses
+      spares_other accesses of = All-weaker (IsOfOther port) (DoesNotWrite (Px port Sctl)) (λ access x. laws.spares x.0 port Sctl x.1 access x.2) accesses of
 
-      reset_in_call : ResetsLink port t.turn → ResetsLink port (all_of t)
+      reset_in_call : ResetsLink port t.turn → ResetsLink port (call_accesses t)
       reset_in_call r = reset_within port t.before t.turn t.later (spares_other t.later t.others_later) r
 
-      reset_in_turn : ResetsLink port (all_of t) → ResetsLink port t.turn
+      reset_in_turn : ResetsLink port (call_accesses t) → ResetsLink port t.turn
       reset_in_turn r = reset_before port t.turn t.later (spares_other t.later t.others_later) (reset_after port t.before (t.turn ++ t.later) (spares_other t.before t.others) r)
 
       pub boots_are_the_calls : (one other : CallResult) → (old.abstract.ports.state port ≡ Ready → (old.device.port port.0).link_due ≡ false) → SamePort old.abstract.ports begun.ports port → BootsAnew Service one t.turn began ended t.end port
-          → BootsAnew Service other (all_of t) old ports new port
+          → BootsAnew Service other (call_accesses t) old ports new port
       boots_are_the_calls one other undue was its = (
         λ ready port_error. booted (its.0 (was.1 ∙ ready) (⊎_elim
             (λ fatal. inl ((first.trouble_shown fatals).still fatal))
@@ -125,26 +125,26 @@ module _ (laws : Laws) (port : Port) where
             its.1,
       )
         where
-          booted : (ended.state port ≡ Dead) ⊎ ((ended.state port ≡ Absent) ⊎ ResetsLink port t.turn) → (ports.state port ≡ Dead) ⊎ ((ports.state port ≡ Absent) ⊎ ResetsLink port (all_of t))
+          booted : (ended.state port ≡ Dead) ⊎ ((ended.state port ≡ Absent) ⊎ ResetsLink port t.turn) → (ports.state port ≡ Dead) ⊎ ((ports.state port ≡ Absent) ⊎ ResetsLink port (call_accesses t))
           booted anew = ⊎_elim (λ dead. inl (stays.1 ∙ dead)) (λ rest. inr (⊎_elim (λ absent. inl (stays.1 ∙ absent)) (λ r. inr (reset_in_call r)) rest)) anew
 
       -- a disk that is tried
 
       -- no disk came in the parts
-      comes : NoneComes port.0 old.device new → NoneComes port.0 old.device t.start × NoneComes port.0 t.start t.end × NoneComes port.0 t.end new
+      comes : NoDiskComes port.0 old.device new → NoDiskComes port.0 old.device t.start × NoDiskComes port.0 t.start t.end × NoDiskComes port.0 t.end new
       comes none =
           let a = laws.tape.comes_parts port.0 old.device t.start new first.grows.0 since.0 first.grows.1 since.1 none in
           let b = laws.tape.comes_parts port.0 t.start t.end new middle.0 last.grows.0 middle.1 last.grows.1 a.1 in
           (a.0, b.0, b.1)
 
-      bad_then : SamePort old.abstract.ports begun.ports port → IsUnfitOrForeign old.abstract.ports port → IsUnfitOrForeign begun.ports port
+      bad_then : SamePort old.abstract.ports begun.ports port → HasUnservedDisk old.abstract.ports port → HasUnservedDisk begun.ports port
       bad_then was bad = ⊎_elim (λ foreign. inl (was.1 ∙ foreign)) (λ unfit. inr (unfit.0, was.1 ∙ unfit.1)) bad
 
       -- X that was shown is shown still
       x_then : (old.device.port port.0).serr_x ≡ true → (t.start.port port.0).serr_x ≡ true
       x_then x = (first.trouble_shown links).still x
 
-      pub linked_is_the_calls : SamePort old.abstract.ports begun.ports port → EndsLinked port began ended t.end → EndsLinked port old ports new
+      pub linked_is_the_calls : SamePort old.abstract.ports begun.ports port → EndsNoLinkDue port began ended t.end → EndsNoLinkDue port old ports new
       linked_is_the_calls was linked bad x none =
           let parts = comes none in
           ⊎_elim
@@ -153,17 +153,17 @@ module _ (laws : Laws) (port : Port) where
           (linked (bad_then was bad) (x_then x) parts.1)
 
       -- the disk's first FIS has come, or no device shows, at the call's end, where it has at the turn's
-      fresh_still : NoneComes port.0 t.end new → IsFreshOrUnshown (t.end.port port.0) → IsFreshOrUnshown (new.port port.0)
+      fresh_still : NoDiskComes port.0 t.end new → HasSignatureOrNoDevice (t.end.port port.0) → HasSignatureOrNoDevice (new.port port.0)
       fresh_still none fresh = fresh_or_gone (new.port port.0) (stays_over IsFreshIfShown (laws.fresh port) t.later t.end new t.last none (fresh_if_shown (t.end.port port.0) fresh))
 
-      pub tries_are_the_calls : SamePort old.abstract.ports begun.ports port → (IsUnfitOrForeign old.abstract.ports port → HasDeviceOrNone (old.device.port port.0)) → EndsLinked port began ended t.end
-          → (NoneComes port.0 t.start t.end → ProbesDisk t.turn began ended t.end port) → NoneComes port.0 old.device new → ProbesDisk (all_of t) old ports new port
+      pub tries_are_the_calls : SamePort old.abstract.ports begun.ports port → (HasUnservedDisk old.abstract.ports port → ShowsDiskIfIn (old.device.port port.0)) → EndsNoLinkDue port began ended t.end
+          → (NoDiskComes port.0 t.start t.end → ProbesDisk t.turn began ended t.end port) → NoDiskComes port.0 old.device new → ProbesDisk (call_accesses t) old ports new port
       tries_are_the_calls was there linked tried none = record {
         shown = λ absent shows. ⊎_elim
-            (λ gained. inr (inr (gains_within (IsPlugging port.0) old.device old.device t.start new (laws.tape.grows_none old.device) since gained)))
+            (λ gained. inr (inr (gains_within (IsPlugEvent port.0) old.device old.device t.start new (laws.tape.grows_none old.device) since gained)))
             (λ still. ⊎_elim
             (λ dead. inl (stays.1 ∙ dead))
-            (λ rest. inr (⊎_elim (λ r. inl (reset_in_call r)) (λ gained. inr (gains_within (IsPlugging port.0) old.device t.start t.end new first.grows last.grows gained)) rest))
+            (λ rest. inr (⊎_elim (λ r. inl (reset_in_call r)) (λ gained. inr (gains_within (IsPlugEvent port.0) old.device t.start t.end new first.grows last.grows gained)) rest))
             (its.shown (was.1 ∙ absent) (first.shown still shows)))
             (plugged_or_not port.0 old.device t.start first.grows);
         absent = λ absent shows stale. ⊎_elim
@@ -189,27 +189,27 @@ module _ (laws : Laws) (port : Port) where
             (its.changed (bad_then was bad) (x_then x));
       }
         where
-          parts : NoneComes port.0 old.device t.start × NoneComes port.0 t.start t.end × NoneComes port.0 t.end new
+          parts : NoDiskComes port.0 old.device t.start × NoDiskComes port.0 t.start t.end × NoDiskComes port.0 t.end new
           parts = comes none
 
           its : ProbesDisk t.turn began ended t.end port
           its = tried parts.1
 
           -- what is so of the disk's first FIS when the turn begins is so at the call's end
-          from_start : IsFreshIfShown (t.start.port port.0) → IsFreshOrUnshown (new.port port.0)
+          from_start : IsFreshIfShown (t.start.port port.0) → HasSignatureOrNoDevice (new.port port.0)
           from_start fresh = fresh_or_gone (new.port port.0)
               (stays_over IsFreshIfShown (laws.fresh port) t.later t.end new t.last parts.2 (stays_over IsFreshIfShown (laws.fresh port) t.turn t.start t.end t.then parts.1 fresh))
 
           -- where no disk was in, none is when the turn begins
-          vacant_then : IsUnfitOrForeign old.abstract.ports port → (old.device.port port.0).ssts_det ≢ 3 → IsVacant (t.start.port port.0)
+          vacant_then : HasUnservedDisk old.abstract.ports port → (old.device.port port.0).ssts_det ≢ 3 → IsVacant (t.start.port port.0)
           vacant_then bad out = stays_over IsVacant (laws.vacant port) t.before old.device t.start t.first parts.0
               (⊎_elim (λ (shows : (old.device.port port.0).ssts_det ≡ 3). absurd (out shows)) (λ gone. record { out = gone; det = out }) (there bad))
 
-      module _ (turn call : Evidence) (alike : NamesAlike port turn call) where
-        named : IsInterrupted turn port → IsInterrupted call port
+      module _ (turn call : Evidence) (alike : EvidenceAgreesOn port turn call) where
+        named : IsStoppedOrStuck turn port → IsStoppedOrStuck call port
         named i = ⊎_elim (λ stopped. inl (alike.stopped.0 stopped)) (λ stuck. inr (alike.stuck.0 stuck)) i
 
-        unnamed : IsInterrupted call port → IsInterrupted turn port
+        unnamed : IsStoppedOrStuck call port → IsStoppedOrStuck turn port
         unnamed i = ⊎_elim (λ stopped. inl (alike.stopped.1 stopped)) (λ stuck. inr (alike.stuck.1 stuck)) i
 
         -- the tape, as what the three parts of the call gained
@@ -240,19 +240,19 @@ module _ (laws : Laws) (port : Port) where
               (parts_at middle.0 last.grows.0 o.0 later e o.2))
               (parts_at first.grows.0 (middle.0 ++ last.grows.0) before later e (append_cancel_left old.device.tape (first.grows.0 ++ (middle.0 ++ last.grows.0)) (before ++ e ∷ later) (sym whole_tape ∙ tape)))
 
-        module _ (was : SamePort old.abstract.ports begun.ports port) (set_since : ended.state port ≡ Ready → IsInterrupted turn port → length t.start.tape ≤ (t.end.port port.0).notes.st_set_at)
-            (stops : (begun.ports.state port ≡ Ready) ⊎ (ended.state port ≡ Ready) → ShowsFailure (t.start.port port.0) ⊎ ShowsChange (t.start.port port.0) → IsInterrupted turn port) (its : LosesNoPortError turn began ended t.end port) where
+        module _ (was : SamePort old.abstract.ports begun.ports port) (set_since : ended.state port ≡ Ready → IsStoppedOrStuck turn port → length t.start.tape ≤ (t.end.port port.0).notes.st_set_at)
+            (stops : (begun.ports.state port ≡ Ready) ⊎ (ended.state port ≡ Ready) → ShowsFailure (t.start.port port.0) ⊎ ShowsChange (t.start.port port.0) → IsStoppedOrStuck turn port) (its : LosesNoPortError turn began ended t.end port) where
           -- trouble that came before the turn stopped a ready port in it
-          stopped : (begun.ports.state port ≡ Ready) ⊎ (ended.state port ≡ Ready) → (kind : TroubleKind) → Gains (IsOne kind port.0) old.device t.start → IsInterrupted turn port
+          stopped : (begun.ports.state port ≡ Ready) ⊎ (ended.state port ≡ Ready) → (kind : TroubleKind) → Gains (IsOne kind port.0) old.device t.start → IsStoppedOrStuck turn port
           stopped ready kind early = stops ready (is_trouble kind (t.start.port port.0) (told kind (t.start.port port.0) ((first.trouble_shown kind).came early)))
 
           -- what is told at the turn's end is so at the call's, unless the port was stopped
-          still : (kind : TroubleKind) → IsInterrupted turn port ⊎ Tells kind (t.end.port port.0) → IsInterrupted call port ⊎ Tells kind (new.port port.0)
+          still : (kind : TroubleKind) → IsStoppedOrStuck turn port ⊎ Tells kind (t.end.port port.0) → IsStoppedOrStuck call port ⊎ Tells kind (new.port port.0)
           still kind it = ⊎_elim (λ i. inl (named i)) (λ tells. inr (tells_still kind port.0 t.end new last.trouble_shown tells)) it
 
           -- what came in the call is shown at its end, where what was told, or came, in the turn is told at the end of that, unless the port was stopped
-          came : (kind : TroubleKind) → (Tells kind (t.start.port port.0) ⊎ Gains (IsOne kind port.0) t.start t.end → IsInterrupted turn port ⊎ Tells kind (t.end.port port.0)) → Gains (IsOne kind port.0) old.device new
-              → IsInterrupted call port ⊎ Tells kind (new.port port.0)
+          came : (kind : TroubleKind) → (Tells kind (t.start.port port.0) ⊎ Gains (IsOne kind port.0) t.start t.end → IsStoppedOrStuck turn port ⊎ Tells kind (t.end.port port.0)) → Gains (IsOne kind port.0) old.device new
+              → IsStoppedOrStuck call port ⊎ Tells kind (new.port port.0)
           came kind then g = ⊎_elim
               (λ early. still kind (then (inl (told kind (t.start.port port.0) ((first.trouble_shown kind).came early)))))
               (λ rest. ⊎_elim
@@ -262,8 +262,8 @@ module _ (laws : Laws) (port : Port) where
               (in_parts (IsOne kind port.0) old.device t.start new first.grows since g)
 
           -- and what came since ST was set is shown
-          came_since : (kind : TroubleKind) → (ended.state port ≡ Ready → GainsRunning (IsOne kind port.0) port.0 t.start t.end → Shows kind (t.end.port port.0)) → ports.state port ≡ Ready
-              → GainsRunning (IsOne kind port.0) port.0 old.device new → Shows kind (new.port port.0)
+          came_since : (kind : TroubleKind) → (ended.state port ≡ Ready → GainsSinceStart (IsOne kind port.0) port.0 t.start t.end → Shows kind (t.end.port port.0)) → ports.state port ≡ Ready
+              → GainsSinceStart (IsOne kind port.0) port.0 old.device new → Shows kind (new.port port.0)
           came_since kind its_own ready g =
               let at : (new.port port.0).notes.st_set_at ≡ (t.end.port port.0).notes.st_set_at = ap (λ n. n.st_set_at) last.leaves.notes in
               let least = g.since in
@@ -295,7 +295,7 @@ module _ (laws : Laws) (port : Port) where
           }
 
         pub well_is_the_calls : (ended.state port ≡ Ready → ((old.device.port port.0).link_due ≡ false) ⊎ ResetsLink port t.turn) → (ended.state port ≡ Ready → (t.end.port port.0).notes.st_set_at ≤ length t.end.tape) → RunsWellAnew turn t.turn began ended t.end port
-            → RunsWellAnew call (all_of t) old ports new port
+            → RunsWellAnew call (call_accesses t) old ports new port
         well_is_the_calls linked known its i ready plugs unfailed unbroken how =
             let is_ready : ended.state port ≡ Ready = sym stays.1 ∙ ready in
             let same : (new.port port.0).notes.st_set_at ≡ (t.end.port port.0).notes.st_set_at = ap (λ n. n.st_set_at) last.leaves.notes in
@@ -304,9 +304,9 @@ module _ (laws : Laws) (port : Port) where
             let up : ResetsLink port t.turn ⊎ ((t.start.port port.0).fresh ≡ true) = ⊎_elim (λ r. inl (reset_in_turn r)) (λ fresh. ⊎_elim (λ undue. inr (first.fresh undue parts.0 ∙ fresh)) (λ r. inl r) (linked is_ready)) how in
             laws.well port.0 t.end new
             (laws.runs port t.later t.end new on_then t.last
-            (All-weaker (IsOfOther port) (SparesRegister Ghc) (λ access x. laws.spares_host x.0 access x.2) t.later t.others_later)
+            (All-weaker (IsOfOther port) (DoesNotWrite Ghc) (λ access x. laws.spares_host x.0 access x.2) t.later t.others_later)
             (spares_other t.later t.others_later)
-            (All-weaker (IsOfOther port) (SparesRegister (Px port Cmd)) (λ access x. laws.spares x.0 port Cmd x.1 access x.2) t.later t.others_later))
+            (All-weaker (IsOfOther port) (DoesNotWrite (Px port Cmd)) (λ access x. laws.spares x.0 port Cmd x.1 access x.2) t.later t.others_later))
             (calm_since laws port.0 old.device t.end new (laws.tape.grows_more old.device t.start t.end first.grows middle) last.grows (omega (arith, same, small)) plugs unfailed unbroken)
             (its (unnamed i) is_ready parts.1
             (λ g. unfailed (running_in_part (IsFaultOf port.0) port.0 old.device t.start t.end new first.grows last.grows same g))
@@ -316,11 +316,11 @@ module _ (laws : Laws) (port : Port) where
 -- ---- a plain request's fault
 
 module _ (laws : Laws) (port : Port) (old : JointState Device) (begun : AbstractState) (new : Device) (on : IsOn old.device) (undue : (old.device.port port.0).link_due ≡ false) (t : HasTurnIn port old.device new) (on_then : IsOn t.end)
-    (ready_then : begun.ports.state port ≡ Ready) (alone : HasFaultAlone port old new) where
+    (ready_then : begun.ports.state port ≡ Ready) (alone : HasOnlyTaskFileError port old new) where
   first_left : IsLeft laws port old.device t.start
   first_left = others_leave laws port t.before old.device t.start on t.first t.others
 
-  parts : PlugsNone port.0 old.device t.start × PlugsNone port.0 t.start t.end
+  parts : NoPlugEvents port.0 old.device t.start × NoPlugEvents port.0 t.start t.end
   parts = plug_parts laws port old begun new on t on_then alone.plugged
 
   -- no change of its link is shown when the turn begins, since none was
@@ -331,7 +331,7 @@ module _ (laws : Laws) (port : Port) (old : JointState Device) (begun : Abstract
       shown)
 
   -- where TFES alone is shown, with no other trouble in the call, so it is in its turn
-  pub alone_then : HasFaultAlone port (record { device = t.start; abstract = begun }) t.end
+  pub alone_then : HasOnlyTaskFileError port (record { device = t.start; abstract = begun }) t.end
   alone_then =
       let middle = grows_over laws port t.turn t.start t.end t.then in
       let last = grows_over laws port t.later t.end new t.last in

@@ -13,7 +13,7 @@ use Rattle.adapter.specs.Device.{Device, DevicePort}
 use Rattle.adapter.specs.Rules.{IsOn}
 use Rattle.adapter.specs.declared.tape.Entry.{Entry}
 use Rattle.refinement.specs.Relation.{port_at}
-use Rattle.refinement.specs.Links.{SparesRegister}
+use Rattle.refinement.specs.Links.{DoesNotWrite}
 use Rattle.port_control.specs.Engines.{Stops}
 use Rattle.driver_history.specs.Laws.{Laws}
 use Rattle.driver_history.specs.Trace.{ResetsLink}
@@ -37,7 +37,7 @@ parts_at (y ∷ xs) ys (b ∷ before) later x is =
 
 module _ (port : Port) where
   abbrev Spares : Access → Type 0
-  Spares access = SparesRegister (Px port Sctl) access
+  Spares access = DoesNotWrite (Px port Sctl) access
 
   -- no write of PxSCTL is among accesses that spare it
   spared : (xs before rest : List Access) (v : ℕ) → All Spares xs → xs ≡ before ++ Writing (Px port Sctl) v ∷ rest → ⊥
@@ -104,7 +104,7 @@ module _ (laws : Laws) (port : Port) where
   abbrev SetSince : ℕ → DevicePort → Type 0
   SetSince least p = (p.st ≡ false) ⊎ (least ≤ p.notes.st_set_at)
 
-  command_or_spares : (access : Access) → SparesRegister (Px port Cmd) access ⊎ ((v : ℕ) × (access ≡ Writing (Px port Cmd) v))
+  command_or_spares : (access : Access) → DoesNotWrite (Px port Cmd) access ⊎ ((v : ℕ) × (access ≡ Writing (Px port Cmd) v))
   command_or_spares (Writing (Px at Cmd) v) = ⊎_elim
       (λ (same : at.0 ≡ port.0). inr (v, ap (λ (n : ℕ). Writing (Px (port_at n) Cmd) v) same))
       (λ (apart : at.0 ≢ port.0). inl (λ q. let z : Px at Cmd ≡ Px port Cmd = q in let e : at ≡ port = cc in apart (ap (λ (p : Port). p.0) e)))
@@ -127,7 +127,7 @@ module _ (laws : Laws) (port : Port) where
 
   since_access : (least : ℕ) (access : Access) (old new : Device) → old.hr ≡ false → least ≤ length old.tape → Does access old new → SetSince least (old.port port.0) → SetSince least (new.port port.0)
   since_access least access old new on long does was = ⊎_elim
-      (λ (spares : SparesRegister (Px port Cmd) access).
+      (λ (spares : DoesNotWrite (Px port Cmd) access).
       let c = (laws.controls port access old new on does).command spares in
       ⊎_elim (λ off. inl (c.0 ∙ off)) (λ (since : least ≤ (old.port port.0).notes.st_set_at). inr (subst (λ (n : ℕ). least ≤ n) (sym c.2) since)) was)
       (λ (w : (v : ℕ) × (access ≡ Writing (Px port Cmd) v)). written w.0 (subst (λ (a : Access). Does a old new) w.1 does))
@@ -153,9 +153,9 @@ module _ (laws : Laws) (port : Port) where
           (λ (clear : bit v 0 ≡ false). inl ((laws.command port v old new x).0 ∙ clear))
           (cases_Bool (bit v 0))
 
-  on_more : (access : Access) (accesses : List Access) (old mid : Device) → IsOn old → All (SparesRegister Ghc) (access ∷ accesses) → Does access old mid → IsOn mid
+  on_more : (access : Access) (accesses : List Access) (old mid : Device) → IsOn old → All (DoesNotWrite Ghc) (access ∷ accesses) → Does access old mid → IsOn mid
   on_more access accesses old mid on spares does =
-      laws.on_all (access ∷ []) old mid on (All-cons (SparesRegister Ghc) access [] (All-head (SparesRegister Ghc) access accesses spares) (All-nil (SparesRegister Ghc))) (mid, does, refl)
+      laws.on_all (access ∷ []) old mid on (All-cons (DoesNotWrite Ghc) access [] (All-head (DoesNotWrite Ghc) access accesses spares) (All-nil (DoesNotWrite Ghc))) (mid, does, refl)
 
   longer : (least : ℕ) (access : Access) (old mid : Device) → least ≤ length old.tape → Does access old mid → least ≤ length mid.tape
   longer least access old mid long does =
@@ -163,57 +163,57 @@ module _ (laws : Laws) (port : Port) where
       let whole = ap (λ (tape : List Entry). length tape) grown.1 ∙ length-append old.tape grown.0 in
       omega (arith, long, whole)
 
-  since_all : (least : ℕ) (accesses : List Access) (old new : Device) → IsOn old → All (SparesRegister Ghc) accesses → least ≤ length old.tape → DoesAll accesses old new → SetSince least (old.port port.0) → SetSince least (new.port port.0)
+  since_all : (least : ℕ) (accesses : List Access) (old new : Device) → IsOn old → All (DoesNotWrite Ghc) accesses → least ≤ length old.tape → DoesAll accesses old new → SetSince least (old.port port.0) → SetSince least (new.port port.0)
   since_all least [] old new on spares long same was = subst (λ (d : Device). SetSince least (d.port port.0)) (sym same) was
   since_all least (access ∷ accesses) old new on spares long (mid, does, rest) was =
-      since_all least accesses mid new (on_more access accesses old mid on spares does) (All-tail (SparesRegister Ghc) access accesses spares) (longer least access old mid long does) rest
+      since_all least accesses mid new (on_more access accesses old mid on spares does) (All-tail (DoesNotWrite Ghc) access accesses spares) (longer least access old mid long does) rest
       (since_access least access old mid on.no_reset long does was)
 
   -- where a write cleared ST among the accesses, it is zero, or was set since they began
-  cleared_among : (least : ℕ) (before rest : List Access) (v : ℕ) (old new : Device) → IsOn old → All (SparesRegister Ghc) (before ++ Writing (Px port Cmd) v ∷ rest) → least ≤ length old.tape
+  cleared_among : (least : ℕ) (before rest : List Access) (v : ℕ) (old new : Device) → IsOn old → All (DoesNotWrite Ghc) (before ++ Writing (Px port Cmd) v ∷ rest) → least ≤ length old.tape
       → bit v 0 ≡ false → DoesAll (before ++ Writing (Px port Cmd) v ∷ rest) old new → SetSince least (new.port port.0)
   cleared_among least [] rest v old new on spares long clears (mid, does, more) =
-      since_all least rest mid new (on_more (Writing (Px port Cmd) v) rest old mid on spares does) (All-tail (SparesRegister Ghc) (Writing (Px port Cmd) v) rest spares) (longer least (Writing (Px port Cmd) v) old mid long does) more
+      since_all least rest mid new (on_more (Writing (Px port Cmd) v) rest old mid on spares does) (All-tail (DoesNotWrite Ghc) (Writing (Px port Cmd) v) rest spares) (longer least (Writing (Px port Cmd) v) old mid long does) more
       (inl ((laws.command port v old mid does).0 ∙ clears))
   cleared_among least (access ∷ before) rest v old new on spares long clears (mid, does, more) =
-      cleared_among least before rest v mid new (on_more access (before ++ Writing (Px port Cmd) v ∷ rest) old mid on spares does) (All-tail (SparesRegister Ghc) access (before ++ Writing (Px port Cmd) v ∷ rest) spares)
+      cleared_among least before rest v mid new (on_more access (before ++ Writing (Px port Cmd) v ∷ rest) old mid on spares does) (All-tail (DoesNotWrite Ghc) access (before ++ Writing (Px port Cmd) v ∷ rest) spares)
       (longer least access old mid long does) clears more
 
-  pub set_since : (accesses : List Access) (old new : Device) → IsOn old → All (SparesRegister Ghc) accesses → DoesAll accesses old new → Stops port accesses → (new.port port.0).st ≡ true
+  pub set_since : (accesses : List Access) (old new : Device) → IsOn old → All (DoesNotWrite Ghc) accesses → DoesAll accesses old new → Stops port accesses → (new.port port.0).st ≡ true
       → length old.tape ≤ (new.port port.0).notes.st_set_at
   set_since accesses old new on spares does stops runs =
       let rest : List Access = stops.between ++ (Reading (Px port Cmd) stops.fallen ∷ stops.later) in
       ⊎_elim
       (λ (off : (new.port port.0).st ≡ false). absurd (false≢true (sym off ∙ runs)))
       (λ (since : length old.tape ≤ (new.port port.0).notes.st_set_at). since)
-      (cleared_among (length old.tape) stops.before rest stops.cleared old new on (subst (All (SparesRegister Ghc)) stops.here spares) (omega arith) stops.clears
+      (cleared_among (length old.tape) stops.before rest stops.cleared old new on (subst (All (DoesNotWrite Ghc)) stops.here spares) (omega arith) stops.clears
       (subst (λ (list : List Access). DoesAll list old new) stops.here does))
 
   -- what was noted of a write of PxSCTL stays where no other comes
-  noted_all : (least : ℕ) (accesses : List Access) (old new : Device) → IsOn old → All (SparesRegister Ghc) accesses → All (SparesRegister (Px port Sctl)) accesses → DoesAll accesses old new
+  noted_all : (least : ℕ) (accesses : List Access) (old new : Device) → IsOn old → All (DoesNotWrite Ghc) accesses → All (DoesNotWrite (Px port Sctl)) accesses → DoesAll accesses old new
       → least ≤ (old.port port.0).notes.sctl_written_at → least ≤ (new.port port.0).notes.sctl_written_at
   noted_all least [] old new on host spares same was = subst (λ (d : Device). least ≤ (d.port port.0).notes.sctl_written_at) (sym same) was
   noted_all least (access ∷ accesses) old new on host spares (mid, does, rest) was =
-      let same = ((laws.controls port access old mid on.no_reset does).control (All-head (SparesRegister (Px port Sctl)) access accesses spares)).1 in
-      noted_all least accesses mid new (on_more access accesses old mid on host does) (All-tail (SparesRegister Ghc) access accesses host) (All-tail (SparesRegister (Px port Sctl)) access accesses spares) rest
+      let same = ((laws.controls port access old mid on.no_reset does).control (All-head (DoesNotWrite (Px port Sctl)) access accesses spares)).1 in
+      noted_all least accesses mid new (on_more access accesses old mid on host does) (All-tail (DoesNotWrite Ghc) access accesses host) (All-tail (DoesNotWrite (Px port Sctl)) access accesses spares) rest
       (omega (arith, was, same))
 
   -- where PxSCTL was written among the accesses, that was noted since they began
-  written_among : (least : ℕ) (before rest : List Access) (v : ℕ) (old new : Device) → IsOn old → All (SparesRegister Ghc) (before ++ Writing (Px port Sctl) v ∷ rest)
-      → All (SparesRegister (Px port Sctl)) rest → least ≤ length old.tape → DoesAll (before ++ Writing (Px port Sctl) v ∷ rest) old new → least ≤ (new.port port.0).notes.sctl_written_at
+  written_among : (least : ℕ) (before rest : List Access) (v : ℕ) (old new : Device) → IsOn old → All (DoesNotWrite Ghc) (before ++ Writing (Px port Sctl) v ∷ rest)
+      → All (DoesNotWrite (Px port Sctl)) rest → least ≤ length old.tape → DoesAll (before ++ Writing (Px port Sctl) v ∷ rest) old new → least ≤ (new.port port.0).notes.sctl_written_at
   written_among least [] rest v old new on host spares long (mid, does, more) =
       let set = (laws.control_set port v old mid does).1 in
       let later = longer least (Writing (Px port Sctl) v) old mid long does in
-      noted_all least rest mid new (on_more (Writing (Px port Sctl) v) rest old mid on host does) (All-tail (SparesRegister Ghc) (Writing (Px port Sctl) v) rest host) spares more (omega (arith, set, later))
+      noted_all least rest mid new (on_more (Writing (Px port Sctl) v) rest old mid on host does) (All-tail (DoesNotWrite Ghc) (Writing (Px port Sctl) v) rest host) spares more (omega (arith, set, later))
   written_among least (access ∷ before) rest v old new on host spares long (mid, does, more) =
-      written_among least before rest v mid new (on_more access (before ++ Writing (Px port Sctl) v ∷ rest) old mid on host does) (All-tail (SparesRegister Ghc) access (before ++ Writing (Px port Sctl) v ∷ rest) host)
+      written_among least before rest v mid new (on_more access (before ++ Writing (Px port Sctl) v ∷ rest) old mid on host does) (All-tail (DoesNotWrite Ghc) access (before ++ Writing (Px port Sctl) v ∷ rest) host)
       spares (longer least access old mid long does) more
 
-  pub reset_noted : (accesses : List Access) (old new : Device) → IsOn old → All (SparesRegister Ghc) accesses → DoesAll accesses old new → ResetsLink port accesses
+  pub reset_noted : (accesses : List Access) (old new : Device) → IsOn old → All (DoesNotWrite Ghc) accesses → DoesAll accesses old new → ResetsLink port accesses
       → length old.tape ≤ (new.port port.0).notes.sctl_written_at
   reset_noted accesses old new on host does resets =
       let first : List Access = resets.before ++ Writing (Px port Sctl) resets.sending ∷ resets.between in
       let here : accesses ≡ first ++ Writing (Px port Sctl) resets.ending ∷ resets.later =
       resets.here ∙ sym (append_assoc resets.before (Writing (Px port Sctl) resets.sending ∷ resets.between) (Writing (Px port Sctl) resets.ending ∷ resets.later)) in
-      written_among (length old.tape) first resets.later resets.ending old new on (subst (All (SparesRegister Ghc)) here host) resets.left (omega arith)
+      written_among (length old.tape) first resets.later resets.ending old new on (subst (All (DoesNotWrite Ghc)) here host) resets.left (omega arith)
       (subst (λ (list : List Access). DoesAll list old new) here does)

@@ -10,20 +10,20 @@ use Rattle.adapter.specs.Device.{Device}
 use Rattle.adapter.specs.Rules.{IsOn}
 use Rattle.adapter.specs.declared.access.DeviceStep.{DeviceStep}
 use Rattle.refinement.specs.Facts.{RunsWell}
-use Rattle.block_machine.specs.Events.{Ask, Reset, RevokeOf, Service, Tick, AnswersEnded, HasTimedOut, NoneKeepsIssue, WasIssued, abstract_after}
+use Rattle.block_machine.specs.Events.{AbstractCall, Reset, RevokeOf, Service, Tick, AnswersEnded, HasTimedOut, NoneKeepsIssue, WasIssued, abstract_after}
 use Rattle.block_machine.specs.Histories.{JointState, Happening}
-use Rattle.block_machine.specs.Ports.{IsInterrupted, SamePort}
+use Rattle.block_machine.specs.Ports.{IsStoppedOrStuck, SamePort}
 use Rattle.block_machine.specs.State.{Pending}
 use Rattle.block_machine.specs.Steps.{Answer, AllTouched, HasGrant}
 use Rattle.port_control.specs.Engines.{Stops}
 use Rattle.error_recovery.specs.Evidence.{ShowsFatal}
-use Rattle.driver_history.specs.Heeding.{AreTold, tells_fault}
+use Rattle.driver_history.specs.Heeding.{ToldOkOr, tells_fault}
 use Rattle.driver_history.specs.Evidence.{IsEndedReset, IsFaultTold, IsLost, StaysHealthy}
-use Rattle.driver_history.specs.Histories.{ExplainsAccesses, FindsIn, Issues, TellsPlainFaults}
+use Rattle.driver_history.specs.Histories.{ExplainsAccesses, FindsDoneInCall, IssuesAllDue, TellsPlainFaults}
 use Rattle.driver_history.specs.Trace.{LeavesEngine}
 
 -- what a call may tell where nothing goes wrong: Ok; or Revoked, where it revokes a grant
-abbrev pub IsFaultFreeOutcome : Ask DeviceStep → Outcome → Type 0
+abbrev pub IsFaultFreeOutcome : AbstractCall DeviceStep → Outcome → Type 0
 IsFaultFreeOutcome (RevokeOf client number) o = o ≡ outcome.Revoked
 IsFaultFreeOutcome ask o = o ≡ outcome.Ok
 
@@ -41,17 +41,17 @@ pub record IsSpared (old : JointState Device) (h : Happening Device DeviceStep) 
 -- that fault, and the port was stopped. Aborted: four issues, on a port that is ready. Unplugged: the port was lost.
 -- PortDead: its engine was awaited in vain, or the adapter isn't on. Revoked: the grant isn't there any more, and the
 -- request wasn't issued, or the port was stopped.
-abbrev pub AnswerRests : JointState Device → Happening Device DeviceStep → List Access → Pending → Outcome → Type 0
-AnswerRests old h accesses e outcome.Ok =
+abbrev pub AnswerJustified : JointState Device → Happening Device DeviceStep → List Access → Pending → Outcome → Type 0
+AnswerJustified old h accesses e outcome.Ok =
     WasIssued old.abstract.machine e.request.id × (e.issued ≡ true) × AllTouched e × (e.ended ≡ true)
-AnswerRests old h accesses e (outcome.DeviceError status error) =
+AnswerJustified old h accesses e (outcome.DeviceError status error) =
     IsFaultTold old h.device accesses (record { id = e.request.id; status = status; error = error })
     × Stops e.request.port accesses
-AnswerRests old h accesses e outcome.Aborted = (e.issues ≡ 4) × (h.event.ports.state e.request.port ≡ Ready)
-AnswerRests old h accesses e outcome.Unplugged = IsLost e.request.port old h.event.ports h.device
-AnswerRests old h accesses e outcome.PortDead = (h.event.ports.state e.request.port ≡ Dead)
+AnswerJustified old h accesses e outcome.Aborted = (e.issues ≡ 4) × (h.event.ports.state e.request.port ≡ Ready)
+AnswerJustified old h accesses e outcome.Unplugged = IsLost e.request.port old h.event.ports h.device
+AnswerJustified old h accesses e outcome.PortDead = (h.event.ports.state e.request.port ≡ Dead)
     × (((h.device.port e.request.port.0).notes.engine_count ≡ MOST_READINGS) ⊎ (IsOn h.device → ⊥))
-AnswerRests old h accesses e outcome.Revoked = (HasGrant (abstract_after old.abstract h.event).machine e → ⊥)
+AnswerJustified old h accesses e outcome.Revoked = (HasGrant (abstract_after old.abstract h.event).machine e → ⊥)
     × ((e.issued ≡ false) ⊎ (Stops e.request.port accesses ⊎ IsEndedReset h.event.ask h.event.said))
 
 -- ---- healthy calls
@@ -71,8 +71,8 @@ pub record GoesWellFor (old : JointState Device) (h : Happening Device DeviceSte
   pub came : ExplainsAccesses old.abstract h.event.ask h.event.said accesses old.device h.device
   pub spared : IsSpared old h accesses port
   pub well : RunsWell (h.device.port port.0)
-  pub finds : FindsIn h.event.ask accesses old h.event.steps port
-  pub issues : Issues h.event.ask h.event.steps (abstract_after old.abstract h.event).machine h.event.ports port
+  pub finds : FindsDoneInCall h.event.ask accesses old h.event.steps port
+  pub issues : IssuesAllDue h.event.ask h.event.steps (abstract_after old.abstract h.event).machine h.event.ports port
 
 -- ---- failures
 
@@ -83,7 +83,7 @@ pub record GoesWellFor (old : JointState Device) (h : Happening Device DeviceSte
 -- the port ends dead. So it isn't tried again.
 pub record HandlesShownFailure (port : Port) (old : JointState Device) (h : Happening Device DeviceStep) : Type 0 where
   pub ended : AnswersEnded old.abstract.machine h.event.steps port
-  pub stopped : IsInterrupted h.event.evidence port
+  pub stopped : IsStoppedOrStuck h.event.evidence port
   pub anew : NoneKeepsIssue h.event.steps (abstract_after old.abstract h.event).machine port
   pub single : count_by (tells_fault port) h.event.steps ≤ 1
   pub fatal : ShowsFatal (old.device.port port.0) → count_by (tells_fault port) h.event.steps ≡ 0
@@ -97,5 +97,5 @@ pub record HandlesShownFailure (port : Port) (old : JointState Device) (h : Happ
 pub record HandlesShownLoss (port : Port) (old : JointState Device) (h : Happening Device DeviceStep) : Type 0 where
   pub ended : AnswersEnded old.abstract.machine h.event.steps port
   pub emptied : (e : Pending) → Contains (abstract_after old.abstract h.event).machine.book e → e.request.port ≢ port
-  pub told : AreTold outcome.Unplugged h.event.steps port ⊎ AreTold outcome.PortDead h.event.steps port
-  pub stopped : IsInterrupted h.event.evidence port
+  pub told : ToldOkOr outcome.Unplugged h.event.steps port ⊎ ToldOkOr outcome.PortDead h.event.steps port
+  pub stopped : IsStoppedOrStuck h.event.evidence port

@@ -10,13 +10,13 @@ use Rattle.adapter.specs.Device.{DevicePort, Device}
 use Rattle.adapter.specs.declared.access.DeviceStep.{DeviceStep}
 use Rattle.adapter.specs.declared.tape.Entry.{Entry}
 use Rattle.adapter.specs.declared.tape.Fault as tape_fault
-use Rattle.refinement.specs.Errors.{IsFatalOf, NoneComes}
+use Rattle.refinement.specs.Errors.{IsFatalOf, NoDiskComes}
 use Rattle.refinement.specs.Facts.{IsFaultOf, RunsWell, Undisturbed}
-use Rattle.refinement.specs.Links.{IsPlugging}
+use Rattle.refinement.specs.Links.{IsPlugEvent}
 use Rattle.refinement.specs.Slots.{ServesRequest}
-use Rattle.block_machine.specs.Events.{Ask, Reset, CallResult, WasReset}
+use Rattle.block_machine.specs.Events.{AbstractCall, Reset, CallResult, WasReset}
 use Rattle.block_machine.specs.Histories.{JointState}
-use Rattle.block_machine.specs.Ports.{Ports, SameDisk, RequestFault, Evidence, IsInterrupted}
+use Rattle.block_machine.specs.Ports.{Ports, SameDisk, RequestFault, Evidence, IsStoppedOrStuck}
 use Rattle.block_machine.specs.State.{Pending}
 use Rattle.port_control.specs.Engines.{Stops, Sticks}
 use Rattle.identify.specs.Log.{TellsError}
@@ -89,19 +89,19 @@ abbrev pub IsLost : Port → JointState Device → Ports → Device → Type 0
 IsLost port old ports new =
     ShowsChange (old.device.port port.0)
     ⊎ (((old.device.port port.0).ssts_det ≢ 3)
-    ⊎ (Gains (IsPlugging port.0) old.device new
+    ⊎ (Gains (IsPlugEvent port.0) old.device new
     ⊎ ((ports.state port ≢ Dead) × (ports.state port ≡ Ready → SameDisk old.abstract.ports ports port → ⊥))))
 
 -- It showed a change when the call began; or no device, and no disk came in the call.
 abbrev pub ShowsLoss : Port → Device → Device → Type 0
-ShowsLoss port old new = ShowsChange (old.port port.0) ⊎ (((old.port port.0).ssts_det ≢ 3) × NoneComes port.0 old new)
+ShowsLoss port old new = ShowsChange (old.port port.0) ⊎ (((old.port port.0).ssts_det ≢ 3) × NoDiskComes port.0 old new)
 
 -- It was ready, and showed that when the call began, or a disk went or came in it.
 abbrev pub IsGone : Port → JointState Device → Device → Type 0
 IsGone port old new = (old.abstract.ports.state port ≡ Ready)
     × (ShowsChange (old.device.port port.0)
     ⊎ (((old.device.port port.0).ssts_det ≢ 3)
-    ⊎ Gains (IsPlugging port.0) old.device new))
+    ⊎ Gains (IsPlugEvent port.0) old.device new))
 
 -- It was ready, and showed an error when the call began, or had one in it.
 abbrev pub HasErrors : Port → JointState Device → Device → Type 0
@@ -117,12 +117,12 @@ HasFatalErrors port old new = (old.abstract.ports.state port ≡ Ready)
 -- ---- resets
 
 -- the call is a reset that ended
-abbrev pub IsEndedReset : Ask DeviceStep → CallResult → Type 0
+abbrev pub IsEndedReset : AbstractCall DeviceStep → CallResult → Type 0
 IsEndedReset Reset (WasReset (Some replies)) = Unit {0}
 IsEndedReset ask said = ⊥
 
 -- the call is a reset that the adapter didn't end
-abbrev pub IsStuckReset : Ask DeviceStep → CallResult → Type 0
+abbrev pub IsStuckReset : AbstractCall DeviceStep → CallResult → Type 0
 IsStuckReset Reset (WasReset None) = Unit {0}
 IsStuckReset ask said = ⊥
 
@@ -132,7 +132,8 @@ IsStuckReset ask said = ⊥
 -- named where it showed that when the call began, and only where it showed it then or had it in the call (what comes
 -- after the driver's look is nobody's to heed in that call). `stopped`: it is named only where it was stopped; and
 -- where PxCMD or PxSCTL was written at all, it is stopped or stuck.
-pub record IsEvidencedOf (ask : Ask DeviceStep) (said : CallResult) (accesses : List Access) (old : JointState Device)
+pub record IsEvidencedOf (ask : AbstractCall DeviceStep) (said : CallResult) (accesses : List Access)
+    (old : JointState Device)
     (ports : Ports) (new : Device)
     (evidence : Evidence) (port : Port) : Type 0 where
   pub lost : Contains evidence.lost port → IsLost port old ports new
@@ -144,7 +145,7 @@ pub record IsEvidencedOf (ask : Ask DeviceStep) (said : CallResult) (accesses : 
   pub fatal_all : old.abstract.ports.state port ≡ Ready → ShowsFatal (old.device.port port.0)
       → Contains evidence.fatal port
   pub fatal_only : Contains evidence.fatal port → HasFatalErrors port old new
-  pub stopped_all : All (LeavesEngine port) accesses ⊎ IsInterrupted evidence port
+  pub stopped_all : All (LeavesEngine port) accesses ⊎ IsStoppedOrStuck evidence port
   pub stopped_only : Contains evidence.stopped port → Stops port accesses
       ⊎ (IsEndedReset ask said × (old.abstract.ports.served port ≡ true))
   pub stuck_only : Contains evidence.stuck port
@@ -152,7 +153,8 @@ pub record IsEvidencedOf (ask : Ask DeviceStep) (said : CallResult) (accesses : 
       ⊎ (IsStuckReset ask said × (old.abstract.ports.served port ≡ true))
 
 -- Each fault that is named was told by the device, and so it is with each port.
-pub record IsEvidenced (ask : Ask DeviceStep) (said : CallResult) (accesses : List Access) (old : JointState Device)
+pub record IsEvidenced (ask : AbstractCall DeviceStep) (said : CallResult) (accesses : List Access)
+    (old : JointState Device)
     (ports : Ports) (new : Device)
     (evidence : Evidence) : Type 0 where
   pub faults : (told : RequestFault) → Contains evidence.faults told → IsFaultTold old new accesses told

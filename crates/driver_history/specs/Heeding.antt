@@ -5,8 +5,8 @@ use Rattle.ata_types.specs.declared.Port.{Port}
 use Rattle.ata_types.specs.declared.PortState.TheVariants.{Ready}
 use Rattle.ata_types.specs.declared.request.Outcome.{Outcome}
 use Rattle.ata_types.specs.declared.request.Outcome.TheVariants as outcome
-use Rattle.block_machine.specs.Events.{Ask, Service, Tick, Reset, AbstractState, AnswersEnded, HadDisk, NoneKeepsIssue, changes_disk}
-use Rattle.block_machine.specs.Ports.{Ports, SamePort, Evidence, IsInterrupted}
+use Rattle.block_machine.specs.Events.{AbstractCall, Service, Tick, Reset, AbstractState, AnswersEnded, ShowsRealDisk, NoneKeepsIssue, changes_disk}
+use Rattle.block_machine.specs.Ports.{Ports, SamePort, Evidence, IsStoppedOrStuck}
 use Rattle.block_machine.specs.State.{Pending}
 use Rattle.block_machine.specs.Steps.{Step, Again, Answer}
 
@@ -24,13 +24,13 @@ OnlyFailedPortsRequeue evidence (Answer e (outcome.DeviceError status error) ∷
 OnlyFailedPortsRequeue evidence (step ∷ before) = OnlyFailedPortsRequeue evidence before
 
 -- so they are in a service
-abbrev pub OnlyFailedPortsRequeueIn : {D : Type 0} → Ask D → Evidence → List Step → Type 0
+abbrev pub OnlyFailedPortsRequeueIn : {D : Type 0} → AbstractCall D → Evidence → List Step → Type 0
 OnlyFailedPortsRequeueIn Service evidence steps = OnlyFailedPortsRequeue evidence steps
 OnlyFailedPortsRequeueIn ask evidence steps = Unit {0}
 
 -- each answer to a request of the port is Ok, or this one
-abbrev pub AreTold : Outcome → List Step → Port → Type 0
-AreTold told steps port = (e : Pending) (o : Outcome) → Contains steps (Answer e o) → e.request.port ≡ port
+abbrev pub ToldOkOr : Outcome → List Step → Port → Type 0
+ToldOkOr told steps port = (e : Pending) (o : Outcome) → Contains steps (Answer e o) → e.request.port ≡ port
     → (o ≡ outcome.Ok) ⊎ (o ≡ told)
 
 -- the port failed, or its link had told of a change when the call began, or a disk goes or comes in it
@@ -47,8 +47,8 @@ tells_fault port _ = false
 pub record IsLeftAlone (old : Ports) (evidence : Evidence) (steps : List Step) (new : Ports)
     (port : Port) : Type 0 where
   pub same : SamePort old new port
-  pub told : AreTold outcome.Ok steps port
-  pub uninterrupted : IsInterrupted evidence port → ⊥
+  pub told : ToldOkOr outcome.Ok steps port
+  pub uninterrupted : IsStoppedOrStuck evidence port → ⊥
 
 -- What a service owes a port that was ready when it began. What had ended is answered Ok. Where the port's link had
 -- told of a change, all its requests are answered, and those that aren't Ok are all told Unplugged, or all PortDead.
@@ -60,18 +60,19 @@ pub record ServesReady (old : AbstractState) (evidence : Evidence) (steps : List
     (port : Port) : Type 0 where
   pub ended : AnswersEnded old.machine steps port
   pub emptied : Contains evidence.gone port → (e : Pending) → Contains new.machine.book e → e.request.port ≢ port
-  pub told : Contains evidence.gone port → AreTold outcome.Unplugged steps port ⊎ AreTold outcome.PortDead steps port
-  pub interrupts : Contains evidence.failed port ⊎ Contains evidence.gone port → IsInterrupted evidence port
+  pub told : Contains evidence.gone port → ToldOkOr outcome.Unplugged steps port ⊎ ToldOkOr outcome.PortDead steps port
+  pub interrupts : Contains evidence.failed port ⊎ Contains evidence.gone port → IsStoppedOrStuck evidence port
   pub anew : Contains evidence.failed port ⊎ Contains evidence.stopped port → NoneKeepsIssue steps new.machine port
   pub single : count_by (tells_fault port) steps ≤ 1
   pub fatal : Contains evidence.fatal port → Contains evidence.failed port × (count_by (tells_fault port) steps ≡ 0)
-  pub disk : HadDisk old steps new port
+  pub disk : ShowsRealDisk old steps new port
   pub calm : IsDisturbed evidence steps port ⊎ IsLeftAlone old.ports evidence steps new.ports port
 
 -- A call heeds what it finds of a port: a service serves one that was ready when it began. A tick and a reset are bound
 -- by what they answer; and no other call stops a port, or gets one stuck.
-abbrev pub HeedsAt : {D : Type 0} → Port → Ask D → AbstractState → Evidence → List Step → AbstractState → Type 0
+abbrev pub HeedsAt : {D : Type 0} → Port → AbstractCall D → AbstractState → Evidence → List Step → AbstractState
+    → Type 0
 HeedsAt port Service old evidence steps new = old.ports.state port ≡ Ready → ServesReady old evidence steps new port
 HeedsAt port Tick old evidence steps new = Unit {0}
 HeedsAt port Reset old evidence steps new = Unit {0}
-HeedsAt port ask old evidence steps new = IsInterrupted evidence port → ⊥
+HeedsAt port ask old evidence steps new = IsStoppedOrStuck evidence port → ⊥

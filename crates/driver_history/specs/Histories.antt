@@ -17,15 +17,15 @@ use Rattle.adapter.specs.Device.{DevicePort, Device}
 use Rattle.adapter.specs.Rules.{IsOn}
 use Rattle.adapter.specs.declared.access.DeviceStep.{DeviceStep}
 use Rattle.refinement.specs.Driver.{IsBacked}
-use Rattle.refinement.specs.Errors.{IsFatalOf, NoneComes, NoneFatal}
+use Rattle.refinement.specs.Errors.{IsFatalOf, NoDiskComes, NoneFatal}
 use Rattle.refinement.specs.Facts.{RunsWell, IsFaultOf}
-use Rattle.refinement.specs.Links.{IsPlugging, PlugsNone}
+use Rattle.refinement.specs.Links.{IsPlugEvent, NoPlugEvents}
 use Rattle.refinement.specs.Slots.{ServesRequest}
-use Rattle.block_machine.specs.Events.{Ask, Submit, StoreAt, LoadAt, Service, Tick, Reset, RevokeOf, Device as Told, CallResult, Submitted, Stored, Loaded, Served, WasReset, WasRevoked, Stepped, AbstractState, HasTimedOut, IsIssuedIn, issues_it, abstract_after}
+use Rattle.block_machine.specs.Events.{AbstractCall, Submit, StoreAt, LoadAt, Service, Tick, Reset, RevokeOf, Device as Told, CallResult, Submitted, Stored, Loaded, Served, WasReset, WasRevoked, Stepped, AbstractState, HasTimedOut, IsIssuedIn, issues_it, abstract_after}
 use Rattle.block_machine.specs.Due.{IsDue}
 use Rattle.block_machine.specs.Histories.{JointState, Happening}
 use Rattle.block_machine.specs.Histories as histories
-use Rattle.block_machine.specs.Ports.{Ports, SamePort, Evidence, IsInterrupted}
+use Rattle.block_machine.specs.Ports.{Ports, SamePort, Evidence, IsStoppedOrStuck}
 use Rattle.block_machine.specs.Rules.{HasRow, IsNamed}
 use Rattle.block_machine.specs.State.{Pending, Machine, unanswered}
 use Rattle.block_machine.specs.Steps.{Step, Answer}
@@ -33,11 +33,11 @@ use Rattle.block_machine.specs.declared.due.QueueMode.{QueueMode}
 use Rattle.block_machine.specs.declared.due.Unanswered.{Unanswered}
 use Rattle.identify.specs.declared.wanted.Wanted.{Wanted}
 use Rattle.host_boot.specs.Resets.{AwaitsReset, BeginsReset}
-use Rattle.error_recovery.specs.Evidence.{GainsRunning, ShowsFatal}
+use Rattle.error_recovery.specs.Evidence.{GainsSinceStart, ShowsFatal}
 use Rattle.driver_history.specs.Evidence.{Gains, ShowsChange, ShowsFailure, ShowsLoss, IsEvidenced}
 use Rattle.driver_history.specs.Heeding.{HeedsAt, OnlyFailedPortsRequeueIn}
-use Rattle.driver_history.specs.Holds.{HoldsAt}
-use Rattle.driver_history.specs.Trace.{ReadsMasks, ResetsLink, IsServing, IsDriversOwn, IsOfPorts}
+use Rattle.driver_history.specs.Holds.{DriverInvariant}
+use Rattle.driver_history.specs.Trace.{ReadsCiAndSact, ResetsLink, IsAccessForPorts, IsDriversOwn, IsOfPorts}
 
 -- ---- how a call came from the one device to the other
 
@@ -45,10 +45,10 @@ use Rattle.driver_history.specs.Trace.{ReadsMasks, ResetsLink, IsServing, IsDriv
 -- writes of PxSACT and PxCI. (That these are the right bytes and bits is said by what holds after the call. In which
 -- slot a request goes, and that PxSACT is written first, no history tells: the server's own contract does, and the
 -- adapter's rules ask for that order.)
-abbrev pub IssuesOn : Port → Access → Type 0
-IssuesOn port (Writing r v) = (r ≡ Px port Sact) ⊎ (r ≡ Px port Ci)
-IssuesOn port (Storing at bytes) = at + length bytes ≤ DRIVER_BYTES
-IssuesOn port access = ⊥
+abbrev pub IsIssuingAccess : Port → Access → Type 0
+IsIssuingAccess port (Writing r v) = (r ≡ Px port Sact) ⊎ (r ≡ Px port Ci)
+IsIssuingAccess port (Storing at bytes) = at + length bytes ≤ DRIVER_BYTES
+IsIssuingAccess port access = ⊥
 
 -- the server serves the port
 abbrev pub IsPortServed : Ports → Port → Type 0
@@ -59,8 +59,8 @@ abbrev pub IsPortAlive : Ports → Port → Type 0
 IsPortAlive ports port = IsPortServed ports port × (ports.state port ≢ Dead)
 
 -- The adapter is on, and tells of its causes (AHCI 1.3.1, 3.1.2: AE and IE).
-abbrev pub IsOnAndTells : Device → Type 0
-IsOnAndTells d = IsOn d × (d.ie ≡ true)
+abbrev pub HasAeAndIe : Device → Type 0
+HasAeAndIe d = IsOn d × (d.ie ≡ true)
 
 -- What was done in a call. A device step is the device's own, with no access. A client's bytes are stored, or loaded,
 -- by one access. For a request that is accepted requests of its port are issued, if any; so they are for a grant that
@@ -69,49 +69,52 @@ IsOnAndTells d = IsOn d × (d.ie ≡ true)
 -- alone, a service of those that aren't dead, and a tick of those that are hung. Neither a service nor a tick writes
 -- GHC. A reset that ends leaves the adapter on; of one that doesn't, no more is seen than that (how often HR was read
 -- is the server's own contract). Each other call makes none, a refused one among them.
-abbrev pub ExplainsAccesses : AbstractState → Ask DeviceStep → CallResult → List Access → Device → Device → Type 0
+abbrev pub ExplainsAccesses : AbstractState → AbstractCall DeviceStep → CallResult → List Access → Device → Device
+    → Type 0
 ExplainsAccesses now (Told step) (Stepped true) accesses old new = (accesses ≡ []) × Asked step old new
 ExplainsAccesses now (Submit r) (Submitted (Ok id)) accesses old new =
-    DoesAll accesses old new × ((row : GrantRow) × IsNamed now.machine.rows r row × All (IssuesOn row.port) accesses)
+    DoesAll accesses old new × ((row : GrantRow) × IsNamed now.machine.rows r row
+    × All (IsIssuingAccess row.port) accesses)
 ExplainsAccesses now (RevokeOf client number) (WasRevoked (Some replies)) accesses old new = DoesAll accesses old new
-    × ((has : HasRow client number now.machine.rows) × All (IssuesOn has.0.port) accesses
+    × ((has : HasRow client number now.machine.rows) × All (IsIssuingAccess has.0.port) accesses
     × (now.ports.state has.0.port ≢ Ready → accesses ≡ []))
 ExplainsAccesses now (StoreAt client frame offset bytes) (Stored None) accesses old new =
     DoesAll accesses old new × (accesses ≡ Storing (FRAME_BYTES * frame.0 + offset) bytes ∷ [])
 ExplainsAccesses now (LoadAt client frame offset count) (Loaded (Ok bytes)) accesses old new =
     DoesAll accesses old new × (accesses ≡ Loading (FRAME_BYTES * frame.0 + offset) bytes ∷ [])
 ExplainsAccesses now Service (Served replies) accesses old new = DoesAll accesses old new
-    × All (IsServing (IsPortAlive now.ports)) accesses
+    × All (IsAccessForPorts (IsPortAlive now.ports)) accesses
 ExplainsAccesses now Tick (Served replies) accesses old new = DoesAll accesses old new
-    × All (IsServing (HasTimedOut now)) accesses
+    × All (IsAccessForPorts (HasTimedOut now)) accesses
 ExplainsAccesses now Reset (WasReset (Some replies)) accesses old new =
     DoesAll accesses old new × All IsDriversOwn accesses × All (IsOfPorts (IsPortServed now.ports)) accesses
     × BeginsReset accesses
-    × IsOnAndTells new
+    × HasAeAndIe new
 ExplainsAccesses now Reset (WasReset None) accesses old new = DoesAll accesses old new × AwaitsReset accesses
 ExplainsAccesses now ask said accesses old new = (accesses ≡ []) × (new ≡ old)
 
 -- ---- what is issued
 
 -- the book, were none of the requests issued that these steps issue
-abbrev pub unissued : List Step → List Unanswered → List Unanswered
-unissued steps book = map (λ (r : Unanswered). if list_any (issues_it r.id) steps then record r { issued = false }
+abbrev pub with_issue_undone : List Step → List Unanswered → List Unanswered
+with_issue_undone steps book = map (λ (r : Unanswered). if list_any
+    (issues_it r.id) steps then record r { issued = false }
     else r) book
 
 -- Of the unanswered requests of a port the steps issue exactly those that are due once all else is done.
 abbrev pub IssuesDue : QueueMode → List Step → Machine → Port → Type 0
-IssuesDue mode steps later port = (r : Unanswered) → Contains (unissued steps (map unanswered later.book)) r
-    → r.port ≡ port → IsIssuedIn r.id steps ↔ IsDue mode (unissued steps (map unanswered later.book)) r
+IssuesDue mode steps later port = (r : Unanswered) → Contains (with_issue_undone steps (map unanswered later.book)) r
+    → r.port ≡ port → IsIssuedIn r.id steps ↔ IsDue mode (with_issue_undone steps (map unanswered later.book)) r
 
 -- So a submit, a service, a tick, a reset and a revocation do on each port that is ready at their end.
-abbrev pub Issues : Ask DeviceStep → List Step → Machine → Ports → Port → Type 0
-Issues (Submit r) steps later ports port = ports.state port ≡ Ready → IssuesDue (ports.mode port) steps later port
-Issues Service steps later ports port = ports.state port ≡ Ready → IssuesDue (ports.mode port) steps later port
-Issues Tick steps later ports port = ports.state port ≡ Ready → IssuesDue (ports.mode port) steps later port
-Issues Reset steps later ports port = ports.state port ≡ Ready → IssuesDue (ports.mode port) steps later port
-Issues (RevokeOf client number) steps later ports port = ports.state port ≡ Ready
+abbrev pub IssuesAllDue : AbstractCall DeviceStep → List Step → Machine → Ports → Port → Type 0
+IssuesAllDue (Submit r) steps later ports port = ports.state port ≡ Ready → IssuesDue (ports.mode port) steps later port
+IssuesAllDue Service steps later ports port = ports.state port ≡ Ready → IssuesDue (ports.mode port) steps later port
+IssuesAllDue Tick steps later ports port = ports.state port ≡ Ready → IssuesDue (ports.mode port) steps later port
+IssuesAllDue Reset steps later ports port = ports.state port ≡ Ready → IssuesDue (ports.mode port) steps later port
+IssuesAllDue (RevokeOf client number) steps later ports port = ports.state port ≡ Ready
     → IssuesDue (ports.mode port) steps later port
-Issues ask steps later ports port = Unit {0}
+IssuesAllDue ask steps later ports port = Unit {0}
 
 -- ---- what is found done
 
@@ -130,34 +133,34 @@ pub record IsIssuedOn (port : Port) (m : Machine) (e : Pending) : Type 0 where
 pub record FindsDone (port : Port) (accesses : List Access) (old : JointState Device) (steps : List Step) : Type 0 where
   pub ci : ℕ
   pub sact : ℕ
-  pub reads : ReadsMasks port ci sact accesses
+  pub reads : ReadsCiAndSact port ci sact accesses
   pub exact : (e : Pending) (slot : ℕ) → IsIssuedOn port old.abstract.machine e
       → ServesRequest old.abstract.machine old.device.memory (old.device.port port.0) port.0 slot e.request.id
       → IsAnsweredOk e steps ↔ ((bit ci slot ≡ false) × (bit sact slot ≡ false))
 
 -- A service finds what is done on each port that was ready and has something issued; a tick does on each that is hung.
-abbrev pub FindsIn : Ask DeviceStep → List Access → JointState Device → List Step → Port → Type 0
-FindsIn Service accesses old steps port =
+abbrev pub FindsDoneInCall : AbstractCall DeviceStep → List Access → JointState Device → List Step → Port → Type 0
+FindsDoneInCall Service accesses old steps port =
     old.abstract.ports.state port ≡ Ready → (e : Pending) → IsIssuedOn port old.abstract.machine e
     → FindsDone port accesses old steps
-FindsIn Tick accesses old steps port = HasTimedOut old.abstract port → FindsDone port accesses old steps
-FindsIn ask accesses old steps port = Unit {0}
+FindsDoneInCall Tick accesses old steps port = HasTimedOut old.abstract port → FindsDone port accesses old steps
+FindsDoneInCall ask accesses old steps port = Unit {0}
 
 -- ---- a plain request's fault
 
 -- The port shows TFES, and no other trouble: no change of its link, no fatal error, and a device.
-pub record ShowsFaultAlone (p : DevicePort) : Type 0 where
+pub record ShowsOnlyTaskFileError (p : DevicePort) : Type 0 where
   pub fault : p.is 30 ≡ true
   pub fatal : ShowsFatal p → ⊥
   pub change : ShowsChange p → ⊥
   pub device : p.ssts_det ≡ 3
 
 -- so it was of a ready port when the call began, and no fatal error came in it, nor a disk, nor went one
-pub record HasFaultAlone (port : Port) (old : JointState Device) (new : Device) : Type 0 where
+pub record HasOnlyTaskFileError (port : Port) (old : JointState Device) (new : Device) : Type 0 where
   pub ready : old.abstract.ports.state port ≡ Ready
-  pub shows : ShowsFaultAlone (old.device.port port.0)
+  pub shows : ShowsOnlyTaskFileError (old.device.port port.0)
   pub fatal : NoneFatal port.0 old.device new
-  pub plugged : PlugsNone port.0 old.device new
+  pub plugged : NoPlugEvents port.0 old.device new
 
 -- the request is answered with a fault
 abbrev pub IsAnsweredFaulty : Pending → List Step → Type 0
@@ -165,8 +168,8 @@ IsAnsweredFaulty e steps = (done : Pending) × (status : ℕ) × (error : ℕ)
     × (done.request ≡ e.request) × Contains steps (Answer done (outcome.DeviceError status error))
 
 -- Then a plain request that is outstanding is answered with its fault, unless the port ends dead: it isn't tried again.
-abbrev pub TellsPlainFaults : Ask DeviceStep → JointState Device → Ports → Device → List Step → Port → Type 0
-TellsPlainFaults Service old ports new steps port = HasFaultAlone port old new
+abbrev pub TellsPlainFaults : AbstractCall DeviceStep → JointState Device → Ports → Device → List Step → Port → Type 0
+TellsPlainFaults Service old ports new steps port = HasOnlyTaskFileError port old new
     → (e : Pending) (slot : ℕ) → IsIssuedOn port old.abstract.machine e → e.ended ≡ false
     → (s : ServesRequest old.abstract.machine old.device.memory (old.device.port port.0) port.0 slot e.request.id)
     → is_queued s.command.operation ≡ false → IsAnsweredFaulty e steps ⊎ (ports.state port ≡ Dead)
@@ -175,12 +178,12 @@ TellsPlainFaults ask old ports new steps port = Unit {0}
 -- ---- disks that are there are probed
 
 -- its first FIS has come, or no device shows
-abbrev pub IsFreshOrUnshown : DevicePort → Type 0
-IsFreshOrUnshown p = (p.fresh ≡ true) ⊎ (p.ssts_det ≢ 3)
+abbrev pub HasSignatureOrNoDevice : DevicePort → Type 0
+HasSignatureOrNoDevice p = (p.fresh ≡ true) ⊎ (p.ssts_det ≢ 3)
 
 -- a service finds the port unfit or foreign
-abbrev pub IsUnfitOrForeign : Ports → Port → Type 0
-IsUnfitOrForeign ports port = (ports.state port ≡ Foreign) ⊎ ((cause : ℕ) × (ports.state port ≡ Unfit cause))
+abbrev pub HasUnservedDisk : Ports → Port → Type 0
+HasUnservedDisk ports port = (ports.state port ≡ Foreign) ⊎ ((cause : ℕ) × (ports.state port ≡ Unfit cause))
 
 -- A service in which no disk of a served port comes boots what is there, unless the port ends dead: an absent port that
 -- shows a device, unless a disk of it goes in the call; and an unfit or foreign one with X set, unless it ends absent.
@@ -189,26 +192,27 @@ IsUnfitOrForeign ports port = (ports.state port ≡ Foreign) ⊎ ((cause : ℕ) 
 pub record ProbesDisk (accesses : List Access) (old : JointState Device) (ports : Ports) (new : Device)
     (port : Port) : Type 0 where
   pub shown : old.abstract.ports.state port ≡ Absent → (old.device.port port.0).ssts_det ≡ 3
-      → (ports.state port ≡ Dead) ⊎ (ResetsLink port accesses ⊎ Gains (IsPlugging port.0) old.device new)
+      → (ports.state port ≡ Dead) ⊎ (ResetsLink port accesses ⊎ Gains (IsPlugEvent port.0) old.device new)
   pub absent : old.abstract.ports.state port ≡ Absent → (old.device.port port.0).ssts_det ≡ 3
-      → (old.device.port port.0).fresh ≡ false → (ports.state port ≡ Dead) ⊎ IsFreshOrUnshown (new.port port.0)
-  pub missing : IsUnfitOrForeign old.abstract.ports port → (old.device.port port.0).ssts_det ≢ 3
+      → (old.device.port port.0).fresh ≡ false → (ports.state port ≡ Dead) ⊎ HasSignatureOrNoDevice (new.port port.0)
+  pub missing : HasUnservedDisk old.abstract.ports port → (old.device.port port.0).ssts_det ≢ 3
       → (ports.state port ≡ Absent) ⊎ (ports.state port ≡ Dead)
-  pub changed : IsUnfitOrForeign old.abstract.ports port → (old.device.port port.0).serr_x ≡ true
+  pub changed : HasUnservedDisk old.abstract.ports port → (old.device.port port.0).serr_x ≡ true
       → (ports.state port ≡ Absent) ⊎ ((ports.state port ≡ Dead)
-      ⊎ (ResetsLink port accesses × ((new.port port.0).serr_x ≡ false) × IsFreshOrUnshown (new.port port.0)))
+      ⊎ (ResetsLink port accesses × ((new.port port.0).serr_x ≡ false) × HasSignatureOrNoDevice (new.port port.0)))
 
-abbrev pub Probes : Ask DeviceStep → List Access → JointState Device → Ports → Device → Port → Type 0
-Probes Service accesses old ports new port =
-    old.abstract.ports.served port ≡ true → NoneComes port.0 old.device new → ProbesDisk accesses old ports new port
-Probes ask accesses old ports new port = Unit {0}
+abbrev pub ProbesInCall : AbstractCall DeviceStep → List Access → JointState Device → Ports → Device → Port → Type 0
+ProbesInCall Service accesses old ports new port =
+    old.abstract.ports.served port ≡ true → NoDiskComes port.0 old.device new → ProbesDisk accesses old ports new port
+ProbesInCall ask accesses old ports new port = Unit {0}
 
 -- ---- boots are made anew
 
 -- A reset that ends boots each served port, unless that gets stuck; so does a tick with each that is hung; and a
 -- service with each ready one that showed a fatal error when the call began or has lost its disk, and with each that it
 -- shows anew, but as absent or dead.
-abbrev pub BootsAnew : Ask DeviceStep → CallResult → List Access → JointState Device → Ports → Device → Port → Type 0
+abbrev pub BootsAnew : AbstractCall DeviceStep → CallResult → List Access → JointState Device → Ports → Device → Port
+    → Type 0
 BootsAnew Reset (WasReset (Some replies)) accesses old ports new port =
     old.abstract.ports.served port ≡ true → (ports.state port ≡ Dead) ⊎ ResetsLink port accesses
 BootsAnew Tick said accesses old ports new port =
@@ -231,15 +235,15 @@ pub record LosesNoPortError (evidence : Evidence) (old : JointState Device) (por
   pub errors : old.abstract.ports.state port ≡ Ready
       → ShowsFailure (old.device.port port.0)
       ⊎ (Gains (IsFaultOf port.0) old.device new ⊎ Gains (IsFatalOf port.0) old.device new)
-      → IsInterrupted evidence port ⊎ ShowsFailure (new.port port.0)
+      → IsStoppedOrStuck evidence port ⊎ ShowsFailure (new.port port.0)
   pub changes : IsPortAlive old.abstract.ports port → ShowsChange (old.device.port port.0)
-      ⊎ Gains (IsPlugging port.0) old.device new
-      → IsInterrupted evidence port ⊎ ShowsChange (new.port port.0)
-  pub fault : ports.state port ≡ Ready → GainsRunning (IsFaultOf port.0) port.0 old.device new
+      ⊎ Gains (IsPlugEvent port.0) old.device new
+      → IsStoppedOrStuck evidence port ⊎ ShowsChange (new.port port.0)
+  pub fault : ports.state port ≡ Ready → GainsSinceStart (IsFaultOf port.0) port.0 old.device new
       → (new.port port.0).is 30 ≡ true
-  pub fatal : ports.state port ≡ Ready → GainsRunning (IsFatalOf port.0) port.0 old.device new
+  pub fatal : ports.state port ≡ Ready → GainsSinceStart (IsFatalOf port.0) port.0 old.device new
       → ShowsFatal (new.port port.0)
-  pub disk : ports.state port ≡ Ready → GainsRunning (IsPlugging port.0) port.0 old.device new
+  pub disk : ports.state port ≡ Ready → GainsSinceStart (IsPlugEvent port.0) port.0 old.device new
       → (new.port port.0).serr_n ≡ true
 
 -- Where a port was stopped and is ready after the call, its boot or its recovery has taken the trouble away, what came
@@ -247,9 +251,9 @@ pub record LosesNoPortError (evidence : Evidence) (old : JointState Device) (por
 -- last set; and if its link was reset, as a boot does, or its disk's first FIS had come when the call began.
 abbrev pub RunsWellAnew : Evidence → List Access → JointState Device → Ports → Device → Port → Type 0
 RunsWellAnew evidence accesses old ports new port =
-    IsInterrupted evidence port → ports.state port ≡ Ready → PlugsNone port.0 old.device new
-    → (GainsRunning (IsFaultOf port.0) port.0 old.device new → ⊥)
-    → (GainsRunning (IsFatalOf port.0) port.0 old.device new → ⊥) → ResetsLink port accesses
+    IsStoppedOrStuck evidence port → ports.state port ≡ Ready → NoPlugEvents port.0 old.device new
+    → (GainsSinceStart (IsFaultOf port.0) port.0 old.device new → ⊥)
+    → (GainsSinceStart (IsFatalOf port.0) port.0 old.device new → ⊥) → ResetsLink port accesses
     ⊎ ((old.device.port port.0).fresh ≡ true) → RunsWell (new.port port.0)
 
 -- ---- one port's part in a call, and the whole
@@ -258,9 +262,9 @@ RunsWellAnew evidence accesses old ports new port =
 -- trouble; and it heeds what the evidence names of the port.
 pub record PortCorresponds (old : JointState Device) (h : Happening Device DeviceStep) (accesses : List Access)
     (port : Port) : Type 0 where
-  pub finds : FindsIn h.event.ask accesses old h.event.steps port
+  pub finds : FindsDoneInCall h.event.ask accesses old h.event.steps port
   pub faults : TellsPlainFaults h.event.ask old h.event.ports h.device h.event.steps port
-  pub probes : Probes h.event.ask accesses old h.event.ports h.device port
+  pub probes : ProbesInCall h.event.ask accesses old h.event.ports h.device port
   pub boots : BootsAnew h.event.ask h.event.said accesses old h.event.ports h.device port
   pub port_error : LosesNoPortError h.event.evidence old h.event.ports h.device port
   pub well : RunsWellAnew h.event.evidence accesses old h.event.ports h.device port
@@ -277,16 +281,16 @@ pub record CallCorresponds (wanted : List Wanted) (old : JointState Device)
   pub evidenced : IsEvidenced h.event.ask h.event.said accesses old h.event.ports h.device h.event.evidence
   pub grounded : OnlyFailedPortsRequeueIn h.event.ask h.event.evidence h.event.steps
   pub issues : (port : Port)
-      → Issues h.event.ask h.event.steps (abstract_after old.abstract h.event).machine h.event.ports
+      → IssuesAllDue h.event.ask h.event.steps (abstract_after old.abstract h.event).machine h.event.ports
       port
   pub port : (port : Port) → PortCorresponds old h accesses port
-  pub holds : HoldsAt wanted (record { device = h.device; abstract = abstract_after old.abstract h.event })
+  pub holds : DriverInvariant wanted (record { device = h.device; abstract = abstract_after old.abstract h.event })
 
 -- What a new server leaves is what holds at each instant, with the adapter on. (Its book is empty, since the machine is
 -- a start.)
-abbrev pub Begins : List Wanted → JointState Device → Type 0
-Begins wanted first = HoldsAt wanted first × IsOnAndTells first.device
+abbrev pub IsFirstInstant : List Wanted → JointState Device → Type 0
+IsFirstInstant wanted first = DriverInvariant wanted first × HasAeAndIe first.device
 
 -- calls one after another, from what a new server left
 abbrev pub IsDriverHistory : List Wanted → JointState Device → List (Happening Device DeviceStep) → Type 0
-IsDriverHistory wanted first past = histories.IsHistory (Begins wanted) (CallCorresponds wanted) first past
+IsDriverHistory wanted first past = histories.IsHistory (IsFirstInstant wanted) (CallCorresponds wanted) first past

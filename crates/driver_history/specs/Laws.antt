@@ -11,34 +11,35 @@ use Rattle.adapter.specs.Kept.{Keeps}
 use Rattle.adapter.specs.Rules.{IsOn}
 use Rattle.adapter.specs.Steps.{Steps}
 use Rattle.refinement.specs.Laws.{TapeLaws}
-use Rattle.refinement.specs.Driven.{IsDrivenBy, IsOf, LeavesPort}
-use Rattle.refinement.specs.Errors.{ChangesByErrors, KeepsErrors, NoneComes, NoneFails, NoneFatal}
+use Rattle.refinement.specs.Driven.{IsDrivenBy, SparesOtherPorts, LeavesPort}
+use Rattle.refinement.specs.Errors.{ChangesByErrors, KeepsErrors, NoDiskComes, NoneFails, NoneFatal}
 use Rattle.refinement.specs.Facts.{RunsWell, Undisturbed}
-use Rattle.refinement.specs.Links.{LeavesControls, LeavesLink, PlugsNone, SparesRegister}
+use Rattle.refinement.specs.Links.{LeavesControls, LeavesLink, NoPlugEvents, DoesNotWrite}
 use Rattle.refinement.specs.Vacant.{IsFreshIfShown, IsVacant}
 use Rattle.error_recovery.specs.Evidence.{ShowsFatal}
 use Rattle.port_boot.specs.States.{RunsOn}
 use Rattle.port_control.specs.Engines.{Falls, Sticks}
-use Rattle.adapter.specs.Seen.{PutAt}
+use Rattle.adapter.specs.Seen.{PortRegisterWritten}
 use Rattle.adapter.specs.declared.access.DeviceStep.{DeviceStep}
 use Rattle.block_machine.specs.Confined.{IsConfined, WasAccepted}
 use Rattle.block_machine.specs.Events.{AbstractState, CallRecord, EveryReadHolds, IsRun, abstract_after_all, steps_of}
-use Rattle.block_machine.specs.Left.{AllTellSectors, IsInitial, IsLegal, after}
+use Rattle.block_machine.specs.Left.{AllStepsFaithful, IsInitial, IsLegal, after}
 use Rattle.block_machine.specs.State.{Block, Machine, Pending}
-use Rattle.block_machine.specs.Steps.{IsLiving, Step, Touch}
+use Rattle.block_machine.specs.Steps.{HoldsFrames, Step, Touch}
 
 pub record Laws : Type 0 where
-  pub left : (port : Port) (q : ℕ) (old new : Device) → q ≢ port.0 → IsOn old → IsDrivenBy (IsOf port) old new
+  pub left : (port : Port) (q : ℕ) (old new : Device) → q ≢ port.0 → IsOn old
+      → IsDrivenBy (SparesOtherPorts port) old new
       → LeavesPort (old.port q) (new.port q)
   pub left_none : (p : DevicePort) → LeavesPort p p
   pub left_more : (old mid new : DevicePort) → LeavesPort old mid → LeavesPort mid new → LeavesPort old new
-  pub spares : (port q : Port) (r : PortReg) → q.0 ≢ port.0 → (access : Access) → IsOf port access
-      → SparesRegister (Px q r) access
-  pub on : (port : Port) (old new : Device) → IsOn old → IsDrivenBy (IsOf port) old new → IsOn new
+  pub spares : (port q : Port) (r : PortReg) → q.0 ≢ port.0 → (access : Access) → SparesOtherPorts port access
+      → DoesNotWrite (Px q r) access
+  pub on : (port : Port) (old new : Device) → IsOn old → IsDrivenBy (SparesOtherPorts port) old new → IsOn new
   pub tape : TapeLaws
   pub errors : (port : Port) (access : Access) (old new : Device) → Does access old new → ChangesByErrors port.0 old new
-  pub link : (port : Port) (access : Access) (old new : Device) → old.hr ≡ false → SparesRegister (Px port Sctl) access
-      → Does access old new → PlugsNone port.0 old new → LeavesLink (old.port port.0) (new.port port.0)
+  pub link : (port : Port) (access : Access) (old new : Device) → old.hr ≡ false → DoesNotWrite (Px port Sctl) access
+      → Does access old new → NoPlugEvents port.0 old new → LeavesLink (old.port port.0) (new.port port.0)
   pub falls_then : (early late : List Access) (start running : ℕ) (port : Port) → Falls start running port early
       → Falls start running port (early ++ late)
   pub falls_since : (early late : List Access) (start running : ℕ) (port : Port) → Falls start running port late
@@ -49,31 +50,31 @@ pub record Laws : Type 0 where
       → DoesAll (early ++ late) old new
   pub steps : (old new : Device) → Steps old new → Keeps old new
   pub put : (port : Port) (r : PortReg) (v : ℕ) (old new : Device) → Writes (Px port r) v old new → old.hr ≡ false
-      → PutAt port.0 r v old new
-  pub on_all : (accesses : List Access) (old new : Device) → IsOn old → All (SparesRegister Ghc) accesses
+      → PortRegisterWritten port.0 r v old new
+  pub on_all : (accesses : List Access) (old new : Device) → IsOn old → All (DoesNotWrite Ghc) accesses
       → DoesAll accesses old new → IsOn new
-  pub spares_host : (port : Port) (access : Access) → IsOf port access → SparesRegister Ghc access
+  pub spares_host : (port : Port) (access : Access) → SparesOtherPorts port access → DoesNotWrite Ghc access
   pub faults_steps : (port : ℕ) (old new : Device) → old.hr ≡ false → Steps old new → (new.port port).is 30 ≡ false
       → ((old.port port).is 30 ≡ false) × NoneFails port old new
   pub faults_access : (port : Port) (access : Access) (old new : Device) → old.hr ≡ false
-      → SparesRegister (Px port Is) access → Does access old new → (new.port port.0).is 30 ≡ false
+      → DoesNotWrite (Px port Is) access → Does access old new → (new.port port.0).is 30 ≡ false
       → ((old.port port.0).is 30 ≡ false) × NoneFails port.0 old new
   pub fatals_steps : (port : ℕ) (old new : Device) → old.hr ≡ false → Steps old new
       → ((place : ℕ) → 27 ≤ place → place ≤ 29 → (new.port port).is place ≡ false)
       → ((place : ℕ) → 27 ≤ place → place ≤ 29 → (old.port port).is place ≡ false) × NoneFatal port old new
   pub fatals_access : (port : Port) (access : Access) (old new : Device) → old.hr ≡ false
-      → SparesRegister (Px port Is) access → Does access old new
+      → DoesNotWrite (Px port Is) access → Does access old new
       → ((place : ℕ) → 27 ≤ place → place ≤ 29 → (new.port port.0).is place ≡ false)
       → ((place : ℕ) → 27 ≤ place → place ≤ 29 → (old.port port.0).is place ≡ false) × NoneFatal port.0 old new
   pub disks_steps : (port : ℕ) (old new : Device) → old.hr ≡ false → Steps old new → (new.port port).serr_n ≡ false
-      → ((old.port port).serr_n ≡ false) × PlugsNone port old new
+      → ((old.port port).serr_n ≡ false) × NoPlugEvents port old new
   pub disks_access : (port : Port) (access : Access) (old new : Device) → old.hr ≡ false
-      → SparesRegister (Px port Serr) access → Does access old new → (new.port port.0).serr_n ≡ false
-      → ((old.port port.0).serr_n ≡ false) × PlugsNone port.0 old new
+      → DoesNotWrite (Px port Serr) access → Does access old new → (new.port port.0).serr_n ≡ false
+      → ((old.port port.0).serr_n ≡ false) × NoPlugEvents port.0 old new
   pub changes_steps : (port : ℕ) (old new : Device) → old.hr ≡ false → Steps old new
       → KeepsErrors (old.port port) (new.port port)
   pub changes_access : (port : Port) (access : Access) (old new : Device) → old.hr ≡ false
-      → SparesRegister (Px port Serr) access → Does access old new
+      → DoesNotWrite (Px port Serr) access → Does access old new
       → ((old.port port.0).serr_n ≡ true → (new.port port.0).serr_n ≡ true)
       × ((old.port port.0).serr_x ≡ true → (new.port port.0).serr_x ≡ true)
   pub fatal_unless : (p : DevicePort) → (((place : ℕ) → 27 ≤ place → place ≤ 29 → p.is place ≡ false) → ⊥)
@@ -87,13 +88,13 @@ pub record Laws : Type 0 where
   pub start : (port : Port) (v : ℕ) (old new : Device) → (old.port port.0).st ≡ false → bit v 0 ≡ true
       → Writes (Px port Cmd) v old new → ((new.port port.0).cr ≡ true)
       × ((new.port port.0).notes.st_set_at ≡ length new.tape)
-  pub vacant : (port : Port) (access : Access) (old new : Device) → NoneComes port.0 old new → Does access old new
+  pub vacant : (port : Port) (access : Access) (old new : Device) → NoDiskComes port.0 old new → Does access old new
       → IsVacant (old.port port.0) → IsVacant (new.port port.0)
-  pub fresh : (port : Port) (access : Access) (old new : Device) → NoneComes port.0 old new → Does access old new
+  pub fresh : (port : Port) (access : Access) (old new : Device) → NoDiskComes port.0 old new → Does access old new
       → IsFreshIfShown (old.port port.0) → IsFreshIfShown (new.port port.0)
   pub runs : (port : Port) (accesses : List Access) (old new : Device) → IsOn old → DoesAll accesses old new
-      → All (SparesRegister Ghc) accesses → All (SparesRegister (Px port Sctl)) accesses
-      → All (SparesRegister (Px port Cmd)) accesses → RunsOn port.0 old new
+      → All (DoesNotWrite Ghc) accesses → All (DoesNotWrite (Px port Sctl)) accesses
+      → All (DoesNotWrite (Px port Cmd)) accesses → RunsOn port.0 old new
   pub well : (port : ℕ) (old new : Device) → RunsOn port old new → Undisturbed port old new → RunsWell (old.port port)
       → RunsWell (new.port port)
 
@@ -106,9 +107,9 @@ pub record RunLaws : Type 0 where
       (i : ℕ) (block : Block) → IsRun first run → steps_of run ≡ late ++ Touch e i block ∷ early
       → IsConfined first.machine early e.request i
   pub reads : (first : AbstractState) (run : List (CallRecord DeviceStep)) → IsRun first run
-      → AllTellSectors first.machine (steps_of run) → EveryReadHolds first run
+      → AllStepsFaithful first.machine (steps_of run) → EveryReadHolds first run
   pub joined : (m : Machine) (late early : List Step) → after m (late ++ early) ≡ after (after m early) late
-  pub told : (m : Machine) (late early : List Step) → AllTellSectors m early → AllTellSectors (after m early) late
-      → AllTellSectors m (late ++ early)
+  pub told : (m : Machine) (late early : List Step) → AllStepsFaithful m early → AllStepsFaithful (after m early) late
+      → AllStepsFaithful m (late ++ early)
   pub lived : (start : Machine) (history : List Step) (e : Pending) → IsInitial start → IsLegal start history
-      → IsLiving (after start history) e → WasAccepted start history e.request
+      → HoldsFrames (after start history) e → WasAccepted start history e.request

@@ -46,7 +46,7 @@ pub record IsConfinedClear (start : Machine) (earlier steps : List Step) (clear 
 
 -- The moves and clears that the tape has gained in a call of these steps, after these earlier ones, keep to their
 -- places.
-pub record KeepsMoves (start : Machine) (earlier steps : List Step) (old new : Device) : Type 0 where
+pub record MovesConfined (start : Machine) (earlier steps : List Step) (old new : Device) : Type 0 where
   pub gained : List Entry
   pub tape : new.tape ≡ old.tape ++ gained
   pub moves : (move : tape_move.Move) → Contains gained (entry.Move move)

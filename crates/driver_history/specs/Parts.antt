@@ -4,15 +4,15 @@ use Rattle.ata_types.specs.declared.Port.{Port}
 use Rattle.ata_types.specs.declared.PortState.TheVariants.{Absent, Dead}
 use Rattle.adapter.specs.Access.{Access, DoesAll}
 use Rattle.adapter.specs.Device.{Device}
-use Rattle.refinement.specs.Driven.{IsOf}
-use Rattle.refinement.specs.Errors.{NoneComes}
+use Rattle.refinement.specs.Driven.{SparesOtherPorts}
+use Rattle.refinement.specs.Errors.{NoDiskComes}
 use Rattle.block_machine.specs.Histories.{JointState}
 use Rattle.block_machine.specs.Ports.{Evidence, Ports}
-use Rattle.driver_history.specs.Histories.{IsUnfitOrForeign}
+use Rattle.driver_history.specs.Histories.{HasUnservedDisk}
 
 -- the access is of another port: of ports' registers it touches that one's alone, and of IS that one's bit
 abbrev pub IsOfOther : Port → Access → Type 0
-IsOfOther port access = (other : Port) × (port.0 ≢ other.0) × IsOf other access
+IsOfOther port access = (other : Port) × (port.0 ≢ other.0) × SparesOtherPorts other access
 
 -- A call's accesses are those before the port's turn, those of the turn, and those after it. But for the turn's, they
 -- are of other ports.
@@ -29,11 +29,11 @@ pub record HasTurnIn (port : Port) (old new : Device) : Type 0 where
   pub others_later : All (IsOfOther port) later
 
 -- all its accesses
-abbrev pub all_of : {port : Port} {old new : Device} → HasTurnIn port old new → List Access
-all_of t = t.before ++ (t.turn ++ t.later)
+abbrev pub call_accesses : {port : Port} {old new : Device} → HasTurnIn port old new → List Access
+call_accesses t = t.before ++ (t.turn ++ t.later)
 
 -- both name the port in the same lists
-pub record NamesAlike (port : Port) (one other : Evidence) : Type 0 where
+pub record EvidenceAgreesOn (port : Port) (one other : Evidence) : Type 0 where
   pub lost : Contains one.lost port ↔ Contains other.lost port
   pub gone : Contains one.gone port ↔ Contains other.gone port
   pub failed : Contains one.failed port ↔ Contains other.failed port
@@ -43,7 +43,7 @@ pub record NamesAlike (port : Port) (one other : Evidence) : Type 0 where
 
 -- Where a port with a disk that isn't served showed X, and no disk of it came since, no link of it is due any more,
 -- unless it is absent or dead. (While one is due, X rises when it comes up, and the tape tells of no disk.)
-abbrev pub EndsLinked : Port → JointState Device → Ports → Device → Type 0
-EndsLinked port old ports new = IsUnfitOrForeign old.abstract.ports port → (old.device.port port.0).serr_x ≡ true
-    → NoneComes port.0 old.device new → (ports.state port ≡ Absent)
+abbrev pub EndsNoLinkDue : Port → JointState Device → Ports → Device → Type 0
+EndsNoLinkDue port old ports new = HasUnservedDisk old.abstract.ports port → (old.device.port port.0).serr_x ≡ true
+    → NoDiskComes port.0 old.device new → (ports.state port ≡ Absent)
     ⊎ ((ports.state port ≡ Dead) ⊎ ((new.port port.0).link_due ≡ false))

@@ -7,22 +7,22 @@ use Rattle.hba_regs.specs.declared.reg.PortReg.TheVariants.{Cmd, Sctl, Sact, Ci}
 use Rattle.adapter.specs.Access.{Access}
 use Rattle.adapter.specs.Access.Access.{Reading, Writing, Loading, Storing}
 use Rattle.refinement.specs.Facts.{ClearsNoTrouble}
-use Rattle.refinement.specs.Links.{SparesRegister}
+use Rattle.refinement.specs.Links.{DoesNotWrite}
 
 -- ---- what one access is
 
 -- the access doesn't write PxCMD of the port: so it neither stops nor starts it
-abbrev pub LeavesCommand : Port → Access → Type 0
-LeavesCommand port access = SparesRegister (Px port Cmd) access
+abbrev pub DoesNotWriteCmd : Port → Access → Type 0
+DoesNotWriteCmd port access = DoesNotWrite (Px port Cmd) access
 
 -- nor PxSCTL: so it doesn't reset its link either
 abbrev pub LeavesEngine : Port → Access → Type 0
-LeavesEngine port access = LeavesCommand port access × SparesRegister (Px port Sctl) access
+LeavesEngine port access = DoesNotWriteCmd port access × DoesNotWrite (Px port Sctl) access
 
 -- the access clears no bit that tells of the port's trouble
-abbrev pub ClearsNone : Port → Access → Type 0
-ClearsNone port (Writing r v) = ClearsNoTrouble port r v
-ClearsNone port access = Unit {0}
+abbrev pub ClearsNoError : Port → Access → Type 0
+ClearsNoError port (Writing r v) = ClearsNoTrouble port r v
+ClearsNoError port access = Unit {0}
 
 -- The driver's own stores lie in its frames, and so does what it loads. Registers are left to the rules of the adapter.
 abbrev pub IsDriversOwn : Access → Type 0
@@ -38,18 +38,18 @@ IsOfPorts Such (Writing (Px port r) v) = Such port
 IsOfPorts Such access = Unit {0}
 
 -- An access that serves such ports: it doesn't write GHC either, so it neither resets the adapter nor switches it off.
-abbrev pub IsServing : (Port → Type 0) → Access → Type 0
-IsServing Such access = IsDriversOwn access × SparesRegister Ghc access × IsOfPorts Such access
+abbrev pub IsAccessForPorts : (Port → Type 0) → Access → Type 0
+IsAccessForPorts Such access = IsDriversOwn access × DoesNotWrite Ghc access × IsOfPorts Such access
 
 -- ---- what the list shows
 
 -- PxCI was read, and right after it PxSACT, at a moment when PxCMD hadn't been written: what both show is of commands
 -- that were not given up.
-pub record ReadsMasks (port : Port) (ci sact : ℕ) (accesses : List Access) : Type 0 where
+pub record ReadsCiAndSact (port : Port) (ci sact : ℕ) (accesses : List Access) : Type 0 where
   pub before : List Access
   pub later : List Access
   pub here : accesses ≡ before ++ Reading (Px port Ci) ci ∷ Reading (Px port Sact) sact ∷ later
-  pub running : All (LeavesCommand port) before
+  pub running : All (DoesNotWriteCmd port) before
 
 -- The port's link was reset by COMRESET: DET of PxSCTL was set to one, and then to zero, and PxSCTL wasn't written
 -- again (AHCI 1.3.1, 10.4.2).
@@ -63,5 +63,5 @@ pub record ResetsLink (port : Port) (accesses : List Access) : Type 0 where
       ++ (Writing (Px port Sctl) sending ∷ (between ++ (Writing (Px port Sctl) ending ∷ later)))
   pub sends : sending % 16 ≡ 1
   pub ends : ending % 16 ≡ 0
-  pub held : All (SparesRegister (Px port Sctl)) between
-  pub left : All (SparesRegister (Px port Sctl)) later
+  pub held : All (DoesNotWrite (Px port Sctl)) between
+  pub left : All (DoesNotWrite (Px port Sctl)) later

@@ -2,26 +2,26 @@
 ghost use Rattle.driver_history.specs.Laws.{Laws, RunLaws};
 
 use adapter::DeviceStep;
-use adapter::laws::{law_accesses_compose, law_port_registers_are_accessed, law_steps_keep};
-use block_machine::laws::{law_every_read_holds, law_living_was_accepted, law_runs_are_legal};
+use adapter::laws::{law_accesses_compose, law_port_register_accesses, law_steps_guarantee};
+use block_machine::laws::{law_every_read_holds, law_holder_was_accepted, law_runs_are_legal};
 use error_recovery::laws::law_fatal_errors_show_unless_clear;
 use port_boot::laws::law_a_port_runs_on;
 use port_control::laws::law_what_is_told_of_engines_stays;
-use refinement::disks::law_none_comes_in;
+use refinement::disks::law_no_disk_comes_in;
 use refinement::facts::{
     law_adapter_stays, law_cleared_stays, law_controls_are_set, law_controls_stay,
     law_errors_are_kept, law_errors_are_shown, law_link_stays, law_plugging_is_found,
 };
 use refinement::fragments::{law_other_ports_are_left, law_tapes};
-use refinement::laws::law_histories_go_on;
+use refinement::laws::law_histories_compose;
 
 /// The laws that the proofs on parts of calls rest on.
 pub fn law_base()
     ensures { Laws }
 {
     law_accesses_compose();
-    law_steps_keep();
-    law_port_registers_are_accessed();
+    law_steps_guarantee();
+    law_port_register_accesses();
     law_adapter_stays();
     law_cleared_stays();
     law_controls_are_set();
@@ -33,7 +33,7 @@ pub fn law_base()
     law_plugging_is_found();
     law_other_ports_are_left();
     law_tapes();
-    law_none_comes_in();
+    law_no_disk_comes_in();
     law_a_port_runs_on();
     law_what_is_told_of_engines_stays();
 }
@@ -44,6 +44,6 @@ pub fn law_runs()
 {
     law_runs_are_legal::<DeviceStep>();
     law_every_read_holds::<DeviceStep>();
-    law_histories_go_on();
-    law_living_was_accepted();
+    law_histories_compose();
+    law_holder_was_accepted();
 }

@@ -12,32 +12,32 @@ ghost use Rattle.adapter.specs.Rules.{IsOn, IsStable};
 ghost use Rattle.adapter.specs.declared.access.DeviceStep.{DeviceStep};
 ghost use Rattle.adapter.specs.declared.command.Operation.TheVariants.{ReadLog};
 ghost use Rattle.adapter.specs.declared.tape.Fault.{Fault};
-ghost use Rattle.refinement.specs.Driven.{SendsNone};
+ghost use Rattle.refinement.specs.Driven.{GainsNoMove};
 ghost use Rattle.refinement.specs.Facts.{DeviceSparesFrame, RunsWell};
-ghost use Rattle.refinement.specs.Links.{PlugsNone};
+ghost use Rattle.refinement.specs.Links.{NoPlugEvents};
 ghost use Rattle.refinement.specs.Slots.{ServesRequest};
-ghost use Rattle.block_machine.specs.Events.{Ask, AbstractState, CallResult, steps_of, Service, Tick, Reset, HasTimedOut, IsRun, EveryReadHolds, NoneKeepsIssue};
+ghost use Rattle.block_machine.specs.Events.{AbstractCall, AbstractState, CallResult, steps_of, Service, Tick, Reset, HasTimedOut, IsRun, EveryReadHolds, NoneKeepsIssue};
 ghost use Rattle.block_machine.specs.Histories.{JointState, Happening, IsReachable, events_of, now};
-ghost use Rattle.block_machine.specs.Ports.{AreFit, Evidence, Ports, SameDisk, SamePort};
+ghost use Rattle.block_machine.specs.Ports.{PortsWellFormed, Evidence, Ports, SameDisk, SamePort};
 ghost use Rattle.block_machine.specs.State.{Pending};
 ghost use Rattle.block_machine.specs.Steps.{Answer};
 ghost use Rattle.identify.specs.declared.wanted.Wanted.{Wanted};
 ghost use Rattle.durability.specs.Durable.{EveryPlugFinds};
-ghost use Rattle.driver_history.specs.Claims.{AnswerRests, GoesWellFor, IsHealthyFor, IsSpared};
+ghost use Rattle.driver_history.specs.Claims.{AnswerJustified, GoesWellFor, IsHealthyFor, IsSpared};
 ghost use Rattle.driver_history.specs.Evidence.{HasErrors, HasFatalErrors, IsEvidencedOf, IsGone, ShowsChange, StaysHealthy};
 ghost use Rattle.error_recovery.specs.Evidence.{BringsLog, HasFailed};
-ghost use Rattle.driver_history.specs.Histories.{IsDriverHistory, Issues, LosesNoPortError};
-ghost use Rattle.driver_history.specs.Holds.{HoldsAt};
-ghost use Rattle.driver_history.specs.Moves.{KeepsMoves};
-ghost use Rattle.driver_history.specs.Parts.{HasTurnIn, NamesAlike, all_of};
+ghost use Rattle.driver_history.specs.Histories.{IsDriverHistory, IssuesAllDue, LosesNoPortError};
+ghost use Rattle.driver_history.specs.Holds.{DriverInvariant};
+ghost use Rattle.driver_history.specs.Moves.{MovesConfined};
+ghost use Rattle.driver_history.specs.Parts.{HasTurnIn, EvidenceAgreesOn, call_accesses};
 
 use super::lawful::{law_base, law_runs};
 use adapter::DeviceStep;
-use adapter::laws::law_what_is_asked_is_steps;
+use adapter::laws::law_told_steps_are_transitions;
 use block_machine::laws::law_rows_shrink_and_owners_stay;
 use durability::laws::law_flushed_writes_survive_replug;
 use port_boot::laws::law_a_port_runs_on;
-use refinement::facts::{law_frames_are_still, law_healthy_stays};
+use refinement::facts::{law_device_spares_frames, law_healthy_stays};
 use refinement::laws::law_disks_are_told;
 
 /// The calls of a history are a run of the block machine. So its laws on runs hold of them: each request that is issued
@@ -68,7 +68,7 @@ pub fn law_reads_hold()
 
 /// Where the adapter's disks tell their sectors, each disk that comes back in a history has the writes that were
 /// flushed, or later ones.
-pub fn law_plugs_find()
+pub fn law_replugs_keep_flushed_writes()
     ensures { (wanted : List Wanted) (first : JointState Device) (past : List (Happening Device DeviceStep))
         → IsDriverHistory wanted first past → first.device.telling ≡ true
         → EveryPlugFinds first.abstract.machine (steps_of (events_of past)) }
@@ -85,18 +85,19 @@ pub fn law_moves_keep_to_their_places()
     ensures { (wanted : List Wanted) (first : JointState Device) (past : List (Happening Device DeviceStep))
         (h : Happening Device DeviceStep)
         → IsDriverHistory wanted first (h ∷ past)
-        → KeepsMoves first.abstract.machine (steps_of (events_of past)) h.event.steps (now first past).device h.device }
+        → MovesConfined first.abstract.machine (steps_of (events_of past)) h.event.steps
+        (now first past).device h.device }
 {
     law_runs();
 }
 
 /// At each instant of a history there holds what holds between two calls; and the ports are fit: at most four are
 /// served.
-pub fn law_each_instant_holds()
+pub fn law_driver_invariant_holds()
     ensures holds { (wanted : List Wanted) (first : JointState Device) (past : List (Happening Device DeviceStep))
-        → IsDriverHistory wanted first past → HoldsAt wanted (now first past) }
+        → IsDriverHistory wanted first past → DriverInvariant wanted (now first past) }
     ensures fit { (wanted : List Wanted) (first : JointState Device) (past : List (Happening Device DeviceStep))
-        → IsDriverHistory wanted first past → AreFit (now first past).abstract.ports }
+        → IsDriverHistory wanted first past → PortsWellFormed (now first past).abstract.ports }
 {}
 
 /// At each instant of a history, a request that is issued on a ready port has a usable slot of that port, on which ST
@@ -137,18 +138,18 @@ pub fn law_calls_leave_ports_well()
         → StaysHealthy port.0 (now first past).device h.device → RunsWell (h.device.port port.0) }
 {
     law_disks_are_told();
-    law_what_is_asked_is_steps();
+    law_told_steps_are_transitions();
     law_healthy_stays();
     law_a_port_runs_on();
 }
 
 /// Each answer of a history rests on what the device did and showed.
-pub fn law_answers_rest()
+pub fn law_answers_justified()
     ensures { (wanted : List Wanted) (first : JointState Device) (past : List (Happening Device DeviceStep))
         (h : Happening Device DeviceStep)
         (history : IsDriverHistory wanted first (h ∷ past)) → (e : Pending) (told : Outcome)
         → Contains h.event.steps (Answer e told)
-        → AnswerRests (now first past) h history.2.accesses e told }
+        → AnswerJustified (now first past) h history.2.accesses e told }
 {
     law_rows_shrink_and_owners_stay();
 }
@@ -156,26 +157,26 @@ pub fn law_answers_rest()
 /// A client's frame that isn't lent is one that the device uses no byte of, whatever it does next. (That holds between
 /// calls. Within one, a frame leaves a loan where its request has ended, or its port has stopped: see what each answer
 /// rests on.)
-pub fn law_unlent_frames_are_still()
+pub fn law_device_spares_unlent()
     ensures { (wanted : List Wanted) (first : JointState Device) (past : List (Happening Device DeviceStep))
         (frame : Frame) → IsDriverHistory wanted first past
         → DRIVER_FRAMES ≤ frame.0 → (now first past).abstract.machine.lent frame ≡ None
         → IsStable (DeviceSparesFrame frame) (now first past).device }
 {
     law_runs();
-    law_frames_are_still();
+    law_device_spares_frames();
 }
 
 /// Unplugged is told of no request whose port had told of no change and showed a device when the call began, of which
 /// no disk went or came, and which ends the call dead, or ready with the same serial and size.
-pub fn law_false_unplugged_is_refused()
+pub fn law_unplugged_needs_loss()
     ensures { (wanted : List Wanted) (first : JointState Device) (past : List (Happening Device DeviceStep))
         (h : Happening Device DeviceStep)
         (e : Pending) → IsDriverHistory wanted first (h ∷ past)
         → (ShowsChange ((now first past).device.port e.request.port.0)
         → ⊥)
         → ((now first past).device.port e.request.port.0).ssts_det ≡ 3
-        → PlugsNone e.request.port.0 (now first past).device h.device → (h.event.ports.state e.request.port ≡ Dead)
+        → NoPlugEvents e.request.port.0 (now first past).device h.device → (h.event.ports.state e.request.port ≡ Dead)
         ⊎ ((h.event.ports.state e.request.port ≡ Ready)
         × SameDisk (now first past).abstract.ports h.event.ports e.request.port)
         → Contains h.event.steps (Answer e outcome.Unplugged) → ⊥ }
@@ -183,7 +184,7 @@ pub fn law_false_unplugged_is_refused()
 
 /// A service answers each request of a ready port whose bits are clear when it begins, whether or not a command has
 /// failed there or its disk was lost.
-pub fn law_seen_are_answered()
+pub fn law_clear_bits_are_answered()
     ensures { (wanted : List Wanted) (first : JointState Device) (past : List (Happening Device DeviceStep))
         (h : Happening Device DeviceStep)
         (port : Port) (slot : ℕ) (id : RequestId) → IsDriverHistory wanted first (h ∷ past) → h.event.ask ≡ Service
@@ -196,7 +197,7 @@ pub fn law_seen_are_answered()
 {}
 
 /// A tick that brings a request of a port to its age of three leaves no unanswered request of the port its issue.
-pub fn law_ticks_end_issues()
+pub fn law_timeouts_undo_issues()
     ensures { (wanted : List Wanted) (first : JointState Device) (past : List (Happening Device DeviceStep))
         (h : Happening Device DeviceStep)
         (port : Port) → IsDriverHistory wanted first (h ∷ past) → h.event.ask ≡ Tick
@@ -215,7 +216,7 @@ pub fn law_healthy_calls_go_well()
         → GoesWellFor (now first past) h port }
 {
     law_disks_are_told();
-    law_what_is_asked_is_steps();
+    law_told_steps_are_transitions();
     law_healthy_stays();
     law_a_port_runs_on();
 }
@@ -226,7 +227,7 @@ pub fn law_due_are_issued()
     ensures { (wanted : List Wanted) (first : JointState Device) (past : List (Happening Device DeviceStep))
         (h : Happening Device DeviceStep)
         (port : Port) → IsDriverHistory wanted first (h ∷ past)
-        → Issues h.event.ask h.event.steps (now first (h ∷ past)).abstract.machine h.event.ports port }
+        → IssuesAllDue h.event.ask h.event.steps (now first (h ∷ past)).abstract.machine h.event.ports port }
 {}
 
 /// What stands behind a port's evidence in its own turn of a call stands behind it in the whole call, where the turn's
@@ -238,17 +239,17 @@ pub fn law_a_turns_evidence_is_the_calls()
     ensures evidence { (port : Port) (old : JointState Device) (begun : AbstractState) (ended ports : Ports)
         (new : Device)
         (turn call : Evidence)
-        (ask : Ask DeviceStep) (said : CallResult) → IsOn old.device
+        (ask : AbstractCall DeviceStep) (said : CallResult) → IsOn old.device
         → ((old.abstract.ports.state port ≡ Ready) ⊎ Contains turn.lost port → (old.device.port port.0).link_due
         ≡ false)
         → (t : HasTurnIn port old.device new) → IsOn t.end → SamePort old.abstract.ports begun.ports port
-        → SamePort ended ports port → NamesAlike port turn call
+        → SamePort ended ports port → EvidenceAgreesOn port turn call
         → IsEvidencedOf ask said t.turn (record { device = t.start; abstract = begun }) ended t.end turn port
-        → IsEvidencedOf ask said (all_of t) old ports new call port }
+        → IsEvidencedOf ask said (call_accesses t) old ports new call port }
     ensures failed { (port : Port) (old new : Device) (fault : Fault) → IsOn old → (t : HasTurnIn port old new)
-        → HasFailed port t.turn t.start t.end fault → HasFailed port (all_of t) old new fault }
+        → HasFailed port t.turn t.start t.end fault → HasFailed port (call_accesses t) old new fault }
     ensures brings { (port : Port) (old new : Device) (page : List ℕ) → IsOn old → (t : HasTurnIn port old new)
-        → SendsNone port.0 ReadLog t.end new → BringsLog port t.start t.end page → BringsLog port old new page }
+        → GainsNoMove port.0 ReadLog t.end new → BringsLog port t.start t.end page → BringsLog port old new page }
 {
     law_base();
 }

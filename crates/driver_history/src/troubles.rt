@@ -10,18 +10,18 @@ ghost use Rattle.adapter.specs.Rules.{IsOn};
 ghost use Rattle.adapter.specs.Steps.{Steps};
 ghost use Rattle.adapter.specs.declared.access.DeviceStep.{DeviceStep};
 ghost use Rattle.refinement.specs.Driven.{Grows};
-ghost use Rattle.refinement.specs.Errors.{IsFatalOf, NoneComes};
+ghost use Rattle.refinement.specs.Errors.{IsFatalOf, NoDiskComes};
 ghost use Rattle.refinement.specs.Facts.{IsFaultOf, Undisturbed};
-ghost use Rattle.refinement.specs.Links.{HasDeviceOrNone, PlugsNone, SparesRegister};
+ghost use Rattle.refinement.specs.Links.{ShowsDiskIfIn, NoPlugEvents, DoesNotWrite};
 ghost use Rattle.block_machine.specs.Events.{AbstractState, CallResult, Service};
 ghost use Rattle.block_machine.specs.Histories.{Happening, JointState, now};
-ghost use Rattle.block_machine.specs.Ports.{Evidence, IsInterrupted, Ports, SamePort};
-ghost use Rattle.error_recovery.specs.Evidence.{GainsRunning};
+ghost use Rattle.block_machine.specs.Ports.{Evidence, IsStoppedOrStuck, Ports, SamePort};
+ghost use Rattle.error_recovery.specs.Evidence.{GainsSinceStart};
 ghost use Rattle.driver_history.specs.Claims.{HandlesShownFailure, HandlesShownLoss};
 ghost use Rattle.driver_history.specs.Evidence.{ShowsChange, ShowsFailure, ShowsLoss};
-ghost use Rattle.driver_history.specs.Histories.{BootsAnew, IsUnfitOrForeign, HasFaultAlone, IsDriverHistory, LosesNoPortError, RunsWellAnew, ProbesDisk};
-ghost use Rattle.driver_history.specs.Parts.{EndsLinked, HasTurnIn, NamesAlike, all_of};
-ghost use Rattle.driver_history.specs.Trace.{ClearsNone, ResetsLink};
+ghost use Rattle.driver_history.specs.Histories.{BootsAnew, HasUnservedDisk, HasOnlyTaskFileError, IsDriverHistory, LosesNoPortError, RunsWellAnew, ProbesDisk};
+ghost use Rattle.driver_history.specs.Parts.{EndsNoLinkDue, HasTurnIn, EvidenceAgreesOn, call_accesses};
+ghost use Rattle.driver_history.specs.Trace.{ClearsNoError, ResetsLink};
 ghost use Rattle.identify.specs.declared.wanted.Wanted.{Wanted};
 ghost use Rattle.port_control.specs.Engines.{Stops};
 
@@ -56,8 +56,8 @@ pub fn law_shown_losses_are_heeded()
 pub fn law_ordinary_accesses_lose_no_error()
     ensures accesses { (port : Port) (old : JointState Device) (new : Device) (accesses : List Access)
         (evidence : Evidence) (ports : Ports)
-        → IsOn old.device → DoesAll accesses old.device new → All (SparesRegister Ghc) accesses
-        → All (ClearsNone port) accesses → LosesNoPortError evidence old ports new port }
+        → IsOn old.device → DoesAll accesses old.device new → All (DoesNotWrite Ghc) accesses
+        → All (ClearsNoError port) accesses → LosesNoPortError evidence old ports new port }
     ensures steps { (port : Port) (old : JointState Device) (new : Device) (evidence : Evidence) (ports : Ports)
         → IsOn old.device → Steps old.device new → LosesNoPortError evidence old ports new port }
 {
@@ -69,8 +69,8 @@ pub fn law_ordinary_accesses_lose_no_error()
 pub fn law_a_fault_alone_in_a_call_is_alone_in_a_turn()
     ensures { (port : Port) (old : JointState Device) (begun : AbstractState) (new : Device) → IsOn old.device
         → (old.device.port port.0).link_due ≡ false → (t : HasTurnIn port old.device new) → IsOn t.end
-        → begun.ports.state port ≡ Ready → HasFaultAlone port old new
-        → HasFaultAlone port (record { device = t.start; abstract = begun }) t.end }
+        → begun.ports.state port ≡ Ready → HasOnlyTaskFileError port old new
+        → HasOnlyTaskFileError port (record { device = t.start; abstract = begun }) t.end }
 {
     law_base();
 }
@@ -84,13 +84,13 @@ pub fn law_a_turns_errors_are_the_calls()
     ensures port_error { (port : Port) (old : JointState Device) (begun : AbstractState) (ended ports : Ports)
         (new : Device)
         (turn call : Evidence) → IsOn old.device
-        → (t : HasTurnIn port old.device new) → IsOn t.end → SamePort ended ports port → NamesAlike port turn call
+        → (t : HasTurnIn port old.device new) → IsOn t.end → SamePort ended ports port → EvidenceAgreesOn port turn call
         → SamePort old.abstract.ports begun.ports port
-        → (ended.state port ≡ Ready → IsInterrupted turn port
+        → (ended.state port ≡ Ready → IsStoppedOrStuck turn port
         → length t.start.tape ≤ (t.end.port port.0).notes.st_set_at)
         → ((begun.ports.state port ≡ Ready) ⊎ (ended.state port ≡ Ready) → ShowsFailure (t.start.port port.0)
         ⊎ ShowsChange (t.start.port port.0)
-        → IsInterrupted turn port)
+        → IsStoppedOrStuck turn port)
         → LosesNoPortError turn (record { device = t.start; abstract = begun }) ended t.end port
         → LosesNoPortError call old ports new port }
     ensures boots { (port : Port) (old : JointState Device) (begun : AbstractState) (ended ports : Ports) (new : Device)
@@ -99,15 +99,15 @@ pub fn law_a_turns_errors_are_the_calls()
         → (t : HasTurnIn port old.device new) → IsOn t.end → SamePort ended ports port
         → SamePort old.abstract.ports begun.ports port
         → BootsAnew Service one t.turn (record { device = t.start; abstract = begun }) ended t.end port
-        → BootsAnew Service other (all_of t) old ports new port }
+        → BootsAnew Service other (call_accesses t) old ports new port }
     ensures well { (port : Port) (old : JointState Device) (begun : AbstractState) (ended ports : Ports) (new : Device)
         (turn call : Evidence) → IsOn old.device
         → (t : HasTurnIn port old.device new) → IsOn t.end
         → (ended.state port ≡ Ready → ((old.device.port port.0).link_due ≡ false) ⊎ ResetsLink port t.turn)
-        → SamePort ended ports port → NamesAlike port turn call
+        → SamePort ended ports port → EvidenceAgreesOn port turn call
         → (ended.state port ≡ Ready → (t.end.port port.0).notes.st_set_at ≤ length t.end.tape)
         → RunsWellAnew turn t.turn (record { device = t.start; abstract = begun }) ended t.end port
-        → RunsWellAnew call (all_of t) old ports new port }
+        → RunsWellAnew call (call_accesses t) old ports new port }
 {
     law_base();
 }
@@ -120,17 +120,18 @@ pub fn law_a_turn_that_probes_a_disk_is_the_calls()
         (new : Device)
         → IsOn old.device → (t : HasTurnIn port old.device new) → IsOn t.end → SamePort ended ports port
         → SamePort old.abstract.ports begun.ports port
-        → (IsUnfitOrForeign old.abstract.ports port → HasDeviceOrNone (old.device.port port.0))
-        → EndsLinked port (record { device = t.start; abstract = begun }) ended t.end
-        → (NoneComes port.0 t.start t.end
+        → (HasUnservedDisk old.abstract.ports port → ShowsDiskIfIn (old.device.port port.0))
+        → EndsNoLinkDue port (record { device = t.start; abstract = begun }) ended t.end
+        → (NoDiskComes port.0 t.start t.end
         → ProbesDisk t.turn (record { device = t.start; abstract = begun }) ended t.end
         port)
-        → NoneComes port.0 old.device new → ProbesDisk (all_of t) old ports new port }
+        → NoDiskComes port.0 old.device new → ProbesDisk (call_accesses t) old ports new port }
     ensures linked { (port : Port) (old : JointState Device) (begun : AbstractState) (ended ports : Ports)
         (new : Device)
         → IsOn old.device → (t : HasTurnIn port old.device new) → IsOn t.end → SamePort ended ports port
-        → SamePort old.abstract.ports begun.ports port → EndsLinked port (record { device = t.start; abstract = begun })
-        ended t.end → EndsLinked port old ports new }
+        → SamePort old.abstract.ports begun.ports port
+        → EndsNoLinkDue port (record { device = t.start; abstract = begun })
+        ended t.end → EndsNoLinkDue port old ports new }
 {
     law_base();
 }
@@ -140,8 +141,8 @@ pub fn law_a_turn_that_probes_a_disk_is_the_calls()
 pub fn law_what_is_untroubled_since_st_was_set_is_calm()
     ensures { (port : ℕ) (old mid new : Device) → Grows old mid → Grows mid new → (new.port port).notes.st_set_at
         ≤ length mid.tape
-        → PlugsNone port old new → (GainsRunning (IsFaultOf port) port old new → ⊥)
-        → (GainsRunning (IsFatalOf port) port old new → ⊥) → Undisturbed port mid new }
+        → NoPlugEvents port old new → (GainsSinceStart (IsFaultOf port) port old new → ⊥)
+        → (GainsSinceStart (IsFatalOf port) port old new → ⊥) → Undisturbed port mid new }
 {
     law_base();
 }
@@ -151,12 +152,12 @@ pub fn law_what_is_untroubled_since_st_was_set_is_calm()
 pub fn law_a_fatal_error_of_a_part_is_of_the_whole()
     ensures { (port : ℕ) (old start end new : Device) → Grows old start → Grows end new
         → (new.port port).notes.st_set_at ≡ (end.port port).notes.st_set_at
-        → GainsRunning (IsFatalOf port) port start end → GainsRunning (IsFatalOf port) port old new }
+        → GainsSinceStart (IsFatalOf port) port start end → GainsSinceStart (IsFatalOf port) port old new }
 {}
 
 /// Where accesses that leave the adapter on stopped a port, and its ST is one after them, it was set since they began.
 pub fn law_a_port_that_was_stopped_was_set_since()
-    ensures { (port : Port) (accesses : List Access) (old new : Device) → IsOn old → All (SparesRegister Ghc) accesses
+    ensures { (port : Port) (accesses : List Access) (old new : Device) → IsOn old → All (DoesNotWrite Ghc) accesses
         → DoesAll accesses old new → Stops port accesses → (new.port port.0).st ≡ true
         → length old.tape ≤ (new.port port.0).notes.st_set_at }
 {
@@ -167,7 +168,7 @@ pub fn law_a_port_that_was_stopped_was_set_since()
 /// where the tape has grown since PxSCTL was written, no service passes over a device that an absent port shows
 /// (`ProbesDisk`).
 pub fn law_a_link_that_was_reset_is_noted()
-    ensures { (port : Port) (accesses : List Access) (old new : Device) → IsOn old → All (SparesRegister Ghc) accesses
+    ensures { (port : Port) (accesses : List Access) (old new : Device) → IsOn old → All (DoesNotWrite Ghc) accesses
         → DoesAll accesses old new → ResetsLink port accesses
         → length old.tape ≤ (new.port port.0).notes.sctl_written_at }
 {

@@ -6,7 +6,7 @@ use Rattle.ata_types.specs.declared.Port.{Port}
 use Rattle.ata_types.specs.declared.request.RequestId.{RequestId}
 use Rattle.ata_types.specs.declared.request.Op.TheVariants.{Flush}
 use Rattle.ata_types.specs.declared.request.Outcome.TheVariants.{Ok, DeviceError}
-use Rattle.block_machine.specs.State.{Block, DiskBytes, Accepted, Pending, Machine, sector_of, written_by}
+use Rattle.block_machine.specs.State.{Block, DiskBytes, Accepted, Pending, Machine, sector_of, block_written}
 use Rattle.block_machine.specs.Due.{is_flush, changes_sectors}
 use Rattle.block_machine.specs.Steps.{Step, Accept, Issue, Touch, End, Age, Again, Answer, Release, Revoke, Unplug, Replace, Store, Load, May, MayStillMove, after_step, at, newly_issued, touch, mark_ended, requeued, older, newly_accepted, put_sector, SameBytes, HasHeld}
 use Rattle.block_machine.specs.Left.{after, IsLegal, IsInitial, IsAccept, IsTouch, HasTouched, plug_count}
@@ -59,7 +59,7 @@ record IsWritten (m : Machine) (step : Step) (port : Port) (k : ℕ) : Type 0 wh
   touched : IsTouch step entry.request k
   from : entry.request.asked.first.0 ≤ k
   to : k < entry.request.asked.first.0 + entry.request.asked.count
-  is : (after_step m step).disks port k ≡ written_by entry.request.asked.op entry.request.held (k - entry.request.asked.first.0)
+  is : (after_step m step).disks port k ≡ block_written entry.request.asked.op entry.request.held (k - entry.request.asked.first.0)
 
 record IsReplaced (m : Machine) (step : Step) (port : Port) : Type 0 where
   id : ℕ
@@ -79,7 +79,7 @@ Effect m step port k = IsIdle m step port k ⊎ (IsWritten m step port k ⊎ IsR
 effect_touch : (m : Machine) (e : Pending) (i : ℕ) (block : Block) (port : Port) (k : ℕ) → MayStillMove m e → i < e.request.asked.count → Effect m (Touch e i block) port k
 effect_touch m e i block port k r lt = by_op (changes_sectors e.request.asked.op) refl
   where
-    by_place : changes_sectors e.request.asked.op ≡ true → (after_step m (Touch e i block)).disks port k ≡ put_sector e.request.port (e.request.asked.first.0 + i) (written_by e.request.asked.op e.request.held i) m.disks port k
+    by_place : changes_sectors e.request.asked.op ≡ true → (after_step m (Touch e i block)).disks port k ≡ put_sector e.request.port (e.request.asked.first.0 + i) (block_written e.request.asked.op e.request.held i) m.disks port k
         → (b : Bool) → ((port.0 == e.request.port.0) && (k == e.request.asked.first.0 + i)) ≡ b → Effect m (Touch e i block) port k
     by_place w now true t =
         let p = and_parts (port.0 == e.request.port.0) (k == e.request.asked.first.0 + i) t in
@@ -93,10 +93,10 @@ effect_touch m e i block port k r lt = by_op (changes_sectors e.request.asked.op
           touched = (refl, sector);
           from = omega (arith, sector);
           to = omega (arith, sector, lt);
-          is = now ∙ cond-true ((port.0 == e.request.port.0) && (k == e.request.asked.first.0 + i)) (written_by e.request.asked.op e.request.held i) (m.disks port k) t ∙ ap (λ (x : ℕ). written_by e.request.asked.op e.request.held x) (sym nth);
+          is = now ∙ cond-true ((port.0 == e.request.port.0) && (k == e.request.asked.first.0 + i)) (block_written e.request.asked.op e.request.held i) (m.disks port k) t ∙ ap (λ (x : ℕ). block_written e.request.asked.op e.request.held x) (sym nth);
         }))
     by_place w now false t = inl (record {
-      same = now ∙ cond-false ((port.0 == e.request.port.0) && (k == e.request.asked.first.0 + i)) (written_by e.request.asked.op e.request.held i) (m.disks port k) t;
+      same = now ∙ cond-false ((port.0 == e.request.port.0) && (k == e.request.asked.first.0 + i)) (block_written e.request.asked.op e.request.held i) (m.disks port k) t;
       quiet = λ x _ here touch.
           let port_same : port ≡ e.request.port = sym here ∙ ap (λ (j : Accepted). j.port) (sym touch.0) in
           let k_same : k ≡ e.request.asked.first.0 + i = sym touch.1 ∙ ap (λ (j : Accepted). sector_of j i) (sym touch.0) in
@@ -104,9 +104,9 @@ effect_touch m e i block port k r lt = by_op (changes_sectors e.request.asked.op
     })
 
     by_op : (b : Bool) → changes_sectors e.request.asked.op ≡ b → Effect m (Touch e i block) port k
-    by_op true w = by_place w (ap (λ (d : Port → DiskBytes). d port k) (cond-true (changes_sectors e.request.asked.op) (put_sector e.request.port (e.request.asked.first.0 + i) (written_by e.request.asked.op e.request.held i) m.disks) m.disks w)) _ refl
+    by_op true w = by_place w (ap (λ (d : Port → DiskBytes). d port k) (cond-true (changes_sectors e.request.asked.op) (put_sector e.request.port (e.request.asked.first.0 + i) (block_written e.request.asked.op e.request.held i) m.disks) m.disks w)) _ refl
     by_op false w = inl (record {
-      same = ap (λ (d : Port → DiskBytes). d port k) (cond-false (changes_sectors e.request.asked.op) (put_sector e.request.port (e.request.asked.first.0 + i) (written_by e.request.asked.op e.request.held i) m.disks) m.disks w);
+      same = ap (λ (d : Port → DiskBytes). d port k) (cond-false (changes_sectors e.request.asked.op) (put_sector e.request.port (e.request.asked.first.0 + i) (block_written e.request.asked.op e.request.held i) m.disks) m.disks w);
       quiet = λ x writes _ touch. both_ways _ w (subst (λ (j : Accepted). changes_sectors j.asked.op ≡ true) (sym touch.0) writes);
     })
 

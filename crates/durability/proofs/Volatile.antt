@@ -6,7 +6,7 @@ use Rattle.ata_types.specs.declared.Port.{Port}
 use Rattle.block_machine.specs.State.{Block, DiskBytes, Pending, Machine, sector_of}
 use Rattle.block_machine.specs.Due.{is_flush, changes_sectors}
 use Rattle.block_machine.specs.Steps.{Step, Touch, End, Replace, SameBytes, after_step}
-use Rattle.block_machine.specs.Left.{after, AllTellSectors, TellsSectors}
+use Rattle.block_machine.specs.Left.{after, AllStepsFaithful, StepIsFaithful}
 use Rattle.durability.specs.Durable.{EveryPlugFinds}
 use Rattle.block_machine.proofs.Members.{contains_none, contains_cases}
 use Rattle.block_machine.specs.Events.{AbstractState, CallRecord, IsRun, steps_of}
@@ -67,7 +67,7 @@ held_bytes start port k [] one other same (inr (old, here, held)) = inr (old, he
 held_bytes start port k (step ∷ past) one other same (inl now) = inl (λ b lt. same b lt ∙ now b lt)
 held_bytes start port k (step ∷ past) one other same (inr (kept, before)) = inr (kept, held_bytes start port k past one other same before)
 
-comes_back : (start : Machine) (past : List Step) (step : Step) → TellsSectors (after start past) step → ComesBack start past step
+comes_back : (start : Machine) (past : List Step) (step : Step) → StepIsFaithful (after start past) step → ComesBack start past step
 comes_back start past (Replace port id size disk) told = λ same k lt. ⊎_elim
     (λ now. held_bytes start port k past (disk k) ((after start past).disks port k) now (held_now start port k past))
     (λ (a : (old : Block) × Contains ((after start past).aside port k) old × SameBytes (disk k) old). held_bytes start port k past (disk k) a.0 a.2 (aside_held start past port k a.0 a.1))
@@ -75,10 +75,10 @@ comes_back start past (Replace port id size disk) told = λ same k lt. ⊎_elim
 comes_back start past _ told = tt
 
 -- so each history of disks that tell their sectors is one of volatile disks
-pub volatile : (start : Machine) (h : List Step) → AllTellSectors start h → IsVolatile start h
+pub volatile : (start : Machine) (h : List Step) → AllStepsFaithful start h → IsVolatile start h
 volatile start [] told = tt
 volatile start (step ∷ past) told = (volatile start past told.0, comes_back start past step told.1)
 
 -- a disk that comes back in a run has the writes that were flushed
-pub run_finds : {D : Type 0} (first : AbstractState) (run : List (CallRecord D)) → IsRun first run → AllTellSectors first.machine (steps_of run) → EveryPlugFinds first.machine (steps_of run)
+pub run_finds : {D : Type 0} (first : AbstractState) (run : List (CallRecord D)) → IsRun first run → AllStepsFaithful first.machine (steps_of run) → EveryPlugFinds first.machine (steps_of run)
 run_finds first run r told = flushed_found first run r (volatile first.machine (steps_of run) told)

@@ -4,7 +4,7 @@ use Rattle.ata_types.specs.declared.Port.{Port}
 use Rattle.ata_types.specs.declared.request.Op.TheVariants.{Flush}
 use Rattle.ata_types.specs.declared.request.Outcome.TheVariants.{Ok}
 use Rattle.block_machine.specs.Due.{changes_sectors}
-use Rattle.block_machine.specs.State.{Block, DiskBytes, Accepted, Machine, sector_of, written_by}
+use Rattle.block_machine.specs.State.{Block, DiskBytes, Accepted, Machine, sector_of, block_written}
 use Rattle.block_machine.specs.Steps.{Step, Answer, Unplug, Replace, SameBytes}
 use Rattle.block_machine.specs.Left.{after, IsAccept, HasTouched}
 
@@ -65,7 +65,7 @@ pub record IsWrittenSince (w : Accepted) (k : ℕ) (history : List Step) (block 
   pub later : w.id.0 ≤ writer.id.0
   pub disk : ℕ
   pub touched : HasTouched writer k disk history
-  pub is : SameBytes block (written_by writer.asked.op writer.held (k - writer.asked.first.0))
+  pub is : SameBytes block (block_written writer.asked.op writer.held (k - writer.asked.first.0))
 
 -- each sector of the write or trim has, on this disk, what it put there, or what one accepted later did
 abbrev pub HoldsWrite : Accepted → List Step → DiskBytes → Type 0

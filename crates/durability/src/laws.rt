@@ -2,7 +2,7 @@
 //! the law holds for any device.
 
 ghost use Rattle.std.specs.Prelude.{List};
-ghost use Rattle.block_machine.specs.Left.{AllTellSectors};
+ghost use Rattle.block_machine.specs.Left.{AllStepsFaithful};
 ghost use Rattle.block_machine.specs.Events.{AbstractState, CallRecord, IsRun, steps_of};
 ghost use Rattle.durability.specs.Durable.{EveryPlugFinds};
 
@@ -11,6 +11,6 @@ ghost use Rattle.durability.specs.Durable.{EveryPlugFinds};
 /// there, or what a later one did, each time that it comes back, whatever its cache lost (FLUSH CACHE EXT, ACS-3).
 pub fn law_flushed_writes_survive_replug<D>()
     ensures { (first : AbstractState) (run : List (CallRecord D)) → IsRun first run
-        → AllTellSectors first.machine (steps_of run)
+        → AllStepsFaithful first.machine (steps_of run)
         → EveryPlugFinds first.machine (steps_of run) }
 {}

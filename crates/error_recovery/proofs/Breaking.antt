@@ -16,19 +16,19 @@ use Rattle.adapter.specs.Rules.{HasPort, IsOn, MayWrite, IsStable}
 use Rattle.adapter.specs.Steps.{device_after}
 use Rattle.adapter.specs.Steps.DeviceTransition.{Fatal, Fall}
 use Rattle.refinement.specs.Relation.{port_at}
-use Rattle.refinement.specs.Driven.{AnyUse, IsRelated, IsControl, IsSimulatedAlong}
-use Rattle.refinement.specs.Driver.{IsCommand, IsWrittenBack}
-use Rattle.refinement.specs.Links.{SparesRegister}
+use Rattle.refinement.specs.Driven.{AnyUse, IsRelated, OnPortWriting, IsSimulatedAlong}
+use Rattle.refinement.specs.Driver.{IsSafeCmdWrite, KeepsOtherCmdBits}
+use Rattle.refinement.specs.Links.{DoesNotWrite}
 use Rattle.refinement.specs.Slots.{Free, Serves, SlotState, SlotStates, put}
-use Rattle.refinement.specs.Witness.{FirstIsKnown, first_id, first_uses}
+use Rattle.refinement.specs.Witness.{FirstReadWitness, first_id, first_uses}
 use Rattle.port_control.specs.Engines.{Stops}
 use Rattle.port_control.specs.Ports.{PortStops, IsStopped, IsCommandRegister}
 use Rattle.error_recovery.specs.Evidence.{ShowsFatal}
-use Rattle.error_recovery.specs.Laws.{Laws, AccessKind}
+use Rattle.error_recovery.specs.Laws.{Laws, AccessPurpose}
 use Rattle.error_recovery.specs.Laws.SlotCondition.{AnyUses}
 use Rattle.error_recovery.specs.Laws.RegisterSet.{Commanding}
-use Rattle.error_recovery.specs.Laws.AccessKind.{Controlling}
-use Rattle.error_recovery.specs.Witness.{MayBeGivenUp}
+use Rattle.error_recovery.specs.Laws.AccessPurpose.{Controlling}
+use Rattle.error_recovery.specs.Witness.{StopWitness}
 use Rattle.error_recovery.proofs.GivingUp.{gives_up_stopped}
 use Rattle.error_recovery.proofs.Stretching.{told_both}
 
@@ -77,10 +77,10 @@ as_read : (place : ℕ) → place ≢ 0 → bit 0xc010 place ≡ bit 0xc011 plac
 as_read zero ne = absurd (ne refl)
 as_read (suc k) ne = ap (λ (b : ℕ). b == 1) (bit_at-suc 0xc010 k ∙ sym (bit_at-suc 0xc011 k))
 
-written_back : IsWrittenBack false true 0xc011 0xc010
+written_back : KeepsOtherCmdBits false true 0xc011 0xc010
 written_back = record { start = refl; receive = refl; others = λ place low start receive. as_read place start }
 
-leaves : (uses : SlotStates) → IsCommand uses 0 0xc010 (commanded.port 0)
+leaves : (uses : SlotStates) → IsSafeCmdWrite uses 0 0xc010 (commanded.port 0)
 unfolding changed
 leaves uses = record { start = λ set. absurd (false≢true set); receive = λ set. (omega arith, refl) }
 
@@ -106,15 +106,15 @@ abbrev stop_list : List Access
 stop_list = Reading (Px (port_at 0) Cmd) 0xc011 ∷ Writing (Px (port_at 0) Cmd) 0xc010 ∷ []
 
 module _ (laws : Laws)
-    (permits : (port : Port) (was v : ℕ) (d : Device) → IsOn d → HasPort d port.0 → (d.port port.0).notes.last_cmd ≡ was → IsWrittenBack false (d.port port.0).fre was v → IsStable (MayWrite (Px port Cmd) v) d)
+    (permits : (port : Port) (was v : ℕ) (d : Device) → IsOn d → HasPort d port.0 → (d.port port.0).notes.last_cmd ≡ was → KeepsOtherCmdBits false (d.port port.0).fre was v → IsStable (MayWrite (Px port Cmd) v) d)
   where
     may_stop : IsStable (MayWrite (Px (port_at 0) Cmd) 0xc010) commanded
-    may_stop = permits (port_at 0) 0xc011 0xc010 commanded is_on (omega arith, refl) noted_so.0 (subst (λ (fre : Bool). IsWrittenBack false fre 0xc011 0xc010) (sym noted_so.1) written_back)
+    may_stop = permits (port_at 0) 0xc011 0xc010 commanded is_on (omega arith, refl) noted_so.0 (subst (λ (fre : Bool). KeepsOtherCmdBits false fre 0xc011 0xc010) (sym noted_so.1) written_back)
 
     abbrev Commands : List Access → Device → Device → Type 0
-    Commands accesses old new = IsSimulatedAlong (λ made. made ≡ accesses) (IsControl IsCommandRegister (port_at 0)) AnyUse old new
+    Commands accesses old new = IsSimulatedAlong (λ made. made ≡ accesses) (OnPortWriting IsCommandRegister (port_at 0)) AnyUse old new
 
-    abbrev kind : AccessKind
+    abbrev kind : AccessPurpose
     kind = Controlling Commanding AnyUses (port_at 0)
 
     found : Commands (Reading (Px (port_at 0) Cmd) 0xc011 ∷ []) seen commanded
@@ -140,7 +140,7 @@ module _ (laws : Laws)
       later = [];
       here = ap (λ (xs : List Access). xs ++ late) a ∙ ap (λ (xs : List Access). stop_list ++ xs) b;
       clears = refl;
-      only = All-nil (SparesRegister (Px (port_at 0) Cmd));
+      only = All-nil (DoesNotWrite (Px (port_at 0) Cmd));
       shown = refl;
     }
 
@@ -154,7 +154,7 @@ module _ (laws : Laws)
     agreed : IsRelated first_uses first_read_device → IsRelated first_uses seen
     agreed a = laws.fragments.agreed kind (λ uses. uses) first_uses first_read_device seen tt (laws.fragments.reads kind (Px (port_at 0) Ssts) 3 first_read_device seen refl sees).followed a
 
-    pub may_be_given_up : ((uses : SlotStates) (port slot : ℕ) (u : SlotState) → put uses port slot u port slot ≡ u) → FirstIsKnown → MayBeGivenUp
+    pub may_be_given_up : ((uses : SlotStates) (port slot : ℕ) (u : SlotState) → put uses port slot u port slot ≡ u) → FirstReadWitness → StopWitness
     may_be_given_up here k = record {
       device = seen;
       on = record { ae = refl; no_reset = refl };

@@ -1,6 +1,6 @@
 -- Recovery to its ends: the port runs again, has to be booted, or is dead.
 use Rattle.hba_regs.specs.declared.reg.Reg.TheVariants.{Px}
-use Rattle.refinement.specs.Links.{SparesRegister}
+use Rattle.refinement.specs.Links.{DoesNotWrite}
 use Rattle.std.proofs.Common.{ℕ, Bool, ◌≡◌, ◌≢◌, ◌%◌, ◌/◌, ◌||◌, true, false, List, [], Option, None, Some, IfSome, IfNone, length, inl, inr, refl, sym, ◌∙◌, ap, subst, append-nil, ◌⊎◌}
 use Rattle.std.proofs.lemmas.Bool.{true≢false}
 use Rattle.std.proofs.lemmas.List.Elements.{All-nil, All-weaker, All-append}
@@ -14,15 +14,15 @@ use Rattle.adapter.specs.Device.{Device, Notes}
 use Rattle.adapter.specs.Device.Halt.{NotHalted}
 use Rattle.adapter.specs.Rules.{IsOn}
 use Rattle.adapter.specs.declared.command.Operation.TheVariants.{Identify, ReadLog}
-use Rattle.refinement.specs.Driven.{RelatesWith, AnyUse, IsRelated, IsControl, IsDrivenBy, IsSimulated, IsSimulatedTo, IsSimulatedAlongTo, SendsNone}
+use Rattle.refinement.specs.Driven.{RelatesWith, AnyUse, IsRelated, OnPortWriting, IsDrivenBy, IsSimulated, IsSimulatedTo, IsSimulatedAlongTo, GainsNoMove}
 use Rattle.refinement.specs.Driver.{AllFree}
 use Rattle.refinement.specs.Slots.{Free, IsMove, Own, SlotStates, put, op_of}
-use Rattle.disk_page.specs.Asking.{BringsLastPage, IsAsking, LeavesRunning, WaitsInVain}
+use Rattle.disk_page.specs.Asking.{BringsLastPage, IsPageAccess, LeavesRunning, WaitsInVain}
 use Rattle.command_table.specs.Written.{IsUnused}
 use Rattle.identify.specs.Log.{TellsNoError}
 use Rattle.identify.specs.declared.error_log.FailedSlot.{FailedSlot}
 use Rattle.port_control.specs.Engines.{FailsToStop, Sticks, Stops}
-use Rattle.port_control.specs.Ports.{FailsToStopPort, PortStops, HasStopped, IsCommandRegister}
+use Rattle.port_control.specs.Ports.{FailsToStopPort, PortStops, HasStCleared, IsCommandRegister}
 use Rattle.port_control.specs.declared.Running as running_token
 use Rattle.port_control.specs.declared.Stopped as stopped_token
 use Rattle.error_recovery.specs.Evidence.{BringsLog}
@@ -32,9 +32,9 @@ use Rattle.error_recovery.specs.declared.Recovered as recovered
 use Rattle.error_recovery.specs.Laws.{Laws}
 use Rattle.error_recovery.specs.Laws.SlotCondition.{AnyUses, PortUnused}
 use Rattle.error_recovery.specs.Laws.RegisterSet.{ButIssued, Commanding}
-use Rattle.error_recovery.specs.Laws.AccessKind.{Asking, Controlling, Recovering}
+use Rattle.error_recovery.specs.Laws.AccessPurpose.{Asking, Controlling, Recovering}
 use Rattle.error_recovery.specs.Parts.{StopGetsStuck, StartsAgain, HasDriverMemory, MayStartAgain, ReadsLog, IsQuietedForRecovery}
-use Rattle.error_recovery.specs.Recovery.{EndsAsNext, IsRecovering, LeavesRecovery, LeavesSlots, MayRecover, RecoversOrStops, NamesUnknownSlot, Parts, Recovers, Rests, WaitsAnew}
+use Rattle.error_recovery.specs.Recovery.{EndsAsNext, IsRecoveryAccess, LeavesRecovery, SlotsAfterRecovery, MayRecover, RecoversOrStops, NamesUnknownSlot, Parts, Recovers, BacksFailure, StopsThenWaits}
 use Rattle.error_recovery.proofs.Going.{Asks, Goes, asks_over, goes_over}
 use Rattle.error_recovery.proofs.Quieting.{commands_silent, starting_silent}
 use Rattle.error_recovery.proofs.Resting.{IsTold, brings_log}
@@ -49,7 +49,7 @@ all_go_again outstanding = record { split = λ slot small set. inr set; apart = 
 
 -- what a plain command that is named rests on
 pub rests_on_fault : (port : Port) (outstanding shown : ℕ) (accesses : List Access) (old new : Device) → IsTold port false shown accesses old new → (failed : Option FailedSlot) →
-    IfSome failed (λ f. (f.slot.0 ≡ 0) × (bit outstanding 0 ≡ true) × (f.status ≡ shown % 256) × (f.error ≡ shown / 256 % 256)) → Rests false port outstanding accesses old new failed
+    IfSome failed (λ f. (f.slot.0 ≡ 0) × (bit outstanding 0 ≡ true) × (f.status ≡ shown % 256) × (f.error ≡ shown / 256 % 256)) → BacksFailure false port outstanding accesses old new failed
 rests_on_fault port outstanding shown accesses old new t None is = tt
 rests_on_fault port outstanding shown accesses old new t (Some f) is = record {
   slot_is = is.0;
@@ -88,8 +88,8 @@ recovers_at port at outstanding queued is result old new names same r =
 module _ (laws : Laws) where
   -- the log was read, and named none
   pub log_room : (port : Port) (outstanding : ℕ) (start log : Device) → IsOn log → ReadsLog port outstanding None start log → HasDriverMemory port.0 start → HasDriverMemory port.0 log
-  log_room port outstanding start log on (inl (count, a)) room = room_after laws (IsAsking port) port.0 start log a.followed.driven on room
-  log_room port outstanding start log on (inr (page, (brings, a), why)) room = room_after laws (IsAsking port) port.0 start log a.driven on room
+  log_room port outstanding start log on (inl (count, a)) room = room_after laws (IsPageAccess port) port.0 start log a.followed.driven on room
+  log_room port outstanding start log on (inr (page, (brings, a), why)) room = room_after laws (IsPageAccess port) port.0 start log a.driven on room
 
   -- ---- the port wasn't even stopped
 
@@ -131,14 +131,14 @@ module _ (laws : Laws) where
     went = goes laws port outstanding queued before after old d r (λ uses. uses) d (quieted laws port outstanding queued before after old d r)
 
     -- what a recovery leaves, however it ends
-    leaves : (next : Next) (new : Device) → Goes port old new → EndsAsNext queued port next old new → (RelatesWith (λ uses. uses port.0 0 ≡ Own Identify → ⊥) old → SendsNone port.0 Identify old new) →
-        ((q : Port) (o : Operation) → q.0 ≢ port.0 → op_of o ≡ None → RelatesWith (λ uses. uses q.0 0 ≡ Own o → ⊥) old → SendsNone q.0 o old new) → LeavesRecovery port queued next old new
+    leaves : (next : Next) (new : Device) → Goes port old new → EndsAsNext queued port next old new → (RelatesWith (λ uses. uses port.0 0 ≡ Own Identify → ⊥) old → GainsNoMove port.0 Identify old new) →
+        ((q : Port) (o : Operation) → q.0 ≢ port.0 → op_of o ≡ None → RelatesWith (λ uses. uses q.0 0 ≡ Own o → ⊥) old → GainsNoMove q.0 o old new) → LeavesRecovery port queued next old new
     leaves next new w ends silent others = record { ends = ends; det = w.det; written = w.written; enabled = w.enabled; silent = silent; others = others }
 
     -- ---- its disk is busy
 
     pub is_busy : (failed : Option FailedSlot) (again : ℕ) (token : stopped_token.Stopped) → token.port ≡ port → bit after 7 || bit after 3 ≡ true → Parts outstanding failed again →
-        (Rests queued port outstanding (total laws port outstanding queued before after old d r (λ uses. uses) d (quieted laws port outstanding queued before after old d r)) old d failed) →
+        (BacksFailure queued port outstanding (total laws port outstanding queued before after old d r (λ uses. uses) d (quieted laws port outstanding queued before after old d r)) old d failed) →
         (queued ≡ false → bit outstanding 0 ≡ true → failed ≢ None) → (queued ≡ true → failed ≡ None) → Recovers port outstanding queued (record { failed = failed; again = again; next = Restart token }) old d
     is_busy failed again token names occupied parts rests named unnamed =
         let b = quieted laws port outstanding queued before after old d r in
@@ -162,7 +162,7 @@ module _ (laws : Laws) where
             named = λ at is run. absurd cc;
             told = λ is set alive. named is set;
             restarts = λ at run. inl (
-              All-append (SparesRegister (Px port Ci)) r.quiets.stops.followed.driven.accesses b.driven.accesses r.quiets.stops.tells.2 (quieted_told laws port outstanding queued before after old d r).tells,
+              All-append (DoesNotWrite (Px port Ci)) r.quiets.stops.followed.driven.accesses b.driven.accesses r.quiets.stops.tells.2 (quieted_told laws port outstanding queued before after old d r).tells,
               λ idle. absurd (true≢false (sym occupied ∙ (ap (λ (v : ℕ). bit v 7 || bit v 3) (sym r.quiets.file) ∙ idle))),
             );
           };
@@ -171,7 +171,7 @@ module _ (laws : Laws) where
     -- ---- it was started again
 
     module _ (start : Device) (s : StartsAgain port d start) where
-      pub b_start : IsSimulated (IsRecovering port) (λ uses. AllFree uses port.0) r.quiets.stopped start
+      pub b_start : IsSimulated (IsRecoveryAccess port) (λ uses. AllFree uses port.0) r.quiets.stopped start
       b_start = started laws port outstanding queued before after old d r start s
 
       goes_start : Goes port old start
@@ -180,12 +180,12 @@ module _ (laws : Laws) where
       starting : Goes port d start
       starting = let made = (followed_commands laws PortUnused port d start s.starts).driven in goes_over laws port made.accesses d start went.on made.only made.all
 
-      silent_start : RelatesWith (λ uses. uses port.0 0 ≡ Own Identify → ⊥) old → SendsNone port.0 Identify old start
+      silent_start : RelatesWith (λ uses. uses port.0 0 ≡ Own Identify → ⊥) old → GainsNoMove port.0 Identify old start
       silent_start a = laws.silent_more port.0 Identify old d start (r.quiets.silent a) (starting_silent laws port d start s.starts r.quiets.agreed)
 
       -- a plain command failed
       pub goes_again : (failed : Option FailedSlot) (again : ℕ) (token : running_token.Running) → token.port ≡ port → queued ≡ false → Parts outstanding failed again →
-          Rests queued port outstanding (total laws port outstanding queued before after old d r (λ uses. uses) start b_start) old start failed →
+          BacksFailure queued port outstanding (total laws port outstanding queued before after old d r (λ uses. uses) start b_start) old start failed →
           (bit outstanding 0 ≡ true → failed ≢ None) → Recovers port outstanding queued (record { failed = failed; again = again; next = Running token }) old start
       goes_again failed again token names is parts rests named = record {
         handling = record {
@@ -215,23 +215,23 @@ module _ (laws : Laws) where
 
       -- ---- its log was read
 
-      module _ (log : Device) (on : queued ≡ true) (l : LeavesRunning port.0 start log) (silent_log : SendsNone port.0 Identify start log) where
-        silent_now : RelatesWith (λ uses. uses port.0 0 ≡ Own Identify → ⊥) old → SendsNone port.0 Identify old log
+      module _ (log : Device) (on : queued ≡ true) (l : LeavesRunning port.0 start log) (silent_log : GainsNoMove port.0 Identify start log) where
+        silent_now : RelatesWith (λ uses. uses port.0 0 ≡ Own Identify → ⊥) old → GainsNoMove port.0 Identify old log
         silent_now a = laws.silent_more port.0 Identify old start log (silent_start a) silent_log
 
-        b_log : IsSimulated (IsAsking port) (IsUnused port.0 0) start log → IsSimulated (IsRecovering port) (λ uses. AllFree uses port.0) r.quiets.stopped log
+        b_log : IsSimulated (IsPageAccess port) (IsUnused port.0 0) start log → IsSimulated (IsRecoveryAccess port) (λ uses. AllFree uses port.0) r.quiets.stopped log
         b_log a = (asked laws port outstanding queued before after old d r (λ made. Unit {0}) (λ early late is. is) (λ uses. uses) start log s (record { followed = a; tells = tt })).followed
 
-        b_vain : IsSimulatedAlongTo (WaitsInVain port) (IsAsking port) (IsUnused port.0 0) (λ uses. put uses port.0 0 (Own ReadLog)) start log →
-            IsSimulatedAlongTo (WaitsInVain port) (IsRecovering port) (λ uses. AllFree uses port.0) (λ uses. put uses port.0 0 (Own ReadLog)) r.quiets.stopped log
+        b_vain : IsSimulatedAlongTo (WaitsInVain port) (IsPageAccess port) (IsUnused port.0 0) (λ uses. put uses port.0 0 (Own ReadLog)) start log →
+            IsSimulatedAlongTo (WaitsInVain port) (IsRecoveryAccess port) (λ uses. AllFree uses port.0) (λ uses. put uses port.0 0 (Own ReadLog)) r.quiets.stopped log
         b_vain a = asked laws port outstanding queued before after old d r (WaitsInVain port) (λ early late is. laws.vain_since port early late is) (λ uses. put uses port.0 0 (Own ReadLog)) start log s a
 
-        asking : (next : SlotStates → SlotStates) → IsSimulatedTo (IsAsking port) (IsUnused port.0 0) next start log → Asks port start log
+        asking : (next : SlotStates → SlotStates) → IsSimulatedTo (IsPageAccess port) (IsUnused port.0 0) next start log → Asks port start log
         asking next a = asks_over laws port a.driven.accesses start log goes_start.on a.driven.only a.driven.all
 
-        recovers_asked : (next : SlotStates → SlotStates) → IsSimulatedTo (IsAsking port) (IsUnused port.0 0) next start log → Goes port start log
+        recovers_asked : (next : SlotStates → SlotStates) → IsSimulatedTo (IsPageAccess port) (IsUnused port.0 0) next start log → Goes port start log
         recovers_asked next a =
-            goes_over laws port a.driven.accesses start log goes_start.on (All-weaker (IsAsking port) (IsRecovering port) (λ access is. inr is) a.driven.accesses a.driven.only) a.driven.all
+            goes_over laws port a.driven.accesses start log goes_start.on (All-weaker (IsPageAccess port) (IsRecoveryAccess port) (λ access is. inr is) a.driven.accesses a.driven.only) a.driven.all
 
         -- and names one
         pub names_one : (failed : FailedSlot) (again : ℕ) (token : running_token.Running) → token.port ≡ port → (log.port port.0).halt ≡ NotHalted → ReadsLog port outstanding (Some failed) start log →
@@ -241,7 +241,7 @@ module _ (laws : Laws) where
             let w = goes laws port outstanding queued before after old d r (λ uses. uses) log b in
             let t = told laws port outstanding queued before after old d r (λ uses. uses) log b in
             let came = brings_log port old start log log page goes_start.grows w.grows brings ([], sym (append-nil log.tape), All-nil (λ e. IsMove port.0 ReadLog e → ⊥)) in
-            let Q : Bool → Type 0 = λ q. Rests q port outstanding (total laws port outstanding queued before after old d r (λ uses. uses) log b) old log (Some failed) in
+            let Q : Bool → Type 0 = λ q. BacksFailure q port outstanding (total laws port outstanding queued before after old d r (λ uses. uses) log b) old log (Some failed) in
             record {
               handling = record {
                 accesses = total laws port outstanding queued before after old d r (λ uses. uses) log b;
@@ -277,43 +277,43 @@ module _ (laws : Laws) where
         -- ---- or none, and the port was to stop
 
         module _ (new : Device) where
-          page_free : IsSimulated (IsAsking port) (IsUnused port.0 0) start log → RelatesWith (λ uses. AllFree uses port.0) log
+          page_free : IsSimulated (IsPageAccess port) (IsUnused port.0 0) start log → RelatesWith (λ uses. AllFree uses port.0) log
           page_free a = let g = s.agreed in (g.0, g.1, laws.fragments.agreed (Asking port) (λ uses. uses) g.0 start log (g.1 0) a g.2)
 
           -- no page of IDENTIFY DEVICE comes meanwhile
-          stop_silent : (uses : SlotStates) → IsRelated uses log → (uses port.0 0 ≡ Own Identify → ⊥) → IsSimulated (IsControl IsCommandRegister port) AnyUse log new →
-              RelatesWith (λ uses. uses port.0 0 ≡ Own Identify → ⊥) old → SendsNone port.0 Identify old new
+          stop_silent : (uses : SlotStates) → IsRelated uses log → (uses port.0 0 ≡ Own Identify → ⊥) → IsSimulated (OnPortWriting IsCommandRegister port) AnyUse log new →
+              RelatesWith (λ uses. uses port.0 0 ≡ Own Identify → ⊥) old → GainsNoMove port.0 Identify old new
           stop_silent uses agreed none a o = laws.silent_more port.0 Identify old log new (silent_now o) (commands_silent laws port uses log new a agreed none)
 
-          page_silent : IsSimulated (IsAsking port) (IsUnused port.0 0) start log → IsSimulated (IsControl IsCommandRegister port) AnyUse log new →
-              RelatesWith (λ uses. uses port.0 0 ≡ Own Identify → ⊥) old → SendsNone port.0 Identify old new
+          page_silent : IsSimulated (IsPageAccess port) (IsUnused port.0 0) start log → IsSimulated (OnPortWriting IsCommandRegister port) AnyUse log new →
+              RelatesWith (λ uses. uses port.0 0 ≡ Own Identify → ⊥) old → GainsNoMove port.0 Identify old new
           page_silent a c = let g = page_free a in stop_silent g.0 g.2 (λ own. let e : Free ≡ Own Identify = sym (g.1 0) ∙ own in absurd cc) c
 
-          vain_silent : IsSimulatedTo (IsAsking port) (IsUnused port.0 0) (λ uses. put uses port.0 0 (Own ReadLog)) start log → IsSimulated (IsControl IsCommandRegister port) AnyUse log new →
-              RelatesWith (λ uses. uses port.0 0 ≡ Own Identify → ⊥) old → SendsNone port.0 Identify old new
+          vain_silent : IsSimulatedTo (IsPageAccess port) (IsUnused port.0 0) (λ uses. put uses port.0 0 (Own ReadLog)) start log → IsSimulated (OnPortWriting IsCommandRegister port) AnyUse log new →
+              RelatesWith (λ uses. uses port.0 0 ≡ Own Identify → ⊥) old → GainsNoMove port.0 Identify old new
           vain_silent a c =
               let g = s.agreed in
               let agreed = laws.fragments.agreed (Asking port) (λ uses. put uses port.0 0 (Own ReadLog)) g.0 start log (g.1 0) a g.2 in
               stop_silent (put g.0 port.0 0 (Own ReadLog)) agreed (λ own. let e : Own ReadLog ≡ Own Identify = sym (laws.put_here g.0 port.0 0 ReadLog) ∙ own in absurd cc) c
 
           -- the page that came is the last one still
-          still_last : (page : List ℕ) → BringsLastPage port.0 ReadLog (length start.tape) page log → IsSimulated (IsAsking port) (IsUnused port.0 0) start log → IsDrivenBy (IsControl IsCommandRegister port) log new →
+          still_last : (page : List ℕ) → BringsLastPage port.0 ReadLog (length start.tape) page log → IsSimulated (IsPageAccess port) (IsUnused port.0 0) start log → IsDrivenBy (OnPortWriting IsCommandRegister port) log new →
               BringsLog port old new page
           still_last page brings a c =
               let w = goes laws port outstanding queued before after old d r (λ uses. uses) log (b_log a) in
               let runs = asked_running laws port.0 start log s.runs l brings.clear.over in
               let others : (q : PortReg) → IsCommandRegister q → q ≢ Ci = λ q is same. let e : Cmd ≡ Ci = sym is ∙ same in absurd cc in
-              let unissued : IsDrivenBy (IsControl (λ q. q ≢ Ci) port) log new = record {
+              let unissued : IsDrivenBy (OnPortWriting (λ q. q ≢ Ci) port) log new = record {
                 accesses = c.accesses;
                 all = c.all;
-                only = All-weaker (IsControl IsCommandRegister port) (IsControl (λ q. q ≢ Ci) port) (laws.control_wider Commanding ButIssued port others) c.accesses c.only;
+                only = All-weaker (OnPortWriting IsCommandRegister port) (OnPortWriting (λ q. q ≢ Ci) port) (laws.control_wider Commanding ButIssued port others) c.accesses c.only;
               } in
               brings_log port old start log new page goes_start.grows w.grows brings (laws.controls_unmoving port ReadLog log new unissued (no_command port.0 (log.port port.0) runs)).0
 
           -- the engine stopped: the port has to be booted
-          stopped : (token : stopped_token.Stopped) → token.port ≡ port → (b : IsSimulated (IsRecovering port) (λ uses. AllFree uses port.0) r.quiets.stopped new) → PortStops port log new →
-              (WaitsAnew port (total laws port outstanding queued before after old d r (λ uses. uses) new b) new ⊎ ((page : List ℕ) × BringsLog port old new page × (TellsNoError page ⊎ NamesUnknownSlot outstanding page))) →
-              (RelatesWith (λ uses. uses port.0 0 ≡ Own Identify → ⊥) old → SendsNone port.0 Identify old new) →
+          stopped : (token : stopped_token.Stopped) → token.port ≡ port → (b : IsSimulated (IsRecoveryAccess port) (λ uses. AllFree uses port.0) r.quiets.stopped new) → PortStops port log new →
+              (StopsThenWaits port (total laws port outstanding queued before after old d r (λ uses. uses) new b) new ⊎ ((page : List ℕ) × BringsLog port old new page × (TellsNoError page ⊎ NamesUnknownSlot outstanding page))) →
+              (RelatesWith (λ uses. uses port.0 0 ≡ Own Identify → ⊥) old → GainsNoMove port.0 Identify old new) →
               Recovers port outstanding queued (record { failed = None; again = outstanding; next = Restart token }) old new
           stopped token names b halts why silent = record {
             handling = record {
@@ -338,7 +338,7 @@ module _ (laws : Laws) where
             };
           }
 
-          pub restarts : (token : stopped_token.Stopped) → token.port ≡ port → HasStopped (log.port port.0) (new.port port.0) → PortStops port log new → ReadsLog port outstanding None start log →
+          pub restarts : (token : stopped_token.Stopped) → token.port ≡ port → HasStCleared (log.port port.0) (new.port port.0) → PortStops port log new → ReadsLog port outstanding None start log →
               Recovers port outstanding queued (record { failed = None; again = outstanding; next = Restart token }) old new
           restarts token names has halts (inl (count, a)) =
               let t = told_both laws (WaitsInVain port) (Stops port) (WaitsInVain port) (λ early late w is. laws.vain_then port early late w) (Recovering PortUnused port) (Controlling Commanding AnyUses port)
@@ -361,15 +361,15 @@ module _ (laws : Laws) where
               stopped token names b halts (inr (page, still_last page brings a halts.told.followed.driven, why)) (page_silent a halts.told.followed)
 
           -- or it is stuck
-          module _ (has : HasStopped (log.port port.0) (new.port port.0)) (fails : FailsToStopPort port log new) where
-            failing : (First : List Access → Type 0) (next : SlotStates → SlotStates) → IsSimulatedAlongTo First (IsRecovering port) (λ uses. AllFree uses port.0) next r.quiets.stopped log →
-                IsSimulatedAlongTo (Sticks port) (IsRecovering port) (λ uses. AllFree uses port.0) next r.quiets.stopped new
+          module _ (has : HasStCleared (log.port port.0) (new.port port.0)) (fails : FailsToStopPort port log new) where
+            failing : (First : List Access → Type 0) (next : SlotStates → SlotStates) → IsSimulatedAlongTo First (IsRecoveryAccess port) (λ uses. AllFree uses port.0) next r.quiets.stopped log →
+                IsSimulatedAlongTo (Sticks port) (IsRecoveryAccess port) (λ uses. AllFree uses port.0) next r.quiets.stopped new
             failing First next t = told_both laws First (FailsToStop port) (Sticks port) (λ early late w is. laws.sticks_since early late port (laws.failing_sticks port late is)) (Recovering PortUnused port)
                 (Controlling Commanding AnyUses port) next (λ uses. uses) (commands_recover laws port) (λ uses free. tt) r.quiets.stopped log new t fails.told
 
-            stuck : (next : SlotStates → SlotStates) (t : IsSimulatedAlongTo (Sticks port) (IsRecovering port) (λ uses. AllFree uses port.0) next r.quiets.stopped new) →
-                LeavesSlots port.0 Dead (total laws port outstanding queued before after old d r next new t.followed) old new →
-                (RelatesWith (λ uses. uses port.0 0 ≡ Own Identify → ⊥) old → SendsNone port.0 Identify old new) →
+            stuck : (next : SlotStates → SlotStates) (t : IsSimulatedAlongTo (Sticks port) (IsRecoveryAccess port) (λ uses. AllFree uses port.0) next r.quiets.stopped new) →
+                SlotsAfterRecovery port.0 Dead (total laws port outstanding queued before after old d r next new t.followed) old new →
+                (RelatesWith (λ uses. uses port.0 0 ≡ Own Identify → ⊥) old → GainsNoMove port.0 Identify old new) →
                 Recovers port outstanding queued (record { failed = None; again = outstanding; next = Dead }) old new
             stuck next t slots silent = record {
               handling = record {

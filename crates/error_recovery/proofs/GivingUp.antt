@@ -6,18 +6,18 @@ use Rattle.ata_types.specs.declared.Port.{Port}
 use Rattle.hba_regs.specs.declared.reg.PortReg.TheVariants.{Ci, Sact}
 use Rattle.adapter.specs.Device.{Device}
 use Rattle.adapter.specs.Rules.{IsOn}
-use Rattle.refinement.specs.Driven.{AnyUse, IsControl, IsSimulatedAlong}
+use Rattle.refinement.specs.Driven.{AnyUse, OnPortWriting, IsSimulatedAlong}
 use Rattle.refinement.specs.Driver.{AllFree}
 use Rattle.port_control.specs.Engines.{Sticks, Stops}
-use Rattle.port_control.specs.Ports.{FailsToStopPort, PortStops, HasStopped, IsCommandRegister}
+use Rattle.port_control.specs.Ports.{FailsToStopPort, PortStops, HasStCleared, IsCommandRegister}
 use Rattle.port_control.specs.declared.Stopped as stopped_token
 use Rattle.error_recovery.specs.declared.Next.TheVariants.{Dead, Restart}
 use Rattle.error_recovery.specs.Laws.{Laws}
 use Rattle.error_recovery.specs.Laws.SlotCondition.{AnyUses, PortUnused}
 use Rattle.error_recovery.specs.Laws.RegisterSet.{Commanding}
-use Rattle.error_recovery.specs.Laws.AccessKind.{Controlling, Recovering}
+use Rattle.error_recovery.specs.Laws.AccessPurpose.{Controlling, Recovering}
 use Rattle.error_recovery.specs.Parts.{StopGetsStuck}
-use Rattle.error_recovery.specs.Recovery.{StopsForReset, IsRecovering}
+use Rattle.error_recovery.specs.Recovery.{StopsForReset, IsRecoveryAccess}
 use Rattle.error_recovery.proofs.Finishing.{accesses_stuck, all_go_again, mends_stuck}
 use Rattle.error_recovery.proofs.Going.{Goes, goes_over}
 use Rattle.error_recovery.proofs.Quieting.{commands_silent}
@@ -26,15 +26,15 @@ use Rattle.error_recovery.proofs.Whole.{spares_other}
 
 module _ (laws : Laws) (port : Port) (outstanding : ℕ) (queued : Bool) (old new : Device) (on : IsOn old) where
   -- its engine is stuck
-  pub gives_up_stuck : HasStopped (old.port port.0) (new.port port.0) → FailsToStopPort port old new → StopsForReset port outstanding queued (record { failed = None; again = outstanding; next = Dead }) old new
+  pub gives_up_stuck : HasStCleared (old.port port.0) (new.port port.0) → FailsToStopPort port old new → StopsForReset port outstanding queued (record { failed = None; again = outstanding; next = Dead }) old new
   gives_up_stuck has fails = record {
     handling = mends_stuck laws port outstanding queued old new on gets;
-    only = subst (All (IsControl IsCommandRegister port)) (sym (accesses_stuck laws port outstanding queued old new on gets)) (only_commands laws (Sticks port) AnyUses port old new sticks);
+    only = subst (All (OnPortWriting IsCommandRegister port)) (sym (accesses_stuck laws port outstanding queued old new on gets)) (only_commands laws (Sticks port) AnyUses port old new sticks);
     nobody = refl;
     halts = λ token run. absurd cc;
   }
     where
-      sticks : IsSimulatedAlong (Sticks port) (IsControl IsCommandRegister port) AnyUse old new
+      sticks : IsSimulatedAlong (Sticks port) (OnPortWriting IsCommandRegister port) AnyUse old new
       sticks = told_wider laws (Sticks port) (Controlling Commanding AnyUses port) (Controlling Commanding AnyUses port) (λ uses. uses) old new (λ access is. is) (λ uses fits. fits)
           (record { followed = fails.told.followed; tells = laws.failing_sticks port fails.told.followed.driven.accesses fails.told.tells })
 
@@ -52,7 +52,7 @@ module _ (laws : Laws) (port : Port) (outstanding : ℕ) (queued : Bool) (old ne
     handling = record {
       accesses = t.followed.driven.accesses ++ rest.followed.driven.accesses;
       does = record {
-        only = All-append (IsRecovering port) t.followed.driven.accesses rest.followed.driven.accesses t.followed.driven.only rest.followed.driven.only;
+        only = All-append (IsRecoveryAccess port) t.followed.driven.accesses rest.followed.driven.accesses t.followed.driven.only rest.followed.driven.only;
         slots = laws.fragments.giving_up (Recovering AnyUses port) (Recovering PortUnused port) (λ uses. uses) port.0 old new new t.followed halts.stopped.halted (λ uses free. free) rest.followed;
         engine = laws.falls_then t.followed.driven.accesses rest.followed.driven.accesses 0 15 port t.tells;
       };
@@ -67,16 +67,16 @@ module _ (laws : Laws) (port : Port) (outstanding : ℕ) (queued : Bool) (old ne
             laws.fragments.silent (Recovering AnyUses port) (λ uses. uses) uses q o old new tt (spares_other laws port q Ci apart) (spares_other laws port q Sact apart) own none t.followed agreed;
       };
     };
-    only = All-append (IsControl IsCommandRegister port) t.followed.driven.accesses rest.followed.driven.accesses (only_commands laws (Stops port) AnyUses port old new halts.told)
-        (subst (All (IsControl IsCommandRegister port)) (sym rest.tells) (All-nil (IsControl IsCommandRegister port)));
+    only = All-append (OnPortWriting IsCommandRegister port) t.followed.driven.accesses rest.followed.driven.accesses (only_commands laws (Stops port) AnyUses port old new halts.told)
+        (subst (All (OnPortWriting IsCommandRegister port)) (sym rest.tells) (All-nil (OnPortWriting IsCommandRegister port)));
     nobody = refl;
     halts = λ at run. absurd cc;
   }
     where
-      t : IsSimulatedAlong (Stops port) (IsRecovering port) AnyUse old new
+      t : IsSimulatedAlong (Stops port) (IsRecoveryAccess port) AnyUse old new
       t = told_commands laws (Stops port) AnyUses port old new halts.told
 
-      rest : IsSimulatedAlong (λ made. made ≡ []) (IsRecovering port) (λ uses. AllFree uses port.0) new new
+      rest : IsSimulatedAlong (λ made. made ≡ []) (IsRecoveryAccess port) (λ uses. AllFree uses port.0) new new
       rest = laws.fragments.none (Recovering PortUnused port) new
 
       went : Goes port old new

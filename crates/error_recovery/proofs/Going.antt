@@ -11,20 +11,20 @@ use Rattle.adapter.specs.Access.{Access, Does, DoesAll}
 use Rattle.adapter.specs.Access.Access.{Reading, Writing, Loading, Storing}
 use Rattle.adapter.specs.Device.{Device, DevicePort}
 use Rattle.adapter.specs.Rules.{IsOn}
-use Rattle.refinement.specs.Driven.{Grows, IsOf}
+use Rattle.refinement.specs.Driven.{Grows, SparesOtherPorts}
 use Rattle.refinement.specs.Errors.{ChangesByDisks, NoneFails, NoneFatal}
-use Rattle.refinement.specs.Links.{PlugsNone, SparesRegister}
+use Rattle.refinement.specs.Links.{NoPlugEvents, DoesNotWrite}
 use Rattle.refinement.specs.Recovering.{IsLinked, RunsLinked}
 use Rattle.refinement.specs.Started.{ClearsNoStart}
-use Rattle.disk_page.specs.Asking.{IsAsking}
+use Rattle.disk_page.specs.Asking.{IsPageAccess}
 use Rattle.error_recovery.specs.Laws.{Laws}
 use Rattle.error_recovery.specs.Laws.RegisterSet.{Recovered}
-use Rattle.error_recovery.specs.Recovery.{IsRecoveryRegister, IsRecovering}
+use Rattle.error_recovery.specs.Recovery.{IsRecoveryRegister, IsRecoveryAccess}
 
 -- ---- which registers are spared
 
 -- of the registers that are asked by, PxCI alone is written
-asking_spares : (port : Port) (r : PortReg) → r ≢ Ci → (access : Access) → IsAsking port access → SparesRegister (Px port r) access
+asking_spares : (port : Port) (r : PortReg) → r ≢ Ci → (access : Access) → IsPageAccess port access → DoesNotWrite (Px port r) access
 asking_spares port r other (Reading q v) is = tt
 asking_spares port r other (Writing q v) is = λ (e : q ≡ Px port r). let both : Px port r ≡ Px port Ci = sym e ∙ is.0 in let same : r ≡ Ci = cc in other same
 asking_spares port r other (Loading at bytes) is = tt
@@ -48,12 +48,12 @@ not_active (inr (inr e)) = absurd (let k : Sact ≡ Is = e in cc)
 -- ---- what is loaded and stored
 
 -- the page is in the port's scratch frame
-pub loads_inside : (port : Port) (at : ℕ) (bytes : List ℕ) → port.0 < 4 → IsRecovering port (Loading at bytes) → at + length bytes ≤ DRIVER_BYTES
+pub loads_inside : (port : Port) (at : ℕ) (bytes : List ℕ) → port.0 < 4 → IsRecoveryAccess port (Loading at bytes) → at + length bytes ≤ DRIVER_BYTES
 loads_inside port at bytes small (inl is) = absurd is
 loads_inside port at bytes small (inr (place, size)) = omega (arith, small, place, size)
 
 -- header and table of slot 0 are in its list and its tables
-pub stores_inside : (port : Port) (at : ℕ) (bytes : List ℕ) → port.0 < 4 → IsRecovering port (Storing at bytes) → at + length bytes ≤ DRIVER_BYTES
+pub stores_inside : (port : Port) (at : ℕ) (bytes : List ℕ) → port.0 < 4 → IsRecoveryAccess port (Storing at bytes) → at + length bytes ≤ DRIVER_BYTES
 stores_inside port at bytes small (inl is) = absurd is
 stores_inside port at bytes small (inr (inl (place, size, zero_count))) = omega (arith, small, place, size)
 stores_inside port at bytes small (inr (inr (from, to))) = omega (arith, small, to)
@@ -69,7 +69,7 @@ pub record Goes (port : Port) (old new : Device) : Type 0 where
   pub enabled : (new.port port.0).ie ≡ (old.port port.0).ie
   pub undue : (old.port port.0).link_due ≡ false → (new.port port.0).link_due ≡ false
   pub changes : (old.port port.0).link_due ≡ false → ChangesByDisks port.0 old new
-  pub linked : PlugsNone port.0 old new → IsLinked (old.port port.0) → IsLinked (new.port port.0)
+  pub linked : NoPlugEvents port.0 old new → IsLinked (old.port port.0) → IsLinked (new.port port.0)
 
 abbrev ShowsNoFatal : DevicePort → Type 0
 ShowsNoFatal p = (place : ℕ) → 27 ≤ place → place ≤ 29 → p.is place ≡ false
@@ -80,35 +80,35 @@ pub record Asks (port : Port) (old new : Device) : Type 0 where
   pub raises : NoneFatal port.0 old new → ShowsNoFatal (old.port port.0) → ShowsNoFatal (new.port port.0)
   pub fault : (new.port port.0).is 30 ≡ false → ((old.port port.0).is 30 ≡ false) × NoneFails port.0 old new
   pub fatal : ShowsNoFatal (new.port port.0) → ShowsNoFatal (old.port port.0) × NoneFatal port.0 old new
-  pub disk : (new.port port.0).serr_n ≡ false → ((old.port port.0).serr_n ≡ false) × PlugsNone port.0 old new
-  pub runs : PlugsNone port.0 old new → NoneFatal port.0 old new → RunsLinked (old.port port.0) → RunsLinked (new.port port.0)
+  pub disk : (new.port port.0).serr_n ≡ false → ((old.port port.0).serr_n ≡ false) × NoPlugEvents port.0 old new
+  pub runs : NoPlugEvents port.0 old new → NoneFatal port.0 old new → RunsLinked (old.port port.0) → RunsLinked (new.port port.0)
 
 module _ (laws : Laws) where
-  recovering_spares : (port : Port) (r : PortReg) → (IsRecoveryRegister r → ⊥) → r ≢ Ci → (access : Access) → IsRecovering port access → SparesRegister (Px port r) access
+  recovering_spares : (port : Port) (r : PortReg) → (IsRecoveryRegister r → ⊥) → r ≢ Ci → (access : Access) → IsRecoveryAccess port access → DoesNotWrite (Px port r) access
   recovering_spares port r not_written other access (inl is) = laws.control_spares Recovered port r not_written access is
   recovering_spares port r not_written other access (inr is) = asking_spares port r other access is
 
-  pub recovering_is_of : (port : Port) (access : Access) → IsRecovering port access → IsOf port access
+  pub recovering_is_of : (port : Port) (access : Access) → IsRecoveryAccess port access → SparesOtherPorts port access
   recovering_is_of port access (inl is) = laws.control_of Recovered port access is
   recovering_is_of port access (inr is) = laws.asking_is_of port access is
 
-  pub recovering_spares_host : (port : Port) (access : Access) → IsRecovering port access → SparesRegister Ghc access
+  pub recovering_spares_host : (port : Port) (access : Access) → IsRecoveryAccess port access → DoesNotWrite Ghc access
   recovering_spares_host port access is = laws.of_spares_ghc port access (recovering_is_of port access is)
 
-  pub spares_link : (port : Port) (access : Access) → IsRecovering port access → SparesRegister (Px port Sctl) access
+  pub spares_link : (port : Port) (access : Access) → IsRecoveryAccess port access → DoesNotWrite (Px port Sctl) access
   spares_link port = recovering_spares port Sctl not_link (λ e. absurd (let k : Sctl ≡ Ci = e in cc))
 
-  pub spares_interrupts : (port : Port) (access : Access) → IsRecovering port access → SparesRegister (Px port Ie) access
+  pub spares_interrupts : (port : Port) (access : Access) → IsRecoveryAccess port access → DoesNotWrite (Px port Ie) access
   spares_interrupts port = recovering_spares port Ie not_enabled (λ e. absurd (let k : Ie ≡ Ci = e in cc))
 
-  pub spares_active : (port : Port) (access : Access) → IsRecovering port access → SparesRegister (Px port Sact) access
+  pub spares_active : (port : Port) (access : Access) → IsRecoveryAccess port access → DoesNotWrite (Px port Sact) access
   spares_active port = recovering_spares port Sact not_active (λ e. absurd (let k : Sact ≡ Ci = e in cc))
 
   -- an adapter that is on stays on
-  on_after : (port : Port) (access : Access) (old new : Device) → IsOn old → IsOf port access → Does access old new → IsOn new
-  on_after port access old new on is does = laws.access_on access old new on (λ v e. absurd (subst (SparesRegister Ghc) e (laws.of_spares_ghc port access is) refl)) does
+  on_after : (port : Port) (access : Access) (old new : Device) → IsOn old → SparesOtherPorts port access → Does access old new → IsOn new
+  on_after port access old new on is does = laws.access_on access old new on (λ v e. absurd (subst (DoesNotWrite Ghc) e (laws.of_spares_ghc port access is) refl)) does
 
-  pub plugs_in_parts : (port : ℕ) (old mid new : Device) → Grows old mid → Grows mid new → PlugsNone port old new → PlugsNone port old mid × PlugsNone port mid new
+  pub plugs_in_parts : (port : ℕ) (old mid new : Device) → Grows old mid → Grows mid new → NoPlugEvents port old new → NoPlugEvents port old mid × NoPlugEvents port mid new
   plugs_in_parts port old mid new early late none = laws.tape.plugs_parts port old mid new early.0 late.0 early.1 late.1 none
 
   pub fatal_in_parts : (port : ℕ) (old mid new : Device) → Grows old mid → Grows mid new → NoneFatal port old new → NoneFatal port old mid × NoneFatal port mid new
@@ -138,7 +138,7 @@ module _ (laws : Laws) where
     linked = λ none h. let n = plugs_in_parts port.0 a b c x.grows y.grows none in y.linked n.1 (x.linked n.0 h);
   }
 
-  access_goes : (port : Port) (access : Access) (old new : Device) → IsOn old → IsRecovering port access → Does access old new → Goes port old new
+  access_goes : (port : Port) (access : Access) (old new : Device) → IsOn old → IsRecoveryAccess port access → Does access old new → Goes port old new
   access_goes port access old new on is does =
       let link = spares_link port access is in
       let enabled = spares_interrupts port access is in
@@ -154,11 +154,11 @@ module _ (laws : Laws) where
         linked = λ none h. laws.access_linked port access old new on.no_reset link none does h;
       }
 
-  pub goes_over : (port : Port) (accesses : List Access) (old new : Device) → IsOn old → All (IsRecovering port) accesses → DoesAll accesses old new → Goes port old new
+  pub goes_over : (port : Port) (accesses : List Access) (old new : Device) → IsOn old → All (IsRecoveryAccess port) accesses → DoesAll accesses old new → Goes port old new
   goes_over port [] old new on all is = subst (Goes port old) (sym is) (goes_none port old on)
   goes_over port (access ∷ accesses) old new on all (mid, does, rest) =
-      let first = access_goes port access old mid on (All-head (IsRecovering port) access accesses all) does in
-      goes_more port old mid new first (goes_over port accesses mid new first.on (All-tail (IsRecovering port) access accesses all) rest)
+      let first = access_goes port access old mid on (All-head (IsRecoveryAccess port) access accesses all) does in
+      goes_more port old mid new first (goes_over port accesses mid new first.on (All-tail (IsRecoveryAccess port) access accesses all) rest)
 
   -- ---- while the log is asked for
 
@@ -185,13 +185,13 @@ module _ (laws : Laws) where
         y.runs n.1 m.1 (x.runs n.0 m.0 h);
   }
 
-  access_asks : (port : Port) (access : Access) (old new : Device) → IsOn old → IsAsking port access → Does access old new → Asks port old new
+  access_asks : (port : Port) (access : Access) (old new : Device) → IsOn old → IsPageAccess port access → Does access old new → Asks port old new
   access_asks port access old new on is does =
       let link = asking_spares port Sctl (λ e. absurd (let k : Sctl ≡ Ci = e in cc)) access is in
       let causes = asking_spares port Is (λ e. absurd (let k : Is ≡ Ci = e in cc)) access is in
       let errors = asking_spares port Serr (λ e. absurd (let k : Serr ≡ Ci = e in cc)) access is in
       let command = asking_spares port Cmd (λ e. absurd (let k : Cmd ≡ Ci = e in cc)) access is in
-      let starts : ClearsNoStart port access = λ v e. absurd (subst (SparesRegister (Px port Cmd)) e command refl) in
+      let starts : ClearsNoStart port access = λ v e. absurd (subst (DoesNotWrite (Px port Cmd)) e command refl) in
       record {
         grows = laws.tape.access_grows access old new does;
         raises = λ none h place from to. (laws.access_raises port access old new does).fatal none place from to (h place from to);
@@ -201,9 +201,9 @@ module _ (laws : Laws) where
         runs = λ none calm h. laws.access_runs_linked port access old new on.no_reset starts link none calm does h;
       }
 
-  pub asks_over : (port : Port) (accesses : List Access) (old new : Device) → IsOn old → All (IsAsking port) accesses → DoesAll accesses old new → Asks port old new
+  pub asks_over : (port : Port) (accesses : List Access) (old new : Device) → IsOn old → All (IsPageAccess port) accesses → DoesAll accesses old new → Asks port old new
   asks_over port [] old new on all is = subst (Asks port old) (sym is) (asks_none port old)
   asks_over port (access ∷ accesses) old new on all (mid, does, rest) =
-      let kind = All-head (IsAsking port) access accesses all in
+      let kind = All-head (IsPageAccess port) access accesses all in
       let later = on_after port access old mid on (laws.asking_is_of port access kind) does in
-      asks_more port old mid new (access_asks port access old mid on kind does) (asks_over port accesses mid new later (All-tail (IsAsking port) access accesses all) rest)
+      asks_more port old mid new (access_asks port access old mid on kind does) (asks_over port accesses mid new later (All-tail (IsPageAccess port) access accesses all) rest)

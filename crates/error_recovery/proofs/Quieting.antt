@@ -1,5 +1,5 @@
 -- A port's task file is read, the port is stopped, and its errors are forgotten.
-use Rattle.refinement.specs.Links.{SparesRegister}
+use Rattle.refinement.specs.Links.{DoesNotWrite}
 use Rattle.std.proofs.lemmas.List.Elements.{All-cons, All-weaker}
 use Rattle.std.proofs.Common.{ℕ, ◌≡◌, ◌%◌, ◌++◌, false, List, [], ◌∷◌, inl, inr, refl, sym, ◌∙◌, ap, subst}
 use Rattle.ata_types.specs.declared.Port.{Port}
@@ -9,18 +9,18 @@ use Rattle.adapter.specs.Access.{Access, Reads}
 use Rattle.adapter.specs.Access.Access.{Reading}
 use Rattle.adapter.specs.Device.{Device, Notes}
 use Rattle.adapter.specs.declared.command.Operation.TheVariants.{Identify}
-use Rattle.refinement.specs.Driven.{RelatesWith, AnyUse, IsRelated, IsControl, IsSimulated, IsSimulatedAlong, NoneWrites, SendsNone, IsDrivenBy}
+use Rattle.refinement.specs.Driven.{RelatesWith, AnyUse, IsRelated, OnPortWriting, IsSimulated, IsSimulatedAlong, NoneWrites, GainsNoMove, IsDrivenBy}
 use Rattle.refinement.specs.Driver.{AllFree}
 use Rattle.refinement.specs.Recovering.{WorksPlainly}
 use Rattle.refinement.specs.Slots.{Free, Own, SlotStates}
 use Rattle.port_control.specs.Engines.{FailsToStop, Sticks, Stops}
-use Rattle.port_control.specs.Ports.{FailsToStopPort, Forgets, PortStops, HasStopped, IsErrorRegister, ReceivesFises, IsCommandRegister}
+use Rattle.port_control.specs.Ports.{FailsToStopPort, ClearsErrorState, PortStops, HasStCleared, IsErrorRegister, ReceivesFises, IsCommandRegister}
 use Rattle.error_recovery.specs.Laws.{Laws}
 use Rattle.error_recovery.specs.Laws.RegisterSet.{Commanding, Clearing}
-use Rattle.error_recovery.specs.Laws.AccessKind.{Controlling, Recovering}
+use Rattle.error_recovery.specs.Laws.AccessPurpose.{Controlling, Recovering}
 use Rattle.error_recovery.specs.Laws.SlotCondition.{AnyUses, PortUnused}
 use Rattle.error_recovery.specs.Parts.{StopGetsStuck, HasDriverMemory, Quiets, ReadsAndStops}
-use Rattle.error_recovery.specs.Recovery.{IsRecovering, IssueNone, MayRecover}
+use Rattle.error_recovery.specs.Recovery.{IsRecoveryAccess, IssueNone, MayRecover}
 use Rattle.error_recovery.proofs.Going.{Goes, goes_over, plugs_in_parts, spares_active}
 use Rattle.error_recovery.proofs.Stretching.{agreed_free, room_after, told_both, told_commands, told_wider, clears_recover}
 
@@ -28,23 +28,23 @@ reads_and_stops : (port : Port) (v : ℕ) (early late : List Access) → early �
 reads_and_stops port v early late is since stops none = (
   record { rest = late; here = ap (λ (made : List Access). made ++ late) is },
   since stops,
-  subst (λ (made : List Access). IssueNone port (made ++ late)) (sym is) (All-cons (SparesRegister (Px port Ci)) (Reading (Px port Tfd) v) late tt none),
+  subst (λ (made : List Access). IssueNone port (made ++ late)) (sym is) (All-cons (DoesNotWrite (Px port Ci)) (Reading (Px port Tfd) v) late tt none),
 )
 
 module _ (laws : Laws) where
   -- neither PxCI nor PxSACT is written while PxCMD, PxSERR and PxIS are
-  commanding_issues : (port : Port) → NoneWrites (IsControl IsCommandRegister port) (Px port Ci)
+  commanding_issues : (port : Port) → NoneWrites (OnPortWriting IsCommandRegister port) (Px port Ci)
   commanding_issues port = laws.control_spares Commanding port Ci (λ e. absurd (let k : Ci ≡ Cmd = e in cc))
 
-  commanding_arms : (port : Port) → NoneWrites (IsControl IsCommandRegister port) (Px port Sact)
+  commanding_arms : (port : Port) → NoneWrites (OnPortWriting IsCommandRegister port) (Px port Sact)
   commanding_arms port = laws.control_spares Commanding port Sact (λ e. absurd (let k : Sact ≡ Cmd = e in cc))
 
   -- PxCMD alone is written, and no page comes by a command that isn't there
-  pub commands_silent : (port : Port) (uses : SlotStates) (old new : Device) → IsSimulated (IsControl IsCommandRegister port) AnyUse old new → IsRelated uses old → (uses port.0 0 ≡ Own Identify → ⊥) → SendsNone port.0 Identify old new
+  pub commands_silent : (port : Port) (uses : SlotStates) (old new : Device) → IsSimulated (OnPortWriting IsCommandRegister port) AnyUse old new → IsRelated uses old → (uses port.0 0 ≡ Own Identify → ⊥) → GainsNoMove port.0 Identify old new
   commands_silent port uses old new a agreed none =
       laws.fragments.silent (Controlling Commanding AnyUses port) (λ uses. uses) uses port Identify old new tt (commanding_issues port) (commanding_arms port) refl none a agreed
 
-  clearing_issues : (port : Port) → NoneWrites (IsControl IsErrorRegister port) (Px port Ci)
+  clearing_issues : (port : Port) → NoneWrites (OnPortWriting IsErrorRegister port) (Px port Ci)
   clearing_issues port = laws.control_spares Clearing port Ci no_issue
     where
       no_issue : IsErrorRegister Ci → ⊥
@@ -53,9 +53,9 @@ module _ (laws : Laws) where
 
   -- so no command is issued
   unissued : {port : Port} (May : Access → Type 0) → NoneWrites May (Px port Ci) → {old new : Device} (made : IsDrivenBy May old new) → IssueNone port made.accesses
-  unissued {port} May none made = All-weaker May (SparesRegister (Px port Ci)) none made.accesses made.only
+  unissued {port} May none made = All-weaker May (DoesNotWrite (Px port Ci)) none made.accesses made.only
 
-  clears_silent : (port : Port) (uses : SlotStates) (old new : Device) → IsSimulated (IsControl IsErrorRegister port) AnyUse old new → IsRelated uses old → (uses port.0 0 ≡ Own Identify → ⊥) → SendsNone port.0 Identify old new
+  clears_silent : (port : Port) (uses : SlotStates) (old new : Device) → IsSimulated (OnPortWriting IsErrorRegister port) AnyUse old new → IsRelated uses old → (uses port.0 0 ≡ Own Identify → ⊥) → GainsNoMove port.0 Identify old new
   clears_silent port uses old new a agreed none =
       laws.fragments.silent (Controlling Clearing AnyUses port) (λ uses. uses) uses port Identify old new tt
       (clearing_issues port) (laws.control_spares Clearing port Sact no_arm) refl none a agreed
@@ -65,33 +65,33 @@ module _ (laws : Laws) where
       no_arm (inr e) = absurd cc
 
   -- plain work goes on over any accesses of a recovery
-  pub plain_over : (port : Port) (uses : SlotStates) (old new : Device) → IsSimulated (IsRecovering port) AnyUse old new → IsRelated uses old → WorksPlainly (old.port port.0) → WorksPlainly (new.port port.0)
+  pub plain_over : (port : Port) (uses : SlotStates) (old new : Device) → IsSimulated (IsRecoveryAccess port) AnyUse old new → IsRelated uses old → WorksPlainly (old.port port.0) → WorksPlainly (new.port port.0)
   plain_over port uses old new a agreed =
       laws.fragments.plain (Recovering AnyUses port) (λ uses. uses) uses port old new tt (spares_active laws port) a agreed
 
   -- also while it is started
-  pub commands_plain : (port : Port) (old new : Device) → IsSimulated (IsControl IsCommandRegister port) (λ uses. AllFree uses port.0) old new → RelatesWith (λ uses. AllFree uses port.0) old →
+  pub commands_plain : (port : Port) (old new : Device) → IsSimulated (OnPortWriting IsCommandRegister port) (λ uses. AllFree uses port.0) old new → RelatesWith (λ uses. AllFree uses port.0) old →
       WorksPlainly (old.port port.0) → WorksPlainly (new.port port.0)
   commands_plain port old new a (uses, free, agreed) = laws.fragments.plain (Controlling Commanding PortUnused port) (λ uses. uses) uses port old new free (commanding_arms port) a agreed
 
-  pub starting_silent : (port : Port) (old new : Device) → IsSimulated (IsControl IsCommandRegister port) (λ uses. AllFree uses port.0) old new → RelatesWith (λ uses. AllFree uses port.0) old →
-      SendsNone port.0 Identify old new
+  pub starting_silent : (port : Port) (old new : Device) → IsSimulated (OnPortWriting IsCommandRegister port) (λ uses. AllFree uses port.0) old new → RelatesWith (λ uses. AllFree uses port.0) old →
+      GainsNoMove port.0 Identify old new
   starting_silent port old new a (uses, free, agreed) =
       laws.fragments.silent (Controlling Commanding PortUnused port) (λ uses. uses) uses port Identify old new free (commanding_issues port) (commanding_arms port) refl
       (λ own. let e : Free ≡ Own Identify = sym (free 0) ∙ own in absurd cc) a agreed
 
   module _ (port : Port) (v : ℕ) (old at : Device) (room : HasDriverMemory port.0 old) (may : MayRecover port.0 old) (agreed : RelatesWith AnyUse old) (read : Reads (Px port Tfd) v old at) where
-    reading : IsSimulatedAlong (λ made. made ≡ Reading (Px port Tfd) v ∷ []) (IsControl IsCommandRegister port) AnyUse old at
+    reading : IsSimulatedAlong (λ made. made ≡ Reading (Px port Tfd) v ∷ []) (OnPortWriting IsCommandRegister port) AnyUse old at
     reading = laws.fragments.reads (Controlling Commanding AnyUses port) (Px port Tfd) v old at refl read
 
-    wide : IsSimulatedAlong (λ made. made ≡ Reading (Px port Tfd) v ∷ []) (IsRecovering port) AnyUse old at
+    wide : IsSimulatedAlong (λ made. made ≡ Reading (Px port Tfd) v ∷ []) (IsRecoveryAccess port) AnyUse old at
     wide = told_commands laws (λ made. made ≡ Reading (Px port Tfd) v ∷ []) AnyUses port old at reading
 
     goes : Goes port old at
     goes = goes_over laws port wide.followed.driven.accesses old at room.on wide.followed.driven.only wide.followed.driven.all
 
     pub read_room : HasDriverMemory port.0 at
-    read_room = room_after laws (IsRecovering port) port.0 old at wide.followed.driven goes.on room
+    read_room = room_after laws (IsRecoveryAccess port) port.0 old at wide.followed.driven goes.on room
 
     pub read_agreed : RelatesWith AnyUse at
     read_agreed = (agreed.0, tt, laws.fragments.agreed (Recovering AnyUses port) (λ uses. uses) agreed.0 old at tt wide.followed agreed.2)
@@ -104,7 +104,7 @@ module _ (laws : Laws) where
 
     -- ---- its engine is stuck
 
-    pub read_stuck : (new : Device) → HasStopped (at.port port.0) (new.port port.0) → FailsToStopPort port at new → StopGetsStuck port old new
+    pub read_stuck : (new : Device) → HasStCleared (at.port port.0) (new.port port.0) → FailsToStopPort port at new → StopGetsStuck port old new
     read_stuck new has fails = record {
       told = told_commands laws (Sticks port) AnyUses port old new both;
       st = has.st;
@@ -112,27 +112,27 @@ module _ (laws : Laws) where
       silent = λ (uses, none, agreed). commands_silent port uses old new both.followed agreed none;
     }
       where
-        both : IsSimulatedAlong (Sticks port) (IsControl IsCommandRegister port) AnyUse old new
+        both : IsSimulatedAlong (Sticks port) (OnPortWriting IsCommandRegister port) AnyUse old new
         both = told_both laws (λ made. made ≡ Reading (Px port Tfd) v ∷ []) (FailsToStop port) (Sticks port) (λ early late is late_is. laws.sticks_since early late port (laws.failing_sticks port late late_is))
             (Controlling Commanding AnyUses port) (Controlling Commanding AnyUses port) (λ uses. uses) (λ uses. uses) (λ access is. is) (λ uses fits. fits) old at new reading fails.told
 
     -- ---- or it was stopped
 
-    module _ (mid : Device) (has : HasStopped (at.port port.0) (mid.port port.0)) (halts : PortStops port at mid) where
-      stopping : IsSimulatedAlong (ReadsAndStops port v) (IsControl IsCommandRegister port) AnyUse old mid
+    module _ (mid : Device) (has : HasStCleared (at.port port.0) (mid.port port.0)) (halts : PortStops port at mid) where
+      stopping : IsSimulatedAlong (ReadsAndStops port v) (OnPortWriting IsCommandRegister port) AnyUse old mid
       stopping = told_both laws (λ made. made ≡ Reading (Px port Tfd) v ∷ []) (λ made. Stops port made × IssueNone port made) (ReadsAndStops port v)
           (λ early late is stops. reads_and_stops port v early late is (laws.falls_since early late 0 15 port) stops.0 stops.1)
           (Controlling Commanding AnyUses port) (Controlling Commanding AnyUses port) (λ uses. uses) (λ uses. uses) (λ access is. is) (λ uses fits. fits) old at mid reading
-          (record { followed = halts.told.followed; tells = (halts.told.tells, unissued (IsControl IsCommandRegister port) (commanding_issues port) halts.told.followed.driven) })
+          (record { followed = halts.told.followed; tells = (halts.told.tells, unissued (OnPortWriting IsCommandRegister port) (commanding_issues port) halts.told.followed.driven) })
 
-      stops : IsSimulatedAlong (ReadsAndStops port v) (IsRecovering port) AnyUse old mid
+      stops : IsSimulatedAlong (ReadsAndStops port v) (IsRecoveryAccess port) AnyUse old mid
       stops = told_commands laws (ReadsAndStops port v) AnyUses port old mid stopping
 
       goes_mid : Goes port old mid
       goes_mid = goes_over laws port stops.followed.driven.accesses old mid room.on stops.followed.driven.only stops.followed.driven.all
 
       pub stopped_room : HasDriverMemory port.0 mid
-      stopped_room = room_after laws (IsRecovering port) port.0 old mid stops.followed.driven goes_mid.on room
+      stopped_room = room_after laws (IsRecoveryAccess port) port.0 old mid stops.followed.driven goes_mid.on room
 
       stopped_uses : IsRelated agreed.0 mid
       stopped_uses = laws.fragments.agreed (Recovering AnyUses port) (λ uses. uses) agreed.0 old mid tt stops.followed agreed.2
@@ -155,10 +155,10 @@ module _ (laws : Laws) where
       pub stopped_det : (mid.port port.0).sctl_det ≡ 0
       stopped_det = goes_mid.det ∙ may.det
 
-      module _ (after : ℕ) (new : Device) (followed : IsSimulated (IsControl IsErrorRegister port) AnyUse mid new) (f : Forgets port after mid new) where
-        forgets : IsSimulatedAlong (IssueNone port) (IsRecovering port) AnyUse mid new
+      module _ (after : ℕ) (new : Device) (followed : IsSimulated (OnPortWriting IsErrorRegister port) AnyUse mid new) (f : ClearsErrorState port after mid new) where
+        forgets : IsSimulatedAlong (IssueNone port) (IsRecoveryAccess port) AnyUse mid new
         forgets = told_wider laws (IssueNone port) (Controlling Clearing AnyUses port) (Recovering AnyUses port) (λ uses. uses) mid new (clears_recover laws port) (λ uses fits. fits)
-            (record { followed = followed; tells = unissued (IsControl IsErrorRegister port) (clearing_issues port) followed.driven })
+            (record { followed = followed; tells = unissued (OnPortWriting IsErrorRegister port) (clearing_issues port) followed.driven })
 
         goes_new : Goes port mid new
         goes_new = goes_over laws port forgets.followed.driven.accesses mid new goes_mid.on forgets.followed.driven.only forgets.followed.driven.all
@@ -170,7 +170,7 @@ module _ (laws : Laws) where
 
         pub quiets : Quiets port v after old new
         quiets = record {
-          room = room_after laws (IsRecovering port) port.0 mid new forgets.followed.driven goes_new.on stopped_room;
+          room = room_after laws (IsRecoveryAccess port) port.0 mid new forgets.followed.driven goes_new.on stopped_room;
           stopped = mid;
           stops = stops;
           stands = halts.stopped.halted;

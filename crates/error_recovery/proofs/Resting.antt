@@ -13,14 +13,14 @@ use Rattle.adapter.specs.declared.command.Operation.TheVariants.{ReadLog}
 use Rattle.adapter.specs.declared.tape.Entry.{Entry}
 use Rattle.adapter.specs.declared.tape.Entry.TheVariants as entry
 use Rattle.adapter.specs.declared.tape.Fault as tape_fault
-use Rattle.refinement.specs.Driven.{Grows, SendsNone}
-use Rattle.refinement.specs.Links.{SparesRegister}
+use Rattle.refinement.specs.Driven.{Grows, GainsNoMove}
+use Rattle.refinement.specs.Links.{DoesNotWrite}
 use Rattle.refinement.specs.Slots.{IsMove}
 use Rattle.disk_page.specs.Asking.{BringsLastPage}
 use Rattle.error_recovery.specs.Evidence.{BringsLog, HasFailed}
 use Rattle.error_recovery.specs.Laws.{Laws}
 use Rattle.error_recovery.specs.Laws.SlotCondition.{AnyUses}
-use Rattle.error_recovery.specs.Laws.AccessKind.{Recovering}
+use Rattle.error_recovery.specs.Laws.AccessPurpose.{Recovering}
 use Rattle.error_recovery.specs.Parts.{IsQuietedForRecovery}
 use Rattle.error_recovery.proofs.Lists.{behind, stands}
 
@@ -36,7 +36,7 @@ longer : (old new : Device) → Grows old new → length old.tape ≤ length new
 longer old new (gained, is) = let n = ap (λ (es : List Entry). length es) is ∙ length-append old.tape gained in omega (arith, n)
 
 -- the last page of the log that came is the last that a longer stretch brought, where none came later
-pub brings_log : (port : Port) (old start asked new : Device) (page : List ℕ) → Grows old start → Grows old asked → BringsLastPage port.0 ReadLog (length start.tape) page asked → SendsNone port.0 ReadLog asked new →
+pub brings_log : (port : Port) (old start asked new : Device) (page : List ℕ) → Grows old start → Grows old asked → BringsLastPage port.0 ReadLog (length start.tape) page asked → GainsNoMove port.0 ReadLog asked new →
     BringsLog port old new page
 brings_log port old start asked new page early whole b (gained, later, none) =
     let w = b.brought in
@@ -73,7 +73,7 @@ module _ (laws : Laws) (port : Port) (outstanding : ℕ) (queued : Bool) (before
             early = Reading (Px port Tfd) before ∷ [];
             late = rest;
             here = refl;
-            running = All-cons (SparesRegister (Px port Cmd)) (Reading (Px port Tfd) before) [] tt (All-nil (SparesRegister (Px port Cmd)));
+            running = All-cons (DoesNotWrite (Px port Cmd)) (Reading (Px port Tfd) before) [] tt (All-nil (DoesNotWrite (Px port Cmd)));
             first = (at, read, refl);
             rest = more;
           };

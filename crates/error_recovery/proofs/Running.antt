@@ -7,16 +7,16 @@ use Rattle.std.proofs.lemmas.List.Elements.{All-cons, All-contains, All-nil}
 use Rattle.ata_types.specs.declared.Port.{Port}
 use Rattle.adapter.specs.Device.{Device, Notes, DevicePort}
 use Rattle.adapter.specs.Device.Halt.{LogOnly, NotHalted}
-use Rattle.adapter.specs.Steps.{restarted}
+use Rattle.adapter.specs.Steps.{halt_after_start}
 use Rattle.adapter.specs.declared.tape.Entry.{Entry}
 use Rattle.refinement.specs.Driven.{Grows, HasNoCommand}
 use Rattle.refinement.specs.Errors.{IsFatalOf, NoneFatal}
-use Rattle.refinement.specs.Facts.{HasFaults, IsFaultOf, IsFaulted}
-use Rattle.refinement.specs.Links.{IsPlugging}
+use Rattle.refinement.specs.Facts.{RecordsFaults, IsFaultOf, IsFaulted}
+use Rattle.refinement.specs.Links.{IsPlugEvent}
 use Rattle.refinement.specs.Slots.{IsOver}
 use Rattle.disk_page.specs.Asking.{LeavesRunning}
 use Rattle.port_control.specs.Ports.{IsRunning}
-use Rattle.error_recovery.specs.Evidence.{GainsRunning, ShowsFatal, ShowsTrouble}
+use Rattle.error_recovery.specs.Evidence.{GainsSinceStart, ShowsFatal, HidesNoTrouble}
 use Rattle.error_recovery.specs.Laws.{Laws}
 use Rattle.error_recovery.specs.Parts.{StartsAgain, IsQuietedForRecovery}
 use Rattle.error_recovery.specs.Recovery.{RunsAgain}
@@ -26,7 +26,7 @@ use Rattle.error_recovery.proofs.Quieting.{commands_plain}
 
 -- an entry that has come since ST was set isn't one that a stretch from then on hasn't gained
 gained_since : (Is : Entry → Type 0) (port : ℕ) (old start new : Device) → (new.port port).notes.st_set_at ≡ length start.tape → (gained : List Entry) → new.tape ≡ start.tape ++ gained →
-    All (λ e. Is e → ⊥) gained → GainsRunning Is port old new → ⊥
+    All (λ e. Is e → ⊥) gained → GainsSinceStart Is port old new → ⊥
 gained_since Is port old start new set gained is none g =
     let at : start.tape ++ gained ≡ (old.tape ++ g.before) ++ (g.entry ∷ g.later) = sym is ∙ (g.tape ∙ sym (append_assoc old.tape g.before (g.entry ∷ g.later))) in
     let long = length-append old.tape g.before in
@@ -36,7 +36,7 @@ gained_since Is port old start new set gained is none g =
     All-contains (λ e. Is e → ⊥) gained g.entry none here g.is
 
 -- and what hasn't come since ST was set, a stretch from then on hasn't gained
-none_since : (Is : Entry → Type 0) (port : ℕ) (old start new : Device) → Grows old start → (new.port port).notes.st_set_at ≡ length start.tape → (GainsRunning Is port old new → ⊥) → (before later : List Entry) →
+none_since : (Is : Entry → Type 0) (port : ℕ) (old start new : Device) → Grows old start → (new.port port).notes.st_set_at ≡ length start.tape → (GainsSinceStart Is port old new → ⊥) → (before later : List Entry) →
     new.tape ≡ start.tape ++ (before ++ later) → All (λ e. Is e → ⊥) later
 none_since Is port old start new grows set none before [] tape = All-nil (λ e. Is e → ⊥)
 none_since Is port old start new grows set none before (e ∷ later) tape =
@@ -75,11 +75,11 @@ fatal_unless_clear p not = by (p.is 27) (p.is 28) (p.is 29) refl refl refl
             (cases_eq place 27)
 
 -- trouble since ST was set is shown, where what isn't shown hasn't come
-shows_trouble : (port : Port) (old start new : Device) → (new.port port.0).notes.st_set_at ≡ length start.tape → Asks port start new → ShowsTrouble port.0 old new
+shows_trouble : (port : Port) (old start new : Device) → (new.port port.0).notes.st_set_at ≡ length start.tape → Asks port start new → HidesNoTrouble port.0 old new
 shows_trouble port old start new set a = record {
   fault = λ g. set_unless_clear ((new.port port.0).is 30) (λ clear. let n = (a.fault clear).1 in gained_since (IsFaultOf port.0) port.0 old start new set n.gained n.tape n.none g);
   fatal = λ g. fatal_unless_clear (new.port port.0) (λ clear. let n = (a.fatal clear).1 in gained_since (IsFatalOf port.0) port.0 old start new set n.gained n.tape n.none g);
-  disk = λ g. set_unless_clear (new.port port.0).serr_n (λ clear. let n = (a.disk clear).1 in gained_since (IsPlugging port.0) port.0 old start new set n.gained n.tape n.none g);
+  disk = λ g. set_unless_clear (new.port port.0).serr_n (λ clear. let n = (a.disk clear).1 in gained_since (IsPlugEvent port.0) port.0 old start new set n.gained n.tape n.none g);
 }
 
 pub no_command : (port : ℕ) (p : DevicePort) → IsRunning port p → HasNoCommand p
@@ -108,7 +108,7 @@ module _ (laws : Laws) (port : Port) (outstanding : ℕ) (queued : Bool) (before
   -- ---- that was started, and no more
 
   module _ (new : Device) (s : StartsAgain port d new) (then : Goes port d new) (whole : Goes port old new) where
-    nothing_came : (Is : Entry → Type 0) → GainsRunning Is port.0 old new → ⊥
+    nothing_came : (Is : Entry → Type 0) → GainsSinceStart Is port.0 old new → ⊥
     nothing_came Is g =
         let n = ap (λ (es : List Entry). length es) g.tape ∙ length-append old.tape (g.before ++ g.entry ∷ g.later) in
         let m = length-append g.before (g.entry ∷ g.later) in
@@ -126,11 +126,11 @@ module _ (laws : Laws) (port : Port) (outstanding : ℕ) (queued : Bool) (before
       plain = λ _ plain. commands_plain laws port d new s.starts r.quiets.agreed (r.quiets.plain plain);
       unhalted = λ plain log.
           let w = commands_plain laws port d new s.starts r.quiets.agreed (r.quiets.plain (plain is)) in
-          let e : LogOnly ≡ NotHalted = ap restarted (sym log) ∙ w.restarts in absurd cc;
+          let e : LogOnly ≡ NotHalted = ap halt_after_start (sym log) ∙ w.restarts in absurd cc;
       shows = record {
         fault = λ g. absurd (nothing_came (IsFaultOf port.0) g);
         fatal = λ g. absurd (nothing_came (IsFatalOf port.0) g);
-        disk = λ g. absurd (nothing_came (IsPlugging port.0) g);
+        disk = λ g. absurd (nothing_came (IsPlugEvent port.0) g);
       };
       well = λ none calm linked plain.
           let n = plugs_in_parts laws port.0 old d new first.grows then.grows none in
@@ -150,7 +150,7 @@ module _ (laws : Laws) (port : Port) (outstanding : ℕ) (queued : Bool) (before
     runs : IsRunning port.0 (new.port port.0)
     runs = asked_running laws port.0 start new s.runs l over
 
-    recorded : HasFaults new.tape (new.port port.0) port.0
+    recorded : RecordsFaults new.tape (new.port port.0) port.0
     recorded = l.recorded (λ _. s.recorded) runs.st
 
     -- no fault halts it, so TFES is clear

@@ -12,26 +12,26 @@ use Rattle.adapter.specs.declared.command.Operation.TheVariants.{ReadLog}
 use Rattle.adapter.specs.declared.tape.Entry.{Entry}
 use Rattle.adapter.specs.declared.tape.Entry.TheVariants as entry
 use Rattle.adapter.specs.declared.tape.Fault as tape_fault
-use Rattle.refinement.specs.Driven.{Grows, SendsNone}
-use Rattle.refinement.specs.Links.{SparesRegister}
+use Rattle.refinement.specs.Driven.{Grows, GainsNoMove}
+use Rattle.refinement.specs.Links.{DoesNotWrite}
 use Rattle.refinement.specs.Slots.{IsMove}
 use Rattle.error_recovery.specs.Evidence.{BringsLog, HasFailed}
 use Rattle.error_recovery.specs.Laws.{Laws}
 
 module _ (laws : Laws) where
   -- ST was last set when it was, as long as PxCMD isn't written
-  set_still : (port : Port) (accesses : List Access) (old new : Device) → IsOn old → All (SparesRegister Ghc) accesses → All (SparesRegister (Px port Cmd)) accesses → DoesAll accesses old new →
+  set_still : (port : Port) (accesses : List Access) (old new : Device) → IsOn old → All (DoesNotWrite Ghc) accesses → All (DoesNotWrite (Px port Cmd)) accesses → DoesAll accesses old new →
       (new.port port.0).notes.st_set_at ≡ (old.port port.0).notes.st_set_at
   set_still port [] old new on hosts commands is = ap (λ (d : Device). (d.port port.0).notes.st_set_at) is
   set_still port (access ∷ accesses) old new on hosts commands (mid, does, rest) =
-      let host = All-head (SparesRegister Ghc) access accesses hosts in
-      let command = All-head (SparesRegister (Px port Cmd)) access accesses commands in
-      let later = laws.access_on access old mid on (λ v e. absurd (subst (SparesRegister Ghc) e host refl)) does in
-      set_still port accesses mid new later (All-tail (SparesRegister Ghc) access accesses hosts) (All-tail (SparesRegister (Px port Cmd)) access accesses commands) rest
+      let host = All-head (DoesNotWrite Ghc) access accesses hosts in
+      let command = All-head (DoesNotWrite (Px port Cmd)) access accesses commands in
+      let later = laws.access_on access old mid on (λ v e. absurd (subst (DoesNotWrite Ghc) e host refl)) does in
+      set_still port accesses mid new later (All-tail (DoesNotWrite Ghc) access accesses hosts) (All-tail (DoesNotWrite (Px port Cmd)) access accesses commands) rest
       ∙ ((laws.access_controls port access old mid on.no_reset does).command command).2
 
   pub failed_stays : ((early late : List Access) (old mid new : Device) → DoesAll early old mid → DoesAll late mid new → DoesAll (early ++ late) old new) →
-      (port : Port) (early part late : List Access) (start old new end : Device) (fault : tape_fault.Fault) → IsOn start → All (SparesRegister Ghc) early → All (SparesRegister (Px port Cmd)) early →
+      (port : Port) (early part late : List Access) (start old new end : Device) (fault : tape_fault.Fault) → IsOn start → All (DoesNotWrite Ghc) early → All (DoesNotWrite (Px port Cmd)) early →
       DoesAll early start old → DoesAll late new end → HasFailed port part old new fault → HasFailed port (early ++ (part ++ late)) start end fault
   failed_stays append port early part late start old new end fault on hosts commands first last h =
       let r = h.running in
@@ -43,7 +43,7 @@ module _ (laws : Laws) where
           late = r.late ++ late;
           here = ap (λ (made : List Access). early ++ (made ++ late)) r.here
               ∙ (ap (λ (made : List Access). early ++ made) (append_assoc r.early r.late late) ∙ sym (append_assoc early r.early (r.late ++ late)));
-          running = All-append (SparesRegister (Px port Cmd)) early r.early commands r.running;
+          running = All-append (DoesNotWrite (Px port Cmd)) early r.early commands r.running;
           first = append early r.early start old h.at first r.first;
           rest = append r.late late h.at new end r.rest last;
         };
@@ -51,7 +51,7 @@ module _ (laws : Laws) where
         port_is = h.port_is;
       }
 
-pub log_stays : (port : Port) (start old new end : Device) (page : List ℕ) → Grows start old → SendsNone port.0 ReadLog new end → BringsLog port old new page → BringsLog port start end page
+pub log_stays : (port : Port) (start old new end : Device) (page : List ℕ) → Grows start old → GainsNoMove port.0 ReadLog new end → BringsLog port old new page → BringsLog port start end page
 log_stays port start old new end page (early, first) (late, last, none) b = record {
   gained = early ++ (b.gained ++ late);
   tape = last

@@ -3,7 +3,7 @@ use Rattle.std.proofs.Common.{ℕ, ◌<◌, List, arith}
 use Rattle.ata_types.specs.declared.Port.{Port}
 use Rattle.adapter.specs.Device.{Device}
 use Rattle.adapter.specs.Rules.{IsOn}
-use Rattle.refinement.specs.Driven.{IsControl, IsSimulated}
+use Rattle.refinement.specs.Driven.{OnPortWriting, IsSimulated}
 use Rattle.refinement.specs.Driver.{AllFree}
 use Rattle.identify.specs.Log.{TellsError}
 use Rattle.port_control.specs.Calls.{Starts}
@@ -11,7 +11,7 @@ use Rattle.port_control.specs.Ports.{IsCommandRegister}
 use Rattle.error_recovery.specs.Laws.{Laws}
 use Rattle.error_recovery.specs.Laws.RegisterSet.{Commanding}
 use Rattle.error_recovery.specs.Laws.SlotCondition.{PortUnused}
-use Rattle.error_recovery.specs.Laws.AccessKind.{Controlling}
+use Rattle.error_recovery.specs.Laws.AccessPurpose.{Controlling}
 use Rattle.error_recovery.specs.Parts.{StartsAgain, MayStartAgain}
 use Rattle.error_recovery.proofs.Stretching.{room_after}
 
@@ -20,11 +20,11 @@ pub tag_is_small : (page : List ℕ) (tag status error : ℕ) → TellsError pag
 tag_is_small page tag status error t = let is = t.tag_is in omega (arith, is)
 
 module _ (laws : Laws) where
-  pub goes_on : (port : Port) (old new : Device) → MayStartAgain port.0 old → IsSimulated (IsControl IsCommandRegister port) (λ uses. AllFree uses port.0) old new → IsOn new → Starts port old new → StartsAgain port old new
+  pub goes_on : (port : Port) (old new : Device) → MayStartAgain port.0 old → IsSimulated (OnPortWriting IsCommandRegister port) (λ uses. AllFree uses port.0) old new → IsOn new → Starts port old new → StartsAgain port old new
   goes_on port old new may followed on s =
       let a = may.agreed in
       record {
-        room = room_after laws (IsControl IsCommandRegister port) port.0 old new followed.driven on may.room;
+        room = room_after laws (OnPortWriting IsCommandRegister port) port.0 old new followed.driven on may.room;
         starts = followed;
         runs = s.runs;
         same = s.same;

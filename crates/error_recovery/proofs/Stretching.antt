@@ -8,19 +8,19 @@ use Rattle.hba_regs.specs.declared.reg.PortReg.{PortReg}
 use Rattle.adapter.specs.Access.{Access}
 use Rattle.adapter.specs.Device.{Device}
 use Rattle.adapter.specs.Rules.{IsOn}
-use Rattle.refinement.specs.Driven.{AnyAccess, IsRelated, IsControl, IsDrivenBy, IsSimulated, IsSimulatedAlong, IsSimulatedAlongTo}
+use Rattle.refinement.specs.Driven.{AnyAccess, IsRelated, OnPortWriting, IsDrivenBy, IsSimulated, IsSimulatedAlong, IsSimulatedAlongTo}
 use Rattle.refinement.specs.Driver.{AllFree, DriverState}
 use Rattle.refinement.specs.Driven.{known}
-use Rattle.refinement.specs.Facts.{IsHalted}
+use Rattle.refinement.specs.Facts.{IsEngineStopped}
 use Rattle.refinement.specs.GivingUp.{parking_all}
 use Rattle.refinement.specs.Links.{SameAdapter}
 use Rattle.refinement.specs.Slots.{SlotStates}
 use Rattle.port_control.specs.Ports.{IsErrorRegister, IsCommandRegister}
-use Rattle.error_recovery.specs.Laws.{Laws, AccessKind, fits_of, may_of, uses_of, SlotCondition}
+use Rattle.error_recovery.specs.Laws.{Laws, AccessPurpose, fits_of, may_of, uses_of, SlotCondition}
 use Rattle.error_recovery.specs.Laws.RegisterSet.{Commanding, Clearing, Recovered}
-use Rattle.error_recovery.specs.Laws.AccessKind.{Controlling, Recovering}
+use Rattle.error_recovery.specs.Laws.AccessPurpose.{Controlling, Recovering}
 use Rattle.error_recovery.specs.Parts.{HasDriverMemory}
-use Rattle.error_recovery.specs.Recovery.{IsRecoveryRegister, IsRecovering}
+use Rattle.error_recovery.specs.Recovery.{IsRecoveryRegister, IsRecoveryAccess}
 
 -- accesses of any kind
 pub any : (May : Access → Type 0) (old new : Device) → IsDrivenBy May old new → IsDrivenBy AnyAccess old new
@@ -28,7 +28,7 @@ any May old new a = record { accesses = a.accesses; all = a.all; only = All-weak
 
 module _ (laws : Laws) where
   -- what is told of a stretch, also where it is of a wider kind
-  pub told_wider : (Tells : List Access → Type 0) (kind more : AccessKind) (next : SlotStates → SlotStates) (old new : Device) → ((access : Access) → may_of kind access → may_of more access) →
+  pub told_wider : (Tells : List Access → Type 0) (kind more : AccessPurpose) (next : SlotStates → SlotStates) (old new : Device) → ((access : Access) → may_of kind access → may_of more access) →
       ((uses : SlotStates) → fits_of more uses → fits_of kind uses) → IsSimulatedAlongTo Tells (may_of kind) (fits_of kind) next old new → IsSimulatedAlongTo Tells (may_of more) (fits_of more) next old new
   told_wider Tells kind more next old new wider fits a =
       let f = laws.fragments.wider kind more next wider fits old new a.followed in
@@ -36,7 +36,7 @@ module _ (laws : Laws) where
 
   -- of two, one after another
   pub told_both : (First Second Tells : List Access → Type 0) → ((early late : List Access) → First early → Second late → Tells (early ++ late)) →
-      (kind more : AccessKind) (first second : SlotStates → SlotStates) → ((access : Access) → may_of more access → may_of kind access) → ((uses : SlotStates) → fits_of kind uses → fits_of more (first uses)) →
+      (kind more : AccessPurpose) (first second : SlotStates → SlotStates) → ((access : Access) → may_of more access → may_of kind access) → ((uses : SlotStates) → fits_of kind uses → fits_of more (first uses)) →
       (old mid new : Device) → IsSimulatedAlongTo First (may_of kind) (fits_of kind) first old mid → IsSimulatedAlongTo Second (may_of more) (fits_of more) second mid new →
       IsSimulatedAlongTo Tells (may_of kind) (fits_of kind) (λ uses. second (first uses)) old new
   told_both First Second Tells join kind more first second wider on old mid new a b =
@@ -51,26 +51,26 @@ module _ (laws : Laws) where
   clearing : (r : PortReg) → IsErrorRegister r → IsRecoveryRegister r
   clearing r is = inr is
 
-  pub commands_recover : (port : Port) (access : Access) → IsControl IsCommandRegister port access → IsRecovering port access
+  pub commands_recover : (port : Port) (access : Access) → OnPortWriting IsCommandRegister port access → IsRecoveryAccess port access
   commands_recover port access is = inl (laws.control_wider Commanding Recovered port commanding access is)
 
-  pub clears_recover : (port : Port) (access : Access) → IsControl IsErrorRegister port access → IsRecovering port access
+  pub clears_recover : (port : Port) (access : Access) → OnPortWriting IsErrorRegister port access → IsRecoveryAccess port access
   clears_recover port access is = inl (laws.control_wider Clearing Recovered port clearing access is)
 
   -- PxCMD alone is written
-  pub told_commands : (Tells : List Access → Type 0) (fitting : SlotCondition) (port : Port) (old new : Device) → IsSimulatedAlong Tells (IsControl IsCommandRegister port) (uses_of fitting port) old new →
-      IsSimulatedAlong Tells (IsRecovering port) (uses_of fitting port) old new
+  pub told_commands : (Tells : List Access → Type 0) (fitting : SlotCondition) (port : Port) (old new : Device) → IsSimulatedAlong Tells (OnPortWriting IsCommandRegister port) (uses_of fitting port) old new →
+      IsSimulatedAlong Tells (IsRecoveryAccess port) (uses_of fitting port) old new
   told_commands Tells fitting port old new a = told_wider Tells (Controlling Commanding fitting port) (Recovering fitting port) (λ uses. uses) old new (commands_recover port) (λ uses fits. fits) a
 
   -- PxCMD alone is accessed then, as before
-  pub only_commands : (Tells : List Access → Type 0) (fitting : SlotCondition) (port : Port) (old new : Device) → (a : IsSimulatedAlong Tells (IsControl IsCommandRegister port) (uses_of fitting port) old new) →
-      All (IsControl IsCommandRegister port) (told_commands Tells fitting port old new a).followed.driven.accesses
+  pub only_commands : (Tells : List Access → Type 0) (fitting : SlotCondition) (port : Port) (old new : Device) → (a : IsSimulatedAlong Tells (OnPortWriting IsCommandRegister port) (uses_of fitting port) old new) →
+      All (OnPortWriting IsCommandRegister port) (told_commands Tells fitting port old new a).followed.driven.accesses
   unfolding told_commands told_wider
   only_commands Tells fitting port old new a =
       let f = laws.fragments.wider (Controlling Commanding fitting port) (Recovering fitting port) (λ uses. uses) (commands_recover port) (λ uses fits. fits) old new a.followed in
-      subst (All (IsControl IsCommandRegister port)) (sym f.tells) a.followed.driven.only
+      subst (All (OnPortWriting IsCommandRegister port)) (sym f.tells) a.followed.driven.only
 
-  pub followed_commands : (fitting : SlotCondition) (port : Port) (old new : Device) → IsSimulated (IsControl IsCommandRegister port) (uses_of fitting port) old new → IsSimulated (IsRecovering port) (uses_of fitting port) old new
+  pub followed_commands : (fitting : SlotCondition) (port : Port) (old new : Device) → IsSimulated (OnPortWriting IsCommandRegister port) (uses_of fitting port) old new → IsSimulated (IsRecoveryAccess port) (uses_of fitting port) old new
   followed_commands fitting port old new a = (told_commands (λ made. Unit {0}) fitting port old new (record { followed = a; tells = tt })).followed
 
   -- ---- what stays
@@ -85,7 +85,7 @@ module _ (laws : Laws) where
       }
 
   -- the slots of a port that has halted may be given up
-  pub agreed_free : (uses : SlotStates) (port : ℕ) (d : Device) → IsHalted (d.port port) → IsRelated uses d → (free : SlotStates) × AllFree free port × IsRelated free d
+  pub agreed_free : (uses : SlotStates) (port : ℕ) (d : Device) → IsEngineStopped (d.port port) → IsRelated uses d → (free : SlotStates) × AllFree free port × IsRelated free d
   agreed_free uses port d halted a =
       let k : DriverState = known uses a.parked d in (
         (parking_all k port).uses,

@@ -10,25 +10,25 @@ use Rattle.adapter.specs.declared.command.Operation.{Operation}
 use Rattle.hba_regs.specs.declared.reg.PortReg.{PortReg}
 use Rattle.hba_regs.specs.declared.reg.PortReg.TheVariants.{Ci, Sact}
 use Rattle.hba_regs.specs.declared.reg.Reg.TheVariants.{Px}
-use Rattle.refinement.specs.Driven.{known, RelatesWith, IsSimulated, IsSimulatedTo, IsSimulatedAlongTo, NoneWrites, SendsNone}
+use Rattle.refinement.specs.Driven.{known, RelatesWith, IsSimulated, IsSimulatedTo, IsSimulatedAlongTo, NoneWrites, GainsNoMove}
 use Rattle.refinement.specs.Driver.{AllFree, DriverState}
 use Rattle.refinement.specs.GivingUp.{given_up, parking_all}
 use Rattle.refinement.specs.Slots.{Own, SlotState, SlotStates, op_of}
-use Rattle.disk_page.specs.Asking.{IsAsking}
+use Rattle.disk_page.specs.Asking.{IsPageAccess}
 use Rattle.command_table.specs.Written.{IsUnused}
 use Rattle.port_control.specs.Engines.{Stops}
 use Rattle.error_recovery.specs.Laws.{Laws}
 use Rattle.error_recovery.specs.Laws.SlotCondition.{AnyUses, PortUnused}
 use Rattle.error_recovery.specs.Laws.RegisterSet.{Recovered}
-use Rattle.error_recovery.specs.Laws.AccessKind.{Asking, Recovering}
+use Rattle.error_recovery.specs.Laws.AccessPurpose.{Asking, Recovering}
 use Rattle.error_recovery.specs.Parts.{StartsAgain, IsQuietedForRecovery}
-use Rattle.error_recovery.specs.Recovery.{IsRecovering, IssueNone}
+use Rattle.error_recovery.specs.Recovery.{IsRecoveryAccess, IssueNone}
 use Rattle.error_recovery.proofs.Going.{Goes, goes_over}
 use Rattle.error_recovery.proofs.Resting.{IsTold, is_told}
 use Rattle.error_recovery.proofs.Stretching.{followed_commands, told_both, told_wider}
 
 -- recovery spares the registers of another port
-pub spares_other : Laws → (port q : Port) (r : PortReg) → q.0 ≢ port.0 → NoneWrites (IsRecovering port) (Px q r)
+pub spares_other : Laws → (port q : Port) (r : PortReg) → q.0 ≢ port.0 → NoneWrites (IsRecoveryAccess port) (Px q r)
 spares_other laws port q r apart access is = laws.of_spares port q r apart access (⊎_elim (laws.control_of Recovered port access) (laws.asking_is_of port access) is)
 
 module _ (laws : Laws) (port : Port) (outstanding : ℕ) (queued : Bool) (before after : ℕ) (old d : Device) (r : IsQuietedForRecovery port outstanding queued before after old d) where
@@ -37,20 +37,20 @@ module _ (laws : Laws) (port : Port) (outstanding : ℕ) (queued : Bool) (before
 
   -- ---- what came since the port was stopped
 
-  pub quieted_told : IsSimulatedAlongTo (IssueNone port) (IsRecovering port) (λ uses. AllFree uses port.0) (λ uses. uses) r.quiets.stopped d
+  pub quieted_told : IsSimulatedAlongTo (IssueNone port) (IsRecoveryAccess port) (λ uses. AllFree uses port.0) (λ uses. uses) r.quiets.stopped d
   quieted_told = told_wider laws (IssueNone port) (Recovering AnyUses port) (Recovering PortUnused port) (λ uses. uses) r.quiets.stopped d (λ access is. is) (λ uses free. tt) r.quiets.forgets
 
-  abbrev pub quieted : IsSimulated (IsRecovering port) (λ uses. AllFree uses port.0) r.quiets.stopped d
+  abbrev pub quieted : IsSimulated (IsRecoveryAccess port) (λ uses. AllFree uses port.0) r.quiets.stopped d
   quieted = quieted_told.followed
 
   -- it was started
-  pub started : (new : Device) → StartsAgain port d new → IsSimulated (IsRecovering port) (λ uses. AllFree uses port.0) r.quiets.stopped new
+  pub started : (new : Device) → StartsAgain port d new → IsSimulated (IsRecoveryAccess port) (λ uses. AllFree uses port.0) r.quiets.stopped new
   started new s = (laws.fragments.both (Recovering PortUnused port) (Recovering PortUnused port) (λ uses. uses) (λ uses. uses) (λ access is. is) (λ uses free. free) r.quiets.stopped d new quieted
       (followed_commands laws PortUnused port d new s.starts)).followed
 
   -- and asked for the log
   pub asked : (Tells : List Access → Type 0) → ((early late : List Access) → Tells late → Tells (early ++ late)) → (next : SlotStates → SlotStates) (start new : Device) → StartsAgain port d start →
-      IsSimulatedAlongTo Tells (IsAsking port) (IsUnused port.0 0) next start new → IsSimulatedAlongTo Tells (IsRecovering port) (λ uses. AllFree uses port.0) next r.quiets.stopped new
+      IsSimulatedAlongTo Tells (IsPageAccess port) (IsUnused port.0 0) next start new → IsSimulatedAlongTo Tells (IsRecoveryAccess port) (λ uses. AllFree uses port.0) next r.quiets.stopped new
   asked Tells since next start new s a =
       told_both laws (λ made. Unit {0}) Tells Tells (λ early late any is. since early late is) (Recovering PortUnused port) (Recovering PortUnused port) (λ uses. uses) next
       (λ access is. is) (λ uses free. free) r.quiets.stopped start new (record { followed = started start s; tells = tt })
@@ -58,15 +58,15 @@ module _ (laws : Laws) (port : Port) (outstanding : ℕ) (queued : Bool) (before
 
   -- ---- the whole
 
-  module _ (next : SlotStates → SlotStates) (new : Device) (b : IsSimulatedTo (IsRecovering port) (λ uses. AllFree uses port.0) next r.quiets.stopped new) where
+  module _ (next : SlotStates → SlotStates) (new : Device) (b : IsSimulatedTo (IsRecoveryAccess port) (λ uses. AllFree uses port.0) next r.quiets.stopped new) where
     abbrev pub total : List Access
     total = first ++ b.driven.accesses
 
     pub performs : Performs total AnySlots (λ s. record (given_up port.0 s) { uses = next (given_up port.0 s).uses }) ByDeviceAlone old new
     performs = laws.fragments.giving_up (Recovering AnyUses port) (Recovering PortUnused port) next port.0 old r.quiets.stopped new r.quiets.stops.followed r.quiets.stands (λ uses free. free) b
 
-    pub only : All (IsRecovering port) total
-    only = All-append (IsRecovering port) first b.driven.accesses r.quiets.stops.followed.driven.only b.driven.only
+    pub only : All (IsRecoveryAccess port) total
+    only = All-append (IsRecoveryAccess port) first b.driven.accesses r.quiets.stops.followed.driven.only b.driven.only
 
     pub goes : Goes port old new
     goes = goes_over laws port total old new r.on only performs.does
@@ -80,7 +80,7 @@ module _ (laws : Laws) (port : Port) (outstanding : ℕ) (queued : Bool) (before
         is_told laws port outstanding queued before after old d r total (begins.rest ++ b.driven.accesses) new (ap (λ (made : List Access). made ++ b.driven.accesses) begins.here) performs.does
 
     -- another port's disk sends no page for a command that its slot 0 hasn't
-    pub silent_others : (q : Port) (o : Operation) → q.0 ≢ port.0 → op_of o ≡ None → RelatesWith (λ uses. uses q.0 0 ≡ Own o → ⊥) old → SendsNone q.0 o old new
+    pub silent_others : (q : Port) (o : Operation) → q.0 ≢ port.0 → op_of o ≡ None → RelatesWith (λ uses. uses q.0 0 ≡ Own o → ⊥) old → GainsNoMove q.0 o old new
     silent_others q o apart own (uses, none, agreed) =
         let stopped = laws.fragments.agreed (Recovering AnyUses port) (λ uses. uses) uses old r.quiets.stopped tt r.quiets.stops.followed agreed in
         let k : DriverState = known uses stopped.parked r.quiets.stopped in

@@ -11,18 +11,18 @@ use Rattle.adapter.specs.FirstRead.{first_read_device}
 use Rattle.adapter.specs.Memory.{changed}
 use Rattle.refinement.specs.Relation.{port_at}
 use Rattle.refinement.specs.Driven.{IsRelated}
-use Rattle.refinement.specs.Facts.{HasFaults, IsFaulted}
+use Rattle.refinement.specs.Facts.{RecordsFaults, IsFaulted}
 use Rattle.refinement.specs.Recovered.{FaultIsSeen}
-use Rattle.refinement.specs.Served.{TwoAreKnown, armed_uses, second_id, two_issued, two_known}
+use Rattle.refinement.specs.Served.{TwoReadsWitness, armed_uses, second_id, two_issued, two_known}
 use Rattle.refinement.specs.Slots.{Free, Serves, SlotState, SlotStates, put}
-use Rattle.refinement.specs.Witness.{FirstIsKnown, first_id, first_uses}
+use Rattle.refinement.specs.Witness.{FirstReadWitness, first_id, first_uses}
 use Rattle.port_control.specs.Ports.{programmed}
 use Rattle.error_recovery.specs.Laws.{Laws}
 use Rattle.error_recovery.specs.Laws.SlotCondition.{AnyUses}
-use Rattle.error_recovery.specs.Laws.AccessKind.{Recovering}
+use Rattle.error_recovery.specs.Laws.AccessPurpose.{Recovering}
 use Rattle.error_recovery.specs.Parts.{HasDriverMemory}
-use Rattle.error_recovery.specs.Recovery.{IsAloneIn, IsRecovering, MayRecover}
-use Rattle.error_recovery.specs.Witness.{MayBeAsked}
+use Rattle.error_recovery.specs.Recovery.{PlainIsSlot0, IsRecoveryAccess, MayRecover}
+use Rattle.error_recovery.specs.Witness.{RecoverWitness}
 use Rattle.error_recovery.proofs.Going.{goes_over}
 use Rattle.error_recovery.proofs.Stretching.{room_after}
 
@@ -36,13 +36,13 @@ record RunsPlaced (d : Device) : Type 0 where
   fre : (d.port 0).fre ≡ true
   bases : (d.port 0).bases ≡ programmed 0
   det : (d.port 0).sctl_det ≡ 0
-  recorded : HasFaults d.tape (d.port 0) 0
+  recorded : RecordsFaults d.tape (d.port 0) 0
 
 module _ (laws : Laws) (old : Device) (slot : ℕ) (halt : Halt) (runs : RunsPlaced old) (f : FaultIsSeen old slot halt) where
   seen_room : HasDriverMemory 0 f.seen
   seen_room =
       let a = (laws.fragments.reads (Recovering AnyUses (port_at 0)) (Px (port_at 0) Ssts) 3 old f.seen (inl refl) f.sees).followed.driven in
-      room_after laws (IsRecovering (port_at 0)) 0 old f.seen a (goes_over laws (port_at 0) a.accesses old f.seen runs.room.on a.only a.all).on runs.room
+      room_after laws (IsRecoveryAccess (port_at 0)) 0 old f.seen a (goes_over laws (port_at 0) a.accesses old f.seen runs.room.on a.only a.all).on runs.room
 
   seen_agreed : (uses : SlotStates) → IsRelated uses old → IsRelated uses f.seen
   seen_agreed uses agreed =
@@ -91,7 +91,7 @@ two_run = record {
 }
 
 -- 1 has the bit of slot 0 alone
-first_alone : IsAloneIn false 1
+first_alone : PlainIsSlot0 false 1
 first_alone plain slot low set = ⊎_elim
     (λ (is : slot ≡ 0). is)
     (λ (ne : slot ≡ 0 → ⊥). absurd (false≢true (sym (ap (λ (n : ℕ). n == 1) (bit_at-pow_other 0 slot ne)) ∙ set)))
@@ -100,7 +100,7 @@ first_alone plain slot low set = ⊎_elim
 module _ (laws : Laws)
     (here : (uses : SlotStates) (port slot : ℕ) (u : SlotState) → put uses port slot u port slot ≡ u)
     (others : (uses : SlotStates) (port slot : ℕ) (u : SlotState) (other_port other_slot : ℕ) → (other_port ≡ port → other_slot ≡ slot → ⊥) → put uses port slot u other_port other_slot ≡ uses other_port other_slot) where
-  pub plain_may_be_asked : FaultIsSeen first_read_device 0 HaltedPlain → FirstIsKnown → MayBeAsked false
+  pub plain_may_be_asked : FaultIsSeen first_read_device 0 HaltedPlain → FirstReadWitness → RecoverWitness false
   plain_may_be_asked f k = record {
     device = f.seen;
     on = (seen_room laws first_read_device 0 HaltedPlain first_runs f).on;
@@ -122,7 +122,7 @@ module _ (laws : Laws)
     among = ap (λ (slot : ℕ). bit 1 slot) f.of.1;
   }
 
-  pub queued_may_be_asked : FaultIsSeen two_issued 1 HaltedQueued → TwoAreKnown → MayBeAsked true
+  pub queued_may_be_asked : FaultIsSeen two_issued 1 HaltedQueued → TwoReadsWitness → RecoverWitness true
   queued_may_be_asked f k = record {
     device = f.seen;
     on = (seen_room laws two_issued 1 HaltedQueued two_run f).on;

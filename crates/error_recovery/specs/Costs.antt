@@ -1,16 +1,16 @@
 -- How many accesses the calls make, at most.
 use Rattle.std.specs.Prelude.{ℕ, ◌+◌}
 use Rattle.disk_page.specs.Costs.{PAGE_ACCESSES}
-use Rattle.port_control.specs.Costs.{FORGET_ACCESSES, START_ACCESSES, STOP_ACCESSES}
+use Rattle.port_control.specs.Costs.{ERROR_STATE_ACCESSES, START_ACCESSES, STOP_ACCESSES}
 
 -- PxTFD is read, the port is stopped, and it forgets its errors
 abbrev pub QUIET_ACCESSES : ℕ
-QUIET_ACCESSES = 1 + STOP_ACCESSES + FORGET_ACCESSES
+QUIET_ACCESSES = 1 + STOP_ACCESSES + ERROR_STATE_ACCESSES
 
 -- the port is started, asked for its log of errors, and stopped again
-abbrev pub NAMING_ACCESSES : ℕ
-NAMING_ACCESSES = START_ACCESSES + PAGE_ACCESSES + STOP_ACCESSES
+abbrev pub FINISH_QUEUED_ACCESSES : ℕ
+FINISH_QUEUED_ACCESSES = START_ACCESSES + PAGE_ACCESSES + STOP_ACCESSES
 
 -- both, one after the other
 abbrev pub RECOVER_ACCESSES : ℕ
-RECOVER_ACCESSES = QUIET_ACCESSES + NAMING_ACCESSES
+RECOVER_ACCESSES = QUIET_ACCESSES + FINISH_QUEUED_ACCESSES

@@ -12,7 +12,7 @@ use Rattle.adapter.specs.declared.tape.Fault as tape_fault
 use Rattle.adapter.specs.declared.tape.Move as tape_move
 use Rattle.refinement.specs.Errors.{IsFatalOf}
 use Rattle.refinement.specs.Facts.{IsFaultOf}
-use Rattle.refinement.specs.Links.{IsPlugging, SparesRegister}
+use Rattle.refinement.specs.Links.{IsPlugEvent, DoesNotWrite}
 use Rattle.refinement.specs.Slots.{IsMove}
 
 -- ---- evidence
@@ -22,7 +22,7 @@ pub record IsBeforeStop (port : Port) (accesses : List Access) (old at new : Dev
   pub early : List Access
   pub late : List Access
   pub here : accesses ≡ early ++ late
-  pub running : All (SparesRegister (Px port Cmd)) early
+  pub running : All (DoesNotWrite (Px port Cmd)) early
   pub first : DoesAll early old at
   pub rest : DoesAll late at new
 
@@ -49,7 +49,7 @@ pub record BringsLog (port : Port) (old new : Device) (page : List ℕ) : Type 0
 -- ---- trouble
 
 -- the tape has gained an entry of this kind since ST of the port was last set
-pub record GainsRunning (Is : Entry → Type 0) (port : ℕ) (old new : Device) : Type 0 where
+pub record GainsSinceStart (Is : Entry → Type 0) (port : ℕ) (old new : Device) : Type 0 where
   pub before : List Entry
   pub entry : Entry
   pub later : List Entry
@@ -66,7 +66,7 @@ pub record ShowsFatal (p : DevicePort) : Type 0 where
 
 -- What came since ST was set is shown: a fault by TFES, a fatal error by one of those three, and a disk that went or
 -- came by N.
-pub record ShowsTrouble (port : ℕ) (old new : Device) : Type 0 where
-  pub fault : GainsRunning (IsFaultOf port) port old new → (new.port port).is 30 ≡ true
-  pub fatal : GainsRunning (IsFatalOf port) port old new → ShowsFatal (new.port port)
-  pub disk : GainsRunning (IsPlugging port) port old new → (new.port port).serr_n ≡ true
+pub record HidesNoTrouble (port : ℕ) (old new : Device) : Type 0 where
+  pub fault : GainsSinceStart (IsFaultOf port) port old new → (new.port port).is 30 ≡ true
+  pub fatal : GainsSinceStart (IsFatalOf port) port old new → ShowsFatal (new.port port)
+  pub disk : GainsSinceStart (IsPlugEvent port) port old new → (new.port port).serr_n ≡ true

@@ -11,27 +11,27 @@ use Rattle.adapter.specs.Access.Access.{Writing}
 use Rattle.adapter.specs.Device.{Device, DevicePort}
 use Rattle.adapter.specs.Device.Halt.{NotHalted}
 use Rattle.adapter.specs.Rules.{IsOn}
-use Rattle.adapter.specs.Seen.{SeenAt}
+use Rattle.adapter.specs.Seen.{PortRegisterRead}
 use Rattle.adapter.specs.declared.command.Operation.{Operation}
 use Rattle.adapter.specs.declared.tape.Entry.{Entry}
 use Rattle.block_machine.specs.State.{Machine}
 use Rattle.refinement.specs.Laws.{FragmentLaws, TapeLaws}
 use Rattle.refinement.specs.Relation.{StateRelation}
-use Rattle.refinement.specs.Driven.{AnyAccess, AnyUse, HasNoCommand, IsControl, IsDrivenBy, IsOf, SendsNone}
+use Rattle.refinement.specs.Driven.{AnyAccess, AnyUse, HasNoCommand, OnPortWriting, IsDrivenBy, SparesOtherPorts, GainsNoMove}
 use Rattle.refinement.specs.Driver.{AllFree, DriverState, DriverRelation}
 use Rattle.refinement.specs.Errors.{ChangesByErrors, NoneFails, NoneFatal}
-use Rattle.refinement.specs.Facts.{IsFaulted, IsHalted, IsRecorded, RunsWell, ShowsFault, ShowsNoTrouble}
+use Rattle.refinement.specs.Facts.{IsFaulted, IsEngineStopped, FaultsOnRecord, RunsWell, ShowsFault, ShowsNoTrouble}
 use Rattle.refinement.specs.GivingUp.{parking_all}
-use Rattle.refinement.specs.Links.{LeavesControls, PlugsNone, SameAdapter, SparesRegister}
+use Rattle.refinement.specs.Links.{LeavesControls, NoPlugEvents, SameAdapter, DoesNotWrite}
 use Rattle.refinement.specs.Noted.{LeavesNotes}
 use Rattle.refinement.specs.Recovering.{IsLinked, RunsLinked, WorksPlainly}
 use Rattle.refinement.specs.Slots.{Free, IsOver, Own, SlotStates, put}
 use Rattle.refinement.specs.Started.{ClearsNoStart, IsStarted, IsUp}
 use Rattle.command_table.specs.Written.{IsUnused}
-use Rattle.disk_page.specs.Asking.{IsAsking, LeavesRunning, WaitsInVain}
+use Rattle.disk_page.specs.Asking.{IsPageAccess, LeavesRunning, WaitsInVain}
 use Rattle.port_control.specs.Engines.{FailsToStop, Falls, Sticks}
 use Rattle.port_control.specs.Ports.{IsErrorRegister, IsCommandRegister}
-use Rattle.error_recovery.specs.Recovery.{IsRecoveryRegister, IsRecovering}
+use Rattle.error_recovery.specs.Recovery.{IsRecoveryRegister, IsRecoveryAccess}
 
 -- ---- kinds of accesses
 
@@ -58,17 +58,17 @@ uses_of AnyUses port = AnyUse
 uses_of PortUnused port = λ uses. AllFree uses port.0
 
 -- a port's registers are read, and those of a set written; its disk is asked for the log; or it is recovered
-pub data AccessKind : Type 0 where
-  Controlling : RegisterSet → SlotCondition → Port → AccessKind
-  Asking : Port → AccessKind
-  Recovering : SlotCondition → Port → AccessKind
+pub data AccessPurpose : Type 0 where
+  Controlling : RegisterSet → SlotCondition → Port → AccessPurpose
+  Asking : Port → AccessPurpose
+  Recovering : SlotCondition → Port → AccessPurpose
 
-abbrev pub may_of : AccessKind → Access → Type 0
-may_of (Controlling set fitting port) = IsControl (registers_of set) port
-may_of (Asking port) = IsAsking port
-may_of (Recovering fitting port) = IsRecovering port
+abbrev pub may_of : AccessPurpose → Access → Type 0
+may_of (Controlling set fitting port) = OnPortWriting (registers_of set) port
+may_of (Asking port) = IsPageAccess port
+may_of (Recovering fitting port) = IsRecoveryAccess port
 
-abbrev pub fits_of : AccessKind → SlotStates → Type 0
+abbrev pub fits_of : AccessPurpose → SlotStates → Type 0
 fits_of (Controlling set fitting port) = uses_of fitting port
 fits_of (Asking port) = IsUnused port.0 0
 fits_of (Recovering fitting port) = uses_of fitting port
@@ -80,33 +80,33 @@ pub record Laws : Type 0 where
   pub access_on : (access : Access) (old new : Device) → IsOn old
       → ((v : ℕ) → access ≡ Writing Ghc v → (bit v 31 ≡ true) × (bit v 0 ≡ false)) → Does access old new → IsOn new
   pub seen : (port : Port) (r : PortReg) (v : ℕ) (old new : Device) → Reads (Px port r) v old new → old.hr ≡ false
-      → SeenAt port.0 r v old new
+      → PortRegisterRead port.0 r v old new
   pub tape : TapeLaws
   pub access_controls : (port : Port) (access : Access) (old new : Device) → old.hr ≡ false → Does access old new
       → LeavesControls access port (old.port port.0) (new.port port.0)
   pub access_notes : (port : Port) (access : Access) (old new : Device) → Does access old new
       → LeavesNotes access port (old.port port.0).notes (new.port port.0).notes
   pub access_recorded : (port : ℕ) (r : Reg) (v : ℕ) (old new : Device) → Reads r v old new
-      → IsRecorded old.tape (old.port port) port → IsRecorded new.tape (new.port port) port
+      → FaultsOnRecord old.tape (old.port port) port → FaultsOnRecord new.tape (new.port port) port
   -- errors
   pub access_raises : (port : Port) (access : Access) (old new : Device) → Does access old new
       → ChangesByErrors port.0 old new
   pub access_shows_fault : (port : Port) (access : Access) (old new : Device) → old.hr ≡ false
-      → SparesRegister (Px port Is) access → Does access old new → (new.port port.0).is 30 ≡ false
+      → DoesNotWrite (Px port Is) access → Does access old new → (new.port port.0).is 30 ≡ false
       → ((old.port port.0).is 30 ≡ false) × NoneFails port.0 old new
   pub access_shows_fatal : (port : Port) (access : Access) (old new : Device) → old.hr ≡ false
-      → SparesRegister (Px port Is) access → Does access old new
+      → DoesNotWrite (Px port Is) access → Does access old new
       → ((place : ℕ) → 27 ≤ place → place ≤ 29 → (new.port port.0).is place ≡ false)
       → ((place : ℕ) → 27 ≤ place → place ≤ 29 → (old.port port.0).is place ≡ false) × NoneFatal port.0 old new
   pub access_shows_disk : (port : Port) (access : Access) (old new : Device) → old.hr ≡ false
-      → SparesRegister (Px port Serr) access → Does access old new → (new.port port.0).serr_n ≡ false
-      → ((old.port port.0).serr_n ≡ false) × PlugsNone port.0 old new
+      → DoesNotWrite (Px port Serr) access → Does access old new → (new.port port.0).serr_n ≡ false
+      → ((old.port port.0).serr_n ≡ false) × NoPlugEvents port.0 old new
   -- the link
   pub access_linked : (port : Port) (access : Access) (old new : Device) → old.hr ≡ false
-      → SparesRegister (Px port Sctl) access → PlugsNone port.0 old new → Does access old new
+      → DoesNotWrite (Px port Sctl) access → NoPlugEvents port.0 old new → Does access old new
       → IsLinked (old.port port.0) → IsLinked (new.port port.0)
   pub access_runs_linked : (port : Port) (access : Access) (old new : Device) → old.hr ≡ false
-      → ClearsNoStart port access → SparesRegister (Px port Sctl) access → PlugsNone port.0 old new
+      → ClearsNoStart port access → DoesNotWrite (Px port Sctl) access → NoPlugEvents port.0 old new
       → NoneFatal port.0 old new → Does access old new → RunsLinked (old.port port.0) → RunsLinked (new.port port.0)
   pub up_of : (p : DevicePort) → IsLinked p → WorksPlainly p → IsUp p
   pub well_of : (p : DevicePort) → IsStarted p → ShowsNoTrouble p → RunsWell p
@@ -114,7 +114,8 @@ pub record Laws : Type 0 where
       → p.serr_x ≡ false → ((place : ℕ) → 27 ≤ place → place ≤ 29 → p.is place ≡ false) → RunsWell p
   -- the fault
   pub fault_shown : (port : Port) (v : ℕ) (old new : Device) → old.hr ≡ false → (old.port port.0).st ≡ true
-      → IsRecorded old.tape (old.port port.0) port.0 → IsFaulted (old.port port.0).halt → Reads (Px port Tfd) v old new
+      → FaultsOnRecord old.tape (old.port port.0) port.0 → IsFaulted (old.port port.0).halt
+      → Reads (Px port Tfd) v old new
       → (s : ShowsFault (drop (new.port port.0).notes.st_set_at new.tape) (new.port port.0) port.0)
       × (v % 256 ≡ s.fault.status) × (v / 256 % 256 ≡ s.fault.error)
   pub fault_sole : (uses : SlotStates) (m : Machine) (d : Device) (port slot : ℕ) (entries : List Entry)
@@ -122,12 +123,14 @@ pub record Laws : Type 0 where
       → (s : ShowsFault entries (d.port port) port) → ((other : ℕ) → other ≢ slot → uses port other ≡ Free)
       → s.fault.slot.0 ≡ slot
   -- pages and slots
-  pub silent_more : (port : ℕ) (o : Operation) (old mid new : Device) → SendsNone port o old mid
-      → SendsNone port o mid new → SendsNone port o old new
+  pub silent_more : (port : ℕ) (o : Operation) (old mid new : Device) → GainsNoMove port o old mid
+      → GainsNoMove port o mid new → GainsNoMove port o old new
   pub controls_unmoving : (port : Port) (o : Operation) (old new : Device)
-      → IsDrivenBy (IsControl (λ r. r ≢ Ci) port) old new → HasNoCommand (old.port port.0) → SendsNone port.0 o old new
+      → IsDrivenBy (OnPortWriting (λ r. r ≢ Ci) port) old new → HasNoCommand (old.port port.0)
+      → GainsNoMove port.0 o old new
       × HasNoCommand (new.port port.0)
-  pub given_up_halted : (k : DriverState) (m : Machine) (port : ℕ) → DriverRelation m k → IsHalted (k.device.port port)
+  pub given_up_halted : (k : DriverState) (m : Machine) (port : ℕ) → DriverRelation m k
+      → IsEngineStopped (k.device.port port)
       → DriverRelation m (parking_all k port)
   pub given_up_free : (k : DriverState) (port : ℕ) → AllFree (parking_all k port).uses port
   pub given_up_others : (k : DriverState) (port other : ℕ) → other ≢ port
@@ -136,10 +139,10 @@ pub record Laws : Type 0 where
   pub put_here : (uses : SlotStates) (port slot : ℕ) (o : Operation) → put uses port slot (Own o) port slot ≡ Own o
   -- fragments
   pub same_any : (old new : Device) → IsDrivenBy AnyAccess old new → SameAdapter old new
-  pub of_spares_ghc : (port : Port) (access : Access) → IsOf port access → SparesRegister Ghc access
-  pub of_spares : (port q : Port) (r : PortReg) → q.0 ≢ port.0 → (access : Access) → IsOf port access
-      → SparesRegister (Px q r) access
-  pub asking_is_of : (port : Port) (access : Access) → IsAsking port access → IsOf port access
+  pub of_spares_ghc : (port : Port) (access : Access) → SparesOtherPorts port access → DoesNotWrite Ghc access
+  pub of_spares : (port q : Port) (r : PortReg) → q.0 ≢ port.0 → (access : Access) → SparesOtherPorts port access
+      → DoesNotWrite (Px q r) access
+  pub asking_is_of : (port : Port) (access : Access) → IsPageAccess port access → SparesOtherPorts port access
   pub asked_none : (port : ℕ) (old new : Device) → LeavesRunning port old new → HasNoCommand (old.port port)
       → IsOver (new.port port) 0 → HasNoCommand (new.port port)
   -- what is told of engines, and of waits
@@ -152,11 +155,11 @@ pub record Laws : Type 0 where
   pub vain_then : (port : Port) (early late : List Access) → WaitsInVain port early → WaitsInVain port (early ++ late)
   pub vain_since : (port : Port) (early late : List Access) → WaitsInVain port late → WaitsInVain port (early ++ late)
   -- this crate's kinds of accesses
-  pub control_of : (set : RegisterSet) (port : Port) (access : Access) → IsControl (registers_of set) port access
-      → IsOf port access
+  pub control_of : (set : RegisterSet) (port : Port) (access : Access) → OnPortWriting (registers_of set) port access
+      → SparesOtherPorts port access
   pub control_spares : (set : RegisterSet) (port : Port) (r : PortReg) → (registers_of set r → ⊥) → (access : Access)
-      → IsControl (registers_of set) port access → SparesRegister (Px port r) access
+      → OnPortWriting (registers_of set) port access → DoesNotWrite (Px port r) access
   pub control_wider : (set more : RegisterSet) (port : Port)
       → ((r : PortReg) → registers_of set r → registers_of more r) → (access : Access)
-      → IsControl (registers_of set) port access → IsControl (registers_of more) port access
-  pub fragments : FragmentLaws AccessKind may_of fits_of
+      → OnPortWriting (registers_of set) port access → OnPortWriting (registers_of more) port access
+  pub fragments : FragmentLaws AccessPurpose may_of fits_of

@@ -11,11 +11,11 @@ use Rattle.adapter.specs.Device.{Device}
 use Rattle.adapter.specs.Device.Halt.{NotHalted}
 use Rattle.adapter.specs.Rules.{IsOn, HasPort}
 use Rattle.adapter.specs.declared.command.Operation.TheVariants.{Identify, ReadLog}
-use Rattle.refinement.specs.Driven.{RelatesWith, AnyUse, IsSimulated, IsControl, IsSimulatedAlong, SendsNone}
+use Rattle.refinement.specs.Driven.{RelatesWith, AnyUse, IsSimulated, OnPortWriting, IsSimulatedAlong, GainsNoMove}
 use Rattle.refinement.specs.Driver.{AllFree}
 use Rattle.refinement.specs.Errors.{ChangesByDisks}
-use Rattle.refinement.specs.Facts.{HasFaults, IsHalted, IsQuiet}
-use Rattle.refinement.specs.Links.{PlugsNone}
+use Rattle.refinement.specs.Facts.{RecordsFaults, IsEngineStopped, IsCleanToStart}
+use Rattle.refinement.specs.Links.{NoPlugEvents}
 use Rattle.refinement.specs.Recovering.{IsLinked, RunsLinked, WorksPlainly}
 use Rattle.refinement.specs.Started.{IsStarted, IsUp}
 use Rattle.refinement.specs.Slots.{Own}
@@ -25,7 +25,7 @@ use Rattle.identify.specs.declared.error_log.FailedSlot.{FailedSlot}
 use Rattle.port_control.specs.Engines.{Sticks, Stops}
 use Rattle.port_control.specs.Ports.{HasClearErrors, IsRunning, ReceivesFises, SameButStart, BacksFault, ShowsIdle, IsCommandRegister}
 use Rattle.port_control.specs.declared.PortFault.TheVariants.{EngineStuck}
-use Rattle.error_recovery.specs.Recovery.{FitsFor, IsAloneIn, IsRecovering, IssueNone, MayRecover, NamesUnknownSlot}
+use Rattle.error_recovery.specs.Recovery.{PlainUsesSlot0, PlainIsSlot0, IsRecoveryAccess, IssueNone, MayRecover, NamesUnknownSlot}
 
 -- the adapter is on and has the port and memory for the driver's frames
 pub record HasDriverMemory (port : ℕ) (d : Device) : Type 0 where
@@ -50,9 +50,9 @@ ReadsAndStops port shown accesses = ReadsTaskFileFirst port shown accesses × St
 pub record Quiets (port : Port) (before after : ℕ) (old new : Device) : Type 0 where
   pub room : HasDriverMemory port.0 new
   pub stopped : Device
-  pub stops : IsSimulatedAlong (ReadsAndStops port before) (IsRecovering port) AnyUse old stopped
-  pub stands : IsHalted (stopped.port port.0)
-  pub forgets : IsSimulatedAlong (IssueNone port) (IsRecovering port) AnyUse stopped new
+  pub stops : IsSimulatedAlong (ReadsAndStops port before) (IsRecoveryAccess port) AnyUse old stopped
+  pub stands : IsEngineStopped (stopped.port port.0)
+  pub forgets : IsSimulatedAlong (IssueNone port) (IsRecoveryAccess port) AnyUse stopped new
   pub receives : ReceivesFises port.0 (new.port port.0)
   pub det : (new.port port.0).sctl_det ≡ 0
   pub file : (new.port port.0).notes.last_tfd ≡ after
@@ -60,17 +60,17 @@ pub record Quiets (port : Port) (before after : ℕ) (old new : Device) : Type 0
   pub count : (new.port port.0).notes.link_count ≡ (old.port port.0).notes.link_count
   pub calm : (place : ℕ) → place < 32 → (new.port port.0).is place ≡ false
   pub clear : HasClearErrors port.0 old new
-  pub quiet : IsQuiet (new.port port.0)
+  pub quiet : IsCleanToStart (new.port port.0)
   pub agreed : RelatesWith (λ uses. AllFree uses port.0) new
   pub plain : WorksPlainly (old.port port.0) → WorksPlainly (new.port port.0)
-  pub silent : RelatesWith (λ uses. uses port.0 0 ≡ Own Identify → ⊥) old → SendsNone port.0 Identify old new
+  pub silent : RelatesWith (λ uses. uses port.0 0 ≡ Own Identify → ⊥) old → GainsNoMove port.0 Identify old new
 
 -- The port was to stop, and its engine is stuck.
 pub record StopGetsStuck (port : Port) (old new : Device) : Type 0 where
-  pub told : IsSimulatedAlong (Sticks port) (IsRecovering port) AnyUse old new
+  pub told : IsSimulatedAlong (Sticks port) (IsRecoveryAccess port) AnyUse old new
   pub st : (new.port port.0).st ≡ false
   pub stuck : BacksFault EngineStuck (new.port port.0).notes
-  pub silent : RelatesWith (λ uses. uses port.0 0 ≡ Own Identify → ⊥) old → SendsNone port.0 Identify old new
+  pub silent : RelatesWith (λ uses. uses port.0 0 ≡ Own Identify → ⊥) old → GainsNoMove port.0 Identify old new
 
 -- ---- a port that is started again
 
@@ -81,7 +81,7 @@ pub record MayStartAgain (port : ℕ) (d : Device) : Type 0 where
   pub receives : ReceivesFises port (d.port port)
   pub linked : (d.port port).notes.last_ssts % 16 ≡ 3
   pub idle : ShowsIdle (d.port port).notes.last_tfd
-  pub quiet : IsQuiet (d.port port)
+  pub quiet : IsCleanToStart (d.port port)
   pub agreed : RelatesWith (λ uses. AllFree uses port) d
 
 -- It was set: the port runs with no command in a slot, and the record of its faults has begun. Where its link was up,
@@ -89,13 +89,13 @@ pub record MayStartAgain (port : ℕ) (d : Device) : Type 0 where
 -- came.
 pub record StartsAgain (port : Port) (old new : Device) : Type 0 where
   pub room : HasDriverMemory port.0 new
-  pub starts : IsSimulated (IsControl IsCommandRegister port) (λ uses. AllFree uses port.0) old new
+  pub starts : IsSimulated (OnPortWriting IsCommandRegister port) (λ uses. AllFree uses port.0) old new
   pub runs : IsRunning port.0 (new.port port.0)
   pub same : SameButStart (old.port port.0) (new.port port.0)
   pub set : (new.port port.0).notes.st_set_at ≡ length new.tape
-  pub well : IsUp (old.port port.0) → PlugsNone port.0 old new → IsStarted (new.port port.0)
-  pub linked : IsLinked (old.port port.0) → PlugsNone port.0 old new → RunsLinked (new.port port.0)
-  pub recorded : HasFaults new.tape (new.port port.0) port.0
+  pub well : IsUp (old.port port.0) → NoPlugEvents port.0 old new → IsStarted (new.port port.0)
+  pub linked : IsLinked (old.port port.0) → NoPlugEvents port.0 old new → RunsLinked (new.port port.0)
+  pub recorded : RecordsFaults new.tape (new.port port.0) port.0
   pub calm : (place : ℕ) → (old.port port.0).is place ≡ false → (new.port port.0).is place ≡ false
   pub changes : ChangesByDisks port.0 old new
   pub agreed : RelatesWith (λ uses. AllFree uses port.0) new
@@ -106,9 +106,9 @@ pub record StartsAgain (port : Port) (old new : Device) : Type 0 where
 pub record IsQuietedForRecovery (port : Port) (outstanding : ℕ) (queued : Bool) (before after : ℕ) (old d : Device) :
     Type 0 where
   pub on : IsOn old
-  pub agreed : RelatesWith (FitsFor queued port.0) old
+  pub agreed : RelatesWith (PlainUsesSlot0 queued port.0) old
   pub may : MayRecover port.0 old
-  pub alone : IsAloneIn queued outstanding
+  pub alone : PlainIsSlot0 queued outstanding
   pub quiets : Quiets port before after old d
 
 -- ---- the log
@@ -128,4 +128,4 @@ pub record AsksLog (port : Port) (outstanding : ℕ) (named : Option FailedSlot)
   pub reads : ReadsLog port outstanding named old new
   pub leaves : LeavesRunning port.0 old new
   pub running : IfSome named (λ _. (new.port port.0).halt ≡ NotHalted)
-  pub silent : SendsNone port.0 Identify old new
+  pub silent : GainsNoMove port.0 Identify old new

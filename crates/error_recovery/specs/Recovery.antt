@@ -14,15 +14,15 @@ use Rattle.adapter.specs.Rules.{IsOn, HasPort}
 use Rattle.adapter.specs.declared.command.Operation.{Operation}
 use Rattle.adapter.specs.declared.command.Operation.TheVariants.{Identify, ReadLog}
 use Rattle.adapter.specs.declared.tape.Fault as tape_fault
-use Rattle.refinement.specs.Acts.{AnySlots, ByDeviceAlone, InSlots, Performs}
-use Rattle.refinement.specs.Driven.{RelatesWith, IsControl, SendsNone}
+use Rattle.refinement.specs.Acts.{AnySlots, ByDeviceAlone, DriverSlots, Performs}
+use Rattle.refinement.specs.Driven.{RelatesWith, OnPortWriting, GainsNoMove}
 use Rattle.refinement.specs.Errors.{IsFatalOf}
-use Rattle.refinement.specs.Facts.{HasFaults, IsFaulted, RunsWell}
+use Rattle.refinement.specs.Facts.{RecordsFaults, IsFaulted, RunsWell}
 use Rattle.refinement.specs.GivingUp.{given_up}
-use Rattle.refinement.specs.Links.{PlugsNone, SparesRegister}
+use Rattle.refinement.specs.Links.{NoPlugEvents, DoesNotWrite}
 use Rattle.refinement.specs.Recovering.{IsLinked, WorksPlainly}
 use Rattle.refinement.specs.Slots.{Free, Own, SlotStates, op_of, put}
-use Rattle.disk_page.specs.Asking.{IsAsking, WaitsInVain}
+use Rattle.disk_page.specs.Asking.{IsPageAccess, WaitsInVain}
 use Rattle.identify.specs.Log.{TellsError, TellsNoError}
 use Rattle.identify.specs.declared.error_log.FailedSlot.{FailedSlot}
 use Rattle.port_control.specs.Engines.{Sticks, Stops}
@@ -30,7 +30,7 @@ use Rattle.port_control.specs.Ports.{IsErrorRegister, IsRunning, IsStopped, Back
 use Rattle.port_control.specs.declared.PortFault.TheVariants.{EngineStuck}
 use Rattle.port_control.specs.declared.Running as running_token
 use Rattle.port_control.specs.declared.Stopped as stopped_token
-use Rattle.error_recovery.specs.Evidence.{BringsLog, GainsRunning, HasFailed, ShowsTrouble}
+use Rattle.error_recovery.specs.Evidence.{BringsLog, GainsSinceStart, HasFailed, HidesNoTrouble}
 use Rattle.error_recovery.specs.declared.Next.{Next}
 use Rattle.error_recovery.specs.declared.Next.TheVariants.{Running, Restart, Dead}
 use Rattle.error_recovery.specs.declared.Recovered.{Recovered}
@@ -38,12 +38,12 @@ use Rattle.error_recovery.specs.declared.Recovered.{Recovered}
 -- ---- what is asked
 
 -- where the outstanding commands aren't queued, there is one at most, in slot 0
-abbrev pub FitsFor : Bool → ℕ → SlotStates → Type 0
-FitsFor queued port uses = queued ≡ false → (slot : ℕ) → slot ≢ 0 → uses port slot ≡ Free
+abbrev pub PlainUsesSlot0 : Bool → ℕ → SlotStates → Type 0
+PlainUsesSlot0 queued port uses = queued ≡ false → (slot : ℕ) → slot ≢ 0 → uses port slot ≡ Free
 
 -- so tell the outstanding slots, by bit
-abbrev pub IsAloneIn : Bool → ℕ → Type 0
-IsAloneIn queued outstanding = queued ≡ false → (slot : ℕ) → slot < 32 → bit outstanding slot ≡ true → slot ≡ 0
+abbrev pub PlainIsSlot0 : Bool → ℕ → Type 0
+PlainIsSlot0 queued outstanding = queued ≡ false → (slot : ℕ) → slot < 32 → bit outstanding slot ≡ true → slot ≡ 0
 
 -- An error of the port may be handled while these commands are outstanding, queued ones or a plain one in slot 0: the
 -- adapter is on, and has the port and the driver's memory; and what its slots are used for is known.
@@ -51,8 +51,8 @@ pub record MayHandleError (port : Port) (outstanding : ℕ) (queued : Bool) (d :
   pub on : IsOn d
   pub there : HasPort d port.0
   pub room : DRIVER_BYTES ≤ d.size
-  pub agreed : RelatesWith (FitsFor queued port.0) d
-  pub alone : IsAloneIn queued outstanding
+  pub agreed : RelatesWith (PlainUsesSlot0 queued port.0) d
+  pub alone : PlainIsSlot0 queued outstanding
 
 -- A fault has halted the port, which runs with its areas in their places; a device with a link was seen last, no
 -- COMRESET is being sent, and the faults since ST was set are on record.
@@ -63,7 +63,7 @@ pub record MayRecover (port : ℕ) (d : Device) : Type 0 where
   pub bases : (d.port port).bases ≡ programmed port
   pub det : (d.port port).sctl_det ≡ 0
   pub linked : (d.port port).notes.last_ssts % 16 ≡ 3
-  pub recorded : HasFaults d.tape (d.port port) port
+  pub recorded : RecordsFaults d.tape (d.port port) port
   pub halted : IsFaulted (d.port port).halt
 
 -- ---- what is done
@@ -74,21 +74,21 @@ IsRecoveryRegister r = IsCommandRegister r ⊎ IsErrorRegister r
 
 -- it reads a register of the port, writes one of these three, or asks for the log: by slot 0's header and table, bit 0
 -- of PxCI, and a load of the scratch frame
-abbrev pub IsRecovering : Port → Access → Type 0
-IsRecovering port access = IsControl IsRecoveryRegister port access ⊎ IsAsking port access
+abbrev pub IsRecoveryAccess : Port → Access → Type 0
+IsRecoveryAccess port access = OnPortWriting IsRecoveryRegister port access ⊎ IsPageAccess port access
 
 -- slot 0 has a command of the driver's own
-abbrev pub with_own : ℕ → Operation → InSlots → InSlots
+abbrev pub with_own : ℕ → Operation → DriverSlots → DriverSlots
 with_own port o s = record s { uses = put s.uses port 0 (Own o) }
 
 -- Each slot of the port was given up once the port had stopped, and the requests that they served are parked; the
 -- device alone made steps. Of a dead port the slots are as they were, or READ LOG EXT may be in slot 0 still.
-abbrev pub LeavesSlots : ℕ → Next → List Access → Device → Device → Type 0
-LeavesSlots port Dead accesses old new =
+abbrev pub SlotsAfterRecovery : ℕ → Next → List Access → Device → Device → Type 0
+SlotsAfterRecovery port Dead accesses old new =
     Performs accesses AnySlots (λ s. s) ByDeviceAlone old new
     ⊎ (Performs accesses AnySlots (given_up port) ByDeviceAlone old new
     ⊎ Performs accesses AnySlots (λ s. with_own port ReadLog (given_up port s)) ByDeviceAlone old new)
-LeavesSlots port _ accesses old new = Performs accesses AnySlots (given_up port) ByDeviceAlone old new
+SlotsAfterRecovery port _ accesses old new = Performs accesses AnySlots (given_up port) ByDeviceAlone old new
 
 -- the accesses tell that the port was stopped; or that its engine is stuck
 abbrev pub TellsEngine : Port → Next → List Access → Type 0
@@ -130,10 +130,11 @@ pub record RestsOnLog (port : Port) (outstanding : ℕ) (accesses : List Access)
   pub brings : BringsLog port old new page
   pub tells : TellsError page failed.slot.0 failed.status failed.error
 
-abbrev pub Rests : Bool → Port → ℕ → List Access → Device → Device → Option FailedSlot → Type 0
-Rests queued port outstanding accesses old new None = Unit {0}
-Rests false port outstanding accesses old new (Some failed) = RestsOnFault port outstanding accesses old new failed
-Rests true port outstanding accesses old new (Some failed) = RestsOnLog port outstanding accesses old new failed
+abbrev pub BacksFailure : Bool → Port → ℕ → List Access → Device → Device → Option FailedSlot → Type 0
+BacksFailure queued port outstanding accesses old new None = Unit {0}
+BacksFailure false port outstanding accesses old new
+    (Some failed) = RestsOnFault port outstanding accesses old new failed
+BacksFailure true port outstanding accesses old new (Some failed) = RestsOnLog port outstanding accesses old new failed
 
 -- the page names a slot that isn't outstanding
 pub record NamesUnknownSlot (outstanding : ℕ) (page : List ℕ) : Type 0 where
@@ -145,12 +146,12 @@ pub record NamesUnknownSlot (outstanding : ℕ) (page : List ℕ) : Type 0 where
 
 -- they issue no command of the port
 abbrev pub IssueNone : Port → List Access → Type 0
-IssueNone port accesses = All (SparesRegister (Px port Ci)) accesses
+IssueNone port accesses = All (DoesNotWrite (Px port Ci)) accesses
 
 -- The port was stopped, which clears PxCI; and then 64 readings in a row showed slot 0's bit, of a command that was
 -- issued since. No later reading showed it clear: the count of these readings, which stands beside the device's state,
 -- is 64 at the end.
-pub record WaitsAnew (port : Port) (accesses : List Access) (new : Device) : Type 0 where
+pub record StopsThenWaits (port : Port) (accesses : List Access) (new : Device) : Type 0 where
   pub early : List Access
   pub late : List Access
   pub here : accesses ≡ early ++ late
@@ -164,7 +165,7 @@ pub record WaitsAnew (port : Port) (accesses : List Access) (new : Device) : Typ
 abbrev pub ExplainsReboot : Bool → Port → ℕ → List Access → Device → Device → Type 0
 ExplainsReboot queued port outstanding accesses old new =
     (IssueNone port accesses × (ShowsIdle (new.port port.0).notes.last_tfd → ⊥))
-    ⊎ ((queued ≡ true) × (WaitsAnew port accesses new
+    ⊎ ((queued ≡ true) × (StopsThenWaits port accesses new
     ⊎ ((page : List ℕ) × BringsLog port old new page × (TellsNoError page ⊎ NamesUnknownSlot outstanding page))))
 
 -- ---- how it ends
@@ -176,14 +177,14 @@ ExplainsReboot queued port outstanding accesses old new =
 -- without queued commands, if it worked on plain ones alone.
 pub record RunsAgain (queued : Bool) (port : ℕ) (old new : Device) : Type 0 where
   pub runs : IsRunning port (new.port port)
-  pub recorded : HasFaults new.tape (new.port port) port
+  pub recorded : RecordsFaults new.tape (new.port port) port
   pub since : length old.tape ≤ (new.port port).notes.st_set_at
   pub count : (new.port port).notes.link_count ≡ (old.port port).notes.link_count
   pub ended : queued ≡ true → (new.port port).halt ≡ NotHalted
   pub plain : queued ≡ false → WorksPlainly (old.port port) → WorksPlainly (new.port port)
   pub unhalted : (queued ≡ false → WorksPlainly (old.port port)) → (new.port port).halt ≢ LogOnly
-  pub shows : ShowsTrouble port old new
-  pub well : PlugsNone port old new → (GainsRunning (IsFatalOf port) port old new → ⊥) → IsLinked (old.port port)
+  pub shows : HidesNoTrouble port old new
+  pub well : NoPlugEvents port old new → (GainsSinceStart (IsFatalOf port) port old new → ⊥) → IsLinked (old.port port)
       → (queued ≡ false → WorksPlainly (old.port port)) → RunsWell (new.port port)
 
 -- It is as `next` says: it runs; it is stopped, so that it can be booted; or its engine was awaited in vain.
@@ -196,8 +197,8 @@ EndsAsNext queued port Dead old new = ((new.port port.0).st ≡ false) × BacksF
 
 -- What recovery does: its accesses are of its kind; what becomes of the slots; and what is told of the port's engine.
 pub record DoesRecovery (port : Port) (result : Recovered) (accesses : List Access) (old new : Device) : Type 0 where
-  pub only : All (IsRecovering port) accesses
-  pub slots : LeavesSlots port.0 result.next accesses old new
+  pub only : All (IsRecoveryAccess port) accesses
+  pub slots : SlotsAfterRecovery port.0 result.next accesses old new
   pub engine : TellsEngine port result.next accesses
 
 -- What is told of the commands that were outstanding: who failed, on what that rests, and who goes again. Where the
@@ -206,7 +207,7 @@ pub record DoesRecovery (port : Port) (result : Recovered) (accesses : List Acce
 pub record TellsOutstanding (port : Port) (outstanding : ℕ) (queued : Bool) (result : Recovered)
     (accesses : List Access) (old new : Device) : Type 0 where
   pub parts : Parts outstanding result.failed result.again
-  pub rests : Rests queued port outstanding accesses old new result.failed
+  pub rests : BacksFailure queued port outstanding accesses old new result.failed
   pub dead : result.next ≡ Dead → result.failed ≡ None
   pub unnamed : (token : stopped_token.Stopped) → queued ≡ true → result.next ≡ Restart token → result.failed ≡ None
 
@@ -227,9 +228,9 @@ pub record LeavesRecovery (port : Port) (queued : Bool) (next : Next) (old new :
   pub det : (new.port port.0).sctl_det ≡ (old.port port.0).sctl_det
   pub written : (new.port port.0).notes.sctl_written_at ≡ (old.port port.0).notes.sctl_written_at
   pub enabled : (new.port port.0).ie ≡ (old.port port.0).ie
-  pub silent : RelatesWith (λ uses. uses port.0 0 ≡ Own Identify → ⊥) old → SendsNone port.0 Identify old new
+  pub silent : RelatesWith (λ uses. uses port.0 0 ≡ Own Identify → ⊥) old → GainsNoMove port.0 Identify old new
   pub others : (q : Port) (o : Operation) → q.0 ≢ port.0 → op_of o ≡ None
-      → RelatesWith (λ uses. uses q.0 0 ≡ Own o → ⊥) old → SendsNone q.0 o old new
+      → RelatesWith (λ uses. uses q.0 0 ≡ Own o → ⊥) old → GainsNoMove q.0 o old new
 
 -- What becomes of a port that had trouble: by one list of accesses it was stopped, and runs again, or has to be booted,
 -- or is dead.
@@ -251,6 +252,6 @@ pub record Recovers (port : Port) (outstanding : ℕ) (queued : Bool) (result : 
 pub record StopsForReset (port : Port) (outstanding : ℕ) (queued : Bool) (result : Recovered)
     (old new : Device) : Type 0 where
   pub handling : RecoversOrStops port outstanding queued result old new
-  pub only : All (IsControl IsCommandRegister port) handling.accesses
+  pub only : All (OnPortWriting IsCommandRegister port) handling.accesses
   pub nobody : result.failed ≡ None
   pub halts : (token : running_token.Running) → result.next ≢ Running token

@@ -14,20 +14,20 @@ use Rattle.refinement.specs.Driven.{RelatesWith, AnyUse}
 use Rattle.refinement.specs.Slots.{Serves}
 use Rattle.port_control.specs.declared.Stopped as stopped_token
 use Rattle.error_recovery.specs.Evidence.{ShowsFatal}
-use Rattle.error_recovery.specs.Recovery.{FitsFor, StopsForReset, IsAloneIn, MayRecover}
+use Rattle.error_recovery.specs.Recovery.{PlainUsesSlot0, StopsForReset, PlainIsSlot0, MayRecover}
 use Rattle.error_recovery.specs.declared.Next.TheVariants.{Restart}
 
 -- Of port 0 all is so that recovery asks. A command has failed on it, a plain one in slot 0, or a queued one in slot 1,
 -- and has halted the port. Its slot serves a request, and is outstanding.
-pub record MayBeAsked (queued : Bool) : Type 0 where
+pub record RecoverWitness (queued : Bool) : Type 0 where
   pub device : Device
   pub on : IsOn device
   pub there : HasPort device 0
   pub room : DRIVER_BYTES ≤ device.size
-  pub agreed : RelatesWith (FitsFor queued 0) device
+  pub agreed : RelatesWith (PlainUsesSlot0 queued 0) device
   pub may : MayRecover 0 device
   pub outstanding : ℕ
-  pub alone : IsAloneIn queued outstanding
+  pub alone : PlainIsSlot0 queued outstanding
   pub fault : tape_fault.Fault
   pub here : Contains device.tape (entry.Fault fault)
   pub of : (fault.port.0 ≡ 0) × (fault.slot.0 ≡ (if queued then 1 else 0))
@@ -37,7 +37,7 @@ pub record MayBeAsked (queued : Bool) : Type 0 where
 
 -- Of port 0 all is so that is asked where a port is given up: a fatal error has broken it, and slot 0 serves a request,
 -- which is outstanding. And what is promised then can come: ST is cleared, CR falls, and the port has to be booted.
-pub record MayBeGivenUp : Type 0 where
+pub record StopWitness : Type 0 where
   pub device : Device
   pub on : IsOn device
   pub there : HasPort device 0

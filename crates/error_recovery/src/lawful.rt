@@ -1,7 +1,7 @@
 // What laws of the crates below say of this crate's accesses, for its proofs. Nothing comes of calling it.
 ghost use Rattle.error_recovery.specs.Laws.{Laws};
 
-use adapter::laws::law_port_registers_are_accessed;
+use adapter::laws::law_port_register_accesses;
 use disk_page::laws::{law_asking_is_of_one_port, law_what_is_told_of_waits_stays};
 use port_control::laws::law_what_is_told_of_engines_stays;
 use refinement::facts::{
@@ -14,7 +14,7 @@ use refinement::giving_up::{law_fault_is_outstanding, law_slots_are_given_up};
 use refinement::kinds::{law_controls_are_of_a_port, law_fragments};
 use refinement::laws::law_putting_is_of_one_slot;
 use refinement::recovering::{
-    law_faults_are_plain, law_faults_show_before_the_end, law_link_is_kept, law_running_goes_on,
+    law_faults_show_before_the_end, law_link_is_kept, law_plain_work_stays, law_running_goes_on,
 };
 use std::marker::Brand;
 
@@ -22,7 +22,7 @@ use std::marker::Brand;
 pub fn law_base()
     ensures { Laws }
 {
-    law_port_registers_are_accessed();
+    law_port_register_accesses();
     law_adapter_stays();
     law_cleared_stays();
     law_controls_stay();
@@ -37,7 +37,7 @@ pub fn law_base()
     law_fragments::<Brand>();
     law_controls_are_of_a_port::<Brand>();
     law_putting_is_of_one_slot();
-    law_faults_are_plain();
+    law_plain_work_stays();
     law_faults_show_before_the_end();
     law_link_is_kept();
     law_running_goes_on();

@@ -10,11 +10,11 @@ ghost use Rattle.adapter.specs.Device.{Device, DevicePort};
 ghost use Rattle.adapter.specs.Rules.{IsOn};
 ghost use Rattle.adapter.specs.declared.command.Operation.TheVariants.{ReadLog};
 ghost use Rattle.adapter.specs.declared.tape.Fault.{Fault};
-ghost use Rattle.refinement.specs.Driven.{Grows, IsOf, SendsNone};
-ghost use Rattle.refinement.specs.Links.{SparesRegister};
+ghost use Rattle.refinement.specs.Driven.{Grows, SparesOtherPorts, GainsNoMove};
+ghost use Rattle.refinement.specs.Links.{DoesNotWrite};
 ghost use Rattle.error_recovery.specs.Evidence.{BringsLog, HasFailed, ShowsFatal};
-ghost use Rattle.error_recovery.specs.Recovery.{IsRecovering};
-ghost use Rattle.error_recovery.specs.Witness.{MayBeAsked, MayBeGivenUp};
+ghost use Rattle.error_recovery.specs.Recovery.{IsRecoveryAccess};
+ghost use Rattle.error_recovery.specs.Witness.{RecoverWitness, StopWitness};
 
 use super::lawful::law_base;
 use adapter::laws::law_accesses_compose;
@@ -25,18 +25,21 @@ use refinement::laws::{
 use refinement::limits::law_a_fault_is_seen;
 
 /// Recovery touches no register of another port, nor another port's bit of IS: so what is said of such accesses
-/// (`IsOf`) is so of each of its own. They write no register of the adapter's own, and of the port's none but PxCMD,
-/// PxSERR, PxIS and PxCI: neither PxSCTL nor PxIE nor PxSACT. What they load and store lies in the driver's frames.
+/// (`SparesOtherPorts`) is so of each of its own. They write no register of the adapter's own, and of the port's none
+/// but PxCMD, PxSERR, PxIS and PxCI: neither PxSCTL nor PxIE nor PxSACT. What they load and store lies in the driver's
+/// frames.
 pub fn law_recovery_is_of_its_port()
-    ensures of { (port : Port) (access : Access) → IsRecovering port access → IsOf port access }
-    ensures host { (port : Port) (access : Access) → IsRecovering port access → SparesRegister Ghc access }
-    ensures link { (port : Port) (access : Access) → IsRecovering port access → SparesRegister (Px port Sctl) access }
-    ensures interrupts { (port : Port) (access : Access) → IsRecovering port access
-        → SparesRegister (Px port Ie) access }
-    ensures active { (port : Port) (access : Access) → IsRecovering port access → SparesRegister (Px port Sact) access }
-    ensures loads { (port : Port) (at : ℕ) (bytes : List ℕ) → port.0 < 4 → IsRecovering port (Loading at bytes)
+    ensures of { (port : Port) (access : Access) → IsRecoveryAccess port access → SparesOtherPorts port access }
+    ensures host { (port : Port) (access : Access) → IsRecoveryAccess port access → DoesNotWrite Ghc access }
+    ensures link { (port : Port) (access : Access) → IsRecoveryAccess port access
+        → DoesNotWrite (Px port Sctl) access }
+    ensures interrupts { (port : Port) (access : Access) → IsRecoveryAccess port access
+        → DoesNotWrite (Px port Ie) access }
+    ensures active { (port : Port) (access : Access) → IsRecoveryAccess port access
+        → DoesNotWrite (Px port Sact) access }
+    ensures loads { (port : Port) (at : ℕ) (bytes : List ℕ) → port.0 < 4 → IsRecoveryAccess port (Loading at bytes)
         → at + length bytes ≤ DRIVER_BYTES }
-    ensures stores { (port : Port) (at : ℕ) (bytes : List ℕ) → port.0 < 4 → IsRecovering port (Storing at bytes)
+    ensures stores { (port : Port) (at : ℕ) (bytes : List ℕ) → port.0 < 4 → IsRecoveryAccess port (Storing at bytes)
         → at + length bytes ≤ DRIVER_BYTES }
 {
     law_base();
@@ -46,11 +49,11 @@ pub fn law_recovery_is_of_its_port()
 /// wasn't written before the part either; and the page of the log, where no other came after the part.
 pub fn law_what_stands_behind_a_fault_stays()
     ensures failed { (port : Port) (early part late : List Access) (start old new end : Device) (fault : Fault)
-        → IsOn start → All (SparesRegister Ghc) early → All (SparesRegister (Px port Cmd)) early
+        → IsOn start → All (DoesNotWrite Ghc) early → All (DoesNotWrite (Px port Cmd)) early
         → DoesAll early start old → DoesAll late new end → HasFailed port part old new fault
         → HasFailed port (early ++ (part ++ late)) start end fault }
     ensures log { (port : Port) (start old new end : Device) (page : List ℕ) → Grows start old
-        → SendsNone port.0 ReadLog new end → BringsLog port old new page → BringsLog port start end page }
+        → GainsNoMove port.0 ReadLog new end → BringsLog port old new page → BringsLog port start end page }
 {
     law_accesses_compose();
     law_base();
@@ -63,8 +66,8 @@ pub fn law_fatal_errors_show_unless_clear()
 
 /// What `recover` asks can be met: there is a port with a plain read that failed, and one with a queued read that did.
 pub fn law_a_port_may_be_recovered()
-    ensures plain { MayBeAsked false }
-    ensures queued { MayBeAsked true }
+    ensures plain { RecoverWitness false }
+    ensures queued { RecoverWitness true }
 {
     law_a_fault_is_seen();
     law_a_first_read_agrees();
@@ -75,8 +78,8 @@ pub fn law_a_port_may_be_recovered()
 
 /// What `stop_for_reset` asks can be met, and what it promises: there is a port that a fatal error has broken while a
 /// read is issued, and three accesses stop it.
-pub fn law_a_port_may_be_given_up()
-    ensures { MayBeGivenUp }
+pub fn law_a_port_may_be_stopped()
+    ensures { StopWitness }
 {
     law_a_first_read_agrees();
     law_commanding_is_permitted();

@@ -19,7 +19,7 @@ ghost use Rattle.error_recovery.specs.Recovery.{StopsForReset, IsNamedSlot, MayH
 ghost use Rattle.adapter.specs.Counted.{MakesAtMost};
 ghost use Rattle.disk_page.specs.Costs.{PAGE_ACCESSES};
 ghost use Rattle.port_control.specs.Costs.{START_ACCESSES, STOP_ACCESSES};
-ghost use Rattle.error_recovery.specs.Costs.{NAMING_ACCESSES, QUIET_ACCESSES, RECOVER_ACCESSES};
+ghost use Rattle.error_recovery.specs.Costs.{FINISH_QUEUED_ACCESSES, QUIET_ACCESSES, RECOVER_ACCESSES};
 
 mod lawful;
 pub mod laws;
@@ -205,7 +205,7 @@ fn finish_queued<A: Adapter>(
         → IsQuietedForRecovery quieted.stopped.port outstanding true quieted.fault.0 quieted.shown.0
         old (A.device adapter.old)
         → Recovers quieted.stopped.port outstanding true result old (A.device adapter.new) }
-    ensures cost { MakesAtMost NAMING_ACCESSES (A.access_count adapter.old) (A.access_count adapter.new) }
+    ensures cost { MakesAtMost FINISH_QUEUED_ACCESSES (A.access_count adapter.old) (A.access_count adapter.new) }
 {
     law_base();
     if is_bsy_or_drq(quieted.shown) {

@@ -15,7 +15,7 @@ use crate::{
 use adapter::Command;
 
 /// A command that is encoded and decoded is the same command. Its LBA is below 2^48.
-pub fn a_command_comes_back(command: &Command) -> Option<Command>
+pub fn round_trip_h2d(command: &Command) -> Option<Command>
     requires { command.now.lba < 2 ^ 48 }
     ensures { result ≡ Some command.now }
 {
@@ -23,7 +23,7 @@ pub fn a_command_comes_back(command: &Command) -> Option<Command>
 }
 
 /// Registers that are encoded and decoded are the same registers. Their LBA is below 2^48.
-pub fn registers_come_back(fis: &DeviceToHost) -> Option<DeviceToHost>
+pub fn round_trip_d2h(fis: &DeviceToHost) -> Option<DeviceToHost>
     requires { fis.now.lba < 2 ^ 48 }
     ensures { result ≡ Some fis.now }
 {
@@ -31,7 +31,7 @@ pub fn registers_come_back(fis: &DeviceToHost) -> Option<DeviceToHost>
 }
 
 /// Tags that are encoded and decoded are the same tags. Bits 7 and 3 of their status are zero.
-pub fn tags_come_back(fis: &SetDeviceBits) -> Option<SetDeviceBits>
+pub fn round_trip_set_device_bits(fis: &SetDeviceBits) -> Option<SetDeviceBits>
     requires { bit_and fis.now.status 0x88 ≡ 0 }
     ensures { result ≡ Some fis.now }
 {
@@ -39,7 +39,7 @@ pub fn tags_come_back(fis: &SetDeviceBits) -> Option<SetDeviceBits>
 }
 
 /// A transfer that is encoded and decoded is the same transfer. Its LBA is below 2^48.
-pub fn a_setup_comes_back(fis: &PioSetup) -> Option<PioSetup>
+pub fn round_trip_pio_setup(fis: &PioSetup) -> Option<PioSetup>
     requires { fis.now.lba < 2 ^ 48 }
     ensures { result ≡ Some fis.now }
 {

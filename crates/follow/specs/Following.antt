@@ -8,7 +8,7 @@ use Rattle.hba_regs.specs.declared.reg.Reg.{Reg}
 use Rattle.hba_regs.specs.declared.reg.Reg.TheVariants.{Px}
 use Rattle.follow.specs.declared.differences.KnownDifference.{KnownDifference}
 use Rattle.follow.specs.declared.followed.Differing.{Differing}
-use Rattle.follow.specs.Compared.{place_of_known}
+use Rattle.follow.specs.Compared.{difference_index}
 
 -- The device has gone on from the one state to the other by steps alone: whatever steps lead to the one, steps lead to
 -- the other.
@@ -38,4 +38,4 @@ pub record NotesFailed (port slot : ℕ) (is_queued : Bool) (old new : Differing
 -- what was met before, and this difference, if there is one
 abbrev pub met_with : Option KnownDifference → List Bool → List Bool
 met_with None met = met
-met_with (Some known) met = slice_set met (place_of_known known) true
+met_with (Some known) met = slice_set met (difference_index known) true

@@ -1,6 +1,6 @@
 // Which bits of a register are compared, and which differences are known.
 ghost use Rattle.std.specs.Prelude.{◌≡◌, ◌↔◌, ◌<◌, IsTrue, false, slice_index_or, slice_set, true};
-ghost use Rattle.follow.specs.Compared.{MatchesUpToKnown, known_bits, compared_bits, known_of, named_bits, named_of_port, place_of_known, shown_known};
+ghost use Rattle.follow.specs.Compared.{MatchesUpToKnown, difference_bits, compared_bits, difference_of, named_bits, named_port_bits, difference_index, shown_difference};
 
 use hba_regs::{PortReg, Reg};
 use std::fmt;
@@ -55,7 +55,7 @@ impl KnownDifference {
 
     /// Its place among them.
     fn place(self) -> usize
-        ensures place { result ≡ place_of_known self }
+        ensures place { result ≡ difference_index self }
         ensures few { result < 7 }
     {
         match self {
@@ -71,7 +71,7 @@ impl KnownDifference {
 
     /// Its bits, where these slots of the register's port are known to differ.
     pub fn bits(self, slots: u32) -> u32
-        ensures { result ≡ known_bits self slots }
+        ensures { result ≡ difference_bits self slots }
     {
         match self {
             KnownDifference::OtherCapabilities => 0xbfff_e0ff,
@@ -86,7 +86,7 @@ impl KnownDifference {
 
     /// The one of a register, if it has one.
     pub fn of(r: Reg) -> Option<KnownDifference>
-        ensures { result ≡ known_of r }
+        ensures { result ≡ difference_of r }
     {
         match r {
             Reg::Cap => Some(KnownDifference::OtherCapabilities),
@@ -103,8 +103,8 @@ impl KnownDifference {
 
 /// The bits of a port's register that the definitions name: what a reading shows of the others is open, and the server
 /// doesn't use it.
-fn named_of_port(r: PortReg) -> u32
-    ensures { result ≡ named_of_port r }
+fn named_port_bits(r: PortReg) -> u32
+    ensures { result ≡ named_port_bits r }
 {
     match r {
         PortReg::Cmd => 0x0000_c011,
@@ -126,7 +126,7 @@ fn named(r: Reg) -> u32
         Reg::Cap | Reg::Pi | Reg::Vs => ALL,
         Reg::Ghc => 0x8000_0003,
         Reg::Is | Reg::Cap2 | Reg::Bohc => 0,
-        Reg::Px(_, r) => named_of_port(r),
+        Reg::Px(_, r) => named_port_bits(r),
     }
 }
 
@@ -151,7 +151,7 @@ pub fn agree(r: Reg, slots: u32, shown: u32, said: u32) -> bool
 
 /// The known difference that two values of a register show, if they show one.
 pub fn shown_by(r: Reg, slots: u32, shown: u32, said: u32) -> Option<KnownDifference>
-    ensures { result ≡ shown_known r slots shown said }
+    ensures { result ≡ shown_difference r slots shown said }
 {
     let known = KnownDifference::of(r)?;
     let bits = named(r) & known.bits(slots);
@@ -163,33 +163,33 @@ pub fn shown_by(r: Reg, slots: u32, shown: u32, said: u32) -> Option<KnownDiffer
 
 /// Which known differences were met, and passed over.
 #[derive(Clone, Copy, Debug, PartialEq, Eq)]
-pub struct AllowedDifferences {
+pub struct MetDifferences {
     /// By the place of each.
     met: [bool; KNOWN],
 }
 
-impl AllowedDifferences {
+impl MetDifferences {
     /// None was.
-    pub const NONE: AllowedDifferences = AllowedDifferences {
+    pub const NONE: MetDifferences = MetDifferences {
         met: [false; KNOWN],
     };
 
     /// Whether this one was.
     pub fn has(&self, known: KnownDifference) -> bool
-        ensures { result ≡ slice_index_or self.now.met (place_of_known known) false }
+        ensures { result ≡ slice_index_or self.now.met (difference_index known) false }
     {
         self.met[known.place()]
     }
 
     /// Notes that this one was.
     pub fn add(&mut self, known: KnownDifference)
-        ensures { self.new.met ≡ slice_set self.old.met (place_of_known known) true }
+        ensures { self.new.met ≡ slice_set self.old.met (difference_index known) true }
     {
         self.met[known.place()] = true;
     }
 }
 
-impl fmt::Display for AllowedDifferences {
+impl fmt::Display for MetDifferences {
     /// Their names, parted by spaces; `none` where there are none.
     fn fmt<W: fmt::Write>(&self, f: &mut fmt::Formatter<W>) -> fmt::Result {
         let mut is_first = true;

@@ -2,16 +2,16 @@
 ghost use Rattle.std.specs.Prelude.{◌≡◌, ◌+◌, ◌<◌, ◌||◌, IfSome, None, is_some, slice_index, true};
 ghost use Rattle.adapter.specs.Access.{Reads};
 ghost use Rattle.adapter.specs.Rules.{MayRead};
-ghost use Rattle.follow.specs.Compared.{MatchesUpToKnown, shown_known};
+ghost use Rattle.follow.specs.Compared.{MatchesUpToKnown, shown_difference};
 ghost use Rattle.follow.specs.Following.{NotesSlot, GoesOnBySteps, NotesFailed, met_with, known_slots};
 
-use crate::differences::{AllowedDifferences, agree, shown_by};
+use crate::differences::{MetDifferences, agree, shown_by};
 use crate::divergence::Divergence;
 use crate::peer::{Peer, PeerFault};
-use adapter::laws::{law_steps_compose, law_steps_keep};
+use adapter::laws::{law_steps_compose, law_steps_guarantee};
 use adapter::{Adapter, DeviceStep, Entry, FatalError, Stepped};
 use ata_types::{DRIVER_BYTES, PORT_BYTES, PORTS, Port, SCRATCH_OFFSET, Slot};
-use device_model::{Shown, Watched};
+use device_model::{Inspectable, TapedAdapter};
 use hba_regs::{
     GlobalControl, PortCommand, PortInterrupts, PortReg, Reg, SataStatus, TaskFile, is_set,
     with_bit,
@@ -100,12 +100,12 @@ pub struct Followed<A, P> {
     /// What the peer showed last of the register that was read last.
     said: u32,
     /// The known differences that were met.
-    passed_over: AllowedDifferences,
+    passed_over: MetDifferences,
     divergence: Option<Divergence>,
     counts: Counts,
 }
 
-impl<A: Shown, P: Peer> Followed<A, P> {
+impl<A: Inspectable, P: Peer> Followed<A, P> {
     /// A model and a peer that are as alike as they can be: idle, with the same disks, and with zeros for memory. No
     /// access is made.
     pub fn new(model: A, peer: P) -> Followed<A, P>
@@ -118,7 +118,7 @@ impl<A: Shown, P: Peer> Followed<A, P> {
             differing: Differing::NONE,
             commands: [0; PORTS],
             said: 0,
-            passed_over: AllowedDifferences::NONE,
+            passed_over: MetDifferences::NONE,
             divergence: None,
             counts: Counts {
                 accesses: 0,
@@ -143,7 +143,7 @@ impl<A: Shown, P: Peer> Followed<A, P> {
 
     /// The known differences that readings of registers met, and that were passed over. (No clause says that they are
     /// kept from one access to the next.)
-    pub fn passed_over(&self) -> AllowedDifferences
+    pub fn passed_over(&self) -> MetDifferences
         ensures { result ≡ self.now.passed_over }
     {
         self.passed_over
@@ -416,8 +416,8 @@ impl<A: Shown, P: Peer> Followed<A, P> {
         ensures counted { A.access_count self.new.model ≡ A.access_count self.old.model }
     {
         let failed = said.has_task_file_error() && !shown.has_task_file_error();
-        let interface = said.has_interface_fatal() && !shown.has_interface_fatal();
-        let host_bus = said.has_host_bus_fatal() && !shown.has_host_bus_fatal();
+        let interface = said.has_interface_fatal_error() && !shown.has_interface_fatal_error();
+        let host_bus = said.has_host_bus_fatal_error() && !shown.has_host_bus_fatal_error();
         self.fail_if(failed, port);
         self.meet_if(interface, port, FatalError::Interface);
         self.meet_if(host_bus, port, FatalError::HostBus);
@@ -589,7 +589,8 @@ impl<A: Shown, P: Peer> Followed<A, P> {
         ensures alike { self.new.divergence ≡ None
             → MatchesUpToKnown r (known_slots r self.new.differing) shown self.new.said }
         ensures passed { self.new.divergence ≡ None → self.new.passed_over.met
-            ≡ met_with (shown_known r (known_slots r self.new.differing) shown self.new.said) self.old.passed_over.met }
+            ≡ met_with (shown_difference r
+            (known_slots r self.new.differing) shown self.new.said) self.old.passed_over.met }
     {
         let Some(said) = said else {
             return;
@@ -686,7 +687,7 @@ fn divergence_of(address: u32, shown: &[u8], said: &[u8]) -> Option<Divergence> 
     })
 }
 
-impl<A: Shown, P: Peer> Adapter for Followed<A, P> {
+impl<A: Inspectable, P: Peer> Adapter for Followed<A, P> {
     ghost device = { λ f. A.device f.model };
 
     ghost access_count = { λ f. A.access_count f.model };
@@ -702,7 +703,7 @@ impl<A: Shown, P: Peer> Adapter for Followed<A, P> {
             → MatchesUpToKnown r (known_slots r self.new.differing) result self.new.said }
     {
         law_steps_compose();
-        law_steps_keep();
+        law_steps_guarantee();
         let said = self.prepare_read(r);
         let shown = self.model.read(r);
         self.compare(r, shown, said);
@@ -729,7 +730,7 @@ impl<A: Shown, P: Peer> Adapter for Followed<A, P> {
     ghost tells = { λ f. A.tells f.model };
 }
 
-impl<A: Shown, P: Peer> Watched for Followed<A, P> {
+impl<A: Inspectable, P: Peer> TapedAdapter for Followed<A, P> {
     ghost ended = { λ f. A.ended f.model || is_some f.divergence };
 
     fn tape(&self) -> &[Entry] {
@@ -741,7 +742,7 @@ impl<A: Shown, P: Peer> Watched for Followed<A, P> {
     }
 }
 
-impl<A: Shown, P: Peer> Stepped for Followed<A, P> {
+impl<A: Inspectable, P: Peer> Stepped for Followed<A, P> {
     /// A `Finish` waits until the peer has ended the slot's command, and then ends it in the model, too. Nothing else
     /// can be told.
     fn step(&mut self, s: &DeviceStep) -> bool {

@@ -24,13 +24,13 @@ use device_model::{Disks, Model, ModelDisk, PortDisks};
 use error::{FollowError, unless_memory};
 use followed::Followed;
 use lines::QtestPeer;
-use play::{Stop, model_with, play_on, read};
+use play::{PlayError, model_with, parse_inputs, play_adapter};
 use sector_store::{DiskStore, FileStore, MemStore};
 use std::fs::{self, File, Files, OpenOptions};
 use std::io::{self, BufReader, BufWriter, Write};
 use std::process::ExitCode;
 use std::rt::Env;
-use words::Words;
+use words::FollowArgs;
 
 /// The adapter that is followed, over files.
 type Adapter = Followed<Model<DiskStore>, QtestPeer<BufReader<File>, File>>;
@@ -41,7 +41,7 @@ const SERIAL: [u8; 20] = *b"IMAGEDISK           ";
 /// The disks of a port: the image that is given for it, and one without sectors.
 fn disks_of(
     rt: &(impl AllocGlobal + Files<File = File>),
-    words: &Words,
+    words: &FollowArgs,
     port: usize,
 ) -> Result<Option<PortDisks<DiskStore>>, FollowError> {
     let Some(path) = words.images.get(port) else {
@@ -71,7 +71,7 @@ fn disks_of(
 /// The disks of the model's ports.
 fn disks(
     rt: &(impl AllocGlobal + Files<File = File>),
-    words: &Words,
+    words: &FollowArgs,
 ) -> Result<Disks<DiskStore>, FollowError> {
     Ok(Disks {
         port0: disks_of(rt, words, 0)?,
@@ -84,7 +84,7 @@ fn disks(
 /// The peer behind the two files. The one that takes lines is opened first.
 fn open_peer(
     rt: &(impl AllocGlobal + Files<File = File>),
-    words: &Words,
+    words: &FollowArgs,
 ) -> Result<QtestPeer<BufReader<File>, File>, FollowError> {
     let unopened = |error: io::Error| unless_memory(&error, FollowError::Peer);
     let to = OpenOptions::new()
@@ -100,7 +100,7 @@ fn open_peer(
 fn told(
     rt: &impl Eprint,
     adapter: Option<Adapter>,
-    performed: Result<(), Stop>,
+    performed: Result<(), PlayError>,
 ) -> Result<(), FollowError> {
     let Some(adapter) = adapter else {
         return Err(FollowError::NoMemory);
@@ -117,8 +117,8 @@ fn told(
     }
     match performed {
         Ok(()) => Ok(()),
-        Err(Stop::NoMemory) => Err(FollowError::NoMemory),
-        Err(Stop::Unwritten) => Err(FollowError::Unwritten),
+        Err(PlayError::NoMemory) => Err(FollowError::NoMemory),
+        Err(PlayError::Unwritten) => Err(FollowError::Unwritten),
     }
 }
 
@@ -126,17 +126,17 @@ fn told(
 fn run(
     rt: &(impl Env + AllocGlobal + Files<File = File> + Print + Eprint),
 ) -> Result<(), FollowError> {
-    let words = Words::read(rt)?;
+    let words = FollowArgs::read(rt)?;
     let unread = |error: io::Error| unless_memory(&error, FollowError::Unread);
     let config = fs::read(rt, words.config.as_str()).map_err(unread)?;
     let script = fs::read(rt, words.script.as_str()).map_err(unread)?;
-    let values = read(rt.alloc(), config.as_slice(), script.as_slice())?;
+    let values = parse_inputs(rt.alloc(), config.as_slice(), script.as_slice())?;
     let Ok(model) = model_with(rt.alloc(), &values, disks(rt, &words)?) else {
         return Err(FollowError::NoMemory);
     };
     let followed = Followed::new(model, open_peer(rt, &words)?);
     let mut out = BufWriter::new(rt.alloc(), io::writer(rt)).map_err(unread)?;
-    let (performed, adapter) = play_on(
+    let (performed, adapter) = play_adapter(
         rt.alloc(),
         &values,
         script.as_slice(),

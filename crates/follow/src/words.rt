@@ -7,7 +7,7 @@ use std::rt::Env;
 
 /// What the program is asked to do.
 #[derive(Debug, Drop)]
-pub struct Words {
+pub struct FollowArgs {
     pub config: String,
     pub script: String,
     /// The file that takes a line for each access.
@@ -30,11 +30,11 @@ fn copied(alloc: Global, words: &[String]) -> Result<Vec<String>, FollowError> {
     Ok(copies)
 }
 
-impl Words {
+impl FollowArgs {
     /// The words of `follow CONFIG SCRIPT TO FROM REGISTERS IMAGE..`. REGISTERS is in hexadecimal digits, and there are
     /// one to four images.
-    pub fn read(rt: &(impl Env + AllocGlobal)) -> Result<Words, FollowError> {
-        // Words that are no text aren't a command line either.
+    pub fn read(rt: &(impl Env + AllocGlobal)) -> Result<FollowArgs, FollowError> {
+        // FollowArgs that are no text aren't a command line either.
         let words = env::args(rt).map_err(|error| unless_memory(&error, FollowError::CommandLine))?;
         let words: Vec<String> = words.collect(rt.alloc())?;
         let [_, config, script, to, from, registers, images @ ..] = words.as_slice() else {
@@ -46,7 +46,7 @@ impl Words {
         let Ok(registers) = u32::from_str_radix(registers.as_str(), 16) else {
             return Err(FollowError::CommandLine);
         };
-        Ok(Words {
+        Ok(FollowArgs {
             config: config.clone()?,
             script: script.clone()?,
             to: to.clone()?,

@@ -14,7 +14,7 @@ use Rattle.ata_types.specs.declared.refusal.FrameFault.TheVariants.{FrameForeign
 use Rattle.ata_types.specs.declared.refusal.Rule.{Rule}
 use Rattle.ata_types.specs.declared.refusal.Rule.TheVariants.{NoGrant, NoRight, BadCount, OutsideGrant, FrameCount, Frames}
 use Rattle.ata_types.specs.declared.refusal.Refusal.TheVariants as refused
-use Rattle.block_machine.specs.Rules.{IsNamed, IsAllowedCount, frames_for, Breaks, IsBefore, rank, HasNoFault, IsFirstFault, BreaksNone, IsFirstBroken}
+use Rattle.block_machine.specs.Rules.{IsNamed, IsAllowedCount, frame_count_for, Breaks, IsBefore, rank, HasNoFault, IsFirstFault, BreaksNone, IsFirstBroken}
 use Rattle.block_machine.proofs.RuleLemmas.{same_rule, number, place, fault_number}
 
 -- the faults of frames come after the other rules
@@ -120,10 +120,10 @@ module _ (rows : List GrantRow) (owner : Frame → Option ClientId) (lent : Fram
                 w.1.2 (subst (λ (x : GrantRow). Covers x r.first.0 r.count) (same_row w.1.0 w.1.1) covers),
           ))
 
-          pub frame_count : (length r.frames.items ≢ frames_for r.op r.count) → IsFirstBroken rows owner lent r FrameCount
+          pub frame_count : (length r.frames.items ≢ frame_count_for r.op r.count) → IsFirstBroken rows owner lent r FrameCount
           frame_count not = first_broken FrameCount (omega arith) kept_sectors not
 
-          module _ (fits : length r.frames.items ≡ frames_for r.op r.count) where
+          module _ (fits : length r.frames.items ≡ frame_count_for r.op r.count) where
             kept_frames : KeptBelow 6
             kept_frames = kept_more FrameCount (omega arith) kept_sectors (λ not. not fits)
 

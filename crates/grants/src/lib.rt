@@ -8,7 +8,7 @@ ghost use Rattle.std.specs.Prelude.{◌≡◌, ◌≢◌, ◌≤◌, ◌<◌, �
 ghost use Rattle.ata_types.specs.Grant.{Covers};
 ghost use Rattle.ata_types.specs.declared.grant.GrantRow.{GrantRow};
 ghost use Rattle.ata_types.specs.declared.request.Op.TheVariants.{Flush};
-ghost use Rattle.block_machine.specs.Rules.{Names, DifferInName, HasRow, without_row, IsAllowedCount, frames_for, BreaksNone, IsFirstBroken};
+ghost use Rattle.block_machine.specs.Rules.{Names, DifferInName, HasRow, without_row, IsAllowedCount, frame_count_for, BreaksNone, IsFirstBroken};
 ghost use Rattle.dma_frames.specs.Table.{owner_of, lent_to};
 ghost use Rattle.grants.specs.Names.{AreInOrder, IsPlaceOf, IsRowAt, name_of};
 ghost use Rattle.grants.specs.Rows.{SameRows};
@@ -183,7 +183,7 @@ fn is_count(op: Op, count: u32) -> bool
 
 /// How many frames the operation has for so many sectors: one for eight, rounded up, where bytes are moved.
 fn frame_count(op: Op, count: u32) -> usize
-    ensures { result ≡ frames_for op count }
+    ensures { result ≡ frame_count_for op count }
 {
     match op {
         Op::Read | Op::Write => (count as usize + 7) / 8,

@@ -95,21 +95,21 @@ impl PortInterrupts {
     }
 
     /// Whether an error of the link stopped a transfer: IFS (AHCI 1.3.1, 3.3.5).
-    pub fn has_interface_fatal(self) -> bool
+    pub fn has_interface_fatal_error(self) -> bool
         ensures { result ≡ bit self.0 27 }
     {
         has(self.0, Self::IFS.0)
     }
 
     /// Whether memory was read or written with a data error: HBDS (AHCI 1.3.1, 3.3.5).
-    pub fn has_host_bus_data(self) -> bool
+    pub fn has_host_bus_data_error(self) -> bool
         ensures { result ≡ bit self.0 28 }
     {
         has(self.0, Self::HBDS.0)
     }
 
     /// Whether memory couldn't be read or written: HBFS (AHCI 1.3.1, 3.3.5).
-    pub fn has_host_bus_fatal(self) -> bool
+    pub fn has_host_bus_fatal_error(self) -> bool
         ensures { result ≡ bit self.0 29 }
     {
         has(self.0, Self::HBFS.0)

@@ -11,9 +11,9 @@ use Rattle.adapter.specs.Access.Access.{Reading, Writing}
 use Rattle.adapter.specs.Device.{Device}
 use Rattle.refinement.specs.Driven.{AnyUse, IsSimulatedAlong}
 use Rattle.refinement.specs.Links.{SameAdapter}
-use Rattle.host_boot.specs.Resets.{ReadsGlobalControl, AwaitsHr, AwaitsReset, IsOfReset, Resets, StaysReset}
+use Rattle.host_boot.specs.Resets.{ReadsGlobalControl, AwaitsHr, AwaitsReset, IsOfReset, Resets, ResetStaysPending}
 use Rattle.host_boot.specs.Laws.{Laws}
-use Rattle.host_boot.specs.Laws.AccessKind.{Resetting}
+use Rattle.host_boot.specs.Laws.AccessPurpose.{Resetting}
 use Rattle.host_boot.proofs.Stretching.{told_both, told_more}
 
 -- HR was set, and GHC alone was read so many times, at last with HR still one
@@ -89,7 +89,7 @@ module _ (laws : Laws) (start : Device) where
         record { followed = told.followed; awaited = told.tells.0; often = told.tells.1; idle = laws.reset_idle v d e w.pending call clear; same = same }
 
   -- it was read 64 times
-  pub resetting_sticks : (n : ℕ) (d : Device) → n ≡ MOST_READINGS → IsResetting start n d → StaysReset start d
+  pub resetting_sticks : (n : ℕ) (d : Device) → n ≡ MOST_READINGS → IsResetting start n d → ResetStaysPending start d
   resetting_sticks n d all w = record {
     followed = w.told.followed;
     awaited = w.told.tells.last (omega (arith, all));

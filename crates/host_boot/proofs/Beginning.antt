@@ -5,7 +5,7 @@ use Rattle.adapter.specs.Device.{Device}
 use Rattle.adapter.specs.Idle.{IsIdle}
 use Rattle.adapter.specs.Rules.{HasPort}
 use Rattle.refinement.specs.Relation.{port_at}
-use Rattle.refinement.specs.Facts.{IsRecorded, RunsWell, Undisturbed}
+use Rattle.refinement.specs.Facts.{FaultsOnRecord, RunsWell, Undisturbed}
 use Rattle.refinement.specs.Places.{list_of}
 use Rattle.identify.specs.declared.DiskInfo.{DiskInfo}
 use Rattle.identify.specs.declared.wanted.Wanted.{Wanted}
@@ -37,5 +37,5 @@ module _ (laws : Laws) (wanted : List Wanted) (host : Host) (port : ℕ) (old ne
   pub taken_runs : (info : DiskInfo) → IsIdle old → probe_result_of host.ports port ≡ Ready info → Undisturbed port old new → RunsWell (new.port port)
   taken_runs info idle is = taken_well laws (port_at port) info host.ports old new idle is taken.way
 
-  pub taken_faults : (info : DiskInfo) → IsIdle old → probe_result_of host.ports port ≡ Ready info → IsRecorded new.tape (new.port port) port
+  pub taken_faults : (info : DiskInfo) → IsIdle old → probe_result_of host.ports port ≡ Ready info → FaultsOnRecord new.tape (new.port port) port
   taken_faults info idle is = taken_recorded laws (port_at port) info host.ports old new idle is taken.way

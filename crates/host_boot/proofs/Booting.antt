@@ -9,7 +9,7 @@ use Rattle.adapter.specs.Access.{Access, Reads}
 use Rattle.adapter.specs.Access.Access.{Reading, Writing, Loading, Storing}
 use Rattle.adapter.specs.Device.{Device, DevicePort}
 use Rattle.adapter.specs.Rules.{HasPort, IsOn}
-use Rattle.refinement.specs.Driven.{AnyUse, IsControl, IsDrivenBy, IsSimulated, IsSimulatedAlong, LeavesPort}
+use Rattle.refinement.specs.Driven.{AnyUse, OnPortWriting, IsDrivenBy, IsSimulated, IsSimulatedAlong, LeavesPort}
 use Rattle.refinement.specs.Driver.{AllFree}
 use Rattle.identify.specs.declared.wanted.Wanted.{Wanted}
 use Rattle.identify.specs.declared.wanted.Wanted.TheVariants.{Nothing}
@@ -19,8 +19,8 @@ use Rattle.port_control.specs.declared.PortFault.TheVariants.{NoDevice}
 use Rattle.port_boot.specs.States.{IsBootTo, IsBootable, IsOfBoot}
 use Rattle.host_boot.specs.Again.{RebootsPort, RebootsIfPresent, BootsStopped, IsSurveyOrBoot}
 use Rattle.host_boot.specs.Laws.{Laws}
-use Rattle.host_boot.specs.Laws.AccessKind.{Clearing, Starting, Surveying}
-use Rattle.host_boot.specs.Taken.{Boots, StopsAndBootsPort, HaltsFound, IsSurvey, StandsBehind, WroteControl}
+use Rattle.host_boot.specs.Laws.AccessPurpose.{Clearing, Starting, Surveying}
+use Rattle.host_boot.specs.Taken.{Boots, StopsAndBootsPort, ReadyHaltOfTaken, IsSurvey, StandsBehind, WroteSctl}
 use Rattle.host_boot.specs.declared.Booted.{Booted}
 use Rattle.host_boot.specs.declared.ProbeResult.{ProbeResult}
 use Rattle.host_boot.specs.declared.ProbeResult.TheVariants.{Unserved, Ready, Unready}
@@ -42,11 +42,11 @@ stopped_on old new l is = record {
 }
 
 -- what halts a port that is ready then
-pub found_halts : (wanted : Wanted) (port : Port) (old new : Device) (found : ProbeResult) → BootsStopped wanted port found old new → HaltsFound found port.0 new
+pub found_halts : (wanted : Wanted) (port : Port) (old new : Device) (found : ProbeResult) → BootsStopped wanted port found old new → ReadyHaltOfTaken found port.0 new
 found_halts wanted port old new found b info is = (subst (λ (f : ProbeResult). BootsStopped wanted port f old new) is b).halts
 
 -- looking at a port is of its boot
-clearing_of_start : (port : Port) (access : Access) → IsControl IsErrorRegister port access → IsSurveyOrBoot port access
+clearing_of_start : (port : Port) (access : Access) → OnPortWriting IsErrorRegister port access → IsSurveyOrBoot port access
 clearing_of_start port (Reading (Px at r) v) is = inr (inl is)
 clearing_of_start port (Writing (Px at r) v) (here, kind) = inr (inl (here, inr (inl (inr kind))))
 clearing_of_start port (Reading r v) is = absurd is
@@ -74,7 +74,7 @@ module _ (laws : Laws) where
 
   -- ---- when the adapter is taken over: the port was stopped before
 
-  module _ (port : Port) (old mid : Device) (stops : IsSimulatedAlong (Stops port) (IsControl IsCommandRegister port) AnyUse old mid) (wanted : Wanted) (new : Device) where
+  module _ (port : Port) (old mid : Device) (stops : IsSimulatedAlong (Stops port) (OnPortWriting IsCommandRegister port) AnyUse old mid) (wanted : Wanted) (new : Device) where
     pub found_boots : (found : ProbeResult) → BootsStopped wanted port found mid new → Boots port found old new
     found_boots Unserved b = absurd b
     found_boots (Ready info) b = then_boot laws port old mid stops new b.boots
@@ -85,7 +85,7 @@ module _ (laws : Laws) where
     found_stands (Ready info) b wants there = ((wants, (still_there port old new (boots_same laws port old new (Ready info) (found_boots (Ready info) b)) there).1), b.ready)
     found_stands (Unready state) b wants there = ((wants, (still_there port old new (boots_same laws port old new (Unready state) (found_boots (Unready state) b)) there).1), b.ended)
 
-    pub found_reset : (found : ProbeResult) → BootsStopped wanted port found mid new → WroteControl found port.0 (length old.tape) new
+    pub found_reset : (found : ProbeResult) → BootsStopped wanted port found mid new → WroteSctl found port.0 (length old.tape) new
     found_reset Unserved b = absurd b
     found_reset (Ready info) b = since_stop laws port old mid stops _ b.since
     found_reset (Unready state) b = ended_since laws port old mid stops new state b.since
@@ -128,7 +128,7 @@ module _ (laws : Laws) where
           boots_again port v booted wanted old asked new asked_starts boots slots queued (asked_cap (IsOfBoot port) new (booted_driven wanted port booted.found asked new boots))
 
       -- and then the port is looked at
-      module _ (seen : Device) (looks : IsSimulated (IsControl IsErrorRegister port) AnyUse asked seen) where
+      module _ (seen : Device) (looks : IsSimulated (OnPortWriting IsErrorRegister port) AnyUse asked seen) where
         pub seen_starts : IsSimulated (IsSurveyOrBoot port) (λ uses. AllFree uses port.0) old seen
         seen_starts = (laws.fragments.both (Starting port) (Clearing port) (λ uses. uses) (λ uses. uses) (clearing_of_start port) (λ uses free. tt) old asked seen asked_starts looks).followed
 
@@ -140,7 +140,7 @@ module _ (laws : Laws) where
             booted.slots ≡ field v 8 5 + 1 → booted.queued ≡ bit v 30 → RebootsIfPresent wanted port booted old new
         seen_boots booted wanted new there boots slots queued =
             let its : IsDrivenBy (IsSurveyOrBoot port) seen new = driven_as (IsOfBoot port) (IsSurveyOrBoot port) seen new (λ access is. inr is) (booted_driven wanted port booted.found seen new boots) in
-            let all : IsDrivenBy (IsSurveyOrBoot port) asked new = by_then laws (driven_as (IsControl IsErrorRegister port) (IsSurveyOrBoot port) asked seen (clearing_of_start port) looks.driven) its in
+            let all : IsDrivenBy (IsSurveyOrBoot port) asked new = by_then laws (driven_as (OnPortWriting IsErrorRegister port) (IsSurveyOrBoot port) asked seen (clearing_of_start port) looks.driven) its in
             inl (boots_again port v booted wanted old seen new seen_starts boots slots queued (asked_cap (IsSurveyOrBoot port) new all), there)
 
         -- or it shows none, and is absent

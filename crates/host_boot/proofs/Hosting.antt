@@ -9,7 +9,7 @@ use Rattle.refinement.specs.Driven.{AnyUse, IsSimulated}
 use Rattle.refinement.specs.Links.{SameAdapter}
 use Rattle.host_boot.specs.Taken.{IsOfHost}
 use Rattle.host_boot.specs.Laws.{Laws}
-use Rattle.host_boot.specs.Laws.AccessKind.{Hosting}
+use Rattle.host_boot.specs.Laws.AccessPurpose.{Hosting}
 
 pub pi_is : (w : ℕ) (old new : Device) → Reads Pi w old new → w ≡ new.pi
 pi_is w old new call = call.shows ∙ sym (ap (λ (d : Device). d.pi) call.effect)

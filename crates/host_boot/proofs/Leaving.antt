@@ -7,14 +7,14 @@ use Rattle.adapter.specs.Access.{Reads, Writes}
 use Rattle.adapter.specs.Device.{Notes, Device}
 use Rattle.adapter.specs.Device as device
 use Rattle.adapter.specs.Idle.{IsIdlePort}
-use Rattle.adapter.specs.Kept.{Keeps, KeepsOn}
+use Rattle.adapter.specs.Kept.{Keeps, KeepsOutsideReset}
 use Rattle.adapter.specs.Steps.{Steps}
 use Rattle.adapter.specs.declared.command.Operation.TheVariants.{Identify}
-use Rattle.refinement.specs.Driven.{LeavesPort, SendsNone}
+use Rattle.refinement.specs.Driven.{LeavesPort, GainsNoMove}
 use Rattle.refinement.specs.Links.{SameAdapter}
 use Rattle.identify.specs.Wanted.{serial_of}
 use Rattle.identify.specs.declared.wanted.Wanted.{Wanted}
-use Rattle.host_boot.specs.Taken.{IsServed, LeavesFound, StandsBehind, StillStandsBehind, WroteControl}
+use Rattle.host_boot.specs.Taken.{IsServed, LeavesFound, StandsBehind, StillStandsBehind, WroteSctl}
 use Rattle.host_boot.specs.declared.ProbeResult.{ProbeResult}
 use Rattle.host_boot.specs.declared.ProbeResult.TheVariants.{Unserved, Ready, Unready}
 use Rattle.host_boot.specs.Laws.{FoundLaws, Laws}
@@ -50,7 +50,7 @@ boots_begin wanted (Ready info) port d (is, ready) = (is, ready.disk)
 boots_begin wanted (Unready state) port d h = h
 
 module _ (port : ℕ) (old new : Device) (l : LeavesPort (old.port port) (new.port port)) where
-  pub reset_on : (found : ProbeResult) (since : ℕ) → WroteControl found port since old → WroteControl found port since new
+  pub reset_on : (found : ProbeResult) (since : ℕ) → WroteSctl found port since old → WroteSctl found port since new
   reset_on Unserved since is = is
   reset_on (Ready info) since is = subst (λ (k : Notes). since ≤ k.sctl_written_at) (sym l.notes) is
   reset_on (Unready Absent) since is = subst (λ (k : Notes). since ≤ k.sctl_written_at) (sym l.notes) is
@@ -63,7 +63,7 @@ module _ (laws : FoundLaws) where
   -- ---- what stands behind it
 
   module _ (port : ℕ) (old new : Device) (l : LeavesPort (old.port port) (new.port port)) where
-    pub stands_on : SameAdapter old new → (wanted : Wanted) (found : ProbeResult) → (found ≢ Unready Dead → SendsNone port Identify old new)
+    pub stands_on : SameAdapter old new → (wanted : Wanted) (found : ProbeResult) → (found ≢ Unready Dead → GainsNoMove port Identify old new)
         → StandsBehind wanted found port old → StandsBehind wanted found port new
     stands_on same wanted Unserved silent (not, idle) = (λ is. not (served_back port old new same wanted is), idle_on (old.port port) (new.port port) l idle)
     stands_on same wanted (Ready info) silent (is, ready) = (served_on port old new same wanted is, laws.ready_on (serial_of wanted) port old new info l (silent (λ e. absurd cc)) ready)
@@ -71,7 +71,7 @@ module _ (laws : FoundLaws) where
         (served_on port old new same wanted is, laws.ends_on (serial_of wanted) state port old new l (λ other. silent (λ e. other (let k : Unready state ≡ Unready Dead = e in cc))) ends)
 
   pub still_on : (wanted : Wanted) (found : ProbeResult) (port : ℕ) (old new : Device) → SameAdapter old new → LeavesFound found (old.port port) (new.port port) →
-      (found ≢ Unready Dead → SendsNone port Identify old new) → StillStandsBehind wanted found port old → StillStandsBehind wanted found port new
+      (found ≢ Unready Dead → GainsNoMove port Identify old new) → StillStandsBehind wanted found port old → StillStandsBehind wanted found port new
   still_on wanted Unserved port old new same left silent h = stands_on port old new left same wanted Unserved silent h
   still_on wanted (Ready info) port old new same left silent (is, disk) =
       (served_on port old new same wanted is, laws.disk_on (serial_of wanted) port old new info (silent (λ e. absurd cc)) left.0 left.1 left.2 disk)
@@ -81,13 +81,13 @@ module _ (laws : Laws) where
   -- ---- what the device does by itself, and accesses of the adapter's own registers
 
   pub steps_same : (old new : Device) → Steps old new → SameAdapter old new
-  steps_same old new s = let k : Keeps old new = laws.law_steps_keep _ _ s in record { telling = k.telling; size = k.size; cap = k.cap; pi = k.pi }
+  steps_same old new s = let k : Keeps old new = laws.law_steps_guarantee _ _ s in record { telling = k.telling; size = k.size; cap = k.cap; pi = k.pi }
 
   module _ (old : Device) (off : old.hr ≡ false) (port : ℕ) where
     pub steps_leave : (mid : Device) → Steps old mid → LeavesPort (old.port port) (mid.port port)
     steps_leave mid s =
-        let k : Keeps old mid = laws.law_steps_keep _ _ s in
-        let c : KeepsOn old mid = k.on off in
+        let k : Keeps old mid = laws.law_steps_guarantee _ _ s in
+        let c : KeepsOutsideReset old mid = k.on off in
         record { keeps = k.port port; controls = c.controls port; notes = k.notes port }
 
     pub cap_leaves : (v : ℕ) (new : Device) → Reads Cap v old new → LeavesPort (old.port port) (new.port port)

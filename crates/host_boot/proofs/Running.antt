@@ -11,11 +11,11 @@ use Rattle.adapter.specs.Device.{Device}
 use Rattle.adapter.specs.Idle.{IsIdle}
 use Rattle.adapter.specs.Rules.{IsOn}
 use Rattle.refinement.specs.Relation.{port_at}
-use Rattle.refinement.specs.Driven.{IsDrivenBy, IsOf, NoneWrites}
-use Rattle.refinement.specs.Facts.{IsRecorded, RunsWell, Undisturbed}
+use Rattle.refinement.specs.Driven.{IsDrivenBy, SparesOtherPorts, NoneWrites}
+use Rattle.refinement.specs.Facts.{FaultsOnRecord, RunsWell, Undisturbed}
 use Rattle.refinement.specs.Driven.{Grows}
 use Rattle.identify.specs.declared.DiskInfo.{DiskInfo}
-use Rattle.port_boot.specs.States.{IsOfBoot, RunsOn, ShowsOwnDisk}
+use Rattle.port_boot.specs.States.{IsOfBoot, RunsOn, HasDiskIfShown}
 use Rattle.host_boot.specs.Taken.{SwitchesOnAndBoots, StopsAndBootsPort, FindsEachPort, IsSurvey, probe_result_of}
 use Rattle.host_boot.specs.declared.ProbeResult.{ProbeResult}
 use Rattle.host_boot.specs.declared.ProbeResult.TheVariants.{Unserved, Ready, Unready}
@@ -23,15 +23,15 @@ use Rattle.host_boot.specs.Laws.{Laws}
 use Rattle.host_boot.proofs.Stretching.{by_none, by_then, calm_in_parts, driven_as, on_over, stop_driven, tape_over}
 use Rattle.std.proofs.lemmas.List.Elements.{All-weaker}
 use Rattle.hba_regs.specs.declared.reg.Reg.{Reg}
-use Rattle.refinement.specs.Links.{SparesRegister}
+use Rattle.refinement.specs.Links.{DoesNotWrite}
 
 -- it is of a port with this number, or one above it
 abbrev IsOfFrom : ℕ → Access → Type 0
-IsOfFrom n access = (port : Port) × (n ≤ port.0) × IsOf port access
+IsOfFrom n access = (port : Port) × (n ≤ port.0) × SparesOtherPorts port access
 
 -- it is of another port than this one
 abbrev pub IsOfOther : ℕ → Access → Type 0
-IsOfOther q access = (port : Port) × (q ≢ port.0) × IsOf port access
+IsOfOther q access = (port : Port) × (q ≢ port.0) × SparesOtherPorts port access
 
 survey_spares_ghc : NoneWrites IsSurvey Ghc
 survey_spares_ghc (Reading r v) is = tt
@@ -45,33 +45,33 @@ module _ (laws : Laws) where
 
   others_run : (port : Port) (old new : Device) → IsOn old → IsDrivenBy (IsOfOther port.0) old new → RunsOn port.0 old new
   others_run port old new on driven =
-      let spares = λ (r : Reg) (each : NoneWrites (IsOfOther port.0) r). All-weaker (IsOfOther port.0) (SparesRegister r) each driven.accesses driven.only in
+      let spares = λ (r : Reg) (each : NoneWrites (IsOfOther port.0) r). All-weaker (IsOfOther port.0) (DoesNotWrite r) each driven.accesses driven.only in
       laws.runs_on port driven.accesses old new on driven.all (spares Ghc (λ access (at, other, is). laws.of_spares_ghc at access is)) (spares (Px port Sctl) (other_spares port Sctl)) (spares (Px port Cmd) (other_spares port Cmd))
 
   pub others_well : (port : Port) (old new : Device) → IsOn old → IsDrivenBy (IsOfOther port.0) old new → Undisturbed port.0 old new → RunsWell (old.port port.0) → RunsWell (new.port port.0)
   others_well port old new on driven = laws.well_on port.0 old new (others_run port old new on driven)
 
-  pub other_well : (port at : Port) (old new : Device) → port.0 ≢ at.0 → IsOn old → IsDrivenBy (IsOf at) old new → Undisturbed port.0 old new → RunsWell (old.port port.0) → RunsWell (new.port port.0)
-  other_well port at old new other on driven = others_well port old new on (driven_as (IsOf at) (IsOfOther port.0) old new (λ access is. (at, other, is)) driven)
+  pub other_well : (port at : Port) (old new : Device) → port.0 ≢ at.0 → IsOn old → IsDrivenBy (SparesOtherPorts at) old new → Undisturbed port.0 old new → RunsWell (old.port port.0) → RunsWell (new.port port.0)
+  other_well port at old new other on driven = others_well port old new on (driven_as (SparesOtherPorts at) (IsOfOther port.0) old new (λ access is. (at, other, is)) driven)
 
   -- ---- the way of a port
 
-  through_driven : (port : Port) (found : ProbeResult) (old new : Device) → StopsAndBootsPort port found old new → IsDrivenBy (IsOf port) old new
-  through_driven port Unserved old new same = subst (λ (d : Device). IsDrivenBy (IsOf port) old d) (sym same) (by_none (IsOf port) old)
+  through_driven : (port : Port) (found : ProbeResult) (old new : Device) → StopsAndBootsPort port found old new → IsDrivenBy (SparesOtherPorts port) old new
+  through_driven port Unserved old new same = subst (λ (d : Device). IsDrivenBy (SparesOtherPorts port) old d) (sym same) (by_none (SparesOtherPorts port) old)
   through_driven port (Ready info) old new (stopped, stop, boot, ready, news) =
-      by_then laws (stop_driven laws port old stopped stop) (driven_as (IsOfBoot port) (IsOf port) stopped new (laws.of_boot port) boot)
+      by_then laws (stop_driven laws port old stopped stop) (driven_as (IsOfBoot port) (SparesOtherPorts port) stopped new (laws.of_boot port) boot)
   through_driven port (Unready state) old new (stopped, stop, boot, early, late, sticks) =
-      by_then laws (stop_driven laws port old stopped stop) (driven_as (IsOfBoot port) (IsOf port) stopped new (laws.of_boot port) boot)
+      by_then laws (stop_driven laws port old stopped stop) (driven_as (IsOfBoot port) (SparesOtherPorts port) stopped new (laws.of_boot port) boot)
 
   through_well : (port : Port) (info : DiskInfo) (old new : Device) → StopsAndBootsPort port (Ready info) old new → Undisturbed port.0 old new → RunsWell (new.port port.0)
   through_well port info old new (stopped, stop, boot, ready, news) calm =
-      news.well (calm_in_parts laws port.0 old stopped new (tape_over laws (IsOf port) old stopped (stop_driven laws port old stopped stop)) (tape_over laws (IsOfBoot port) stopped new boot) calm).1
+      news.well (calm_in_parts laws port.0 old stopped new (tape_over laws (SparesOtherPorts port) old stopped (stop_driven laws port old stopped stop)) (tape_over laws (IsOfBoot port) stopped new boot) calm).1
 
   -- of ports one after another
   go_driven : (n first : ℕ) (ports : List ProbeResult) (old new : Device) → n ≤ first → FindsEachPort first ports old new → IsDrivenBy (IsOfFrom n) old new
   go_driven n first [] old new less same = subst (λ (d : Device). IsDrivenBy (IsOfFrom n) old d) (sym same) (by_none (IsOfFrom n) old)
   go_driven n first (found ∷ rest) old new less (mid, way, more) =
-      by_then laws (driven_as (IsOf (port_at first)) (IsOfFrom n) old mid (λ access is. (port_at first, less, is)) (through_driven (port_at first) found old mid way))
+      by_then laws (driven_as (SparesOtherPorts (port_at first)) (IsOfFrom n) old mid (λ access is. (port_at first, less, is)) (through_driven (port_at first) found old mid way))
       (go_driven n (first + 1) rest mid new (omega (arith, less)) more)
 
   from_spares_ghc : (n : ℕ) → NoneWrites (IsOfFrom n) Ghc
@@ -86,15 +86,15 @@ module _ (laws : Laws) where
       let its : StopsAndBootsPort port (Ready info) old mid = subst (λ (p : Port). StopsAndBootsPort p (Ready info) old mid) same (subst (λ (f : ProbeResult). StopsAndBootsPort (port_at first) f old mid) is way) in
       let early = through_driven (port_at first) found old mid way in
       let late = go_driven (first + 1) (first + 1) rest mid new (omega arith) more in
-      let parts = calm_in_parts laws port.0 old mid new (tape_over laws (IsOf (port_at first)) old mid early) (tape_over laws (IsOfFrom (first + 1)) mid new late) calm in
-      others_well port mid new (on_over laws (IsOf (port_at first)) old mid early (laws.of_spares_ghc (port_at first)) on)
+      let parts = calm_in_parts laws port.0 old mid new (tape_over laws (SparesOtherPorts (port_at first)) old mid early) (tape_over laws (IsOfFrom (first + 1)) mid new late) calm in
+      others_well port mid new (on_over laws (SparesOtherPorts (port_at first)) old mid early (laws.of_spares_ghc (port_at first)) on)
       (driven_as (IsOfFrom (first + 1)) (IsOfOther port.0) mid new (λ access (q, above, its). (q, λ (e : port.0 ≡ q.0). absurd (omega (arith, at, above, e)), its)) late)
       parts.1 (through_well port info old mid its parts.0)
   go_well port info first (found ∷ rest) (suc k) old new at is on (mid, way, more) calm =
       let early = through_driven (port_at first) found old mid way in
       let late = go_driven (first + 1) (first + 1) rest mid new (omega arith) more in
-      let parts = calm_in_parts laws port.0 old mid new (tape_over laws (IsOf (port_at first)) old mid early) (tape_over laws (IsOfFrom (first + 1)) mid new late) calm in
-      go_well port info (first + 1) rest k mid new (omega (arith, at)) is (on_over laws (IsOf (port_at first)) old mid early (laws.of_spares_ghc (port_at first)) on) more parts.1
+      let parts = calm_in_parts laws port.0 old mid new (tape_over laws (SparesOtherPorts (port_at first)) old mid early) (tape_over laws (IsOfFrom (first + 1)) mid new late) calm in
+      go_well port info (first + 1) rest k mid new (omega (arith, at)) is (on_over laws (SparesOtherPorts (port_at first)) old mid early (laws.of_spares_ghc (port_at first)) on) more parts.1
 
   -- ---- what lasts, whatever goes wrong
 
@@ -108,12 +108,12 @@ module _ (laws : Laws) where
       let own : StopsAndBootsPort port its old mid = subst (λ (p : Port). StopsAndBootsPort p its old mid) same (subst (λ (f : ProbeResult). StopsAndBootsPort (port_at first) f old mid) is way) in
       let early = through_driven (port_at first) found old mid way in
       let late = go_driven (first + 1) (first + 1) rest mid new (omega arith) more in
-      lasting mid new (on_over laws (IsOf (port_at first)) old mid early (laws.of_spares_ghc (port_at first)) on)
+      lasting mid new (on_over laws (SparesOtherPorts (port_at first)) old mid early (laws.of_spares_ghc (port_at first)) on)
       (driven_as (IsOfFrom (first + 1)) (IsOfOther port.0) mid new (λ access (q, above, of_q). (q, λ (e : port.0 ≡ q.0). absurd (omega (arith, at, above, e)), of_q)) late)
       (through old mid on own)
   go_last P port its served through lasting first (found ∷ rest) (suc k) old new at is on (mid, way, more) =
       let early = through_driven (port_at first) found old mid way in
-      go_last P port its served through lasting (first + 1) rest k mid new (omega (arith, at)) is (on_over laws (IsOf (port_at first)) old mid early (laws.of_spares_ghc (port_at first)) on) more
+      go_last P port its served through lasting (first + 1) rest k mid new (omega (arith, at)) is (on_over laws (SparesOtherPorts (port_at first)) old mid early (laws.of_spares_ghc (port_at first)) on) more
 
   pub taken_well : (port : Port) (info : DiskInfo) (ports : List ProbeResult) (old new : Device) → IsIdle old → probe_result_of ports port.0 ≡ Ready info → SwitchesOnAndBoots ports old new → Undisturbed port.0 old new → RunsWell (new.port port.0)
   taken_well port info ports old new idle is way calm =
@@ -140,17 +140,17 @@ module _ (laws : Laws) where
       let booted : IsOn way.booted = on_over laws (IsOfFrom 0) way.surveyed way.booted driven (from_spares_ghc 0) surveyed in
       enabling way.booted new booted way.enables (go_last P port its served through lasting 0 ports port.0 way.surveyed way.booted (omega arith) is surveyed way.boots)
 
-  pub taken_recorded : (port : Port) (info : DiskInfo) (ports : List ProbeResult) (old new : Device) → IsIdle old → probe_result_of ports port.0 ≡ Ready info → SwitchesOnAndBoots ports old new → IsRecorded new.tape (new.port port.0) port.0
+  pub taken_recorded : (port : Port) (info : DiskInfo) (ports : List ProbeResult) (old new : Device) → IsIdle old → probe_result_of ports port.0 ≡ Ready info → SwitchesOnAndBoots ports old new → FaultsOnRecord new.tape (new.port port.0) port.0
   taken_recorded port info =
-      taken_last (λ d. IsRecorded d.tape (d.port port.0) port.0) port (Ready info) (λ e. absurd (let z : Ready info ≡ Unserved = e in cc))
+      taken_last (λ d. FaultsOnRecord d.tape (d.port port.0) port.0) port (Ready info) (λ e. absurd (let z : Ready info ≡ Unserved = e in cc))
       (λ old new on its. its.4.recorded)
       (λ old new on driven h. (others_run port old new on driven).recorded h)
       (λ old new on does h. (laws.runs_over port (Writing Ghc 0x80000002) old new on (λ (e : Ghc ≡ Px port Sctl). absurd cc) (λ (e : Ghc ≡ Px port Cmd). absurd cc) does).recorded h)
 
   -- where it shows a device, a disk is in
-  pub taken_own : (port : Port) (info : DiskInfo) (ports : List ProbeResult) (old new : Device) → IsIdle old → probe_result_of ports port.0 ≡ Ready info → SwitchesOnAndBoots ports old new → ShowsOwnDisk (new.port port.0)
+  pub taken_own : (port : Port) (info : DiskInfo) (ports : List ProbeResult) (old new : Device) → IsIdle old → probe_result_of ports port.0 ≡ Ready info → SwitchesOnAndBoots ports old new → HasDiskIfShown (new.port port.0)
   taken_own port info =
-      taken_last (λ d. ShowsOwnDisk (d.port port.0)) port (Ready info) (λ e. absurd (let z : Ready info ≡ Unserved = e in cc))
+      taken_last (λ d. HasDiskIfShown (d.port port.0)) port (Ready info) (λ e. absurd (let z : Ready info ≡ Unserved = e in cc))
       (λ old new on its. laws.own_begins port its.0 new its.3)
       (λ old new on driven h. laws.own_all port.0 driven.accesses old new driven.all h)
       (λ old new on does h. laws.own_access port.0 (Writing Ghc 0x80000002) old new does h)

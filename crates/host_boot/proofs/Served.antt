@@ -10,8 +10,8 @@ use Rattle.adapter.specs.Access.{Access}
 use Rattle.adapter.specs.Access.Access.{Reading, Writing, Loading, Storing}
 use Rattle.adapter.specs.Device.{Device}
 use Rattle.adapter.specs.Rules.{IsOn}
-use Rattle.refinement.specs.Driven.{IsControl, IsDrivenBy, IsOf}
-use Rattle.refinement.specs.Links.{HasDeviceOrNone}
+use Rattle.refinement.specs.Driven.{OnPortWriting, IsDrivenBy, SparesOtherPorts}
+use Rattle.refinement.specs.Links.{ShowsDiskIfIn}
 use Rattle.identify.specs.declared.wanted.Wanted.{Wanted}
 use Rattle.port_control.specs.Ports.{IsCommandRegister}
 use Rattle.port_boot.specs.States.{IsBootTo, IsOfBoot, StopsOnWay}
@@ -27,7 +27,7 @@ use Rattle.host_boot.proofs.Stopping.{boot_sticks}
 use Rattle.host_boot.proofs.Stretching.{by_none, by_then, driven_as, on_over, same_over}
 
 -- what is read of CAP and PI touches no port
-survey_of : (port : Port) (access : Access) → IsSurvey access → IsOf port access
+survey_of : (port : Port) (access : Access) → IsSurvey access → SparesOtherPorts port access
 survey_of port (Reading Cap v) is = tt
 survey_of port (Reading Pi v) is = tt
 survey_of port (Reading r v) is = absurd is
@@ -36,25 +36,25 @@ survey_of port (Loading at bytes) is = absurd is
 survey_of port (Storing at bytes) is = absurd is
 
 module _ (laws : Laws) where
-  pub start_of : (port : Port) (access : Access) → IsSurveyOrBoot port access → IsOf port access
+  pub start_of : (port : Port) (access : Access) → IsSurveyOrBoot port access → SparesOtherPorts port access
   start_of port access (inl is) = survey_of port access is
   start_of port access (inr is) = laws.of_boot port access is
 
-  start_driven : (port : Port) (old new : Device) → IsDrivenBy (IsSurveyOrBoot port) old new → IsDrivenBy (IsOf port) old new
-  start_driven port old new = driven_as (IsSurveyOrBoot port) (IsOf port) old new (start_of port)
+  start_driven : (port : Port) (old new : Device) → IsDrivenBy (IsSurveyOrBoot port) old new → IsDrivenBy (SparesOtherPorts port) old new
+  start_driven port old new = driven_as (IsSurveyOrBoot port) (SparesOtherPorts port) old new (start_of port)
 
   -- the adapter has the port still
-  served_over : (wanted : Wanted) (port : Port) (old new : Device) → IsDrivenBy (IsOf port) old new → IsServed wanted port.0 old → IsServed wanted port.0 new
-  served_over wanted port old new driven served = (served.0, ap (λ (pi : ℕ). bit pi port.0) (same_over laws (IsOf port) old new driven).pi ∙ served.1)
+  served_over : (wanted : Wanted) (port : Port) (old new : Device) → IsDrivenBy (SparesOtherPorts port) old new → IsServed wanted port.0 old → IsServed wanted port.0 new
+  served_over wanted port old new driven served = (served.0, ap (λ (pi : ℕ). bit pi port.0) (same_over laws (SparesOtherPorts port) old new driven).pi ∙ served.1)
 
   module _ (wanted : Wanted) (port : Port) (booted : Booted) (old new : Device) (b : RebootsPort wanted port booted old new) where
-    surveyed : IsDrivenBy (IsOf port) old b.asked
+    surveyed : IsDrivenBy (SparesOtherPorts port) old b.asked
     surveyed = start_driven port old b.asked b.asks.driven
 
-    its : IsDrivenBy (IsOf port) b.asked new
-    its = driven_as (IsOfBoot port) (IsOf port) b.asked new (laws.of_boot port) (booted_driven laws wanted port booted.found b.asked new b.boots)
+    its : IsDrivenBy (SparesOtherPorts port) b.asked new
+    its = driven_as (IsOfBoot port) (SparesOtherPorts port) b.asked new (laws.of_boot port) (booted_driven laws wanted port booted.found b.asked new b.boots)
 
-    pub again_driven : IsDrivenBy (IsOf port) old new
+    pub again_driven : IsDrivenBy (SparesOtherPorts port) old new
     again_driven = by_then laws surveyed its
 
     pub again_stands : IsServed wanted port.0 old → StandsBehind wanted booted.found port.0 new
@@ -68,13 +68,13 @@ module _ (laws : Laws) where
         by (Ready info) is = (still, is.ready)
         by (Unready state) is = (still, is.ended)
 
-    pub again_shown : (state : PortState) → IsOn old → FoundBadDisk state → booted.found ≡ Unready state → HasDeviceOrNone (new.port port.0)
+    pub again_shown : (state : PortState) → IsOn old → FoundBadDisk state → booted.found ≡ Unready state → ShowsDiskIfIn (new.port port.0)
     again_shown state on bad is =
         let boots : BootsStopped wanted port (Unready state) b.asked new = subst (λ (found : ProbeResult). BootsStopped wanted port found b.asked new) is b.boots in
-        let asked : IsOn b.asked = on_over laws (IsOf port) old b.asked surveyed (laws.of_spares_ghc port) on in
+        let asked : IsOn b.asked = on_over laws (SparesOtherPorts port) old b.asked surveyed (laws.of_spares_ghc port) on in
         way_shown laws port state b.asked new bad asked (
           b.asked,
-          by_none (IsControl IsCommandRegister port) b.asked,
+          by_none (OnPortWriting IsCommandRegister port) b.asked,
           booted_driven laws wanted port (Unready state) b.asked new boots,
           boots.early,
           boots.late,
@@ -84,7 +84,7 @@ module _ (laws : Laws) where
   -- ---- or it is booted only if a device shows
 
   module _ (wanted : Wanted) (port : Port) (booted : Booted) (old new : Device) where
-    pub there_driven : RebootsIfPresent wanted port booted old new → IsDrivenBy (IsOf port) old new
+    pub there_driven : RebootsIfPresent wanted port booted old new → IsDrivenBy (SparesOtherPorts port) old new
     there_driven (inl is) = again_driven wanted port booted old new is.0
     there_driven (inr is) = start_driven port old new is.1.driven
 
@@ -93,13 +93,13 @@ module _ (laws : Laws) where
     there_stands (inr is) served =
         subst (λ (found : ProbeResult). StandsBehind wanted found port.0 new) (sym is.0) (served_over wanted port old new (start_driven port old new is.1.driven) served, is.2)
 
-    pub there_shown : (state : PortState) → IsOn old → RebootsIfPresent wanted port booted old new → FoundBadDisk state → booted.found ≡ Unready state → HasDeviceOrNone (new.port port.0)
+    pub there_shown : (state : PortState) → IsOn old → RebootsIfPresent wanted port booted old new → FoundBadDisk state → booted.found ≡ Unready state → ShowsDiskIfIn (new.port port.0)
     there_shown state on (inl is) bad found = again_shown wanted port booted old new is.0 state on bad found
     there_shown state on (inr is) bad found =
         let absent : Absent ≡ state = let k : Unready Absent ≡ Unready state = sym is.0 ∙ found in cc in
         absurd (subst FoundBadDisk (sym absent) bad)
 
-  pub beside_shown : (port other : Port) (old new : Device) → port.0 ≢ other.0 → IsOn old → IsDrivenBy (IsOf other) old new → HasDeviceOrNone (old.port port.0) → HasDeviceOrNone (new.port port.0)
+  pub beside_shown : (port other : Port) (old new : Device) → port.0 ≢ other.0 → IsOn old → IsDrivenBy (SparesOtherPorts other) old new → ShowsDiskIfIn (old.port port.0) → ShowsDiskIfIn (new.port port.0)
   beside_shown port other old new apart on driven =
       gently laws port old new on
-      (driven_as (IsOf other) _ old new (λ access is. (laws.of_spares_ghc other access is, laws.of_spares other port Sctl apart access is)) driven)
+      (driven_as (SparesOtherPorts other) _ old new (λ access is. (laws.of_spares_ghc other access is, laws.of_spares other port Sctl apart access is)) driven)

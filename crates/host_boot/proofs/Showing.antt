@@ -13,10 +13,10 @@ use Rattle.adapter.specs.Access.Access.{Reading, Writing, Loading, Storing}
 use Rattle.adapter.specs.Device.{Device}
 use Rattle.adapter.specs.Idle.{IsIdle}
 use Rattle.adapter.specs.Rules.{IsOn}
-use Rattle.refinement.specs.Driven.{IsControl, IsDrivenBy, IsOf}
-use Rattle.refinement.specs.Links.{HasDeviceOrNone, SparesRegister}
-use Rattle.disk_page.specs.Asking.{IsAsking}
-use Rattle.port_control.specs.Ports.{FindsLink, FindsSignature, HasLink, IsPlacingRegister, LooksAfterReset, ReadsNot, ReadsUntil, ReadsWithout, ShowsIdle, WasReset, IsCommandRegister}
+use Rattle.refinement.specs.Driven.{OnPortWriting, IsDrivenBy, SparesOtherPorts}
+use Rattle.refinement.specs.Links.{ShowsDiskIfIn, DoesNotWrite}
+use Rattle.disk_page.specs.Asking.{IsPageAccess}
+use Rattle.port_control.specs.Ports.{FindsLink, FindsSignature, HasLink, IsPlacingRegister, SeesResetFault, IsVainReading, ReadsUntil, ReadsInVain, ShowsIdle, SendsComresetThen, IsCommandRegister}
 use Rattle.port_control.specs.declared.PortFault.{PortFault}
 use Rattle.port_control.specs.declared.PortFault.TheVariants.{NoDevice, Busy, EngineStuck, NotAta}
 use Rattle.port_boot.specs.States.{EndsBeforeStart, EndsAfterStart, IsStateOfFault}
@@ -31,20 +31,20 @@ use Rattle.std.proofs.lemmas.List.Elements.{All-head, All-tail}
 
 -- it resets neither the adapter nor the link
 abbrev IsGentle : Port → Access → Type 0
-IsGentle port access = SparesRegister Ghc access × SparesRegister (Px port Sctl) access
+IsGentle port access = DoesNotWrite Ghc access × DoesNotWrite (Px port Sctl) access
 
 written_gentle : (port : Port) (r : PortReg) (v : ℕ) → r ≢ Sctl → IsGentle port (Writing (Px port r) v)
 written_gentle port r v other =
     ((λ e. absurd (let z : Px port r ≡ Ghc = e in cc)), (λ e. other (let z : Px port r ≡ Px port Sctl = e in cc)))
 
-reading_gentle : (port at : Port) (r : PortReg) (Shown : ℕ → Type 0) (access : Access) → ReadsNot at r Shown access → IsGentle port access
+reading_gentle : (port at : Port) (r : PortReg) (Shown : ℕ → Type 0) (access : Access) → IsVainReading at r Shown access → IsGentle port access
 reading_gentle port at r Shown (Reading q v) is = (tt, tt)
 reading_gentle port at r Shown (Writing q v) is = absurd is
 reading_gentle port at r Shown (Loading place bytes) is = absurd is
 reading_gentle port at r Shown (Storing place bytes) is = absurd is
 
-without_gentle : (port : Port) (r : PortReg) (Shown : ℕ → Type 0) (count : ℕ) (old new : Device) → ReadsWithout port r Shown count old new → IsDrivenBy (IsGentle port) old new
-without_gentle port r Shown count old new w = driven_as (ReadsNot port r Shown) (IsGentle port) old new (reading_gentle port port r Shown) w.reads
+without_gentle : (port : Port) (r : PortReg) (Shown : ℕ → Type 0) (count : ℕ) (old new : Device) → ReadsInVain port r Shown count old new → IsDrivenBy (IsGentle port) old new
+without_gentle port r Shown count old new w = driven_as (IsVainReading port r Shown) (IsGentle port) old new (reading_gentle port port r Shown) w.reads
 
 read_gentle : (port : Port) (r : PortReg) (v : ℕ) (old new : Device) → Reads (Px port r) v old new → IsDrivenBy (IsGentle port) old new
 read_gentle port r v old new does = by_one (IsGentle port) (Reading (Px port r) v) old new (tt, tt) does
@@ -55,13 +55,13 @@ module _ (laws : Laws) where
 
   module _ (port : Port) where
     abbrev Shown : Device → Type 0
-    Shown d = HasDeviceOrNone (d.port port.0)
+    Shown d = ShowsDiskIfIn (d.port port.0)
 
     gently_over : (accesses : List Access) (old new : Device) → IsOn old → All (IsGentle port) accesses → DoesAll accesses old new → Shown old → Shown new
     gently_over [] old new on all is h = subst Shown (sym is) h
     gently_over (access ∷ accesses) old new on all (mid, does, rest) h =
         let gentle = All-head (IsGentle port) access accesses all in
-        let later = laws.access_on access old mid on (λ v is. absurd (subst (SparesRegister Ghc) is gentle.0 refl)) does in
+        let later = laws.access_on access old mid on (λ v is. absurd (subst (DoesNotWrite Ghc) is gentle.0 refl)) does in
         gently_over accesses mid new later (All-tail (IsGentle port) access accesses all) rest (laws.keeps_device port access old mid on.no_reset gentle.1 does h)
 
     pub gently : (old new : Device) → IsOn old → IsDrivenBy (IsGentle port) old new → Shown old → Shown new
@@ -91,7 +91,7 @@ module _ (laws : Laws) where
         (by_then laws (until_gentle port Tfd ShowsIdle f.linked f.idle f.waits) (read_gentle port Sig signature f.idle new f.reads))
         (link_shown old f.linked on f.links)
 
-    looks_shown : (fault : PortFault) (old new : Device) → fault ≢ NoDevice → IsOn old → LooksAfterReset port fault old new → Shown new
+    looks_shown : (fault : PortFault) (old new : Device) → fault ≢ NoDevice → IsOn old → SeesResetFault port fault old new → Shown new
     looks_shown NoDevice old new other on l = absurd (other refl)
     looks_shown Busy old new other on l =
         gently l.linked new (link_on old l.linked on l.links) (without_gentle port Tfd ShowsIdle MOST_READINGS l.linked new l.waits) (link_shown old l.linked on l.links)
@@ -99,26 +99,26 @@ module _ (laws : Laws) where
     looks_shown EngineStuck old new other on l = absurd l
 
     -- COMRESET itself resets no adapter
-    reset_on : (Then : Device → Device → Type 0) (old new : Device) → IsOn old → (w : WasReset port Then old new) → IsOn w.ended
+    reset_on : (Then : Device → Device → Type 0) (old new : Device) → IsOn old → (w : SendsComresetThen port Then old new) → IsOn w.ended
     reset_on Then old new on w =
-        on_over laws (IsOf port) old w.ended
-        (by_then laws (by_one (IsOf port) (Writing (Px port Sctl) 1) old w.sent refl w.sends) (by_one (IsOf port) (Writing (Px port Sctl) 0) w.sent w.ended refl w.ends))
+        on_over laws (SparesOtherPorts port) old w.ended
+        (by_then laws (by_one (SparesOtherPorts port) (Writing (Px port Sctl) 1) old w.sent refl w.sends) (by_one (SparesOtherPorts port) (Writing (Px port Sctl) 0) w.sent w.ended refl w.ends))
         (laws.of_spares_ghc port) on
 
-    placing_on : (old new : Device) → IsOn old → IsDrivenBy (IsControl IsPlacingRegister port) old new → IsOn new
-    placing_on old new on driven = on_over laws (IsOf port) old new (placing_driven laws port old new driven) (laws.of_spares_ghc port) on
+    placing_on : (old new : Device) → IsOn old → IsDrivenBy (OnPortWriting IsPlacingRegister port) old new → IsOn new
+    placing_on old new on driven = on_over laws (SparesOtherPorts port) old new (placing_driven laws port old new driven) (laws.of_spares_ghc port) on
 
     early_shown : (state : PortState) (old new : Device) → state ≢ Absent → IsOn old → EndsBeforeStart port state old new → Shown new
     early_shown state old new other on e =
         looks_shown e.fault e.resets.ended new (λ none. other (subst (IsStateOfFault state) none e.told))
-        (reset_on (LooksAfterReset port e.fault) e.placed new (placing_on old e.placed on e.places) e.resets) e.resets.rest
+        (reset_on (SeesResetFault port e.fault) e.placed new (placing_on old e.placed on e.places) e.resets) e.resets.rest
 
-    stop_gentle : (old new : Device) → IsDrivenBy (IsControl IsCommandRegister port) old new → IsDrivenBy (IsGentle port) old new
+    stop_gentle : (old new : Device) → IsDrivenBy (OnPortWriting IsCommandRegister port) old new → IsDrivenBy (IsGentle port) old new
     stop_gentle old new driven =
-        driven_as (IsControl IsCommandRegister port) (IsGentle port) old new
+        driven_as (OnPortWriting IsCommandRegister port) (IsGentle port) old new
         (λ access is. let c = laws.commanding port access is in (laws.of_spares_ghc port access c.0, c.1)) driven
 
-    asking_gentle : (access : Access) → IsAsking port access → IsGentle port access
+    asking_gentle : (access : Access) → IsPageAccess port access → IsGentle port access
     asking_gentle (Reading r v) is = (tt, tt)
     asking_gentle (Writing r v) is =
         ((λ e. absurd (let z : Px port Ci ≡ Ghc = sym is.0 ∙ e in cc)), (λ e. absurd (let z : Px port Ci ≡ Px port Sctl = sym is.0 ∙ e in cc)))
@@ -132,7 +132,7 @@ module _ (laws : Laws) where
         let found : IsOn up.found = signature_on up.resets.ended up.found ended up.resets.rest in
         gently up.found new found
         (by_then laws (stop_gentle up.found e.up up.starts)
-        (by_then laws (driven_as (IsAsking port) (IsGentle port) e.up e.then.asked asking_gentle e.then.asks) (stop_gentle e.then.asked new e.then.stops)))
+        (by_then laws (driven_as (IsPageAccess port) (IsGentle port) e.up e.then.asked asking_gentle e.then.asks) (stop_gentle e.then.asked new e.then.stops)))
         (signature_shown 0x101 up.resets.ended up.found ended up.resets.rest)
       where
         signature_on : (a b : Device) → IsOn a → FindsSignature port 0x101 a b → IsOn b
@@ -143,7 +143,7 @@ module _ (laws : Laws) where
     -- where a disk was found that isn't served, its way ends so
     pub way_shown : (state : PortState) (old new : Device) → FoundBadDisk state → IsOn old → StopsAndBootsPort port (Unready state) old new → Shown new
     way_shown Foreign old new bad on (stopped, stop, boot, early, late, sticks) =
-        late_shown stopped new (on_over laws (IsOf port) old stopped (stop_driven laws port old stopped stop) (laws.of_spares_ghc port) on) (late tt)
+        late_shown stopped new (on_over laws (SparesOtherPorts port) old stopped (stop_driven laws port old stopped stop) (laws.of_spares_ghc port) on) (late tt)
     way_shown (Unfit n) old new bad on (stopped, stop, boot, early, late, sticks) = ⊎_elim
         (λ (seven : n ≡ 7). early_shown (Unfit n) stopped new (λ e. let z : Unfit n ≡ Absent = e in absurd cc) begun (early (inl seven)))
         (λ (a : n ≢ 7). ⊎_elim
@@ -153,16 +153,16 @@ module _ (laws : Laws) where
         (cases_eq n 7)
       where
         begun : IsOn stopped
-        begun = on_over laws (IsOf port) old stopped (stop_driven laws port old stopped stop) (laws.of_spares_ghc port) on
+        begun = on_over laws (SparesOtherPorts port) old stopped (stop_driven laws port old stopped stop) (laws.of_spares_ghc port) on
     way_shown Absent old new bad on way = absurd bad
     way_shown Ready old new bad on way = absurd bad
     way_shown Dead old new bad on way = absurd bad
 
   -- and so it is once all were booted
   pub taken_shown : (port : Port) (state : PortState) (ports : List ProbeResult) (old new : Device) → IsIdle old → FoundBadDisk state → probe_result_of ports port.0 ≡ Unready state
-      → SwitchesOnAndBoots ports old new → HasDeviceOrNone (new.port port.0)
+      → SwitchesOnAndBoots ports old new → ShowsDiskIfIn (new.port port.0)
   taken_shown port state ports old new idle bad is way =
-      taken_last laws (λ d. HasDeviceOrNone (d.port port.0)) port (Unready state) (λ e. absurd (let z : Unready state ≡ Unserved = e in cc))
+      taken_last laws (λ d. ShowsDiskIfIn (d.port port.0)) port (Unready state) (λ e. absurd (let z : Unready state ≡ Unserved = e in cc))
       (λ a b on through. way_shown port state a b bad on through)
       (λ a b on driven h. gently port a b on
       (driven_as (IsOfOther port.0) (IsGentle port) a b (λ access is. (laws.of_spares_ghc is.0 access is.2, other_spares laws port Sctl access is)) driven) h)

@@ -10,20 +10,20 @@ use Rattle.adapter.specs.Access.{Access}
 use Rattle.adapter.specs.Device.{Device}
 use Rattle.adapter.specs.Rules.{IsOn, HasPort}
 use Rattle.adapter.specs.declared.command.Operation.TheVariants.{Identify}
-use Rattle.refinement.specs.Driven.{RelatesWith, AnyUse, IsControl, IsSimulated, IsSimulatedAlong, IsSimulatedAlongTo}
+use Rattle.refinement.specs.Driven.{RelatesWith, AnyUse, OnPortWriting, IsSimulated, IsSimulatedAlong, IsSimulatedAlongTo}
 use Rattle.refinement.specs.Driver.{AllFree}
 use Rattle.refinement.specs.Slots.{Own, SlotStates, put}
 use Rattle.refinement.specs.Links.{SameAdapter}
 use Rattle.port_control.specs.Engines.{FailsToStop, Stops, StopsBoth, StopsReceiving, Sticks}
 use Rattle.port_control.specs.Ports.{IsCommandRegister}
 use Rattle.port_boot.specs.States.{IsBoot, IsBootTo, IsBootable, IsOfBoot, StopsOnWay}
-use Rattle.host_boot.specs.Taken.{SticksOnWay, TellsEngines, WroteControl}
+use Rattle.host_boot.specs.Taken.{SticksOnWay, TellsEngines, WroteSctl}
 use Rattle.host_boot.specs.declared.ProbeResult.{ProbeResult}
 use Rattle.host_boot.specs.declared.ProbeResult.TheVariants.{Unserved, Ready, Unready}
-use Rattle.host_boot.specs.Laws.{Laws, AccessKind, fits_of, may_of}
+use Rattle.host_boot.specs.Laws.{Laws, AccessPurpose, fits_of, may_of}
 use Rattle.refinement.specs.Tape.{TapeTells}
 use Rattle.host_boot.proofs.Stretching.{told_both, told_more, same_over, tape_over, told_wider}
-use Rattle.host_boot.specs.Laws.AccessKind.{Booting, Commanding}
+use Rattle.host_boot.specs.Laws.AccessPurpose.{Booting, Commanding}
 
 pub still_there : (port : Port) (old new : Device) → SameAdapter old new → HasPort old port.0 → HasPort new port.0
 still_there port old new same there = (there.0, ap (λ (pi : ℕ). bit pi port.0) same.pi ∙ there.1)
@@ -35,7 +35,7 @@ boot_sticks TapeTells port old new (inr b) = record { driven = b.followed.driven
 
 module _ (laws : Laws) where
   -- a port may be booted after accesses that leave its slots as they are
-  pub bootable_over : (kind : AccessKind) (port : Port) (old new : Device) → ((uses : SlotStates) → AllFree uses port.0 → fits_of kind uses) → IsSimulated (may_of kind) (fits_of kind) old new →
+  pub bootable_over : (kind : AccessPurpose) (port : Port) (old new : Device) → ((uses : SlotStates) → AllFree uses port.0 → fits_of kind uses) → IsSimulated (may_of kind) (fits_of kind) old new →
       HasPort old port.0 → DRIVER_BYTES ≤ old.size → RelatesWith (λ uses. AllFree uses port.0) old → IsOn new → IsBootable port new
   bootable_over kind port old new fits f there room a on =
       let same = same_over laws (may_of kind) old new f.driven in
@@ -46,20 +46,20 @@ module _ (laws : Laws) where
         agreed = (a.0, a.1, laws.fragments.agreed kind (λ uses. uses) a.0 old new (fits a.0 a.1) f a.2);
       }
 
-  stop_boots : (TapeTells : List Access → Type 0) (port : Port) (old mid : Device) → IsSimulatedAlong TapeTells (IsControl IsCommandRegister port) AnyUse old mid → IsBoot TapeTells port old mid
+  stop_boots : (TapeTells : List Access → Type 0) (port : Port) (old mid : Device) → IsSimulatedAlong TapeTells (OnPortWriting IsCommandRegister port) AnyUse old mid → IsBoot TapeTells port old mid
   stop_boots TapeTells port old mid stops = told_wider laws TapeTells (Commanding port) (Booting port) (λ uses. uses) old mid (laws.command_of_boot port) (λ uses free. tt) stops
 
   -- where it didn't stop, its engine is stuck
-  pub stuck_boots : (port : Port) (old mid : Device) → IsSimulatedAlong (FailsToStop port) (IsControl IsCommandRegister port) AnyUse old mid → IsBoot (Sticks port) port old mid
+  pub stuck_boots : (port : Port) (old mid : Device) → IsSimulatedAlong (FailsToStop port) (OnPortWriting IsCommandRegister port) AnyUse old mid → IsBoot (Sticks port) port old mid
   stuck_boots port old mid f = told_more (FailsToStop port) (Sticks port) (IsOfBoot port) (λ uses. AllFree uses port.0) (λ uses. uses) old mid (laws.failing_sticks port) (stop_boots (FailsToStop port) port old mid f)
 
-  module _ (port : Port) (old mid : Device) (stops : IsSimulatedAlong (Stops port) (IsControl IsCommandRegister port) AnyUse old mid) where
+  module _ (port : Port) (old mid : Device) (stops : IsSimulatedAlong (Stops port) (OnPortWriting IsCommandRegister port) AnyUse old mid) where
     pub bootable : HasPort old port.0 → DRIVER_BYTES ≤ old.size → RelatesWith (λ uses. AllFree uses port.0) old → IsOn mid → IsBootable port mid
     bootable there room agreed on = bootable_over (Commanding port) port old mid (λ uses free. tt) stops.followed there room agreed on
 
     pub since_stop : (since : ℕ) → length mid.tape ≤ since → length old.tape ≤ since
     since_stop since is =
-        let g = tape_over laws (IsControl IsCommandRegister port) old mid stops.followed.driven in
+        let g = tape_over laws (OnPortWriting IsCommandRegister port) old mid stops.followed.driven in
         let n : length mid.tape ≡ length old.tape + length g.0 = ap (λ es. length es) g.1 ∙ length-append old.tape g.0 in
         omega (arith, n, is)
 
@@ -85,7 +85,7 @@ module _ (laws : Laws) where
       then_boot_to Foreign f = both (StopsOnWay port Foreign) (λ accesses is. is.0) f
       then_boot_to (Unfit n) f = both (StopsOnWay port (Unfit n)) (λ accesses is. is.0) f
 
-      pub ended_since : (state : PortState) → (state ≢ Dead → length mid.tape ≤ (new.port port.0).notes.sctl_written_at) → WroteControl (Unready state) port.0 (length old.tape) new
+      pub ended_since : (state : PortState) → (state ≢ Dead → length mid.tape ≤ (new.port port.0).notes.sctl_written_at) → WroteSctl (Unready state) port.0 (length old.tape) new
       ended_since Dead is = tt
       ended_since Absent is = since_stop _ (is (λ e. absurd cc))
       ended_since ReadyState is = since_stop _ (is (λ e. absurd cc))

@@ -20,32 +20,32 @@ use Rattle.adapter.specs.Rules.{IsOn}
 use Rattle.adapter.specs.declared.command.Operation.{Operation}
 use Rattle.adapter.specs.declared.command.Operation.TheVariants.{Identify}
 use Rattle.refinement.specs.Relation.{port_at}
-use Rattle.refinement.specs.Driven.{AnyUse, IsRelated, IsDrivenBy, IsSimulated, IsSimulatedTo, IsOf, IsSimulatedAlongTo, IsUse, LeavesPort, NoneWrites, SendsNone, AreDevices}
+use Rattle.refinement.specs.Driven.{AnyUse, IsRelated, IsDrivenBy, IsSimulated, IsSimulatedTo, SparesOtherPorts, IsSimulatedAlongTo, SameUses, LeavesPort, NoneWrites, GainsNoMove, OnlyDeviceActs}
 use Rattle.refinement.specs.Driver.{AllFree}
-use Rattle.refinement.specs.Halting.{IsHaltedAsTaken}
-use Rattle.refinement.specs.Links.{SameAdapter, SparesRegister}
+use Rattle.refinement.specs.Halting.{HaltOfTakenIfSt}
+use Rattle.refinement.specs.Links.{SameAdapter, DoesNotWrite}
 use Rattle.refinement.specs.Slots.{Free, Own, SlotStates, put}
 use Rattle.identify.specs.declared.wanted.Wanted.{Wanted}
 use Rattle.identify.specs.declared.wanted.Wanted.TheVariants.{Nothing}
 use Rattle.port_control.specs.Engines.{StopsBoth}
 use Rattle.port_boot.specs.States.{IsBoot, IsBootTo, IsOfBoot}
-use Rattle.host_boot.specs.Taken.{Boots, SwitchesOnAndBoots, HaltsFound, IsUnusedOrDead, IsOfHost, IsOfTaking, LeavesPorts, StandsBehind, TakesOver, TellsEngines, WroteControl, probe_result_of, unused, wanted_of}
+use Rattle.host_boot.specs.Taken.{Boots, SwitchesOnAndBoots, ReadyHaltOfTaken, IsUnusedOrDead, IsOfHost, IsOfTaking, LeavesPorts, StandsBehind, TakesOver, TellsEngines, WroteSctl, probe_result_of, unused, wanted_of}
 use Rattle.host_boot.specs.declared.Host.{Host}
 use Rattle.host_boot.specs.declared.ProbeResult.{ProbeResult}
 use Rattle.host_boot.specs.declared.ProbeResult.TheVariants.{Unserved, Ready, Unready}
 use Rattle.host_boot.proofs.Stopping.{tells_then, tells_since}
 use Rattle.host_boot.proofs.Leaving.{idle_on, is_served, stands_on, reset_on}
-use Rattle.refinement.specs.Acts.{ActsReach, InSlots, at_slots}
+use Rattle.refinement.specs.Acts.{ActsReach, DriverSlots, driver_state}
 use Rattle.host_boot.specs.Laws.{Laws, SlotCondition, uses_of}
 use Rattle.block_machine.specs.Steps.{May}
 use Rattle.refinement.specs.Tape.{TapeTells}
 use Rattle.host_boot.proofs.Stretching.{driven_as, same_over, tape_over, told_both, told_more, told_wider}
 use Rattle.host_boot.specs.Laws.SlotCondition.{AnyUses, PortUnused, Only}
-use Rattle.host_boot.specs.Laws.AccessKind.{Booting, Hosting, Taking}
+use Rattle.host_boot.specs.Laws.AccessPurpose.{Booting, Hosting, Taking}
 
 -- the uses are these at last
 abbrev GoesTo : (Access → Type 0) → SlotStates → SlotStates → Device → Device → Type 0
-GoesTo May first uses old new = IsSimulatedTo May (IsUse first) (λ _. uses) old new
+GoesTo May first uses old new = IsSimulatedTo May (SameUses first) (λ _. uses) old new
 
 -- what they tell of the first ports
 abbrev TellsFirst : List ProbeResult → ℕ → List Access → Type 0
@@ -59,17 +59,17 @@ pub record IsUnderway (wanted : List Wanted) (ports : List ProbeResult) (n : ℕ
   pub uses : SlotStates
   pub left : (port slot : ℕ) → IsUnusedOrDead ports uses port slot
   pub free : (port slot : ℕ) → n ≤ port → uses port slot ≡ Free
-  pub told : IsSimulatedAlongTo (TellsFirst ports n) (IsOfTaking wanted) (IsUse unused) (λ _. uses) start d
+  pub told : IsSimulatedAlongTo (TellsFirst ports n) (IsOfTaking wanted) (SameUses unused) (λ _. uses) start d
   pub agreed : IsRelated uses d
   pub stands : (port : ℕ) → port < n → StandsBehind (wanted_of wanted port) (probe_result_of ports port) port d
-  pub reset : (port : ℕ) → port < n → WroteControl (probe_result_of ports port) port (length start.tape) d
-  pub halts : (port : ℕ) → port < n → HaltsFound (probe_result_of ports port) port d
+  pub reset : (port : ℕ) → port < n → WroteSctl (probe_result_of ports port) port (length start.tape) d
+  pub halts : (port : ℕ) → port < n → ReadyHaltOfTaken (probe_result_of ports port) port d
   pub idle : (port : ℕ) → n ≤ port → IsIdlePort (d.port port)
 
 host_spares : (q : Port) (r : PortReg) → NoneWrites IsOfHost (Px q r)
 host_spares q r (Reading x v) is = tt
-host_spares q r (Loading at_slots bytes) is = absurd is
-host_spares q r (Storing at_slots bytes) is = absurd is
+host_spares q r (Loading driver_state bytes) is = absurd is
+host_spares q r (Storing driver_state bytes) is = absurd is
 host_spares q r (Writing Ghc v) is = λ (e : Ghc ≡ Px q r). absurd cc
 host_spares q r (Writing Cap v) is = absurd is
 host_spares q r (Writing Is v) is = absurd is
@@ -82,13 +82,13 @@ host_spares q r (Writing (Px p x) v) is = absurd is
 module _ (laws : Laws) where
   -- what halts a port is of a taken command still, over what was followed without a write of its PxCMD, where it was found ready
   still_halts : (May : Access → Type 0) (Fits : SlotStates → Type 0) (next : SlotStates → SlotStates) (uses : SlotStates) (q : ℕ) (old new : Device) → NoneWrites May (Px (port_at q) Cmd) → Fits uses
-      → IsSimulatedTo May Fits next old new → IsRelated uses old → (wanted : Wanted) (found : ProbeResult) → StandsBehind wanted found q new → HaltsFound found q old → HaltsFound found q new
+      → IsSimulatedTo May Fits next old new → IsRelated uses old → (wanted : Wanted) (found : ProbeResult) → StandsBehind wanted found q new → ReadyHaltOfTaken found q old → ReadyHaltOfTaken found q new
   still_halts May Fits next uses q old new spares fits f a wanted found stands halts info is =
-      let slots : InSlots = record { uses = uses; parked = a.parked } in
+      let slots : DriverSlots = record { uses = uses; parked = a.parked } in
       let c = f.comes slots a.machine a.reached a.knows fits in
-      let then : IsHaltedAsTaken (new.port q) =
-      laws.halts_acts (port_at q) c.acts (at_slots slots old) (at_slots (record slots { uses = next uses }) new) a.machine a.reached a.knows c.done
-      (subst (All (SparesRegister (Px (port_at q) Cmd))) (sym c.accesses_are) (All-weaker May (SparesRegister (Px (port_at q) Cmd)) spares f.driven.accesses f.driven.only)) (λ _. halts info is) in
+      let then : HaltOfTakenIfSt (new.port q) =
+      laws.halts_acts (port_at q) c.acts (driver_state slots old) (driver_state (record slots { uses = next uses }) new) a.machine a.reached a.knows c.done
+      (subst (All (DoesNotWrite (Px (port_at q) Cmd))) (sym c.accesses_are) (All-weaker May (DoesNotWrite (Px (port_at q) Cmd)) spares f.driven.accesses f.driven.only)) (λ _. halts info is) in
       then (subst (λ (x : ProbeResult). StandsBehind wanted x q new) is stands).1.runs.st
 
   module _ (wanted : List Wanted) (first : SlotStates) where
@@ -97,19 +97,19 @@ module _ (laws : Laws) where
     goes_on old new a = record {
       driven = a.driven;
       comes = λ s m reached x is.
-          subst (λ (u : SlotStates). ActsReach a.driven.accesses (at_slots s old) m (at_slots (record s { uses = u }) new) (AreDevices (IsOfTaking wanted) s.uses)) is (a.comes s m reached x tt);
+          subst (λ (u : SlotStates). ActsReach a.driven.accesses (driver_state s old) m (driver_state (record s { uses = u }) new) (OnlyDeviceActs (IsOfTaking wanted) s.uses)) is (a.comes s m reached x tt);
     }
 
     -- and then others, with what is told of both
     pub then_told : (Before Here TapeTells : List Access → Type 0) → ((early late : List Access) → Before early → Here late → TapeTells (early ++ late)) → (fitting : SlotCondition) (next : SlotStates → SlotStates) (uses : SlotStates)
-        (old mid new : Device) → uses_of fitting uses → IsSimulatedAlongTo Before (IsOfTaking wanted) (IsUse first) (λ _. uses) old mid → IsSimulatedAlongTo Here (IsOfTaking wanted) (uses_of fitting) next mid new →
-        IsSimulatedAlongTo TapeTells (IsOfTaking wanted) (IsUse first) (λ _. next uses) old new
+        (old mid new : Device) → uses_of fitting uses → IsSimulatedAlongTo Before (IsOfTaking wanted) (SameUses first) (λ _. uses) old mid → IsSimulatedAlongTo Here (IsOfTaking wanted) (uses_of fitting) next mid new →
+        IsSimulatedAlongTo TapeTells (IsOfTaking wanted) (SameUses first) (λ _. next uses) old new
     then_told Before Here TapeTells join fitting next uses old mid new fits a b =
         told_both laws Before Here TapeTells join (Taking wanted (Only first)) (Taking wanted fitting) (λ _. uses) next (λ access may. may) (λ were is. fits) old mid new a b
 
   module _ (wanted : List Wanted) (ports : List ProbeResult) (port : Port) (below : port.0 < 4) (start old new : Device) (found : ProbeResult)
       (u : IsUnderway wanted ports port.0 start old) (on : IsOn new) (stands : StandsBehind (wanted_of wanted port.0) found port.0 new)
-      (reset : WroteControl found port.0 (length old.tape) new) (halts : HaltsFound found port.0 new) where
+      (reset : WroteSctl found port.0 (length old.tape) new) (halts : ReadyHaltOfTaken found port.0 new) where
     abbrev Later : Type 0
     Later = IsUnderway wanted (slice_set ports port.0 found) (port.0 + 1) start new
 
@@ -131,9 +131,9 @@ module _ (laws : Laws) where
     wants other = (is_served (wanted_of wanted port.0) port.0 new found other stands).0
 
     module _ (driven : IsDrivenBy (IsOfBoot port) old new)
-        (quiet : (q : Port) → q.0 ≢ port.0 → (u.uses q.0 0 ≡ Own Identify → ⊥) → SendsNone q.0 Identify old new) where
+        (quiet : (q : Port) → q.0 ≢ port.0 → (u.uses q.0 0 ≡ Own Identify → ⊥) → GainsNoMove q.0 Identify old new) where
       alone : (q : ℕ) → q ≢ port.0 → LeavesPort (old.port q) (new.port q)
-      alone q other = laws.left port q old new other u.on (driven_as (IsOfBoot port) (IsOf port) old new (laws.of_boot port) driven)
+      alone q other = laws.left port q old new other u.on (driven_as (IsOfBoot port) (SparesOtherPorts port) old new (laws.of_boot port) driven)
 
       pub later_same : SameAdapter start new
       later_same = laws.same_more start old new u.same (same_over laws (IsOfBoot port) old new driven)
@@ -165,7 +165,7 @@ module _ (laws : Laws) where
           let n : length old.tape ≡ length start.tape + length g.0 = ap (λ es. length es) g.1 ∙ length-append start.tape g.0 in
           omega (arith, n)
 
-      since_start : (f : ProbeResult) → WroteControl f port.0 (length old.tape) new → WroteControl f port.0 (length start.tape) new
+      since_start : (f : ProbeResult) → WroteSctl f port.0 (length old.tape) new → WroteSctl f port.0 (length start.tape) new
       since_start Unserved is = is
       since_start (Ready info) is = le_trans longer is
       since_start (Unready Absent) is = le_trans longer is
@@ -174,14 +174,14 @@ module _ (laws : Laws) where
       since_start (Unready (Unfit n)) is = le_trans longer is
       since_start (Unready Dead) is = is
 
-      pub later_reset : (q : ℕ) → q < port.0 + 1 → WroteControl (probe_result_of (slice_set ports port.0 found) q) q (length start.tape) new
+      pub later_reset : (q : ℕ) → q < port.0 + 1 → WroteSctl (probe_result_of (slice_set ports port.0 found) q) q (length start.tape) new
       later_reset q less = elim (cases_eq q port.0) [
         | inl e ↦
-            let P : ℕ → Type 0 = λ k. WroteControl (probe_result_of (slice_set ports port.0 found) k) k (length start.tape) new in
-            let Q : ProbeResult → Type 0 = λ f. WroteControl f port.0 (length start.tape) new in
+            let P : ℕ → Type 0 = λ k. WroteSctl (probe_result_of (slice_set ports port.0 found) k) k (length start.tape) new in
+            let Q : ProbeResult → Type 0 = λ f. WroteSctl f port.0 (length start.tape) new in
             subst P (sym e) (subst Q (sym here_is) (since_start found reset))
         | inr other ↦
-            let Q : ProbeResult → Type 0 = λ f. WroteControl f q (length start.tape) new in
+            let Q : ProbeResult → Type 0 = λ f. WroteSctl f q (length start.tape) new in
             subst Q (sym (other_is q other)) (reset_on q old new (alone q other) (probe_result_of ports q) (length start.tape) (u.reset q (omega (arith, less, other))))
       ]
 
@@ -227,14 +227,14 @@ module _ (laws : Laws) where
     -- what halts the ports
     later_halts : (next : SlotStates → SlotStates) → IsSimulatedTo (IsOfBoot port) (λ uses. AllFree uses port.0) next old new
         → ((q : ℕ) → q < port.0 + 1 → StandsBehind (wanted_of wanted q) (probe_result_of (slice_set ports port.0 found) q) q new)
-        → (q : ℕ) → q < port.0 + 1 → HaltsFound (probe_result_of (slice_set ports port.0 found) q) q new
+        → (q : ℕ) → q < port.0 + 1 → ReadyHaltOfTaken (probe_result_of (slice_set ports port.0 found) q) q new
     later_halts next f stand q less = elim (cases_eq q port.0) [
       | inl e ↦
-          let P : ℕ → Type 0 = λ k. HaltsFound (probe_result_of (slice_set ports port.0 found) k) k new in
-          let Q : ProbeResult → Type 0 = λ f. HaltsFound f port.0 new in
+          let P : ℕ → Type 0 = λ k. ReadyHaltOfTaken (probe_result_of (slice_set ports port.0 found) k) k new in
+          let Q : ProbeResult → Type 0 = λ f. ReadyHaltOfTaken f port.0 new in
           subst P (sym e) (subst Q (sym here_is) halts)
       | inr other ↦
-          let Q : ProbeResult → Type 0 = λ f. HaltsFound f q old in
+          let Q : ProbeResult → Type 0 = λ f. ReadyHaltOfTaken f q old in
           still_halts (IsOfBoot port) (λ uses. AllFree uses port.0) next u.uses q old new (λ access may. laws.of_spares port (port_at q) Cmd other access (laws.of_boot port access may)) unused_here f u.agreed
           (wanted_of wanted q) (probe_result_of (slice_set ports port.0 found) q) (stand q less) (subst Q (sym (other_is q other)) (u.halts q (omega (arith, less, other))))
     ]
@@ -242,7 +242,7 @@ module _ (laws : Laws) where
     pub booted : found ≢ Unserved → IsBoot (TellsEngines port found) port old new → Later
     booted served told =
         let f : IsSimulated (IsOfBoot port) (λ uses. AllFree uses port.0) old new = told.followed in
-        let quiet : (q : Port) → q.0 ≢ port.0 → (u.uses q.0 0 ≡ Own Identify → ⊥) → SendsNone q.0 Identify old new =
+        let quiet : (q : Port) → q.0 ≢ port.0 → (u.uses q.0 0 ≡ Own Identify → ⊥) → GainsNoMove q.0 Identify old new =
         λ (q : Port) (other : q.0 ≢ port.0) (not : u.uses q.0 0 ≡ Own Identify → ⊥).
         laws.fragments.silent (Booting port) (λ uses. uses) u.uses q Identify old new unused_here (λ access may. laws.of_spares port q Ci other access (laws.of_boot port access may))
         (λ access may. laws.of_spares port q Sact other access (laws.of_boot port access may)) refl not f u.agreed in
@@ -275,13 +275,13 @@ module _ (laws : Laws) where
     died dead told =
         let f : IsSimulatedTo (IsOfBoot port) (λ uses. AllFree uses port.0) Asked old new = told.followed in
         let served : found ≢ Unserved = λ (e : found ≡ Unserved). absurd (let k : Unready Dead ≡ Unserved = sym dead ∙ e in cc) in
-        let quiet : (q : Port) → q.0 ≢ port.0 → (u.uses q.0 0 ≡ Own Identify → ⊥) → SendsNone q.0 Identify old new =
+        let quiet : (q : Port) → q.0 ≢ port.0 → (u.uses q.0 0 ≡ Own Identify → ⊥) → GainsNoMove q.0 Identify old new =
         λ (q : Port) (other : q.0 ≢ port.0) (not : u.uses q.0 0 ≡ Own Identify → ⊥).
         laws.fragments.silent (Booting port) Asked u.uses q Identify old new unused_here (λ access may. laws.of_spares port q Ci other access (laws.of_boot port access may))
         (λ access may. laws.of_spares port q Sact other access (laws.of_boot port access may)) refl not f u.agreed in
         let stays : (q : ℕ) (o : Operation) → u.uses q 0 ≡ Own o → Asked u.uses q 0 ≡ Own o =
         λ (q : ℕ) (o : Operation) (e : u.uses q 0 ≡ Own o).
-        laws.put_other u.uses port.0 0 (Own Identify) q 0 (λ at_slots head. absurd (let k : Own o ≡ Free = sym e ∙ u.free q 0 (omega (arith, at_slots)) in cc)) ∙ e in
+        laws.put_other u.uses port.0 0 (Own Identify) q 0 (λ driver_state head. absurd (let k : Own o ≡ Free = sym e ∙ u.free q 0 (omega (arith, driver_state)) in cc)) ∙ e in
         record {
           on = on;
           same = later_same f.driven quiet;
@@ -294,14 +294,14 @@ module _ (laws : Laws) where
                 let P : ℕ → Type 0 = λ k. Asked u.uses k 0 ≡ Own Identify in subst P (sym e) (laws.put_same u.uses port.0 0 (Own Identify)),
                 let P : ℕ → Type 0 = λ k. probe_result_of (slice_set ports port.0 found) k ≡ Unready Dead in subst P (sym e) (here_is ∙ dead),
               )
-              | inr tail ↦ inl (laws.put_other u.uses port.0 0 (Own Identify) q slot (λ at_slots head. tail head) ∙ u.free q slot (omega (arith, e)))
+              | inr tail ↦ inl (laws.put_other u.uses port.0 0 (Own Identify) q slot (λ driver_state head. tail head) ∙ u.free q slot (omega (arith, e)))
             ]
             | inr other ↦ elim (was_left q slot other) [
-              | inl free ↦ inl (laws.put_other u.uses port.0 0 (Own Identify) q slot (λ at_slots head. other at_slots) ∙ free)
+              | inl free ↦ inl (laws.put_other u.uses port.0 0 (Own Identify) q slot (λ driver_state head. other driver_state) ∙ free)
               | inr (head, own, is) ↦ inr (head, stays q Identify own, is)
             ]
           ];
-          free = λ q slot more. laws.put_other u.uses port.0 0 (Own Identify) q slot (λ at_slots head. absurd (omega (arith, at_slots, more))) ∙ u.free q slot (omega (arith, more));
+          free = λ q slot more. laws.put_other u.uses port.0 0 (Own Identify) q slot (λ driver_state head. absurd (omega (arith, driver_state, more))) ∙ u.free q slot (omega (arith, more));
           told = then_told wanted unused (TellsFirst ports port.0) (TellsEngines port found) (TellsFirst (slice_set ports port.0 found) (port.0 + 1)) later_engines (PortUnused port) Asked
               u.uses start old new unused_here u.told
               (told_wider laws (TellsEngines port found) (Booting port) (Taking wanted (PortUnused port)) Asked old new (taking f.driven quiet served) (λ uses free. free) told);
@@ -327,7 +327,7 @@ module _ (laws : Laws) where
             | inr other ↦ was_left q slot other
           ];
           free = λ q slot more. u.free q slot (omega (arith, more));
-          told = told_more (TellsFirst ports port.0) (TellsFirst (slice_set ports port.0 found) (port.0 + 1)) (IsOfTaking wanted) (IsUse unused) (λ _. u.uses) start old (same_engines is) u.told;
+          told = told_more (TellsFirst ports port.0) (TellsFirst (slice_set ports port.0 found) (port.0 + 1)) (IsOfTaking wanted) (SameUses unused) (λ _. u.uses) start old (same_engines is) u.told;
           agreed = u.agreed;
           stands = λ q less. elim (cases_eq q port.0) [
             | inl e ↦
@@ -341,20 +341,20 @@ module _ (laws : Laws) where
           ];
           reset = λ q less. elim (cases_eq q port.0) [
             | inl e ↦
-                let R : ℕ → Type 0 = λ k. WroteControl (probe_result_of (slice_set ports port.0 found) k) k (length start.tape) old in
-                let Q : ProbeResult → Type 0 = λ f. WroteControl f port.0 (length start.tape) old in
+                let R : ℕ → Type 0 = λ k. WroteSctl (probe_result_of (slice_set ports port.0 found) k) k (length start.tape) old in
+                let Q : ProbeResult → Type 0 = λ f. WroteSctl f port.0 (length start.tape) old in
                 subst R (sym e) (subst Q (sym (here_is ∙ is)) tt)
             | inr other ↦
-                let Q : ProbeResult → Type 0 = λ f. WroteControl f q (length start.tape) old in
+                let Q : ProbeResult → Type 0 = λ f. WroteSctl f q (length start.tape) old in
                 subst Q (sym (other_is q other)) (u.reset q (omega (arith, less, other)))
           ];
           halts = λ q less. elim (cases_eq q port.0) [
             | inl e ↦
-                let R : ℕ → Type 0 = λ k. HaltsFound (probe_result_of (slice_set ports port.0 found) k) k old in
-                let Q : ProbeResult → Type 0 = λ f. HaltsFound f port.0 old in
+                let R : ℕ → Type 0 = λ k. ReadyHaltOfTaken (probe_result_of (slice_set ports port.0 found) k) k old in
+                let Q : ProbeResult → Type 0 = λ f. ReadyHaltOfTaken f port.0 old in
                 subst R (sym e) (subst Q (sym (here_is ∙ is)) (λ info ready. let z : Unserved ≡ Ready info = ready in absurd cc))
             | inr other ↦
-                let Q : ProbeResult → Type 0 = λ f. HaltsFound f q old in
+                let Q : ProbeResult → Type 0 = λ f. ReadyHaltOfTaken f q old in
                 subst Q (sym (other_is q other)) (u.halts q (omega (arith, less, other)))
           ];
           idle = λ q more. u.idle q (omega (arith, more));
@@ -411,7 +411,7 @@ module _ (laws : Laws) where
     -- all were
     module _ (ports : List ProbeResult) (d new : Device) (u : IsUnderway wanted ports 4 start d) (leaves : LeavesPorts d new) (f : IsSimulated IsOfHost AnyUse d new) where
       abbrev Silent : ℕ → Type 0
-      Silent port = SendsNone port Identify d new
+      Silent port = GainsNoMove port Identify d new
 
       silent : (port : ℕ) → probe_result_of ports port ≢ Unready Dead → Silent port
       silent port alive = laws.fragments.silent Hosting (λ uses. uses) u.uses (port_at port) Identify d new tt (host_spares (port_at port) Ci) (host_spares (port_at port) Sact) refl
@@ -420,7 +420,7 @@ module _ (laws : Laws) where
             | inr (head, is, dead) ↦ alive dead
           ]) f u.agreed
 
-      all_told : IsSimulatedAlongTo (TellsFirst ports 4) (IsOfTaking wanted) (IsUse unused) (λ _. u.uses) start new
+      all_told : IsSimulatedAlongTo (TellsFirst ports 4) (IsOfTaking wanted) (SameUses unused) (λ _. u.uses) start new
       all_told = then_told wanted unused (TellsFirst ports 4) (λ late. Unit {0}) (TellsFirst ports 4) (λ early late is any port less. tells_then laws (port_at port) (probe_result_of ports port) early late (is port less))
           AnyUses (λ uses. uses) u.uses start d new tt u.told (record { followed = hosting wanted d new f; tells = tt })
 
@@ -435,10 +435,10 @@ module _ (laws : Laws) where
             let P : List ProbeResult → Type 0 = λ ps. StandsBehind (wanted_of wanted port) (probe_result_of ps port) port new in
             subst P (sym is) (stands_on laws.found port d new (leaves port) (same_over laws IsOfHost d new f.driven) (wanted_of wanted port) (probe_result_of ports port) (silent port) (u.stands port less));
         reset = λ port less.
-            let P : List ProbeResult → Type 0 = λ ps. WroteControl (probe_result_of ps port) port (length start.tape) new in
+            let P : List ProbeResult → Type 0 = λ ps. WroteSctl (probe_result_of ps port) port (length start.tape) new in
             subst P (sym is) (reset_on port d new (leaves port) (probe_result_of ports port) (length start.tape) (u.reset port less));
         halts = λ port less.
-            let P : List ProbeResult → Type 0 = λ ps. HaltsFound (probe_result_of ps port) port new in
+            let P : List ProbeResult → Type 0 = λ ps. ReadyHaltOfTaken (probe_result_of ps port) port new in
             subst P (sym is) (still_halts IsOfHost AnyUse (λ uses. uses) u.uses port d new (host_spares (port_at port) Cmd) tt f u.agreed (wanted_of wanted port) (probe_result_of ports port)
             (stands_on laws.found port d new (leaves port) (same_over laws IsOfHost d new f.driven) (wanted_of wanted port) (probe_result_of ports port) (silent port) (u.stands port less)) (u.halts port less));
         way = let P : List ProbeResult → Type 0 = λ ps. SwitchesOnAndBoots ps start new in subst P (sym is) way;

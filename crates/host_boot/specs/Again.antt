@@ -10,7 +10,7 @@ use Rattle.refinement.specs.Driver.{AllFree}
 use Rattle.identify.specs.Wanted.{serial_of}
 use Rattle.identify.specs.declared.wanted.Wanted.{Wanted}
 use Rattle.port_boot.specs.Outcomes.{EndsReady, EndsUnready}
-use Rattle.port_boot.specs.States.{EndsAs, IsOfBoot}
+use Rattle.port_boot.specs.States.{BacksState, IsOfBoot}
 use Rattle.host_boot.specs.Taken.{IsSurvey}
 use Rattle.host_boot.specs.declared.Booted.{Booted}
 use Rattle.host_boot.specs.declared.ProbeResult.{ProbeResult}
@@ -40,4 +40,4 @@ abbrev pub RebootsIfPresent : Wanted → Port → Booted → Device → Device �
 RebootsIfPresent wanted port booted old new =
     ((b : RebootsPort wanted port booted old new) × ((b.asked.port port.0).ssts_det ≡ 3))
     ⊎ ((booted.found ≡ Unready Absent) × IsSimulated (IsSurveyOrBoot port) (λ uses. AllFree uses port.0) old new
-    × EndsAs (serial_of wanted) Absent port.0 new)
+    × BacksState (serial_of wanted) Absent port.0 new)

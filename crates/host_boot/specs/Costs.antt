@@ -2,7 +2,7 @@
 use Rattle.ata_types.specs.declared.limits.TheConstants.{PORTS, MOST_READINGS}
 use Rattle.std.specs.Prelude.{ℕ, ◌+◌, ◌*◌}
 use Rattle.port_boot.specs.Costs.{BOOT_ACCESSES}
-use Rattle.port_control.specs.Costs.{SHOW_ACCESSES, STOP_ACCESSES}
+use Rattle.port_control.specs.Costs.{DETECT_ACCESSES, STOP_ACCESSES}
 
 -- a port is stopped, and booted
 abbrev pub FIRST_BOOT_ACCESSES : ℕ
@@ -18,7 +18,7 @@ BOOT_AGAIN_ACCESSES = 1 + BOOT_ACCESSES
 
 -- CAP is read, it is looked whether a device shows, and the port is booted
 abbrev pub BOOT_IF_THERE_ACCESSES : ℕ
-BOOT_IF_THERE_ACCESSES = 1 + SHOW_ACCESSES + BOOT_ACCESSES
+BOOT_IF_THERE_ACCESSES = 1 + DETECT_ACCESSES + BOOT_ACCESSES
 
 -- GHC is written, and read until HR is 0
 abbrev pub RESET_ACCESSES : ℕ

@@ -5,19 +5,19 @@ use Rattle.ata_types.specs.declared.PortState.{PortState as ShownState}
 use Rattle.adapter.specs.Access.{Access, Does, DoesAll, Reads, Writes}
 use Rattle.refinement.specs.Laws.{FragmentLaws, TapeLaws}
 use Rattle.refinement.specs.Driver.{AllFree, DriverState, DriverRelation}
-use Rattle.refinement.specs.Driven.{AnyAccess, AnyUse, IsRelated, IsControl, IsDrivenBy, IsOf, IsUse, LeavesPort, SendsNone}
+use Rattle.refinement.specs.Driven.{AnyAccess, AnyUse, IsRelated, OnPortWriting, IsDrivenBy, SparesOtherPorts, SameUses, LeavesPort, GainsNoMove}
 use Rattle.hba_regs.specs.declared.reg.PortReg.TheVariants.{Cmd, Sctl, Ssts}
 use Rattle.ata_types.specs.declared.PortState.TheVariants.{Dead}
 use Rattle.adapter.specs.Device.{Device, DevicePort}
 use Rattle.identify.specs.declared.DiskInfo.{DiskInfo}
-use Rattle.port_boot.specs.States.{EndsAs, BringsReady, HasFitDisk, IsBootTo, IsOfBoot, IsReady, RunsOn, ShowsOwnDisk, StopsOnWay}
+use Rattle.port_boot.specs.States.{BacksState, BringsReady, HasFitDisk, IsBootTo, IsOfBoot, IsReady, RunsOn, HasDiskIfShown, StopsOnWay}
 use Rattle.adapter.specs.declared.tape.Entry.{Entry}
 use Rattle.port_control.specs.Engines.{FailsToStop, Falls, Sticks, StopsBoth}
 use Rattle.refinement.specs.Slots.{Free, SlotState, SlotStates, put}
 use Rattle.hba_regs.specs.declared.reg.Reg.TheVariants.{Ghc, Px}
 use Rattle.refinement.specs.Acts.{Act, AreActsDone, accesses_of}
-use Rattle.refinement.specs.Halting.{IsHaltedAsTaken}
-use Rattle.refinement.specs.Links.{HasDeviceOrNone, SameAdapter, SparesRegister}
+use Rattle.refinement.specs.Halting.{HaltOfTakenIfSt}
+use Rattle.refinement.specs.Links.{ShowsDiskIfIn, SameAdapter, DoesNotWrite}
 use Rattle.block_machine.specs.Histories.{IsReachable}
 use Rattle.block_machine.specs.State.{Machine}
 use Rattle.adapter.specs.declared.command.Operation.TheVariants.{Identify}
@@ -46,32 +46,32 @@ pub data SlotCondition : Type 0 where
 abbrev pub uses_of : SlotCondition → SlotStates → Type 0
 uses_of AnyUses = AnyUse
 uses_of (PortUnused port) = λ uses. AllFree uses port.0
-uses_of (Only uses) = IsUse uses
+uses_of (Only uses) = SameUses uses
 
 -- a port is stopped, or booted, with none of its slots used; registers of the adapter's own are read and written, or
 -- CAP and PI alone are read; a port is looked at, or all of this is done for its boot; or all ports are taken over; or
 -- the adapter is reset
-pub data AccessKind : Type 0 where
-  Commanding : Port → AccessKind
-  Booting : Port → AccessKind
-  Hosting : AccessKind
-  Surveying : AccessKind
-  Clearing : Port → AccessKind
-  Starting : Port → AccessKind
-  Taking : List Wanted → SlotCondition → AccessKind
-  Resetting : AccessKind
+pub data AccessPurpose : Type 0 where
+  Commanding : Port → AccessPurpose
+  Booting : Port → AccessPurpose
+  Hosting : AccessPurpose
+  Surveying : AccessPurpose
+  Clearing : Port → AccessPurpose
+  Starting : Port → AccessPurpose
+  Taking : List Wanted → SlotCondition → AccessPurpose
+  Resetting : AccessPurpose
 
-abbrev pub may_of : AccessKind → Access → Type 0
-may_of (Commanding port) = IsControl IsCommandRegister port
+abbrev pub may_of : AccessPurpose → Access → Type 0
+may_of (Commanding port) = OnPortWriting IsCommandRegister port
 may_of (Booting port) = IsOfBoot port
 may_of Hosting = IsOfHost
 may_of Surveying = IsSurvey
-may_of (Clearing port) = IsControl IsErrorRegister port
+may_of (Clearing port) = OnPortWriting IsErrorRegister port
 may_of (Starting port) = IsSurveyOrBoot port
 may_of (Taking wanted fitting) = IsOfTaking wanted
 may_of Resetting = IsOfReset
 
-abbrev pub fits_of : AccessKind → SlotStates → Type 0
+abbrev pub fits_of : AccessPurpose → SlotStates → Type 0
 fits_of (Commanding port) = AnyUse
 fits_of (Booting port) = λ uses. AllFree uses port.0
 fits_of Hosting = AnyUse
@@ -86,20 +86,20 @@ fits_of Resetting = AnyUse
 -- of what was found of a port: it goes on as long as the port isn't booted anew
 pub record FoundLaws : Type 0 where
   pub disk_on : (wanted : Option (List ℕ)) (port : ℕ) (old new : Device) (info : DiskInfo)
-      → SendsNone port Identify old new → (new.port port).sctl_det ≡ (old.port port).sctl_det
+      → GainsNoMove port Identify old new → (new.port port).sctl_det ≡ (old.port port).sctl_det
       → (new.port port).ie ≡ (old.port port).ie → (new.port port).notes.sctl_written_at
       ≡ (old.port port).notes.sctl_written_at → HasFitDisk wanted port old info → HasFitDisk wanted port new info
   pub ready_on : (wanted : Option (List ℕ)) (port : ℕ) (old new : Device) (info : DiskInfo)
-      → LeavesPort (old.port port) (new.port port) → SendsNone port Identify old new → IsReady wanted port old info
+      → LeavesPort (old.port port) (new.port port) → GainsNoMove port Identify old new → IsReady wanted port old info
       → IsReady wanted port new info
   pub ends_on : (wanted : Option (List ℕ)) (state : ShownState) (port : ℕ) (old new : Device)
-      → LeavesPort (old.port port) (new.port port) → (state ≢ Dead → SendsNone port Identify old new)
-      → EndsAs wanted state port old → EndsAs wanted state port new
+      → LeavesPort (old.port port) (new.port port) → (state ≢ Dead → GainsNoMove port Identify old new)
+      → BacksState wanted state port old → BacksState wanted state port new
 
 pub record Laws : Type 0 where
   pub found : FoundLaws
   -- one access
-  pub law_steps_keep : (old new : Device) → Steps old new → Keeps old new
+  pub law_steps_guarantee : (old new : Device) → Steps old new → Keeps old new
   pub access_on : (access : Access) (old new : Device) → IsOn old
       → ((v : ℕ) → access ≡ Writing Ghc v → (bit v 31 ≡ true) × (bit v 0 ≡ false)) → Does access old new → IsOn new
   pub access_same : (access : Access) (old new : Device) → Does access old new → SameAdapter old new
@@ -110,28 +110,30 @@ pub record Laws : Type 0 where
   pub hr_told : (v : ℕ) (old new : Device) → Reads Ghc v old new → (new.hr ≡ bit v 0) × (new.ae ≡ bit v 31)
   pub reset_idle : (v : ℕ) (old new : Device) → old.hr ≡ true → Reads Ghc v old new → bit v 0 ≡ false → IsIdle new
   pub keeps_device : (port : Port) (access : Access) (old new : Device) → old.hr ≡ false
-      → SparesRegister (Px port Sctl) access → Does access old new → HasDeviceOrNone (old.port port.0)
-      → HasDeviceOrNone (new.port port.0)
-  pub own_access : (port : ℕ) (access : Access) (old new : Device) → Does access old new → ShowsOwnDisk (old.port port)
-      → ShowsOwnDisk (new.port port)
+      → DoesNotWrite (Px port Sctl) access → Does access old new → ShowsDiskIfIn (old.port port.0)
+      → ShowsDiskIfIn (new.port port.0)
+  pub own_access : (port : ℕ) (access : Access) (old new : Device) → Does access old new
+      → HasDiskIfShown (old.port port)
+      → HasDiskIfShown (new.port port)
   pub own_all : (port : ℕ) (accesses : List Access) (old new : Device) → DoesAll accesses old new
-      → ShowsOwnDisk (old.port port) → ShowsOwnDisk (new.port port)
-  pub own_begins : (port : Port) (old new : Device) → BringsReady port old new → ShowsOwnDisk (new.port port.0)
+      → HasDiskIfShown (old.port port) → HasDiskIfShown (new.port port)
+  pub own_begins : (port : Port) (old new : Device) → BringsReady port old new → HasDiskIfShown (new.port port.0)
   pub shows_device : (port : Port) (v : ℕ) (old new : Device) → Reads (Px port Ssts) v old new → v % 16 ≡ 3
-      → HasDeviceOrNone (new.port port.0)
+      → ShowsDiskIfIn (new.port port.0)
   -- fragments
   pub does_append : (early late : List Access) (old mid new : Device) → DoesAll early old mid → DoesAll late mid new
       → DoesAll (early ++ late) old new
   pub same_refl : (d : Device) → SameAdapter d d
   pub same_more : (old mid new : Device) → SameAdapter old mid → SameAdapter mid new → SameAdapter old new
-  pub on_all : (accesses : List Access) (old new : Device) → IsOn old → All (SparesRegister Ghc) accesses
+  pub on_all : (accesses : List Access) (old new : Device) → IsOn old → All (DoesNotWrite Ghc) accesses
       → DoesAll accesses old new → IsOn new
-  pub left : (port : Port) (q : ℕ) (old new : Device) → q ≢ port.0 → IsOn old → IsDrivenBy (IsOf port) old new
+  pub left : (port : Port) (q : ℕ) (old new : Device) → q ≢ port.0 → IsOn old
+      → IsDrivenBy (SparesOtherPorts port) old new
       → LeavesPort (old.port q) (new.port q)
   pub leaves_more : (old mid new : DevicePort) → LeavesPort old mid → LeavesPort mid new → LeavesPort old new
-  pub of_spares : (port q : Port) (r : PortReg) → q.0 ≢ port.0 → (access : Access) → IsOf port access
-      → SparesRegister (Px q r) access
-  pub of_spares_ghc : (port : Port) (access : Access) → IsOf port access → SparesRegister Ghc access
+  pub of_spares : (port q : Port) (r : PortReg) → q.0 ≢ port.0 → (access : Access) → SparesOtherPorts port access
+      → DoesNotWrite (Px q r) access
+  pub of_spares_ghc : (port : Port) (access : Access) → SparesOtherPorts port access → DoesNotWrite Ghc access
   pub same_any : (old new : Device) → IsDrivenBy AnyAccess old new → SameAdapter old new
   pub tape_any : (old new : Device) → IsDrivenBy AnyAccess old new → (gained : List Entry)
       × (new.tape ≡ old.tape ++ gained)
@@ -141,10 +143,12 @@ pub record Laws : Type 0 where
       → (other_port ≡ port → other_slot ≡ slot → ⊥) → put uses port slot u other_port other_slot ≡ uses other_port
       other_slot
   -- a port
-  pub commanding : (port : Port) (access : Access) → IsControl IsCommandRegister port access → IsOf port access
-      × SparesRegister (Px port Sctl) access
-  pub placing : (port : Port) (access : Access) → IsControl IsPlacingRegister port access → IsOf port access
-      × SparesRegister (Px port Sctl) access
+  pub commanding : (port : Port) (access : Access) → OnPortWriting IsCommandRegister port access
+      → SparesOtherPorts port access
+      × DoesNotWrite (Px port Sctl) access
+  pub placing : (port : Port) (access : Access) → OnPortWriting IsPlacingRegister port access
+      → SparesOtherPorts port access
+      × DoesNotWrite (Px port Sctl) access
   pub failing_sticks : (port : Port) (accesses : List Access) → FailsToStop port accesses → Sticks port accesses
   pub falls_then : (early late : List Access) (start running : ℕ) (port : Port) → Falls start running port early
       → Falls start running port (early ++ late)
@@ -152,22 +156,23 @@ pub record Laws : Type 0 where
       → Falls start running port (early ++ late)
   pub sticks_then : (early late : List Access) (port : Port) → Sticks port early → Sticks port (early ++ late)
   pub sticks_since : (early late : List Access) (port : Port) → Sticks port late → Sticks port (early ++ late)
-  pub of_boot : (port : Port) (access : Access) → IsOfBoot port access → IsOf port access
+  pub of_boot : (port : Port) (access : Access) → IsOfBoot port access → SparesOtherPorts port access
   pub boots_driven : (port : Port) (state : ShownState) (old new : Device)
       → IsBootTo (StopsOnWay port state) port state old new → IsDrivenBy (IsOfBoot port) old new
   pub stops_driven : (port : Port) (state : ShownState) (old new : Device)
       → IsBootTo (StopsBoth port) port state old new → IsDrivenBy (IsOfBoot port) old new
-  pub command_of_boot : (port : Port) (access : Access) → IsControl IsCommandRegister port access → IsOfBoot port access
-  pub runs_over : (port : Port) (access : Access) (old new : Device) → IsOn old → SparesRegister (Px port Sctl) access
-      → SparesRegister (Px port Cmd) access → Does access old new → RunsOn port.0 old new
+  pub command_of_boot : (port : Port) (access : Access) → OnPortWriting IsCommandRegister port access
+      → IsOfBoot port access
+  pub runs_over : (port : Port) (access : Access) (old new : Device) → IsOn old → DoesNotWrite (Px port Sctl) access
+      → DoesNotWrite (Px port Cmd) access → Does access old new → RunsOn port.0 old new
   pub runs_on : (port : Port) (accesses : List Access) (old new : Device) → IsOn old → DoesAll accesses old new
-      → All (SparesRegister Ghc) accesses → All (SparesRegister (Px port Sctl)) accesses
-      → All (SparesRegister (Px port Cmd)) accesses → RunsOn port.0 old new
+      → All (DoesNotWrite Ghc) accesses → All (DoesNotWrite (Px port Sctl)) accesses
+      → All (DoesNotWrite (Px port Cmd)) accesses → RunsOn port.0 old new
   pub well_on : (port : ℕ) (old new : Device) → RunsOn port old new → Undisturbed port old new
       → RunsWell (old.port port) → RunsWell (new.port port)
   pub halts_acts : (port : Port) (acts : List Act) (k later : DriverState) (m : Machine) → IsReachable m
       → DriverRelation m k
-      → AreActsDone acts k m later → All (SparesRegister (Px port Cmd)) (accesses_of acts)
-      → IsHaltedAsTaken (k.device.port port.0) → IsHaltedAsTaken (later.device.port port.0)
+      → AreActsDone acts k m later → All (DoesNotWrite (Px port Cmd)) (accesses_of acts)
+      → HaltOfTakenIfSt (k.device.port port.0) → HaltOfTakenIfSt (later.device.port port.0)
   -- this crate's kinds of accesses
-  pub fragments : FragmentLaws AccessKind may_of fits_of
+  pub fragments : FragmentLaws AccessPurpose may_of fits_of

@@ -52,7 +52,7 @@ pub record Resets (old new : Device) : Type 0 where
 
 -- The adapter didn't end its reset: GHC was read 64 times, at last with HR one, and it is one still. A machine that
 -- agreed followed.
-pub record StaysReset (old new : Device) : Type 0 where
+pub record ResetStaysPending (old new : Device) : Type 0 where
   pub followed : IsSimulated IsOfReset AnyUse old new
   pub awaited : AwaitsReset followed.driven.accesses
   pub often : length followed.driven.accesses ≡ 65

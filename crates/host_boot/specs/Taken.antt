@@ -14,9 +14,9 @@ use Rattle.adapter.specs.Idle.{IsIdlePort}
 use Rattle.adapter.specs.Rules.{IsOn}
 use Rattle.adapter.specs.declared.command.Operation.TheVariants.{Identify}
 use Rattle.refinement.specs.Relation.{port_at}
-use Rattle.refinement.specs.Driven.{RelatesWith, IsRelated, IsControl, IsDrivenBy, IsSimulatedTo, IsUse, LeavesPort}
+use Rattle.refinement.specs.Driven.{RelatesWith, IsRelated, OnPortWriting, IsDrivenBy, IsSimulatedTo, SameUses, LeavesPort}
 use Rattle.refinement.specs.Driver.{AllFree}
-use Rattle.refinement.specs.Halting.{HaltsAsTaken}
+use Rattle.refinement.specs.Halting.{HaltIsOfTaken}
 use Rattle.refinement.specs.Links.{SameAdapter}
 use Rattle.refinement.specs.Slots.{Free, Own, SlotStates}
 use Rattle.identify.specs.Wanted.{serial_of}
@@ -25,7 +25,7 @@ use Rattle.identify.specs.declared.wanted.Wanted.{Wanted}
 use Rattle.identify.specs.declared.wanted.Wanted.TheVariants.{Nothing}
 use Rattle.port_control.specs.Engines.{StopsBoth, Sticks}
 use Rattle.port_control.specs.Ports.{IsCommandRegister}
-use Rattle.port_boot.specs.States.{EndsAs, EndsBeforeStart, EndsAfterStart, BringsReady, HasFitDisk, IsBoot, IsBootTo, IsBeforeStart, IsAfterStart, IsOfBoot, IsReady, ShowsNews}
+use Rattle.port_boot.specs.States.{BacksState, EndsBeforeStart, EndsAfterStart, BringsReady, HasFitDisk, IsBoot, IsBootTo, IsBeforeStart, IsAfterStart, IsOfBoot, IsReady, ShowsOnlyNewErrors}
 use Rattle.host_boot.specs.declared.ProbeResult.{ProbeResult}
 use Rattle.host_boot.specs.declared.ProbeResult.TheVariants.{Unserved, Ready, Unready}
 use Rattle.host_boot.specs.declared.Host.{Host}
@@ -55,7 +55,7 @@ FoundBadDisk _ = ⊥
 abbrev pub StandsBehind : Wanted → ProbeResult → ℕ → Device → Type 0
 StandsBehind wanted Unserved port d = (IsServed wanted port d → ⊥) × IsIdlePort (d.port port)
 StandsBehind wanted (Ready info) port d = IsServed wanted port d × IsReady (serial_of wanted) port d info
-StandsBehind wanted (Unready state) port d = IsServed wanted port d × EndsAs (serial_of wanted) state port d
+StandsBehind wanted (Unready state) port d = IsServed wanted port d × BacksState (serial_of wanted) state port d
 
 -- What still stands behind it as long as the port isn't booted anew: behind a ready port, which takes commands, a disk
 -- that fits.
@@ -71,14 +71,14 @@ LeavesFound (Ready info) old new =
 LeavesFound found old new = LeavesPort old new
 
 -- PxSCTL of the port was written after the tape was so long, unless the port isn't served, or was dead before that
-abbrev pub WroteControl : ProbeResult → ℕ → ℕ → Device → Type 0
-WroteControl Unserved port since d = Unit {0}
-WroteControl (Unready Dead) port since d = Unit {0}
-WroteControl _ port since d = since ≤ (d.port port).notes.sctl_written_at
+abbrev pub WroteSctl : ProbeResult → ℕ → ℕ → Device → Type 0
+WroteSctl Unserved port since d = Unit {0}
+WroteSctl (Unready Dead) port since d = Unit {0}
+WroteSctl _ port since d = since ≤ (d.port port).notes.sctl_written_at
 
 -- what halts a port that was found ready is of a command that is taken
-abbrev pub HaltsFound : ProbeResult → ℕ → Device → Type 0
-HaltsFound found port d = (info : DiskInfo) → found ≡ Ready info → HaltsAsTaken (d.port port)
+abbrev pub ReadyHaltOfTaken : ProbeResult → ℕ → Device → Type 0
+ReadyHaltOfTaken found port d = (info : DiskInfo) → found ≡ Ready info → HaltIsOfTaken (d.port port)
 
 -- What accesses tell of the engines of a port that was found to be this: both fell, as was read after each was cleared.
 -- Of a dead port 64 readings in a row showed one that runs still; and one that isn't served wasn't stopped.
@@ -131,10 +131,10 @@ pub record SticksOnWay (port : Port) (old new : Device) : Type 0 where
 abbrev pub StopsAndBootsPort : Port → ProbeResult → Device → Device → Type 0
 StopsAndBootsPort port Unserved old new = new ≡ old
 StopsAndBootsPort port (Ready info) old new = (stopped : Device)
-    × IsDrivenBy (IsControl IsCommandRegister port) old stopped
-    × IsDrivenBy (IsOfBoot port) stopped new × BringsReady port stopped new × ShowsNews port.0 stopped new
+    × IsDrivenBy (OnPortWriting IsCommandRegister port) old stopped
+    × IsDrivenBy (IsOfBoot port) stopped new × BringsReady port stopped new × ShowsOnlyNewErrors port.0 stopped new
 StopsAndBootsPort port (Unready state) old new = (stopped : Device)
-    × IsDrivenBy (IsControl IsCommandRegister port) old stopped
+    × IsDrivenBy (OnPortWriting IsCommandRegister port) old stopped
     × IsDrivenBy (IsOfBoot port) stopped new × (IsBeforeStart state → EndsBeforeStart port state stopped new)
     × (IsAfterStart state → EndsAfterStart port stopped new) × (state ≡ Dead → SticksOnWay port old new)
 
@@ -154,8 +154,8 @@ pub record MayBootIdle (port : Port) (implemented : ℕ) (d : Device) : Type 0 w
 -- that is taken; what it is to a machine that agrees; and its way.
 pub record FindsPort (wanted : Wanted) (port : Port) (found : ProbeResult) (old new : Device) : Type 0 where
   pub stands : StandsBehind wanted found port.0 new
-  pub reset : WroteControl found port.0 (length old.tape) new
-  pub halts : HaltsFound found port.0 new
+  pub reset : WroteSctl found port.0 (length old.tape) new
+  pub halts : ReadyHaltOfTaken found port.0 new
   pub boots : Boots port found old new
   pub way : StopsAndBootsPort port found old new
 
@@ -199,12 +199,12 @@ pub record TakesOver (wanted : List Wanted) (host : Host) (old new : Device) : T
   pub slots : host.slots ≡ new.cap / 256 % 32 + 1
   pub queued : host.queued ≡ bit new.cap 30
   pub stands : (port : ℕ) → port < 4 → StandsBehind (wanted_of wanted port) (probe_result_of host.ports port) port new
-  pub reset : (port : ℕ) → port < 4 → WroteControl (probe_result_of host.ports port) port (length old.tape) new
-  pub halts : (port : ℕ) → port < 4 → HaltsFound (probe_result_of host.ports port) port new
+  pub reset : (port : ℕ) → port < 4 → WroteSctl (probe_result_of host.ports port) port (length old.tape) new
+  pub halts : (port : ℕ) → port < 4 → ReadyHaltOfTaken (probe_result_of host.ports port) port new
   pub way : SwitchesOnAndBoots host.ports old new
   pub uses : SlotStates
   pub left : (port slot : ℕ) → IsUnusedOrDead host.ports uses port slot
-  pub followed : IsSimulatedTo (IsOfTaking wanted) (IsUse unused) (λ _. uses) old new
+  pub followed : IsSimulatedTo (IsOfTaking wanted) (SameUses unused) (λ _. uses) old new
   pub engines : (port : ℕ) → port < 4
       → TellsEngines (port_at port) (probe_result_of host.ports port) followed.driven.accesses
   pub agreed : IsRelated uses new

@@ -1,15 +1,15 @@
 // What laws of the crates below say of this crate's accesses, for its proofs. Nothing comes of calling it.
 ghost use Rattle.host_boot.specs.Laws.{Laws};
 
-use adapter::laws::{law_accesses_compose, law_steps_keep};
+use adapter::laws::{law_accesses_compose, law_steps_guarantee};
 use port_boot::laws::{
     law_a_boot_is_of_its_port, law_a_disk_is_in_where_one_shows, law_a_port_runs_on,
     law_boots_are_driven, law_what_was_found_goes_on,
 };
 use port_control::laws::{law_calls_are_of_one_port, law_what_is_told_of_engines_stays};
-use refinement::disks::{law_none_comes_in, law_reset_is_idle};
+use refinement::disks::{law_no_disk_comes_in, law_reset_is_idle};
 use refinement::facts::{
-    law_adapter_stays, law_device_or_none_stays, law_reset_is_found, law_switching_on,
+    law_adapter_stays, law_disk_in_stays_shown, law_reset_is_found, law_switching_on,
 };
 use refinement::fragments::{law_agreeing_goes_on, law_other_ports_are_left, law_tapes};
 use refinement::kinds::law_fragments;
@@ -22,10 +22,10 @@ pub fn law_base()
     ensures { Laws }
 {
     law_accesses_compose();
-    law_steps_keep();
-    law_none_comes_in();
+    law_steps_guarantee();
+    law_no_disk_comes_in();
     law_adapter_stays();
-    law_device_or_none_stays();
+    law_disk_in_stays_shown();
     law_reset_is_found();
     law_reset_is_idle();
     law_switching_on();

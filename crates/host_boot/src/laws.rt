@@ -9,9 +9,9 @@ ghost use Rattle.adapter.specs.Idle.{IsIdle};
 ghost use Rattle.adapter.specs.Rules.{IsOn, HasPort};
 ghost use Rattle.adapter.specs.Steps.{Steps};
 ghost use Rattle.adapter.specs.declared.command.Operation.TheVariants.{Identify};
-ghost use Rattle.refinement.specs.Driven.{IsDrivenBy, IsOf, SendsNone};
-ghost use Rattle.refinement.specs.Facts.{IsRecorded, RunsWell, Undisturbed};
-ghost use Rattle.refinement.specs.Links.{HasDeviceOrNone, SameAdapter};
+ghost use Rattle.refinement.specs.Driven.{IsDrivenBy, SparesOtherPorts, GainsNoMove};
+ghost use Rattle.refinement.specs.Facts.{FaultsOnRecord, RunsWell, Undisturbed};
+ghost use Rattle.refinement.specs.Links.{ShowsDiskIfIn, SameAdapter};
 ghost use Rattle.refinement.specs.Places.{list_of};
 ghost use Rattle.identify.specs.declared.DiskInfo.{DiskInfo};
 ghost use Rattle.identify.specs.declared.wanted.Wanted.{Wanted};
@@ -21,7 +21,7 @@ ghost use Rattle.host_boot.specs.declared.Booted.{Booted};
 ghost use Rattle.host_boot.specs.declared.ProbeResult.{ProbeResult};
 ghost use Rattle.host_boot.specs.declared.ProbeResult.TheVariants.{Unserved, Ready, Unready};
 ghost use Rattle.host_boot.specs.declared.Host.{Host};
-ghost use Rattle.port_boot.specs.States.{ShowsOwnDisk};
+ghost use Rattle.port_boot.specs.States.{HasDiskIfShown};
 
 use super::lawful::law_base;
 
@@ -32,7 +32,7 @@ pub fn law_what_was_found_still_stands()
     ensures begins { (wanted : Wanted) (found : ProbeResult) (port : ℕ) (d : Device) → StandsBehind wanted found port d
         → StillStandsBehind wanted found port d }
     ensures goes_on { (wanted : Wanted) (found : ProbeResult) (port : ℕ) (old new : Device) → SameAdapter old new
-        → LeavesFound found (old.port port) (new.port port) → (found ≢ Unready Dead → SendsNone port Identify old new)
+        → LeavesFound found (old.port port) (new.port port) → (found ≢ Unready Dead → GainsNoMove port Identify old new)
         → StillStandsBehind wanted found port old → StillStandsBehind wanted found port new }
 {
     law_base();
@@ -61,19 +61,21 @@ pub fn law_what_was_taken_over_may_be_served()
         → RunsWell (new.port port) }
     ensures recorded { (wanted : List Wanted) (host : Host) (port : ℕ) (info : DiskInfo) (old new : Device) → IsIdle old
         → TakesOver wanted host old new → probe_result_of host.ports port ≡ Ready info
-        → IsRecorded new.tape (new.port port) port }
+        → FaultsOnRecord new.tape (new.port port) port }
     ensures shown { (wanted : List Wanted) (host : Host) (port : ℕ) (state : PortState) (old new : Device) → IsIdle old
         → TakesOver wanted host old new → FoundBadDisk state → probe_result_of host.ports port ≡ Unready state
-        → HasDeviceOrNone (new.port port) }
+        → ShowsDiskIfIn (new.port port) }
     ensures own { (wanted : List Wanted) (host : Host) (port : ℕ) (info : DiskInfo) (old new : Device) → IsIdle old
-        → TakesOver wanted host old new → probe_result_of host.ports port ≡ Ready info → ShowsOwnDisk (new.port port) }
+        → TakesOver wanted host old new → probe_result_of host.ports port ≡ Ready info
+        → HasDiskIfShown (new.port port) }
 {
     law_base();
 }
 
 /// A port that runs well does so still after accesses of another port, where nothing goes wrong on it meanwhile.
 pub fn law_other_ports_run_well()
-    ensures { (port other : Port) (old new : Device) → port.0 ≢ other.0 → IsOn old → IsDrivenBy (IsOf other) old new
+    ensures { (port other : Port) (old new : Device) → port.0 ≢ other.0 → IsOn old
+        → IsDrivenBy (SparesOtherPorts other) old new
         → Undisturbed port.0 old new → RunsWell (old.port port.0) → RunsWell (new.port port.0) }
 {
     law_base();
@@ -85,24 +87,25 @@ pub fn law_other_ports_run_well()
 /// accesses of either of the port, one by one.
 pub fn law_what_was_booted_again_may_be_served()
     ensures driven { (wanted : Wanted) (port : Port) (booted : Booted) (old new : Device)
-        → RebootsPort wanted port booted old new → IsDrivenBy (IsOf port) old new }
+        → RebootsPort wanted port booted old new → IsDrivenBy (SparesOtherPorts port) old new }
     ensures stands { (wanted : Wanted) (port : Port) (booted : Booted) (old new : Device)
         → RebootsPort wanted port booted old new → IsServed wanted port.0 old
         → StandsBehind wanted booted.found port.0 new }
     ensures shown { (wanted : Wanted) (port : Port) (booted : Booted) (state : PortState) (old new : Device) → IsOn old
         → RebootsPort wanted port booted old new → FoundBadDisk state → booted.found ≡ Unready state
-        → HasDeviceOrNone (new.port port.0) }
+        → ShowsDiskIfIn (new.port port.0) }
     ensures there_driven { (wanted : Wanted) (port : Port) (booted : Booted) (old new : Device)
-        → RebootsIfPresent wanted port booted old new → IsDrivenBy (IsOf port) old new }
+        → RebootsIfPresent wanted port booted old new → IsDrivenBy (SparesOtherPorts port) old new }
     ensures there_stands { (wanted : Wanted) (port : Port) (booted : Booted) (old new : Device)
         → RebootsIfPresent wanted port booted old new → IsServed wanted port.0 old
         → StandsBehind wanted booted.found port.0 new }
     ensures there_shown { (wanted : Wanted) (port : Port) (booted : Booted) (state : PortState) (old new : Device)
         → IsOn old → RebootsIfPresent wanted port booted old new → FoundBadDisk state → booted.found ≡ Unready state
-        → HasDeviceOrNone (new.port port.0) }
-    ensures start_of { (port : Port) (access : Access) → IsSurveyOrBoot port access → IsOf port access }
+        → ShowsDiskIfIn (new.port port.0) }
+    ensures start_of { (port : Port) (access : Access) → IsSurveyOrBoot port access → SparesOtherPorts port access }
     ensures beside { (port other : Port) (old new : Device) → port.0 ≢ other.0 → IsOn old
-        → IsDrivenBy (IsOf other) old new → HasDeviceOrNone (old.port port.0) → HasDeviceOrNone (new.port port.0) }
+        → IsDrivenBy (SparesOtherPorts other) old new → ShowsDiskIfIn (old.port port.0)
+        → ShowsDiskIfIn (new.port port.0) }
 {
     law_base();
 }

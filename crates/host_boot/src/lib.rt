@@ -28,7 +28,7 @@ use hba_regs::{Capabilities, GlobalControl, Reg, is_set};
 use identify::{DiskInfo, Wanted};
 use lawful::law_base;
 use port_boot::boot;
-use port_control::{Stopped, shows_device, stop};
+use port_control::{Stopped, clear_serr_and_detect, stop};
 
 mod lawful;
 pub mod laws;
@@ -214,7 +214,7 @@ pub fn reboot_if_present<A: Adapter>(adapter: &mut A, stopped: Stopped, wanted: 
 {
     law_base();
     let capabilities = Capabilities(adapter.read(Reg::Cap));
-    let found = if shows_device(adapter, stopped.port()) {
+    let found = if clear_serr_and_detect(adapter, stopped.port()) {
         boot_stopped(adapter, stopped, wanted)
     } else {
         ProbeResult::Unready(PortState::Absent)

@@ -1,6 +1,6 @@
 // The adapter is reset (AHCI 1.3.1, 3.1.2 and 10.4.3).
 ghost use Rattle.std.specs.Prelude.{IfErr, IfOk};
-ghost use Rattle.host_boot.specs.Resets.{Resets, StaysReset};
+ghost use Rattle.host_boot.specs.Resets.{Resets, ResetStaysPending};
 ghost use Rattle.adapter.specs.Counted.{MakesAtMost};
 ghost use Rattle.host_boot.specs.Costs.{RESET_ACCESSES};
 
@@ -14,7 +14,7 @@ use hba_regs::{GlobalControl, Reg};
 /// state it is, also while a reset is pending.
 pub fn reset<A: Adapter>(adapter: &mut A) -> Result<(), AdapterStuck>
     ensures reset { IfOk result (λ done. Resets (A.device adapter.old) (A.device adapter.new)) }
-    ensures stuck { IfErr result (λ why. StaysReset (A.device adapter.old) (A.device adapter.new)) }
+    ensures stuck { IfErr result (λ why. ResetStaysPending (A.device adapter.old) (A.device adapter.new)) }
     ensures cost { MakesAtMost RESET_ACCESSES (A.access_count adapter.old) (A.access_count adapter.new) }
 {
     law_base();

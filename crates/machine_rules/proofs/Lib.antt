@@ -1,3 +1,3 @@
 mod Firsts
 mod PlainRules
-mod PlainLeft
+mod ReferenceHistories

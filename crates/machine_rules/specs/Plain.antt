@@ -10,7 +10,7 @@ use Rattle.ata_types.specs.declared.refusal.Refusal.TheVariants as refused
 use Rattle.ata_types.specs.declared.refusal.Rule.TheVariants.{NoRight, OutsideGrant}
 use Rattle.ata_types.specs.Grant.{Allows, Covers}
 use Rattle.machine_rules.specs.declared.refuse.PortShown.{PortShown}
-use Rattle.machine_rules.specs.declared.refuse.Tables.{Tables}
+use Rattle.machine_rules.specs.declared.refuse.PlainSituation.{PlainSituation}
 use Rattle.block_machine.specs.Rules.{IsNamed, rank}
 use Rattle.block_machine.specs.Refusals.{Situation, Applies}
 
@@ -23,7 +23,7 @@ abbrev pub shown_at : List PortShown → Port → PortShown
 shown_at ports p = slice_index_or ports p.0 (record { state = Absent; sectors = 0; trims = false })
 
 -- what a request meets by these tables
-abbrev pub situation_in : Tables → Situation
+abbrev pub situation_in : PlainSituation → Situation
 situation_in t = record {
   rows = t.rows.items;
   owner = for_frame t.owners.items;

@@ -1,9 +1,9 @@
 // What is left on a sector, as a plain and slow program over small histories.
 ghost use Rattle.std.specs.Prelude.{◌≡◌, ◌≤◌, ◌-◌, ℕ, length, IfSome, IfNone};
 ghost use Rattle.block_machine.specs.Left as left;
-ghost use Rattle.block_machine.specs.State.{Block, written_by};
-ghost use Rattle.machine_rules.specs.PlainLeft as plain_left;
-ghost use Rattle.machine_rules.specs.PlainLeft.{history_of, step_of, accepted_of, start_filled, IsWriterNow, IsLater, IsLastWriter};
+ghost use Rattle.block_machine.specs.State.{Block, block_written};
+ghost use Rattle.machine_rules.specs.ReferenceHistories as plain_left;
+ghost use Rattle.machine_rules.specs.ReferenceHistories.{history_of, step_of, accepted_of, start_filled, IsWriterNow, IsLaterOf, IsLastWriter};
 
 use ata_types::{Op, Port, Range, RequestId};
 use block_machine::changes_sectors;
@@ -75,8 +75,8 @@ fn disk_number_read(read: &HistoryRequest, sector: u64, history: &[DiskEvent]) -
 }
 
 /// The byte in all places of sector number `number` of what has this fill.
-fn byte_of(fill: u8, number: u64) -> u8
-    ensures { result ≡ plain_left.byte_of fill number }
+fn fill_byte(fill: u8, number: u64) -> u8
+    ensures { result ≡ plain_left.fill_byte fill number }
 {
     ((fill as u128 + number as u128) % 256) as u8
 }
@@ -85,7 +85,7 @@ fn byte_of(fill: u8, number: u64) -> u8
 fn fill_when_plugged(start: u8, port: Port, number: usize, history: &[DiskEvent]) -> u8
     ensures { (k b : ℕ)
         → left.bytes_when_plugged (start_filled start) port number
-        (history_of history.now) k b ≡ plain_left.byte_of result k }
+        (history_of history.now) k b ≡ plain_left.fill_byte result k }
 {
     match history.split_first() {
         None => start,
@@ -119,7 +119,7 @@ fn writes(read: &HistoryRequest, sector: u64, happened: &DiskEvent) -> Option<Hi
 
 /// The later of the two in order of acceptance; the second where they are one.
 fn later(old: Option<HistoryRequest>, new: HistoryRequest) -> HistoryRequest
-    ensures { IsLater old new result }
+    ensures { IsLaterOf old new result }
 {
     match old {
         Some(old) if new.id.0 < old.id.0 => old,
@@ -152,10 +152,10 @@ fn last_writer(
 /// What a write or trim puts on the sector: its own byte, or zeros.
 fn written(writer: HistoryRequest, sector: u64) -> u8
     ensures { (b : ℕ)
-        → written_by writer.op (accepted_of writer).held (sector - writer.range.first.0) b ≡ result }
+        → block_written writer.op (accepted_of writer).held (sector - writer.range.first.0) b ≡ result }
 {
     match writer.op {
-        Op::Write => byte_of(writer.fill, sector.saturating_sub(writer.range.first.0)),
+        Op::Write => fill_byte(writer.fill, sector.saturating_sub(writer.range.first.0)),
         Op::Read | Op::Trim | Op::Flush => 0,
     }
 }
@@ -163,13 +163,13 @@ fn written(writer: HistoryRequest, sector: u64) -> u8
 /// What the writes and trims accepted before the read left on the sector, as the byte in all its places. The newest
 /// happening stands first, and the disks had the fill `start` before the first.
 pub fn left(start: u8, history: &[DiskEvent], read: &HistoryRequest, sector: u64) -> u8
-    ensures { (block : Block) × left.IsLeft (start_filled start) (history_of history.now)
+    ensures { (block : Block) × left.IsExpectedBlock (start_filled start) (history_of history.now)
         (accepted_of read.now) sector block
         × ((b : ℕ) → block b ≡ result) }
 {
     let disk = disk_number_read(read, sector, history);
     match last_writer(read, sector, disk, history) {
         Some(writer) => written(writer, sector),
-        None => byte_of(fill_when_plugged(start, read.port, disk, history), sector),
+        None => fill_byte(fill_when_plugged(start, read.port, disk, history), sector),
     }
 }

@@ -11,4 +11,4 @@ mod refuse;
 
 pub use due::{due_list, is_due};
 pub use history::{DiskEvent, HistoryRequest, left};
-pub use refuse::{PortShown, Tables};
+pub use refuse::{PlainSituation, PortShown};

@@ -2,8 +2,8 @@
 // then the first that applies.
 ghost use Rattle.std.specs.Prelude.{false, ◌≡◌, ◌⊎◌, ◌<◌, ◌≤◌, ◌↔◌, IsTrue, IfSome, IfNone, slice_get, count_by, ◌==◌};
 ghost use Rattle.ata_types.specs.Grant.{Allows, Covers};
-ghost use Rattle.block_machine.specs.Rules.{IsNamed, Names, IsAllowedCount, frames_for, Breaks, HasFault, BreaksNone, IsFirstBroken, rank};
-ghost use Rattle.block_machine.specs.Refusals.{Applies, IsAcceptable, IsFirstRefusal, MemApplies, IsOpen, IsFirstMemFault};
+ghost use Rattle.block_machine.specs.Rules.{IsNamed, Names, IsAllowedCount, frame_count_for, Breaks, HasFault, BreaksNone, IsFirstBroken, rank};
+ghost use Rattle.block_machine.specs.Refusals.{Applies, IsAcceptable, IsFirstRefusal, MemApplies, MayAccessFrame, IsFirstMemFault};
 ghost use Rattle.machine_rules.specs.Plain.{for_frame, shown_at, situation_in, RowHas, SomeRowHas, IsFirstNumbered};
 
 use arrayvec::ArrayVec;
@@ -38,7 +38,7 @@ impl Default for PortShown {
 /// What a request meets, in small tables. A frame past their ends is nobody's and lent to none, and a port past the end
 /// is absent.
 #[derive(Debug, Drop)]
-pub struct Tables {
+pub struct PlainSituation {
     pub rows: ArrayVec<GrantRow, 64>,
     /// The owner of each frame.
     pub owners: ArrayVec<Option<ClientId>, 128>,
@@ -64,7 +64,7 @@ fn is_count(op: Op, count: u32) -> bool
 
 /// How many frames the operation has for so many sectors.
 fn frame_count(op: Op, count: u32) -> usize
-    ensures { result ≡ frames_for op count }
+    ensures { result ≡ frame_count_for op count }
 {
     match op {
         Op::Read | Op::Write => (count as usize + 7) / 8,
@@ -105,7 +105,7 @@ fn at_frame<T: Copy>(list: &[Option<T>], frame: Frame) -> Option<T>
     list.get(frame.0 as usize).copied().flatten()
 }
 
-impl Tables {
+impl PlainSituation {
     /// The owner of the frame.
     fn owner(&self, frame: Frame) -> Option<ClientId>
         ensures { result ≡ for_frame self.now.owners.items frame }
@@ -349,7 +349,7 @@ impl Tables {
     ) -> Option<MemFault>
         ensures some { IfSome result (IsFirstMemFault (for_frame self.now.owners.items)
             (for_frame self.now.lent.items) client frame offset count) }
-        ensures none { IfNone result (IsOpen (for_frame self.now.owners.items)
+        ensures none { IfNone result (MayAccessFrame (for_frame self.now.owners.items)
             (for_frame self.now.lent.items) client frame offset count) }
     {
         if self.mem_applies(client, frame, offset, count, MemFault::FrameForeign) {

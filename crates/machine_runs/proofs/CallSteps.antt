@@ -9,7 +9,7 @@ use Rattle.block_machine.specs.Ports.{Ports}
 use Rattle.block_machine.specs.State.{Accepted, Pending, Machine}
 use Rattle.block_machine.specs.Steps.{Step, Accept, Issue, Touch, End, Age, Again, Answer, Release, Revoke, Unplug, Replace, Store, Load, MayAccept, after_step, newly_issued, touch, mark_ended, requeued, older}
 use Rattle.block_machine.specs.Left.{after, IsAccept}
-use Rattle.block_machine.specs.Events.{Ask, Submit, StoreAt, LoadAt, Service, Tick, Reset, State, Device, RevokeOf, AllMay, IsByDevice, IsByServer, AreStepsOfCall, accepts_of, issues_it, IsIssuedIn}
+use Rattle.block_machine.specs.Events.{AbstractCall, Submit, StoreAt, LoadAt, Service, Tick, Reset, State, Device, RevokeOf, AllMay, IsByDevice, IsByServer, AreStepsOfCall, accepts_of, issues_it, IsIssuedIn}
 use Rattle.block_machine.proofs.Members.{contains_none, contains_here, contains_there, contains_cases, map_in, at_cases, without_in, append_in}
 use Rattle.block_machine.proofs.Keeps.{older_keeps, older_issued}
 use Rattle.block_machine.proofs.Counting.{count_cons}
@@ -189,32 +189,32 @@ accepted_new m (_ ∷ before) r may h = accepted_new m before r may.0 h
 
 -- Which steps stand in which call.
 
-abbrev pub is_submit : {D : Type 0} → Ask D → Bool
+abbrev pub is_submit : {D : Type 0} → AbstractCall D → Bool
 is_submit (Submit r) = true
 is_submit _ = false
 
-abbrev pub is_tick : {D : Type 0} → Ask D → Bool
+abbrev pub is_tick : {D : Type 0} → AbstractCall D → Bool
 is_tick Tick = true
 is_tick _ = false
 
-abbrev pub is_reset : {D : Type 0} → Ask D → Bool
+abbrev pub is_reset : {D : Type 0} → AbstractCall D → Bool
 is_reset Reset = true
 is_reset _ = false
 
 -- accepting, ageing and releasing have a call each
-abbrev pub Fits : {D : Type 0} → Ask D → Step → Type 0
+abbrev pub Fits : {D : Type 0} → AbstractCall D → Step → Type 0
 Fits ask (Accept r) = is_submit ask ≡ true
 Fits ask (Age ready) = is_tick ask ≡ true
 Fits ask Release = is_reset ask ≡ true
 Fits ask _ = Unit {0}
 
-devices_fit : {D : Type 0} (ask : Ask D) (step : Step) → IsByDevice step → Fits ask step
+devices_fit : {D : Type 0} (ask : AbstractCall D) (step : Step) → IsByDevice step → Fits ask step
 devices_fit ask (Accept r) h = absurd h
 devices_fit ask (Age ready) h = absurd h
 devices_fit ask Release h = absurd h
 devices_fit ask _ h = tt
 
-servers_fit : {D : Type 0} (ask : Ask D) (ports : Ports) (step : Step) → IsByServer ask ports step → Fits ask step
+servers_fit : {D : Type 0} (ask : AbstractCall D) (ports : Ports) (step : Step) → IsByServer ask ports step → Fits ask step
 servers_fit (Submit q) ports (Accept r) h = refl
 servers_fit (Submit q) ports (Age ready) h = absurd h
 servers_fit (Submit q) ports Release h = absurd h
@@ -245,11 +245,11 @@ servers_fit (RevokeOf c n) ports Release h = absurd h
 servers_fit ask ports _ h = tt
 
 -- each step of a call fits it
-abbrev pub AllFit : {D : Type 0} → Ask D → List Step → Type 0
+abbrev pub AllFit : {D : Type 0} → AbstractCall D → List Step → Type 0
 AllFit ask [] = Unit {0}
 AllFit ask (step ∷ before) = AllFit ask before × Fits ask step
 
-pub all_fit : {D : Type 0} (ask : Ask D) (ports : Ports) (steps : List Step) → AreStepsOfCall ask ports steps → AllFit ask steps
+pub all_fit : {D : Type 0} (ask : AbstractCall D) (ports : Ports) (steps : List Step) → AreStepsOfCall ask ports steps → AllFit ask steps
 all_fit ask ports [] b = tt
 all_fit ask ports (step ∷ before) b = (all_fit ask ports before b.0, ⊎_elim (devices_fit ask step) (servers_fit ask ports step) b.1)
 
@@ -263,13 +263,13 @@ accepted_asked D q ports (Accept new ∷ before) r b h = ⊎_elim
 accepted_asked D q ports (_ ∷ before) r b h = accepted_asked D q ports before r b.0 h
 
 -- no other call accepts
-pub none_accepted : {D : Type 0} (ask : Ask D) (steps : List Step) → is_submit ask ≡ false → AllFit ask steps → accepts_of steps ≡ []
+pub none_accepted : {D : Type 0} (ask : AbstractCall D) (steps : List Step) → is_submit ask ≡ false → AllFit ask steps → accepts_of steps ≡ []
 none_accepted ask [] other f = refl
 none_accepted ask (Accept r ∷ before) other f = absurd (false≢true (sym other ∙ f.1))
 none_accepted ask (_ ∷ before) other f = none_accepted ask before other f.0
 
 -- and none but a tick ages
-pub none_aged : {D : Type 0} (ask : Ask D) (port : Port) (steps : List Step) → is_tick ask ≡ false → AllFit ask steps → count_by (ages_it port) steps ≡ 0
+pub none_aged : {D : Type 0} (ask : AbstractCall D) (port : Port) (steps : List Step) → is_tick ask ≡ false → AllFit ask steps → count_by (ages_it port) steps ≡ 0
 none_aged ask port [] other f = refl
 none_aged ask port (step ∷ before) other f =
     let rest = none_aged ask port before other f.0 in

@@ -12,7 +12,7 @@ use Rattle.ata_types.specs.declared.request.Outcome.TheVariants as outcome
 use Rattle.block_machine.specs.Ports.{Evidence}
 use Rattle.block_machine.specs.State.{Accepted, Pending, unanswered}
 use Rattle.block_machine.specs.Steps.{Accept, Issue, Answer, newly_accepted, newly_issued}
-use Rattle.block_machine.specs.Events.{Submit, Service, Submitted, Served, CallRecord, Happens, Tells, IsToldBefore, reply_of, abstract_after_all, situation_of}
+use Rattle.block_machine.specs.Events.{Submit, Service, Submitted, Served, CallRecord, Happens, RepliesMatch, IsToldBefore, reply_of, abstract_after_all, situation_of}
 use Rattle.machine_runs.specs.Worked.{DiesInAService}
 use Rattle.block_machine.proofs.Members.{contains_none, contains_here, contains_there, contains_cases}
 use Rattle.block_machine.proofs.Setting.{port, frame, empty_starts, acceptable, granted}
@@ -66,7 +66,7 @@ happens2 = record {
   answered = (acceptable 0 (situation_of (abstract_after_all first run1)) other.asked (write_at 0 (abstract_after_all first run1) 101 101 quiet (omega arith) (omega arith) refl refl), (other, refl, refl), λ p. (refl, refl, refl, refl, refl, refl), λ p _. none_waits _ refl p);
 }
 
-tells : Tells service.steps (map reply_of told)
+tells : RepliesMatch service.steps (map reply_of told)
 tells = record {
   answers = told;
   same = IsPermutation-append_comm ((one, outcome.PortDead) ∷ []) ((two, outcome.PortDead) ∷ []);

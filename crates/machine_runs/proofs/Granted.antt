@@ -13,7 +13,7 @@ use Rattle.block_machine.specs.Rules.{HasRow, IsUnder, is_under}
 use Rattle.block_machine.specs.State.{Accepted, Pending, Machine}
 use Rattle.block_machine.specs.Steps.{Step, Accept, Issue, Touch, End, Age, Again, Answer, Revoke, HasGrant, May, MayStillMove, after_step, at, newly_issued, touch, mark_ended, requeued, older, newly_accepted}
 use Rattle.block_machine.specs.Left.{after}
-use Rattle.block_machine.specs.Events.{AbstractState, Ask, RevokeOf, CallResult, WasRevoked, CallRecord, AllMay, AreStepsOfCall, IsAnswered, IsByDevice, IsRun, IsByServer, abstract_after_all, steps_of}
+use Rattle.block_machine.specs.Events.{AbstractState, AbstractCall, RevokeOf, CallResult, WasRevoked, CallRecord, AllMay, AreStepsOfCall, IsAnswered, IsByDevice, IsRun, IsByServer, abstract_after_all, steps_of}
 use Rattle.block_machine.proofs.Accepts.{law_accepted_is_granted}
 use Rattle.block_machine.proofs.EventLemmas.{moment_is, run_legal, run_starts}
 use Rattle.block_machine.proofs.Keeps.{keeps, older_issued}
@@ -101,7 +101,7 @@ granted_after m (step ∷ before) s may leave g e h waits = ⊎_elim
     (λ n. still_granted (after m before) step e leave.1 n.1)
     (waits_from (after m before) step e may.1 (sound_after m before s may.0) h waits)
 
-abbrev is_revocation : {D : Type 0} → Ask D → Bool
+abbrev is_revocation : {D : Type 0} → AbstractCall D → Bool
 is_revocation (RevokeOf client number) = true
 is_revocation _ = false
 
@@ -109,12 +109,12 @@ devices_leave : (step : Step) → IsByDevice step → LeavesRows step
 devices_leave (Revoke client number) h = absurd h
 devices_leave _ h = tt
 
-servers_leave : {D : Type 0} (ask : Ask D) (ports : Ports) (step : Step) → is_revocation ask ≡ false → IsByServer ask ports step → LeavesRows step
+servers_leave : {D : Type 0} (ask : AbstractCall D) (ports : Ports) (step : Step) → is_revocation ask ≡ false → IsByServer ask ports step → LeavesRows step
 servers_leave (RevokeOf client number) ports step other h = absurd (true≢false other)
 servers_leave ask ports (Revoke client number) other h = absurd h
 servers_leave ask ports _ other h = tt
 
-all_leave : {D : Type 0} (ask : Ask D) (ports : Ports) (steps : List Step) → is_revocation ask ≡ false → AreStepsOfCall ask ports steps → AllLeaveRows steps
+all_leave : {D : Type 0} (ask : AbstractCall D) (ports : Ports) (steps : List Step) → is_revocation ask ≡ false → AreStepsOfCall ask ports steps → AllLeaveRows steps
 all_leave ask ports [] other b = tt
 all_leave ask ports (step ∷ before) other b = (all_leave ask ports before other b.0, ⊎_elim (devices_leave step) (servers_leave ask ports step other) b.1)
 
@@ -169,7 +169,7 @@ in_filter {A} passes (y ∷ ys) x h is = ⊎_elim
 
 -- ---- each call
 
-granted_event : {D : Type 0} (ask : Ask D) (said : CallResult) (old : AbstractState) (evidence : Evidence) (steps : List Step) (ports : Ports) → IsAnswered ask said old evidence steps (record { machine = after old.machine steps; ports = ports })
+granted_event : {D : Type 0} (ask : AbstractCall D) (said : CallResult) (old : AbstractState) (evidence : Evidence) (steps : List Step) (ports : Ports) → IsAnswered ask said old evidence steps (record { machine = after old.machine steps; ports = ports })
     → Sound old.machine → AllMay old.machine steps → AreStepsOfCall ask ports steps → IsGrantedAll old.machine → IsGrantedAll (after old.machine steps)
 granted_event {D} (RevokeOf client number) (WasRevoked (Some replies)) old evidence steps ports a s may b g e h waits =
     let here = waited D client number ports old.machine s steps may b e h waits in

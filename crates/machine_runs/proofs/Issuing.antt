@@ -155,8 +155,8 @@ counted start [] id s legal = record { most = omega arith; none = λ le. refl; h
 counted start (step ∷ past) id s legal = subst (IsCounted (after start (step ∷ past)) id) (sym (count_cons (issues_it id) step past))
     (counted_step (after start past) step id (count_by (issues_it id) past) legal.1 (traced start past s legal.0).sound (law_limits_hold start (step ∷ past) s legal) (counted start past id s legal.0))
 
-pub law_issued_four_times : {D : Type 0} (first : AbstractState) (run : List (CallRecord D)) (id : RequestId) → IsRun first run → count_by (issues_it id) (steps_of run) ≤ 4
-law_issued_four_times first run id r = (counted first.machine (steps_of run) id (run_starts first run r) (run_legal first run r)).most
+pub law_issued_four_at_most : {D : Type 0} (first : AbstractState) (run : List (CallRecord D)) (id : RequestId) → IsRun first run → count_by (issues_it id) (steps_of run) ≤ 4
+law_issued_four_at_most first run id r = (counted first.machine (steps_of run) id (run_starts first run r) (run_legal first run r)).most
 
 -- An id that is still to come was neither issued nor made to wait again; and its unanswered request was issued once more where it is issued, and
 -- else as often as it was made to wait again.
@@ -281,7 +281,7 @@ aborted_after_four first run late early e r split =
     let four = abort_of_run first run e r (subst (λ (xs : List Step). Contains xs (Answer e Aborted)) (sym split) (in_middle late (Answer e Aborted) early)) in
     let u = step_of_run first run late (Answer e Aborted) early r split in
     let count = (counted first.machine early e.request.id (run_starts first run r) u.0).here e u.1.0 refl in
-    let most = law_issued_four_times first run e.request.id r in
+    let most = law_issued_four_at_most first run e.request.id r in
     let all : count_by issues (steps_of run) ≡ count_by issues (late ++ Answer e Aborted ∷ early) = ap (count_by issues) split in
     omega (arith, four, count, most, all, count_append issues late (Answer e Aborted ∷ early), count_cons issues (Answer e Aborted) early)
 

@@ -13,12 +13,12 @@ use Rattle.ata_types.specs.declared.refusal.Refusal.TheVariants as refused
 use Rattle.ata_types.specs.declared.grant.GrantRow.{GrantRow}
 use Rattle.ata_types.specs.Grant.{Allows}
 use Rattle.block_machine.specs.declared.due.QueueMode.{QueueMode}
-use Rattle.block_machine.specs.Rules.{IsAllowedCount, frames_for}
+use Rattle.block_machine.specs.Rules.{IsAllowedCount, frame_count_for}
 use Rattle.block_machine.specs.Refusals.{Situation}
 use Rattle.block_machine.specs.Due.{is_flush, changes_sectors}
-use Rattle.block_machine.specs.State.{Block, Memory, Accepted, Pending, Machine, block_of, is_reader, written_by}
-use Rattle.block_machine.specs.Steps.{Step, Accept, Issue, Touch, End, Answer, newly_accepted, newly_issued, touch, mark_ended, unanswered_of, MayAccept}
-use Rattle.block_machine.specs.Left.{after, HoldsLeft, IsLeft, HasTouched, Wrote}
+use Rattle.block_machine.specs.State.{Block, Memory, Accepted, Pending, Machine, block_of, is_reader, block_written}
+use Rattle.block_machine.specs.Steps.{Step, Accept, Issue, Touch, End, Answer, newly_accepted, newly_issued, touch, mark_ended, unanswered_count, MayAccept}
+use Rattle.block_machine.specs.Left.{after, HoldsExpected, IsExpectedBlock, HasTouched, Wrote}
 use Rattle.machine_runs.specs.Worked.{AllMayWithoutKeptRule, ReadsWrongWithoutKeptRule}
 use Rattle.block_machine.proofs.Setting.{client, port, frame, row, two_rows, request, empty, its_row, is_trim, filled_starts, IsFit, acceptable}
 
@@ -58,10 +58,10 @@ history = Touch read 0 (λ b. 101) ∷ Issue mode (newly_accepted (one_sector 3 
 
 -- what a request meets at a machine whose ports are ready
 abbrev meets : Machine → Situation
-meets m = record { rows = m.rows; owner = m.owner; lent = m.lent; state = λ p. Ready; sectors = λ p. 200; trims = λ p. true; unanswered = unanswered_of m.book; next = m.next }
+meets m = record { rows = m.rows; owner = m.owner; lent = m.lent; state = λ p. Ready; sectors = λ p. 200; trims = λ p. true; unanswered = unanswered_count m.book; next = m.next }
 
-fit : (m : Machine) (n : ℕ) (op : Op) → m.rows ≡ two_rows → m.owner (frame (100 + n)) ≡ Some client → m.lent (frame (100 + n)) ≡ None → unanswered_of m.book client ≡ 0 → m.next < 2 ^ 64
-    → op ≢ Trim → op ≢ Flush → frames_for op 1 ≡ 1 → IsAllowedCount op 1 → Allows (row 0).rights op → IsFit 0 (meets m) (one_sector n op).asked
+fit : (m : Machine) (n : ℕ) (op : Op) → m.rows ≡ two_rows → m.owner (frame (100 + n)) ≡ Some client → m.lent (frame (100 + n)) ≡ None → unanswered_count m.book client ≡ 0 → m.next < 2 ^ 64
+    → op ≢ Trim → op ≢ Flush → frame_count_for op 1 ≡ 1 → IsAllowedCount op 1 → Allows (row 0).rights op → IsFit 0 (meets m) (one_sector n op).asked
 fit m n op same_rows own free none ids no_trim no_flush frames count allowed = record {
   rows = same_rows;
   mine = (0, omega arith, refl);
@@ -95,11 +95,11 @@ new m n op fits same_rows next memory = record {
   held = ap (λ (x : Memory). block_of x (frame (100 + n) ∷ [])) (sym memory);
 }
 
-write_fits : (m : Machine) (n : ℕ) → m.rows ≡ two_rows → m.owner (frame (100 + n)) ≡ Some client → m.lent (frame (100 + n)) ≡ None → unanswered_of m.book client ≡ 0 → m.next < 2 ^ 64
+write_fits : (m : Machine) (n : ℕ) → m.rows ≡ two_rows → m.owner (frame (100 + n)) ≡ Some client → m.lent (frame (100 + n)) ≡ None → unanswered_count m.book client ≡ 0 → m.next < 2 ^ 64
     → IsFit 0 (meets m) (one_sector n Write).asked
 write_fits m n same own free none ids = fit m n Write same own free none ids (λ e. false≢true (ap is_trim e)) (λ e. false≢true (ap is_flush e)) refl (omega arith, omega arith) refl
 
-read_fits : (m : Machine) (n : ℕ) → m.rows ≡ two_rows → m.owner (frame (100 + n)) ≡ Some client → m.lent (frame (100 + n)) ≡ None → unanswered_of m.book client ≡ 0 → m.next < 2 ^ 64
+read_fits : (m : Machine) (n : ℕ) → m.rows ≡ two_rows → m.owner (frame (100 + n)) ≡ Some client → m.lent (frame (100 + n)) ≡ None → unanswered_count m.book client ≡ 0 → m.next < 2 ^ 64
     → IsFit 0 (meets m) (one_sector n Read).asked
 read_fits m n same own free none ids = fit m n Read same own free none ids (λ e. false≢true (ap is_trim e)) (λ e. false≢true (ap is_flush e)) refl (omega arith, omega arith) refl
 
@@ -116,7 +116,7 @@ touched_only w op (inr (inr (inr (inr (inr (inr (inr t))))))) = absurd (elim t [
 two_wrote : Wrote port 100 0 3 history (one_sector 2 Write)
 two_wrote = record { writes = refl; here = refl; earlier = omega arith; touched = inr (inr (inr (inr (inr (inr (inl ((refl, refl), refl))))))) }
 
-wrong : HoldsLeft start history (after start history).memory (one_sector 3 Read) → ⊥
+wrong : HoldsExpected start history (after start history).memory (one_sector 3 Read) → ⊥
 wrong h = go (h.sectors 0 (omega arith)).1
   where
     block : Block
@@ -128,11 +128,11 @@ wrong h = go (h.sectors 0 (omega arith)).1
     differ : ◌≡◌ {A = ℕ} 101 102 → ⊥
     differ e = omega (arith, e)
 
-    last : (w : Accepted) → (w ≡ one_sector 2 Write) ⊎ (w ≡ one_sector 1 Write) → 2 ≤ w.id.0 → block ≡ written_by w.asked.op w.held (100 - w.asked.first.0) → ⊥
-    last w (inl p) le e = differ (finds ∙ ap (λ (f : Block). f 0) (e ∙ ap (λ (r : Accepted). written_by r.asked.op r.held (100 - r.asked.first.0)) p))
+    last : (w : Accepted) → (w ≡ one_sector 2 Write) ⊎ (w ≡ one_sector 1 Write) → 2 ≤ w.id.0 → block ≡ block_written w.asked.op w.held (100 - w.asked.first.0) → ⊥
+    last w (inl p) le e = differ (finds ∙ ap (λ (f : Block). f 0) (e ∙ ap (λ (r : Accepted). block_written r.asked.op r.held (100 - r.asked.first.0)) p))
     last w (inr p) le e = let id : w.id.0 ≡ 1 = ap (λ (r : Accepted). r.id.0) p in omega (arith, le, id)
 
-    go : IsLeft start history (one_sector 3 Read) 100 block → ⊥
+    go : IsExpectedBlock start history (one_sector 3 Read) 100 block → ⊥
     go (inl r) = last r.0 (touched_only r.0 r.1.writes r.1.touched) (r.2 (one_sector 2 Write) two_wrote) r.3
     go (inr r) = r.0 (one_sector 2 Write) two_wrote
 

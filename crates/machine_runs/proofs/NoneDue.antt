@@ -9,11 +9,11 @@ use Rattle.ata_types.specs.declared.request.RequestId.{RequestId}
 use Rattle.block_machine.specs.declared.due.QueueMode.{QueueMode}
 use Rattle.block_machine.specs.declared.due.Unanswered.{Unanswered}
 use Rattle.block_machine.specs.Due.{NoneDue, ahead, waits_for, is_unblocked, is_earlier_on_port, is_plain, issued_count}
-use Rattle.block_machine.specs.Ports.{Ports, Evidence, AreFit, SamePorts, IsStuck}
+use Rattle.block_machine.specs.Ports.{Ports, Evidence, PortsWellFormed, SamePorts, IsStuck}
 use Rattle.block_machine.specs.State.{Pending, Machine, unanswered}
 use Rattle.block_machine.specs.Steps.{Step, Accept, Issue, Touch, End, Age, Again, Answer, Store, Load, after_step, at, touch, mark_ended}
 use Rattle.block_machine.specs.Left.{after}
-use Rattle.block_machine.specs.Events.{AbstractState, Ask, Submit, StoreAt, LoadAt, Service, Tick, Reset, RevokeOf, State, Device, CallResult, Submitted, Stored, Loaded, Served, WasReset, WasRevoked, Shown, Stepped, CallRecord, AllIssued, IsAnswered, IsByDevice, IsByServer, AreStepsOfCall, IsRun, abstract_after_all}
+use Rattle.block_machine.specs.Events.{AbstractState, AbstractCall, Submit, StoreAt, LoadAt, Service, Tick, Reset, RevokeOf, State, Device, CallResult, Submitted, Stored, Loaded, Served, WasReset, WasRevoked, Shown, Stepped, CallRecord, NoneDueWhereReady, IsAnswered, IsByDevice, IsByServer, AreStepsOfCall, IsRun, abstract_after_all}
 use Rattle.block_machine.proofs.Members.{contains_none, contains_here, contains_there, at_cases, map_in, into_map}
 use Rattle.machine_runs.proofs.RunLaws.{is_ready, run_fit}
 use Rattle.machine_runs.proofs.Issuing.{counted_more, one_of_run}
@@ -52,14 +52,14 @@ devices_idle (Answer e o) h = absurd h
 devices_idle _ h = tt
 
 -- a call that neither issues nor answers
-abbrev is_idle : {D : Type 0} → Ask D → Bool
+abbrev is_idle : {D : Type 0} → AbstractCall D → Bool
 is_idle (StoreAt c f o b) = true
 is_idle (LoadAt c f o n) = true
 is_idle (State p) = true
 is_idle (Device d) = true
 is_idle _ = false
 
-servers_idle : {D : Type 0} (ask : Ask D) (ports : Ports) (step : Step) → is_idle ask ≡ true → IsByServer ask ports step → IsIdle step
+servers_idle : {D : Type 0} (ask : AbstractCall D) (ports : Ports) (step : Step) → is_idle ask ≡ true → IsByServer ask ports step → IsIdle step
 servers_idle (StoreAt c f o b) ports (Store _ _ _ _) t h = tt
 servers_idle (StoreAt c f o b) ports _ t h = absurd h
 servers_idle (LoadAt c f o n) ports (Load _ _ _ _) t h = tt
@@ -68,19 +68,19 @@ servers_idle (State p) ports _ t h = absurd h
 servers_idle (Device d) ports _ t h = absurd h
 servers_idle ask ports _ t h = absurd (false≢true t)
 
-idle_steps : {D : Type 0} (ask : Ask D) (ports : Ports) (m : Machine) (steps : List Step) → is_idle ask ≡ true → AreStepsOfCall ask ports steps → map unanswered (after m steps).book ≡ map unanswered m.book
+idle_steps : {D : Type 0} (ask : AbstractCall D) (ports : Ports) (m : Machine) (steps : List Step) → is_idle ask ≡ true → AreStepsOfCall ask ports steps → map unanswered (after m steps).book ≡ map unanswered m.book
 idle_steps ask ports m [] t b = refl
 idle_steps ask ports m (step ∷ before) t b =
     idle_due (after m before) step (⊎_elim (devices_idle step) (servers_idle ask ports step t) b.1) ∙ idle_steps ask ports m before t b.0
 
 -- with the same ports and the same requests, none is due
-issued_still : (old new : AbstractState) → map unanswered new.machine.book ≡ map unanswered old.machine.book → SamePorts old.ports new.ports → AllIssued old → AllIssued new
+issued_still : (old new : AbstractState) → map unanswered new.machine.book ≡ map unanswered old.machine.book → SamePorts old.ports new.ports → NoneDueWhereReady old → NoneDueWhereReady new
 issued_still old new book same all port ready =
     subst (λ (mode : QueueMode). NoneDue mode (map unanswered new.machine.book) port) (sym (same port).5)
     (subst (λ (us : List Unanswered). NoneDue (old.ports.mode port) us port) (sym book) (all port (sym (same port).1 ∙ ready)))
 
 -- and where each served port is dead, none is ready
-issued_stuck : (old new : AbstractState) (evidence : Evidence) → AreFit new.ports → ((port : Port) → IsStuck old.ports evidence new.ports port) → AllIssued new
+issued_stuck : (old new : AbstractState) (evidence : Evidence) → PortsWellFormed new.ports → ((port : Port) → IsStuck old.ports evidence new.ports port) → NoneDueWhereReady new
 issued_stuck old new evidence fit stuck port ready = absurd (⊎_elim
     (λ served. false≢true (ap is_ready (sym ((stuck port).1 served).0) ∙ ap is_ready ready))
     (λ other. false≢true (ap is_ready (sym (fit.absent port ((stuck port).0 ∙ other))) ∙ ap is_ready ready))
@@ -90,8 +90,8 @@ issued_stuck old new evidence fit stuck port ready = absurd (⊎_elim
 abbrev left : AbstractState → List Step → Ports → AbstractState
 left old steps ports = record { machine = after old.machine steps; ports = ports }
 
-issued_event : {D : Type 0} (ask : Ask D) (said : CallResult) (old : AbstractState) (evidence : Evidence) (steps : List Step) (ports : Ports)
-    → IsAnswered ask said old evidence steps (left old steps ports) → AreStepsOfCall ask ports steps → AreFit ports → AllIssued old → AllIssued (left old steps ports)
+issued_event : {D : Type 0} (ask : AbstractCall D) (said : CallResult) (old : AbstractState) (evidence : Evidence) (steps : List Step) (ports : Ports)
+    → IsAnswered ask said old evidence steps (left old steps ports) → AreStepsOfCall ask ports steps → PortsWellFormed ports → NoneDueWhereReady old → NoneDueWhereReady (left old steps ports)
 issued_event (Submit r) (Submitted (Ok id)) old evidence steps ports a b fit all = a.3
 issued_event (Submit r) (Submitted (Err refusal)) old evidence steps ports a b fit all =
     issued_still old (left old steps ports) (ap (λ (xs : List Step). map unanswered (after old.machine xs).book) a.1) a.2 all
@@ -111,7 +111,7 @@ issued_event (RevokeOf c n) (WasRevoked None) old evidence steps ports a b fit a
     issued_still old (left old steps ports) (ap (λ (xs : List Step). map unanswered (after old.machine xs).book) a.1) a.2 all
 issued_event ask said old evidence steps ports a b fit all = absurd a
 
-pub law_none_due_between : {D : Type 0} (first : AbstractState) (run : List (CallRecord D)) → IsRun first run → AllIssued (abstract_after_all first run)
+pub law_none_due_between : {D : Type 0} (first : AbstractState) (run : List (CallRecord D)) → IsRun first run → NoneDueWhereReady (abstract_after_all first run)
 law_none_due_between first [] r = λ port ready x here due. contains_none x (subst (λ (es : List Pending). Contains (map unanswered es) x) r.0.book due.here)
 law_none_due_between first (event ∷ past) r = issued_event event.ask event.said (abstract_after_all first past) event.evidence event.steps event.ports r.1.answered r.1.belong r.1.fit (law_none_due_between first past r.0)
 

@@ -12,7 +12,7 @@ use Rattle.block_machine.specs.State.{Accepted, Pending, Machine}
 use Rattle.block_machine.specs.Steps.{Step, Accept, Answer, May, after_step}
 use Rattle.block_machine.specs.Left.{after, IsLegal, IsInitial}
 use Rattle.block_machine.specs.Confined.{WasAccepted}
-use Rattle.block_machine.specs.Events.{AbstractState, Ask, Submit, Service, Tick, Reset, RevokeOf, CallResult, Submitted, Served, WasReset, WasRevoked, CallRecord, AllMay, AreStepsOfCall, Tells, IsAnswered, IsRun, accepts_it, answers_it, accepts_of, answers_of, reply_of, replies_of, all_replies, gives_id, WasGiven, abstract_after_all, steps_of}
+use Rattle.block_machine.specs.Events.{AbstractState, AbstractCall, Submit, Service, Tick, Reset, RevokeOf, CallResult, Submitted, Served, WasReset, WasRevoked, CallRecord, AllMay, AreStepsOfCall, RepliesMatch, IsAnswered, IsRun, accepts_it, answers_it, accepts_of, answers_of, reply_of, replies_of, all_replies, gives_id, WasGiven, abstract_after_all, steps_of}
 use Rattle.block_machine.proofs.Members.{contains_none, contains_here, contains_there, contains_cases, map_in, without_in, append_in}
 use Rattle.block_machine.proofs.Sound.{Sound}
 use Rattle.block_machine.proofs.Runs.{traced, nobody}
@@ -110,8 +110,8 @@ law_answered_was_accepted first run late early e outcome r split =
 -- What a call says of it.
 
 -- a call tells the answers of its steps, or gives no reply
-told_or_none : {D : Type 0} (ask : Ask D) (said : CallResult) (old : AbstractState) (evidence : Evidence) (steps : List Step) (new : AbstractState) → IsAnswered ask said old evidence steps new
-    → (Tells steps (replies_of said) × (is_submit ask ≡ false)) ⊎ (replies_of said ≡ [])
+told_or_none : {D : Type 0} (ask : AbstractCall D) (said : CallResult) (old : AbstractState) (evidence : Evidence) (steps : List Step) (new : AbstractState) → IsAnswered ask said old evidence steps new
+    → (RepliesMatch steps (replies_of said) × (is_submit ask ≡ false)) ⊎ (replies_of said ≡ [])
 told_or_none Service (Served replies) old evidence steps new a = inl (a.tells, refl)
 told_or_none Tick (Served replies) old evidence steps new a = inl (a.tells, refl)
 told_or_none Reset (WasReset (Some replies)) old evidence steps new a = inl (a.tells, refl)
@@ -137,7 +137,7 @@ count_replies : (id : RequestId) (answers : List (Pending × Outcome)) → count
 count_replies id answers = count_map (λ (reply : Reply). reply.id.0 == id.0) (is_of id) reply_of answers (λ y i. refl)
 
 -- a call replies as often as it answers, or not
-replies_few : (id : RequestId) (steps : List Step) (replies : List Reply) → Tells steps replies ⊎ (replies ≡ []) → count_by (λ (reply : Reply). reply.id.0 == id.0) replies ≤ count_by (answers_it id) steps
+replies_few : (id : RequestId) (steps : List Step) (replies : List Reply) → RepliesMatch steps replies ⊎ (replies ≡ []) → count_by (λ (reply : Reply). reply.id.0 == id.0) replies ≤ count_by (answers_it id) steps
 replies_few id steps replies (inl t) =
     let same = ap (count_by (λ (reply : Reply). reply.id.0 == id.0)) t.told in
     let swapped : count_by (is_of id) (answers_of steps) ≡ count_by (is_of id) t.answers = sum_by-IsPermutation (λ a. cond (is_of id a) 1 0) t.answers (answers_of steps) t.same in
@@ -162,7 +162,7 @@ accepts_count id (Accept r ∷ before) =
     let rest = accepts_count id before in omega (arith, rest, count_cons (λ (x : Accepted). x.id.0 == id.0) r (accepts_of before), count_cons (accepts_it id) (Accept r) before)
 accepts_count id (step ∷ before) = let rest = accepts_count id before in omega (arith, rest, count_cons (accepts_it id) step before)
 
-gives_accepted : {D : Type 0} (id : RequestId) (ask : Ask D) (said : CallResult) (old : AbstractState) (evidence : Evidence) (steps : List Step) (new : AbstractState) → IsAnswered ask said old evidence steps new
+gives_accepted : {D : Type 0} (id : RequestId) (ask : AbstractCall D) (said : CallResult) (old : AbstractState) (evidence : Evidence) (steps : List Step) (new : AbstractState) → IsAnswered ask said old evidence steps new
     → cond (gives_id id said) 1 0 ≤ count_by (accepts_it id) steps
 gives_accepted id (Submit q) (Submitted (Ok given)) old evidence steps new a =
     let one : count_by (λ (r : Accepted). r.id.0 == id.0) (accepts_of steps) ≡ cond (a.1.0.id.0 == id.0) 1 0 + 0 =
@@ -184,11 +184,11 @@ law_given_once first run id r = let few = run_gives first run id r in let once =
 
 -- Each unanswered request is one that a submit asked for.
 
-accepts_asked : {D : Type 0} (r : Accepted) (ask : Ask D) (said : CallResult) (old : AbstractState) (evidence : Evidence) (steps : List Step) (ports : Ports) (new : AbstractState) → AreStepsOfCall ask ports steps
+accepts_asked : {D : Type 0} (r : Accepted) (ask : AbstractCall D) (said : CallResult) (old : AbstractState) (evidence : Evidence) (steps : List Step) (ports : Ports) (new : AbstractState) → AreStepsOfCall ask ports steps
     → IsAnswered ask said old evidence steps new → Contains (accepts_of steps) r → (ask ≡ Submit r.asked) × (said ≡ Submitted (Ok r.id))
 accepts_asked {D} r (Submit q) (Submitted (Ok given)) old evidence steps ports new b a h =
     let same : r ≡ a.1.0 = ⊎_elim (λ e. e) (λ n. absurd (contains_none r n)) (contains_cases a.1.0 [] r (subst (λ (xs : List Accepted). Contains xs r) a.1.1 h)) in
-    let asks : Request → Ask D = λ x. Submit x in
+    let asks : Request → AbstractCall D = λ x. Submit x in
     (ap asks (sym (accepted_asked D q ports steps r b h)), ap (λ (x : RequestId). Submitted (Ok x)) (sym a.1.2 ∙ ap (λ (x : Accepted). x.id) (sym same)))
 accepts_asked r (Submit q) (Submitted (Err refusal)) old evidence steps ports new b a h = absurd (contains_none r (subst (λ (xs : List Step). Contains (accepts_of xs) r) a.1 h))
 accepts_asked r (Submit q) said old evidence steps ports new b a h = absurd a
@@ -271,7 +271,7 @@ IsRepliedBy reply event past = (e : Pending) × Contains event.steps (Answer e r
 pub law_replied_was_asked : {D : Type 0} (first : AbstractState) (past : List (CallRecord D)) (event : CallRecord D) (reply : Reply) → IsRun first (event ∷ past) → Contains (replies_of event.said) reply
     → IsRepliedBy reply event past
 law_replied_was_asked first past event reply r h = ⊎_elim
-    (λ (t : Tells event.steps (replies_of event.said) × (is_submit event.ask ≡ false)).
+    (λ (t : RepliesMatch event.steps (replies_of event.said) × (is_submit event.ask ≡ false)).
     let a = map_in reply_of t.0.answers reply (subst (λ (xs : List Reply). Contains xs reply) t.0.told h) in
     let i = Contains-permutation t.0.answers (answers_of event.steps) a.0 t.0.same a.1 in
     let waited = was_open (abstract_after_all first past).machine event.steps a.0 r.1.may (none_accepted event.ask event.steps t.1 (all_fit event.ask event.ports event.steps r.1.belong)) i in

@@ -9,7 +9,7 @@ use Rattle.block_machine.specs.Rules.{HasRow, IsUnder}
 use Rattle.block_machine.specs.State.{Pending, frame_at, unanswered}
 use Rattle.block_machine.specs.Steps.{Step, Touch, End, Answer, Revoke, newly_accepted, newly_issued, touch}
 use Rattle.block_machine.specs.Events.{RevokeOf, Service, Served, WasRevoked, CallRecord, Happens, reply_of, abstract_after_all}
-use Rattle.machine_runs.specs.Revoked.{IsTakenBack}
+use Rattle.machine_runs.specs.Revoked.{RevokesWhileIssued}
 use Rattle.block_machine.proofs.Members.{contains_none, contains_here, contains_there, contains_cases}
 use Rattle.block_machine.proofs.Setting.{client, row, empty_starts, granted, port}
 use Rattle.machine_runs.proofs.Scene.{first, reply, call, done, served, row_zero, one_issued, none_there, one_told, one_touched, ports_fit, plain_service, none_dead, none_ended, none_unplugged, stay_ready}
@@ -128,7 +128,7 @@ happens_failed = record {
 
 -- ---- both
 
-pub is_taken_back : IsTakenBack
+pub is_taken_back : RevokesWhileIssued
 is_taken_back = record {
   first = first;
   run = run4;

@@ -13,11 +13,11 @@ use Rattle.ata_types.specs.declared.refusal.Refusal.TheVariants as refused
 use Rattle.ata_types.specs.declared.grant.GrantRow.{GrantRow}
 use Rattle.block_machine.specs.Rules.{IsNamed}
 use Rattle.block_machine.specs.Refusals.{IsAcceptable}
-use Rattle.block_machine.specs.Ports.{Ports, Evidence, MayBecome, SamePorts, AreFit, IsServiced, IsStuck}
+use Rattle.block_machine.specs.Ports.{Ports, Evidence, MayBecome, SamePorts, PortsWellFormed, IsServiced, IsStuck}
 use Rattle.block_machine.specs.State.{Accepted, Pending, Machine}
 use Rattle.block_machine.specs.Steps.{Step, Issue, Age, Touch, End, Again, Answer, Release, MayAccept, touch, mark_ended}
 use Rattle.block_machine.specs.Left.{after}
-use Rattle.block_machine.specs.Events.{AbstractState, Ask, AllMay, AreStepsOfCall, IsEmptied, Submit, StoreAt, LoadAt, Service, Tick, Reset, State, Device, RevokeOf, CallResult, Submitted, Stored, Loaded, Served, WasReset, WasRevoked, Shown, Stepped, CallRecord, IsAnswered, Happens, AllLawful, AgesOnce, RestartsTimedOut, ReleasesOnce, IssuesLast, IsRun, IsStillStuck, StaysStuck, accepts_of, is_age, is_release, issues_it, handles, abstract_after_all, situation_of, abstract_after}
+use Rattle.block_machine.specs.Events.{AbstractState, AbstractCall, AllMay, AreStepsOfCall, EmptyUnlessReady, Submit, StoreAt, LoadAt, Service, Tick, Reset, State, Device, RevokeOf, CallResult, Submitted, Stored, Loaded, Served, WasReset, WasRevoked, Shown, Stepped, CallRecord, IsAnswered, Happens, AllLawful, AgesOnce, RestartsTimedOut, ReleasesOnce, IssuesLast, IsRun, IsStillStuck, StaysStuck, accepts_of, is_age, is_release, issues_it, handles, abstract_after_all, situation_of, abstract_after}
 use Rattle.block_machine.proofs.Members.{contains_none, contains_cases, map_in}
 use Rattle.block_machine.proofs.Keeps.{at_keeps}
 use Rattle.block_machine.specs.Confined.{IsGranted}
@@ -53,15 +53,15 @@ pub law_issued_once_a_call : {D : Type 0} (old : AbstractState) (event : CallRec
 law_issued_once_a_call old event id h = (issued_once id event.steps h.last).1
 
 -- What a call that was answered may have done to ports and book. `was`: a reset was stuck before it, and is so still.
-data Kind {D : Type 0} (ask : Ask D) (said : CallResult) (old : AbstractState) (evidence : Evidence) (steps : List Step) (new : AbstractState) (was : Type 0) : Type 0 where
+data Kind {D : Type 0} (ask : AbstractCall D) (said : CallResult) (old : AbstractState) (evidence : Evidence) (steps : List Step) (new : AbstractState) (was : Type 0) : Type 0 where
   Leaves : is_tick ask ≡ false → is_reset ask ≡ false → SamePorts old.ports new.ports → (was → StaysStuck ask said was) → Kind ask said old evidence steps new was
-  Serves : is_tick ask ≡ false → is_reset ask ≡ false → ((port : Port) → IsEmptied new port × IsServiced old.ports evidence new.ports port) → Kind ask said old evidence steps new was
-  Ticks : is_reset ask ≡ false → AgesOnce old.ports steps → RestartsTimedOut old evidence steps new → ((port : Port) → old.ports.state port ≡ Ready → IsEmptied new port)
+  Serves : is_tick ask ≡ false → is_reset ask ≡ false → ((port : Port) → EmptyUnlessReady new port × IsServiced old.ports evidence new.ports port) → Kind ask said old evidence steps new was
+  Ticks : is_reset ask ≡ false → AgesOnce old.ports steps → RestartsTimedOut old evidence steps new → ((port : Port) → old.ports.state port ≡ Ready → EmptyUnlessReady new port)
       → (was → StaysStuck ask said was) → Kind ask said old evidence steps new was
-  Resets : is_tick ask ≡ false → ReleasesOnce steps → ((port : Port) → IsEmptied new port × MayBecome old.ports evidence new.ports port) → Kind ask said old evidence steps new was
+  Resets : is_tick ask ≡ false → ReleasesOnce steps → ((port : Port) → EmptyUnlessReady new port × MayBecome old.ports evidence new.ports port) → Kind ask said old evidence steps new was
   Sticks : is_tick ask ≡ false → ((port : Port) → IsStuck old.ports evidence new.ports port) → StaysStuck ask said was → Kind ask said old evidence steps new was
 
-kind : {D : Type 0} (ask : Ask D) (said : CallResult) (old : AbstractState) (evidence : Evidence) (steps : List Step) (new : AbstractState) (was : Type 0) → IsAnswered ask said old evidence steps new → Kind ask said old evidence steps new was
+kind : {D : Type 0} (ask : AbstractCall D) (said : CallResult) (old : AbstractState) (evidence : Evidence) (steps : List Step) (new : AbstractState) (was : Type 0) → IsAnswered ask said old evidence steps new → Kind ask said old evidence steps new was
 kind (Submit r) (Submitted (Ok id)) old evidence steps new was a = Leaves refl refl a.2 (λ w. w)
 kind (Submit r) (Submitted (Err refusal)) old evidence steps new was a = Leaves refl refl a.2 (λ w. w)
 kind (StoreAt c f o b) (Stored None) old evidence steps new was a = Leaves refl refl a.0 (λ w. w)
@@ -94,7 +94,7 @@ ready_or : (s : PortState) → (s ≡ Ready) ⊎ (s ≢ Ready)
 ready_or Ready = inl refl
 ready_or _ = inr (λ e. false≢true (ap is_ready e))
 
-pub run_fit : {D : Type 0} (first : AbstractState) (run : List (CallRecord D)) → IsRun first run → AreFit (abstract_after_all first run).ports
+pub run_fit : {D : Type 0} (first : AbstractState) (run : List (CallRecord D)) → IsRun first run → PortsWellFormed (abstract_after_all first run).ports
 run_fit first [] r = r.1
 run_fit first (event ∷ past) r = r.1.fit
 
@@ -128,7 +128,7 @@ welcome old new q n r rows asked fresh ok same = record {
     named : IsNamed old.machine.rows q g.row
     named = subst (λ (x : Request). IsNamed old.machine.rows x g.row) asked (rows g.row g.named.0, g.named.1)
 
-welcomed : {D : Type 0} (ask : Ask D) (said : CallResult) (old : AbstractState) (evidence : Evidence) (steps : List Step) (ports : Ports) (r : Accepted)
+welcomed : {D : Type 0} (ask : AbstractCall D) (said : CallResult) (old : AbstractState) (evidence : Evidence) (steps : List Step) (ports : Ports) (r : Accepted)
     → IsAnswered ask said old evidence steps (record { machine = after old.machine steps; ports = ports }) → AllMay old.machine steps → AreStepsOfCall ask ports steps → Contains (accepts_of steps) r → IsWelcome old ports r
 welcomed {D} (Submit q) (Submitted (Ok id)) old evidence steps ports r a may b h =
     let x = accepted_new old.machine steps r may h in
@@ -146,16 +146,16 @@ welcomes old event h r i = welcomed event.ask event.said old event.evidence even
 abbrev IsPlaced : Ports → Port → Type 0 → Type 0
 IsPlaced ports port was = (ports.state port ≡ Ready) ⊎ ((ports.state port ≡ Dead) × was)
 
-emptied_ready : (m : AbstractState) (e : Pending) → Contains m.machine.book e → IsEmptied m e.request.port → m.ports.state e.request.port ≡ Ready
+emptied_ready : (m : AbstractState) (e : Pending) → Contains m.machine.book e → EmptyUnlessReady m e.request.port → m.ports.state e.request.port ≡ Ready
 emptied_ready m e h empty = ⊎_elim (λ y. y) (λ ne. absurd (empty ne e h refl)) (ready_or (m.ports.state e.request.port))
 
 -- a ready or dead port is served
-placed_served : (ports : Ports) (port : Port) (was : Type 0) → AreFit ports → IsPlaced ports port was → ports.served port ≡ true
+placed_served : (ports : Ports) (port : Port) (was : Type 0) → PortsWellFormed ports → IsPlaced ports port was → ports.served port ≡ true
 placed_served ports port was fit placed = true_from_ne_false _ (λ f. ⊎_elim
     (λ ready. false≢true (ap is_ready (sym (fit.absent port f)) ∙ ap is_ready ready))
     (λ (dead : (ports.state port ≡ Dead) × was). false≢true (ap is_dead (sym (fit.absent port f)) ∙ ap is_dead dead.0)) placed)
 
-placed_event : {D : Type 0} (ask : Ask D) (said : CallResult) (old : AbstractState) (evidence : Evidence) (steps : List Step) (new : AbstractState) (was : Type 0) (e : Pending) → AreFit old.ports
+placed_event : {D : Type 0} (ask : AbstractCall D) (said : CallResult) (old : AbstractState) (evidence : Evidence) (steps : List Step) (new : AbstractState) (was : Type 0) (e : Pending) → PortsWellFormed old.ports
     → Contains new.machine.book e → IsPlaced old.ports e.request.port was → Kind ask said old evidence steps new was → IsPlaced new.ports e.request.port (StaysStuck ask said was)
 placed_event ask said old evidence steps new was e fit here placed (Leaves t r same keep) = ⊎_elim
     (λ ready. inl ((same e.request.port).1 ∙ ready)) (λ dead. inr ((same e.request.port).1 ∙ dead.0, keep dead.1)) placed
@@ -223,7 +223,7 @@ aged_once ports steps port a =
     at_most false = omega arith
 
 -- where a call ages nothing, or ages and restarts, ages stay two at most
-young : {D : Type 0} (ask : Ask D) (said : CallResult) (old : AbstractState) (evidence : Evidence) (steps : List Step) (new : AbstractState) (e : Pending) → AllFit ask steps → Kind ask said old evidence steps new (Unit {0})
+young : {D : Type 0} (ask : AbstractCall D) (said : CallResult) (old : AbstractState) (evidence : Evidence) (steps : List Step) (new : AbstractState) (e : Pending) → AllFit ask steps → Kind ask said old evidence steps new (Unit {0})
     → Contains new.machine.book e → e.issued ≡ true → ((o : Pending) → Contains old.machine.book o → o.issued ≡ true → o.age ≤ 2)
     → Since old.machine steps e ⊎ IsAccepted steps e → e.age ≤ 2
 young {D} ask said old evidence steps new e fit k here t all from = by k
@@ -313,7 +313,7 @@ kept_from old evidence ports m (Answer p outcome.PortDead ∷ before) l e h = go
 kept_from old evidence ports m (Again p ∷ before) l e h = moved_kept ports m (Again p) before e e refl refl (kept_from old evidence ports m before l.0 e h)
 kept_from old evidence ports m (step ∷ before) l e h = moved_kept ports m step before e e refl refl (kept_from old evidence ports m before l e h)
 
-kept_event : {D : Type 0} (ask : Ask D) (said : CallResult) (old : AbstractState) (evidence : Evidence) (steps : List Step) (new : AbstractState) (port : Port) → AreFit old.ports
+kept_event : {D : Type 0} (ask : AbstractCall D) (said : CallResult) (old : AbstractState) (evidence : Evidence) (steps : List Step) (new : AbstractState) (port : Port) → PortsWellFormed old.ports
     → count_by is_release steps ≡ 0 → old.ports.state port ≡ Dead → Kind ask said old evidence steps new (Unit {0}) → new.ports.state port ≡ Dead
 kept_event ask said old evidence steps new port fit none dead (Leaves t r same keep) = (same port).1 ∙ dead
 kept_event ask said old evidence steps new port fit none dead (Serves t r ports) = ((ports port).1.0 dead).1 ∙ dead
@@ -344,7 +344,7 @@ dead_or : (s : PortState) → (s ≡ Dead) ⊎ (s ≢ Dead)
 dead_or Dead = inl refl
 dead_or _ = inr (λ e. false≢true (ap is_dead e))
 
-was_dead : {D : Type 0} (ask : Ask D) (said : CallResult) (old : AbstractState) (evidence : Evidence) (steps : List Step) (new : AbstractState) (port : Port) → AreFit new.ports → new.ports.state port ≡ Dead
+was_dead : {D : Type 0} (ask : AbstractCall D) (said : CallResult) (old : AbstractState) (evidence : Evidence) (steps : List Step) (new : AbstractState) (port : Port) → PortsWellFormed new.ports → new.ports.state port ≡ Dead
     → Kind ask said old evidence steps new (Unit {0}) → (old.ports.state port ≡ Dead) ⊎ Contains evidence.stuck port
 was_dead ask said old evidence steps new port fit dead (Leaves t r same keep) = inl (sym (same port).1 ∙ dead)
 was_dead ask said old evidence steps new port fit dead (Serves t r ports) = ⊎_elim (λ was. inl was) (λ alive. inr (((ports port).1.1 alive).0.stuck.0 dead)) (dead_or (old.ports.state port))

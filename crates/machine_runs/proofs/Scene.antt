@@ -21,13 +21,13 @@ use Rattle.ata_types.specs.declared.grant.GrantRow.{GrantRow}
 use Rattle.block_machine.specs.declared.due.QueueMode.{QueueMode}
 use Rattle.block_machine.specs.declared.due.Unanswered.{Unanswered}
 use Rattle.ata_types.specs.Grant.{Allows}
-use Rattle.block_machine.specs.Rules.{IsAllowedCount, frames_for}
-use Rattle.block_machine.specs.Refusals.{IsOpen}
+use Rattle.block_machine.specs.Rules.{IsAllowedCount, frame_count_for}
+use Rattle.block_machine.specs.Refusals.{MayAccessFrame}
 use Rattle.block_machine.specs.Due.{NoneDue, is_flush}
 use Rattle.block_machine.specs.State.{Accepted, Pending, Machine, block_of, unanswered}
 use Rattle.block_machine.specs.Steps.{Step, Touch, End, Answer, newly_accepted, newly_issued, touch, mark_ended, MayAccept}
-use Rattle.block_machine.specs.Ports.{Ports, Evidence, AreFit, SamePort, IsInterrupted, MayBecome, IsServiced}
-use Rattle.block_machine.specs.Events.{AbstractState, Ask, CallResult, CallRecord, ShowsDisk, HasTimedOut, AnswersEnded, UnplugsAll, FindsAnother, AnswersService, Tells, situation_of, answers_of, reply_of}
+use Rattle.block_machine.specs.Ports.{Ports, Evidence, PortsWellFormed, SamePort, IsStoppedOrStuck, MayBecome, IsServiced}
+use Rattle.block_machine.specs.Events.{AbstractState, AbstractCall, CallResult, CallRecord, ShowsDisk, HasTimedOut, AnswersEnded, AnswersAllUnplugged, UnpluggedLostDisk, AnswersService, RepliesMatch, situation_of, answers_of, reply_of}
 use Rattle.block_machine.proofs.Members.{contains_none, contains_here, contains_cases, append_in, none_of}
 use Rattle.block_machine.proofs.Counting.{issued_not_due}
 use Rattle.block_machine.proofs.Setting.{client, on, port, frame, row, two_rows, request, empty, its_row, is_trim, IsFit, acceptable}
@@ -55,7 +55,7 @@ first = record { machine = empty; ports = ports }
 abbrev pub id : ℕ → RequestId
 id n = record { 0 = n }
 
-abbrev pub call : Ask (Unit {0}) → CallResult → List Step → CallRecord (Unit {0})
+abbrev pub call : AbstractCall (Unit {0}) → CallResult → List Step → CallRecord (Unit {0})
 call ask said steps = record { ask = ask; said = said; evidence = none; steps = steps; ports = ports }
 
 abbrev pub reply : ℕ → Reply
@@ -79,7 +79,7 @@ served r = Answer (done r) outcome.Ok ∷ End (touch 0 (newly_issued (newly_acce
 -- What holds of the parts.
 
 -- a frame of the client that is lent to none
-pub is_open : (m : Machine) (n offset count : ℕ) → m.owner (frame n) ≡ Some client → m.lent (frame n) ≡ None → offset + count ≤ 4096 → IsOpen m.owner m.lent client (frame n) offset count
+pub is_open : (m : Machine) (n offset count : ℕ) → m.owner (frame n) ≡ Some client → m.lent (frame n) ≡ None → offset + count ≤ 4096 → MayAccessFrame m.owner m.lent client (frame n) offset count
 is_open m n offset count own free fits fault.FrameForeign h = h own
 is_open m n offset count own free fits fault.FrameLent h = false≢true (sym (ap is_some free) ∙ h)
 is_open m n offset count own free fits fault.OutsideFrame h = omega (arith, fits, h)
@@ -97,7 +97,7 @@ pub row_zero : Contains two_rows (row 0)
 row_zero = contains_here (row 0) (row 1 ∷ []) (row 0) refl
 
 -- a request of one sector is fit there
-pub fit_sector : (p : ℕ) (m : AbstractState) (op : Op) (k n : ℕ) → IsQuiet p m → op ≢ Trim → op ≢ Flush → frames_for op 1 ≡ 1 → IsAllowedCount op 1 → Allows (row p).rights op → 100 ≤ k → k < 164
+pub fit_sector : (p : ℕ) (m : AbstractState) (op : Op) (k n : ℕ) → IsQuiet p m → op ≢ Trim → op ≢ Flush → frame_count_for op 1 ≡ 1 → IsAllowedCount op 1 → Allows (row p).rights op → 100 ≤ k → k < 164
     → m.machine.owner (frame n) ≡ Some client → m.machine.lent (frame n) ≡ None → IsFit p (situation_of m) (request p op k 1 (frame n ∷ []))
 fit_sector p m op k n q no_trim no_flush frames count allowed from to own free = record {
   rows = q.rows;
@@ -180,7 +180,7 @@ pub none_there : (p : Port) → NoneDue mode [] p
 none_there p r here due = contains_none r due.here
 
 -- an only answer is told
-pub one_told : (e : Pending) (o : Outcome) (steps : List Step) → answers_of steps ≡ (e, o) ∷ [] → (r : Reply) → r ≡ reply_of (e, o) → Tells steps (r ∷ [])
+pub one_told : (e : Pending) (o : Outcome) (steps : List Step) → answers_of steps ≡ (e, o) ∷ [] → (r : Reply) → r ≡ reply_of (e, o) → RepliesMatch steps (r ∷ [])
 one_told e o steps only r is = record {
   answers = (e, o) ∷ [];
   same = subst (λ xs. IsPermutation ((e, o) ∷ []) xs) (sym only) (IsPermutation-refl _);
@@ -188,7 +188,7 @@ one_told e o steps only r is = record {
   told = ap (λ (x : Reply). x ∷ []) is;
 }
 
-pub none_told : (steps : List Step) → answers_of steps ≡ [] → Tells steps []
+pub none_told : (steps : List Step) → answers_of steps ≡ [] → RepliesMatch steps []
 none_told steps only = record {
   answers = [];
   same = subst (λ xs. IsPermutation [] xs) (sym only) (IsPermutation-refl _);
@@ -203,7 +203,7 @@ abbrev pub is_unfit : PortState → Bool
 is_unfit (Unfit cause) = true
 is_unfit _ = false
 
-pub ports_fit : (state : PortState) → is_unfit state ≡ false → AreFit (ports_in state)
+pub ports_fit : (state : PortState) → is_unfit state ≡ false → PortsWellFormed (ports_in state)
 ports_fit state known = record {
   few = λ p e. let zero = eqb-true p.0 0 e in omega (arith, zero);
   absent = λ p e. cond-false (p.0 == 0) state Absent e;
@@ -280,11 +280,11 @@ shows_none {A} state none p shows = go (p.0 == 0) shows
     go false s = absurd s
 
 -- where port 0 was interrupted, the others are what they were
-pub changed_here : (old new : PortState) (evidence : Evidence) → IsInterrupted evidence port → (p : Port) → SamePort (ports_in old) (ports_in new) p ⊎ IsInterrupted evidence p
+pub changed_here : (old new : PortState) (evidence : Evidence) → IsStoppedOrStuck evidence port → (p : Port) → SamePort (ports_in old) (ports_in new) p ⊎ IsStoppedOrStuck evidence p
 changed_here old new evidence here p = go (p.0 == 0) refl
   where
-    go : (b : Bool) → (p.0 == 0) ≡ b → SamePort (ports_in old) (ports_in new) p ⊎ IsInterrupted evidence p
-    go true e = inr (subst (λ (x : Port). IsInterrupted evidence x) (sym (ap (λ (n : ℕ). record { 0 = n }) (eqb-true p.0 0 e))) here)
+    go : (b : Bool) → (p.0 == 0) ≡ b → SamePort (ports_in old) (ports_in new) p ⊎ IsStoppedOrStuck evidence p
+    go true e = inr (subst (λ (x : Port). IsStoppedOrStuck evidence x) (sym (ap (λ (n : ℕ). record { 0 = n }) (eqb-true p.0 0 e))) here)
     go false e = inl (refl, cond-false (p.0 == 0) new Absent e ∙ sym (cond-false (p.0 == 0) old Absent e), refl, refl, refl, refl)
 
 -- a port that no call got stuck stays ready
@@ -324,13 +324,13 @@ is_unplugged _ = false
 pub never_unplugged : {A : Type 0} (steps : List Step) → list_any is_unplugged steps ≡ false → (e : Pending) → Contains steps (Answer e outcome.Unplugged) → A
 never_unplugged steps none e h = absurd (false≢true (sym (none_of is_unplugged steps (Answer e outcome.Unplugged) none h)))
 
-pub none_unplugged : (steps : List Step) (m : Machine) → list_any is_unplugged steps ≡ false → UnplugsAll steps m
+pub none_unplugged : (steps : List Step) (m : Machine) → list_any is_unplugged steps ≡ false → AnswersAllUnplugged steps m
 none_unplugged steps m none = record {
   emptied = λ e other h i. never_unplugged steps none e h;
   alike = λ e other h i. never_unplugged steps none e h;
 }
 
-pub finds_none : (steps : List Step) (old new : Ports) → list_any is_unplugged steps ≡ false → FindsAnother steps old new
+pub finds_none : (steps : List Step) (old new : Ports) → list_any is_unplugged steps ≡ false → UnpluggedLostDisk steps old new
 finds_none steps old new none e h = never_unplugged steps none e h
 
 -- the step tells that a port is dead
@@ -354,7 +354,7 @@ pub emptied_of : (book : List Pending) → ((e : Pending) → Contains book e �
 emptied_of book mine p ne e h q = ne (subst (λ (x : Port). at_port Ready x ≡ Ready) (sym (mine e h) ∙ q) refl)
 
 -- a service with no evidence, of a server whose one port stays ready
-pub plain_service : (old new : Machine) (steps : List Step) (replies : List Reply) → Tells steps replies → list_any is_unplugged steps ≡ false
+pub plain_service : (old new : Machine) (steps : List Step) (replies : List Reply) → RepliesMatch steps replies → list_any is_unplugged steps ≡ false
     → ((p : Port) → AnswersEnded old steps p) → ((p : Port) → NoneDue mode (map unanswered new.book) p) → ((e : Pending) → Contains new.book e → e.request.port ≡ port)
     → AnswersService (record { machine = old; ports = ports }) none steps replies (record { machine = new; ports = ports })
 plain_service old new steps replies tells plugged ended issues mine = record {

@@ -2,14 +2,14 @@
 use Rattle.std.proofs.Common.{◌≡◌, ◌≢◌, ℕ, ◌<◌, true, false, List, ◌∷◌, refl, sym, ap, ◌∙◌, subst, arith, eqb-true, ◌-◌, [], inl, inr}
 use Rattle.std.proofs.lemmas.Bool.{or_left, and_parts, cond-false, false_from_ne_true}
 use Rattle.block_machine.specs.Due.{changes_sectors}
-use Rattle.block_machine.specs.State.{Block, Accepted, Pending, Machine, sector_of, written_by}
-use Rattle.block_machine.specs.Steps.{Step, Touch, May, IsLiving}
-use Rattle.block_machine.specs.Left.{after, IsLegal, IsInitial, IsTouch, touches, HasTouched, plug_count, disk_number_read, IsLastWritten, IsLeft}
+use Rattle.block_machine.specs.State.{Block, Accepted, Pending, Machine, sector_of, block_written}
+use Rattle.block_machine.specs.Steps.{Step, Touch, May, HoldsFrames}
+use Rattle.block_machine.specs.Left.{after, IsLegal, IsInitial, IsTouch, touches, HasTouched, plug_count, disk_number_read, IsLastWritten, IsExpectedBlock}
 use Rattle.block_machine.proofs.Trace.{Seen, runs_lives, conflict_at, read_number, last_from}
 use Rattle.block_machine.proofs.Runs.{traced}
 
 -- a request that isn't there touches nothing
-no_touch : (m : Machine) (step : Step) → May m step → (r : Accepted) (k : ℕ) → ((e : Pending) → IsLiving m e → e.request.id ≢ r.id) → touches r.id k step ≡ false
+no_touch : (m : Machine) (step : Step) → May m step → (r : Accepted) (k : ℕ) → ((e : Pending) → HoldsFrames m e → e.request.id ≢ r.id) → touches r.id k step ≡ false
 no_touch m (Touch e i block) may r k gone = false_from_ne_true _ (λ t.
     gone e (runs_lives m e may.0) (ap (λ (n : ℕ). record { 0 = n }) (eqb-true e.request.id.0 r.id.0 (and_parts _ _ t).0)))
 no_touch m _ may r k gone = refl
@@ -25,9 +25,9 @@ no_earlier m (Touch e i block) may r k seen w writes here less t =
     (conflict_at e.request r k here_e (or_left _ _ writes_e) (omega (arith, at)) (omega (arith, at, may.1)) seen.from seen.to)
 no_earlier m _ may r k seen w writes here less t = absurd t
 
-pub law_left_stays : (start : Machine) (h : List Step) (step : Step) (read : Accepted) (k n : ℕ) (block : Block) → IsInitial start → IsLegal start (step ∷ h)
-    → HasTouched read k n h → ((e : Pending) → IsLiving (after start h) e → e.request.id ≢ read.id) → IsLeft start h read k block → IsLeft start (step ∷ h) read k block
-law_left_stays start h step read k n block s legal touched gone left =
+pub law_expected_is_stable : (start : Machine) (h : List Step) (step : Step) (read : Accepted) (k n : ℕ) (block : Block) → IsInitial start → IsLegal start (step ∷ h)
+    → HasTouched read k n h → ((e : Pending) → HoldsFrames (after start h) e → e.request.id ≢ read.id) → IsExpectedBlock start h read k block → IsExpectedBlock start (step ∷ h) read k block
+law_expected_is_stable start h step read k n block s legal touched gone left =
     let m = after start h in
     let seen = (traced start h s legal.0).seen read k n touched in
     let same : disk_number_read read k (step ∷ h) ≡ disk_number_read read k h = cond-false (touches read.id k step) (plug_count read.port h) (disk_number_read read k h) (no_touch m step legal.1 read k gone) in
@@ -53,12 +53,12 @@ touched_one start (step ∷ past) s legal w x k n j o (inr a) (inl b) id = sym (
 touched_one start (step ∷ past) s legal w x k n j o (inr a) (inr b) id = touched_one start past s legal.0 w x k n j o a b id
 
 -- on a history that is legal, Left is one block
-pub law_left_is_one : (start : Machine) (h : List Step) (read : Accepted) (k : ℕ) (a b : Block) → IsInitial start → IsLegal start h → IsLeft start h read k a → IsLeft start h read k b → a ≡ b
-law_left_is_one start h read k a b s legal (inl p) (inl q) =
+pub law_expected_is_unique : (start : Machine) (h : List Step) (read : Accepted) (k : ℕ) (a b : Block) → IsInitial start → IsLegal start h → IsExpectedBlock start h read k a → IsExpectedBlock start h read k b → a ≡ b
+law_expected_is_unique start h read k a b s legal (inl p) (inl q) =
     let le = p.2 q.0 q.1 in
     let ge = q.2 p.0 p.1 in
     let same : p.0 ≡ q.0 = touched_one start h s legal p.0 q.0 k _ k _ p.1.touched q.1.touched (omega (arith, le, ge)) in
-    p.3 ∙ ap (λ (w : Accepted). written_by w.asked.op w.held (k - w.asked.first.0)) same ∙ sym q.3
-law_left_is_one start h read k a b s legal (inl p) (inr q) = absurd (q.0 p.0 p.1)
-law_left_is_one start h read k a b s legal (inr p) (inl q) = absurd (p.0 q.0 q.1)
-law_left_is_one start h read k a b s legal (inr p) (inr q) = p.1 ∙ sym q.1
+    p.3 ∙ ap (λ (w : Accepted). block_written w.asked.op w.held (k - w.asked.first.0)) same ∙ sym q.3
+law_expected_is_unique start h read k a b s legal (inl p) (inr q) = absurd (q.0 p.0 p.1)
+law_expected_is_unique start h read k a b s legal (inr p) (inl q) = absurd (p.0 q.0 q.1)
+law_expected_is_unique start h read k a b s legal (inr p) (inr q) = p.1 ∙ sym q.1

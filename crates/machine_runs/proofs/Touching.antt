@@ -5,7 +5,7 @@ use Rattle.std.proofs.lemmas.Bool.{or_cases, false≢true}
 use Rattle.std.specs.List.{Contains}
 use Rattle.ata_types.specs.declared.request.Outcome.TheVariants.{Ok}
 use Rattle.block_machine.specs.State.{Accepted, Pending, Machine, sector_of, waiting}
-use Rattle.block_machine.specs.Steps.{Step, Accept, Issue, Touch, End, Age, Again, Answer, Release, Revoke, Unplug, Replace, Store, Load, IsLiving, May, MayStillMove, after_step, newly_issued, touch, mark_ended, requeued, newly_accepted}
+use Rattle.block_machine.specs.Steps.{Step, Accept, Issue, Touch, End, Age, Again, Answer, Release, Revoke, Unplug, Replace, Store, Load, HoldsFrames, May, MayStillMove, after_step, newly_issued, touch, mark_ended, requeued, newly_accepted}
 use Rattle.block_machine.specs.Due.{conflict}
 use Rattle.block_machine.specs.Left.{after, IsLegal, IsInitial, IsIssue, IsTouch, IsEnd, HasTouchedSinceIssue, HasEndedSinceIssue}
 use Rattle.block_machine.specs.Events.{AbstractState, CallRecord, IsRun, steps_of}
@@ -146,6 +146,6 @@ law_ok_was_ended first run late early e r split =
     (traced_marks first.machine early (run_starts first run r) u.0 e u.1.0).ended u.2.1
 
 -- a request isn't moved while an earlier one that conflicts with it is there
-pub take_turns : (start : Machine) (history : List Step) (earlier later : Pending) → IsInitial start → IsLegal start history → IsLiving (after start history) earlier → MayStillMove (after start history) later
+pub take_turns : (start : Machine) (history : List Step) (earlier later : Pending) → IsInitial start → IsLegal start history → HoldsFrames (after start history) earlier → MayStillMove (after start history) later
     → earlier.request.id.0 < later.request.id.0 → conflict (waiting earlier.request) (waiting later.request) ≡ true → ⊥
 take_turns start history earlier later starts legal living may before conflicts = (traced start history starts legal).sound.order later earlier may living before conflicts

@@ -11,10 +11,10 @@ use Rattle.ata_types.specs.declared.request.RequestId.{RequestId}
 use Rattle.ata_types.specs.declared.request.Op.TheVariants.{Read, Write}
 use Rattle.ata_types.specs.declared.request.Outcome.{Outcome}
 use Rattle.ata_types.specs.declared.request.Outcome.TheVariants as outcome
-use Rattle.block_machine.specs.Ports.{Ports, Evidence, AreFit, SamePort, IsInterrupted, IsServiced}
+use Rattle.block_machine.specs.Ports.{Ports, Evidence, PortsWellFormed, SamePort, IsStoppedOrStuck, IsServiced}
 use Rattle.block_machine.specs.State.{Accepted, Pending, Machine, unanswered, is_reader}
 use Rattle.block_machine.specs.Steps.{Step, Accept, Issue, Touch, End, Again, Answer, Unplug, newly_accepted, newly_issued, touch, requeued}
-use Rattle.block_machine.specs.Events.{AbstractState, Submit, Service, Device, Submitted, Served, Stepped, CallRecord, Happens, UnplugsAll, Tells, IsToldBefore, IsIssuedIn, abstract_after, abstract_after_all, situation_of, steps_of, reply_of, ShowsDisk}
+use Rattle.block_machine.specs.Events.{AbstractState, Submit, Service, Device, Submitted, Served, Stepped, CallRecord, Happens, AnswersAllUnplugged, RepliesMatch, IsToldBefore, IsIssuedIn, abstract_after, abstract_after_all, situation_of, steps_of, reply_of, ShowsDisk}
 use Rattle.machine_runs.specs.Worked.{MeetsErrors}
 use Rattle.block_machine.proofs.Members.{contains_none, contains_here, contains_there, contains_cases, none_of}
 use Rattle.block_machine.proofs.Setting.{on, frame, row, two_rows, empty, empty_starts, acceptable, granted}
@@ -132,7 +132,7 @@ not_dead {A} low high z o p e = go (p.0 == 0) (p.0 == 1) e
     go false true e = absurd (false≢true (sym o ∙ ap is_dead e))
     go false false e = absurd (false≢true (ap is_dead e))
 
-fit : (low high : PortState) → is_unfit low ≡ false → is_unfit high ≡ false → AreFit (ports_in low high)
+fit : (low high : PortState) → is_unfit low ≡ false → is_unfit high ≡ false → PortsWellFormed (ports_in low high)
 fit low high l h = record {
   few = λ p e. ⊎_elim (λ q. let n = eqb-true p.0 0 q in omega (arith, n)) (λ q. let n = eqb-true p.0 1 q in omega (arith, n)) (or_cases (p.0 == 0) (p.0 == 1) e);
   absent = λ p. go (p.0 == 0) (p.0 == 1);
@@ -160,10 +160,10 @@ in_zero m present p shows = go (p.0 == 0) refl (p.0 == 1) shows
     go false z false s = absurd s
 
 -- a port that isn't interrupted is what it was where port 1 loses its disk
-changed_there : (evidence : Evidence) → Contains evidence.stopped (on 1) → (p : Port) → SamePort (ports_in Ready Ready) (ports_in Ready Absent) p ⊎ IsInterrupted evidence p
+changed_there : (evidence : Evidence) → Contains evidence.stopped (on 1) → (p : Port) → SamePort (ports_in Ready Ready) (ports_in Ready Absent) p ⊎ IsStoppedOrStuck evidence p
 changed_there evidence here p = go (p.0 == 0) refl (p.0 == 1) refl
   where
-    go : (a : Bool) → (p.0 == 0) ≡ a → (b : Bool) → (p.0 == 1) ≡ b → SamePort (ports_in Ready Ready) (ports_in Ready Absent) p ⊎ IsInterrupted evidence p
+    go : (a : Bool) → (p.0 == 0) ≡ a → (b : Bool) → (p.0 == 1) ≡ b → SamePort (ports_in Ready Ready) (ports_in Ready Absent) p ⊎ IsStoppedOrStuck evidence p
     go true z b o = inl (refl, cond-true (p.0 == 0) Ready (cond (p.0 == 1) Absent Absent) z ∙ sym (cond-true (p.0 == 0) Ready (cond (p.0 == 1) Ready Absent) z), refl, refl, refl, refl)
     go false z true o = inr (inl (subst (λ (x : Port). Contains evidence.stopped x) (sym (ap (λ (n : ℕ). record { 0 = n }) (eqb-true p.0 1 o))) here))
     go false z false o = inl (
@@ -288,7 +288,7 @@ left_here n e h = ⊎_elim (λ (same : e ≡ tried n). ap (λ (x : Pending). x.r
 abbrev all_told : List (Pending × Outcome)
 all_told = (failing, outcome.DeviceError 65 64) ∷ (done finished, outcome.Ok) ∷ (losing, outcome.Unplugged) ∷ []
 
-told_in_order : Tells serving (map reply_of all_told)
+told_in_order : RepliesMatch serving (map reply_of all_told)
 told_in_order = record {
   answers = all_told;
   same = IsPermutation-append_comm ((failing, outcome.DeviceError 65 64) ∷ (done finished, outcome.Ok) ∷ []) ((losing, outcome.Unplugged) ∷ []);
@@ -308,7 +308,7 @@ unplugs_zero (Answer e outcome.Unplugged) = e.request.port.0 == 0
 unplugs_zero _ = false
 
 -- port 1's alone are answered Unplugged
-unplugs_all : UnplugsAll serving (abstract_after_all first run7).machine
+unplugs_all : AnswersAllUnplugged serving (abstract_after_all first run7).machine
 unplugs_all = record {
   emptied = λ e other h i q. false≢true (sym (none_of unplugs_zero serving (Answer e outcome.Unplugged) refl h)
       ∙ eq-eqb e.request.port.0 0 (ap (λ (x : Port). x.0) (sym q) ∙ left_here 2 other i));

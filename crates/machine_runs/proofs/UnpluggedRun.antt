@@ -11,7 +11,7 @@ use Rattle.ata_types.specs.declared.request.Outcome.TheVariants as outcome
 use Rattle.block_machine.specs.Ports.{Evidence}
 use Rattle.block_machine.specs.State.{Pending, Machine}
 use Rattle.block_machine.specs.Steps.{Step, Age, Again, Answer, Unplug, newly_accepted, older}
-use Rattle.block_machine.specs.Events.{AbstractState, Tick, Device, Served, Stepped, CallRecord, HasTimedOut, RestartsTimedOut, Happens, Tells, IsToldBefore, reply_of, abstract_after_all, abstract_after}
+use Rattle.block_machine.specs.Events.{AbstractState, Tick, Device, Served, Stepped, CallRecord, HasTimedOut, RestartsTimedOut, Happens, RepliesMatch, IsToldBefore, reply_of, abstract_after_all, abstract_after}
 use Rattle.machine_runs.specs.Worked.{IsTakenOutBeforeATick}
 use Rattle.block_machine.proofs.Members.{contains_none, contains_here, contains_cases, none_of}
 use Rattle.block_machine.proofs.Setting.{port, frame, empty_starts}
@@ -133,7 +133,7 @@ restarted = record {
   disk = λ p _ shows. shows_none Absent (λ s. s) p shows;
 }
 
-told_in_order : Tells tick.steps (map reply_of told)
+told_in_order : RepliesMatch tick.steps (map reply_of told)
 told_in_order = record {
   answers = told;
   same = IsPermutation-append_comm ((aged 3, outcome.Unplugged) ∷ []) ((waits, outcome.Unplugged) ∷ []);

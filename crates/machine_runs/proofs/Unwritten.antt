@@ -9,7 +9,7 @@ use Rattle.ata_types.specs.Grant.{Allows}
 use Rattle.block_machine.specs.Due.{changes_sectors}
 use Rattle.block_machine.specs.State.{Block, Accepted, Machine}
 use Rattle.block_machine.specs.Steps.{Step, Touch, May}
-use Rattle.block_machine.specs.Left.{after, IsLegal, IsInitial, IsTouch, HasTouched, IsLeft, disk_number_read, bytes_when_plugged}
+use Rattle.block_machine.specs.Left.{after, IsLegal, IsInitial, IsTouch, HasTouched, IsExpectedBlock, disk_number_read, bytes_when_plugged}
 use Rattle.block_machine.specs.Confined.{WasAccepted, GrantsNoWrites}
 use Rattle.block_machine.proofs.Trace.{runs_lives}
 use Rattle.block_machine.proofs.Accepts.{living_accepted}
@@ -34,12 +34,12 @@ never_writes row none Trim may writes = false≢true (sym none.1 ∙ may)
 never_writes row none Flush may writes = false≢true writes
 
 -- so no write or trim touched a sector, and what is left came with the disk
-pub law_unwritten_disks_are_left : (start : Machine) (h : List Step) (read : Accepted) (k : ℕ) (block : Block) → IsInitial start → IsLegal start h
+pub law_unwritten_disk_is_as_plugged : (start : Machine) (h : List Step) (read : Accepted) (k : ℕ) (block : Block) → IsInitial start → IsLegal start h
     → ((row : GrantRow) → Contains start.rows row → GrantsNoWrites row)
-    → IsLeft start h read k block → block ≡ bytes_when_plugged start read.port (disk_number_read read k h) h k
-law_unwritten_disks_are_left start h read k block s legal none (inl last) =
+    → IsExpectedBlock start h read k block → block ≡ bytes_when_plugged start read.port (disk_number_read read k h) h k
+law_unwritten_disk_is_as_plugged start h read k block s legal none (inl last) =
     let writer = last.0 in
     let wrote = last.1 in
     let g = was_granted start h writer (toucher_accepted start h s legal writer k _ wrote.touched) in
     absurd (never_writes g.row (none g.row g.named.0) writer.asked.op g.right wrote.writes)
-law_unwritten_disks_are_left start h read k block s legal none (inr untouched) = untouched.1
+law_unwritten_disk_is_as_plugged start h read k block s legal none (inr untouched) = untouched.1

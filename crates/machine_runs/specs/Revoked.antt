@@ -7,7 +7,7 @@ use Rattle.ata_types.specs.declared.request.Outcome.TheVariants.{Ok, Revoked}
 use Rattle.block_machine.specs.Rules.{IsUnder}
 use Rattle.block_machine.specs.State.{Pending}
 use Rattle.block_machine.specs.Steps.{Answer, HasGrant}
-use Rattle.block_machine.specs.Left.{AllTellSectors}
+use Rattle.block_machine.specs.Left.{AllStepsFaithful}
 use Rattle.block_machine.specs.Events.{AbstractState, CallRecord, RevokeOf, Service, Served, WasRevoked, IsRun, reply_of, steps_of, abstract_after_all}
 
 -- In a run of calls two requests of one grant are unanswered at once: one is issued, and the other waits for it. Then
@@ -15,11 +15,11 @@ use Rattle.block_machine.specs.Events.{AbstractState, CallRecord, RevokeOf, Serv
 -- and the service that finds it ended answers it Ok, though its row isn't there. Or else its port fails first: the
 -- service that finds that stops the port, and has it ready again with the disk that it had. So the request would go
 -- again, but for its grant: it is told Revoked, and its frames are given back.
-pub record IsTakenBack : Type 0 where
+pub record RevokesWhileIssued : Type 0 where
   pub first : AbstractState
   pub run : List (CallRecord (Unit {0}))
   pub runs : IsRun first run
-  pub told : AllTellSectors first.machine (steps_of run)
+  pub told : AllStepsFaithful first.machine (steps_of run)
   -- the run's events: these before the grant is revoked, and one after it
   pub early : List (CallRecord (Unit {0}))
   pub call : CallRecord (Unit {0})
@@ -45,7 +45,7 @@ pub record IsTakenBack : Type 0 where
   -- or else the port fails first
   pub failing : CallRecord (Unit {0})
   pub runs_too : IsRun first (failing ∷ call ∷ early)
-  pub told_too : AllTellSectors first.machine (steps_of (failing ∷ call ∷ early))
+  pub told_too : AllStepsFaithful first.machine (steps_of (failing ∷ call ∷ early))
   pub serves_too : failing.ask ≡ Service
   pub fails : Contains failing.evidence.failed issued.request.port
   pub ready : failing.ports.state issued.request.port ≡ Ready

@@ -5,7 +5,7 @@ use Rattle.ata_types.specs.declared.request.Op.TheVariants.{Read}
 use Rattle.ata_types.specs.declared.request.Outcome.TheVariants as outcome
 use Rattle.block_machine.specs.State.{Accepted, Pending, Machine, sector_of}
 use Rattle.block_machine.specs.Steps.{Step, Again, Answer}
-use Rattle.block_machine.specs.Left.{HasTouchedSinceIssue, HasEndedSinceIssue, HoldsLeft}
+use Rattle.block_machine.specs.Left.{HasTouchedSinceIssue, HasEndedSinceIssue, HoldsExpected}
 use Rattle.block_machine.specs.Confined.{WasAccepted}
 use Rattle.block_machine.specs.Events.{CallRecord, AbstractState, Submit, Submitted, IsIssuedIn, issues_it, abstract_after_all, steps_of}
 
@@ -40,7 +40,7 @@ pub record CallAnswersOk {D : Type 0} (first : AbstractState) (past : List (Call
   pub answered : event.steps ≡ late ++ Answer e outcome.Ok ∷ early
   pub served : WasServed first.machine (early ++ steps_of past) e.request
   pub holds : e.request.asked.op ≡ Read
-      → HoldsLeft first.machine (early ++ steps_of past) (abstract_after_all first
+      → HoldsExpected first.machine (early ++ steps_of past) (abstract_after_all first
       (event ∷ past)).machine.memory e.request
 
 -- An unanswered request was there before these steps; and where it is issued, it was issued then, or these steps issue

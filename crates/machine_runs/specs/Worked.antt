@@ -9,7 +9,7 @@ use Rattle.block_machine.specs.declared.due.QueueMode.{QueueMode}
 use Rattle.block_machine.specs.State.{DiskBytes, Memory, Accepted, Pending, Machine, block_of, sector_of, unanswered}
 use Rattle.block_machine.specs.Due.{IsDue, conflict}
 use Rattle.block_machine.specs.Steps.{Step, Issue, Again, Answer, Unplug, Replace, May, AllTouched, SameBytes}
-use Rattle.block_machine.specs.Left.{after, IsInitial, AllTellSectors, HoldsLeft, TellsSectors}
+use Rattle.block_machine.specs.Left.{after, IsInitial, AllStepsFaithful, HoldsExpected, StepIsFaithful}
 use Rattle.durability.specs.Durable.{IsFlushed}
 use Rattle.block_machine.specs.Events.{AbstractState, CallRecord, Service, Tick, Reset, Device, Served, WasReset, IsRun, accepts_of, reply_of, steps_of, abstract_after_all}
 
@@ -20,7 +20,7 @@ replug_of first run port disk = Replace port ((abstract_after_all first run).mac
 
 -- with a volatile cache it may come back so
 abbrev pub MayComeBack : AbstractState → List (CallRecord (Unit {0})) → Port → DiskBytes → Type 0
-MayComeBack first run port disk = TellsSectors (abstract_after_all first run).machine (replug_of first run port disk)
+MayComeBack first run port disk = StepIsFaithful (abstract_after_all first run).machine (replug_of first run port disk)
 
 -- The run goes on: the disk is put in again with these bytes, a service boots the port, and a read of the first sector
 -- of the two writes is answered Ok. Its frame then has the bytes of the one, or those of the other.
@@ -30,7 +30,7 @@ pub record ReadsOneOf (first : AbstractState) (run : List (CallRecord (Unit {0})
   pub service : CallRecord (Unit {0})
   pub late : List (CallRecord (Unit {0}))
   pub runs : IsRun first (late ++ service ∷ plug ∷ run)
-  pub told : AllTellSectors first.machine (steps_of (late ++ service ∷ plug ∷ run))
+  pub told : AllStepsFaithful first.machine (steps_of (late ++ service ∷ plug ∷ run))
   pub comes : plug.steps ≡ replug_of first run one.port disk ∷ []
   pub serves : service.ask ≡ Service
   pub boots : (abstract_after_all first (service ∷ plug ∷ run)).ports.state one.port ≡ Ready
@@ -84,7 +84,7 @@ pub record WaitsItsTurn : Type 0 where
   pub first : AbstractState
   pub run : List (CallRecord (Unit {0}))
   pub runs : IsRun first run
-  pub told : AllTellSectors first.machine (steps_of run)
+  pub told : AllStepsFaithful first.machine (steps_of run)
   -- the run's events: these before that call, and the two after it
   pub early : List (CallRecord (Unit {0}))
   pub call : CallRecord (Unit {0})
@@ -160,7 +160,7 @@ pub record MeetsErrors : Type 0 where
   pub fourth : CallRecord (Unit {0})
   pub last : CallRecord (Unit {0})
   pub runs : IsRun first (last ∷ fourth ∷ third ∷ service ∷ asked)
-  pub told : AllTellSectors first.machine (steps_of (last ∷ fourth ∷ third ∷ service ∷ asked))
+  pub told : AllStepsFaithful first.machine (steps_of (last ∷ fourth ∷ third ∷ service ∷ asked))
   pub lost : Pending
   pub failed : Pending
   pub again : Pending
@@ -304,8 +304,8 @@ pub record ReadsWrongWithoutKeptRule : Type 0 where
   pub read : Pending
   pub starts : IsInitial start
   pub loose : AllMayWithoutKeptRule start history
-  pub told : AllTellSectors start history
+  pub told : AllStepsFaithful start history
   pub here : Contains (after start history).book read
   pub whole : AllTouched read
   pub reads : read.request.asked.op ≡ Read
-  pub wrong : HoldsLeft start history (after start history).memory read.request → ⊥
+  pub wrong : HoldsExpected start history (after start history).memory read.request → ⊥

@@ -14,40 +14,40 @@ ghost use Rattle.ata_types.specs.declared.request.Reply.{Reply};
 ghost use Rattle.ata_types.specs.declared.grant.GrantRow.{GrantRow};
 ghost use Rattle.block_machine.specs.Due.{conflict};
 ghost use Rattle.block_machine.specs.State.{Block, Accepted, Pending, Machine, sector_of, waiting};
-ghost use Rattle.block_machine.specs.Steps.{Step, Answer, HasGrant, after_step, IsLiving, MayStillMove};
-ghost use Rattle.block_machine.specs.Left.{IsInitial, IsLegal, HasTouched, HasTouchedSinceIssue, HasEndedSinceIssue, IsLeft, after, bytes_when_plugged, disk_number_read};
+ghost use Rattle.block_machine.specs.Steps.{Step, Answer, HasGrant, after_step, HoldsFrames, MayStillMove};
+ghost use Rattle.block_machine.specs.Left.{IsInitial, IsLegal, HasTouched, HasTouchedSinceIssue, HasEndedSinceIssue, IsExpectedBlock, after, bytes_when_plugged, disk_number_read};
 ghost use Rattle.block_machine.specs.Confined.{GrantsNoWrites, WasAccepted, MayChangeByte, MayChangeSector};
-ghost use Rattle.block_machine.specs.Events.{AbstractState, CallRecord, AllIssued, Happens, EveryReadHolds, IsLawful, IsRun, IsStillStuck, accepts_it, answers_it, issues_it, gives_id, replies_of, all_replies, WasGiven, abstract_after_all, steps_of};
+ghost use Rattle.block_machine.specs.Events.{AbstractState, CallRecord, NoneDueWhereReady, Happens, EveryReadHolds, IsLawful, IsRun, IsStillStuck, accepts_it, answers_it, issues_it, gives_id, replies_of, all_replies, WasGiven, abstract_after_all, steps_of};
 ghost use Rattle.machine_runs.specs.Told.{AsksFor, CameFrom, CallAnswersOk, WasAsked, waits_again};
-ghost use Rattle.machine_runs.specs.Revoked.{IsTakenBack};
+ghost use Rattle.machine_runs.specs.Revoked.{RevokesWhileIssued};
 ghost use Rattle.machine_runs.specs.Worked.{FindsFlushedOrLater, WaitsItsTurn, QuarantineEndsWithReset, MeetsErrors, IsAnsweredByTick, IsTakenOutBeforeATick, GoesAgainInResets, DiesInAService, ReadsWrongWithoutKeptRule};
 
 /// Where no grant lets its client write or trim, what is left on a sector for a read is what the disk that it found
 /// there held when it was put in.
-pub fn law_unwritten_disks_are_left()
+pub fn law_unwritten_disk_is_as_plugged()
     ensures { (start : Machine) (history : List Step) (read : Accepted) (sector : ℕ) (block : Block)
         → IsInitial start → IsLegal start history
         → ((row : GrantRow) → Contains start.rows row → GrantsNoWrites row)
-        → IsLeft start history read sector block
+        → IsExpectedBlock start history read sector block
         → block ≡ bytes_when_plugged start read.port (disk_number_read read sector history) history sector }
 {}
 
 /// What is left on a sector is one block.
-pub fn law_left_is_one()
+pub fn law_expected_is_unique()
     ensures { (start : Machine) (history : List Step) (read : Accepted) (sector : ℕ)
         (one other : Block)
-        → IsInitial start → IsLegal start history → IsLeft start history read sector one
-        → IsLeft start history read sector other → one ≡ other }
+        → IsInitial start → IsLegal start history → IsExpectedBlock start history read sector one
+        → IsExpectedBlock start history read sector other → one ≡ other }
 {}
 
 /// What is left for a read that was answered stays what it is: no write or trim accepted before it touches the sector
 /// any more, however long the run goes on.
-pub fn law_left_stays()
+pub fn law_expected_is_stable()
     ensures { (start : Machine) (history : List Step) (step : Step) (read : Accepted)
         (sector disk : ℕ) (block : Block)
         → IsInitial start → IsLegal start (step ∷ history) → HasTouched read sector disk history
-        → ((e : Pending) → IsLiving (after start history) e → e.request.id ≢ read.id)
-        → IsLeft start history read sector block → IsLeft start (step ∷ history) read sector block }
+        → ((e : Pending) → HoldsFrames (after start history) e → e.request.id ≢ read.id)
+        → IsExpectedBlock start history read sector block → IsExpectedBlock start (step ∷ history) read sector block }
 {}
 
 /// A run exists in which ticks, a reset that is stuck, and one that ends do what they have to.
@@ -159,7 +159,7 @@ pub fn law_dead_ports_were_stuck<D>()
 {}
 
 /// Over every run a request is issued four times at most, and one that is answered Aborted was issued four times.
-pub fn law_issued_four_times<D>()
+pub fn law_issued_four_at_most<D>()
     ensures most { (first : AbstractState) (run : List (CallRecord D)) (id : RequestId) → IsRun first run
         → count_by (issues_it id) (steps_of run) ≤ 4 }
     ensures aborted { (first : AbstractState) (run : List (CallRecord D)) (late early : List Step) (e : Pending)
@@ -193,7 +193,7 @@ pub fn law_issued_once_a_call<D>()
 /// At each moment of a run no request of a ready port is due: calls that issue leave none, and no other makes one due.
 pub fn law_none_due_between<D>()
     ensures { (first : AbstractState) (run : List (CallRecord D)) → IsRun first run
-        → AllIssued (abstract_after_all first run) }
+        → NoneDueWhereReady (abstract_after_all first run) }
 {}
 
 /// At each moment of a run the age of an issued request is two at most: the tick that would bring it to three restarts
@@ -248,7 +248,7 @@ pub fn law_sectors_change_by()
 pub fn law_conflicting_requests_take_turns()
     ensures { (start : Machine) (history : List Step) (earlier later : Pending) → IsInitial start
         → IsLegal start history
-        → IsLiving (after start history) earlier → MayStillMove (after start history) later
+        → HoldsFrames (after start history) earlier → MayStillMove (after start history) later
         → earlier.request.id.0 < later.request.id.0
         → conflict (waiting earlier.request) (waiting later.request) ≡ true
         → ⊥ }
@@ -261,7 +261,7 @@ pub fn law_a_start_exists()
 
 /// A run exists in which a read finds a flushed write or a later one, whichever the disk kept while it was out: so the
 /// laws on reads and on flushed writes have something to say.
-pub fn law_a_worked_run_exists()
+pub fn law_a_replug_run_exists()
     ensures { FindsFlushedOrLater }
 {}
 
@@ -280,7 +280,7 @@ pub fn law_what_waits_has_its_grant<D>()
 /// A run exists in which a grant is revoked while a request of it is issued and another waits: this one is answered
 /// Revoked, and that one Ok; and one in which that one, whose port fails, is told Revoked in place of going again.
 pub fn law_a_revoking_run_exists()
-    ensures { IsTakenBack }
+    ensures { RevokesWhileIssued }
 {}
 
 /// A run exists in which two ports serve requests, the one fails and the other loses its disk, and a fault, an
@@ -302,7 +302,7 @@ pub fn law_an_unplugged_run_exists()
 
 /// A run exists in which resets issue a request anew, abort it after its fourth issue, and issue one that waited for
 /// it.
-pub fn law_a_rebooted_run_exists()
+pub fn law_a_four_resets_run_exists()
     ensures { GoesAgainInResets }
 {}
 

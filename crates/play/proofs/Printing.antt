@@ -1,6 +1,6 @@
 -- What the lines so far have printed.
-use Rattle.std.proofs.Common.{ℕ, true, false, ◌≡◌, ◌≤◌, ◌-◌, drop, Bool, List, [], ◌∷◌, ◌++◌, ◌+◌, Option, Some, None, sym, ap, ◌∙◌, append-nil, append_assoc, subst, length, take, refl, arith}
-use Rattle.std.specs.Prelude.{IfErr, IsErr, OnOk, Ok, Err}
+use Rattle.std.proofs.Common.{ℕ, suc, ◌<◌, true, false, ◌≡◌, ◌≤◌, ◌-◌, drop, Bool, List, [], ◌∷◌, ◌++◌, ◌+◌, Option, Some, None, sym, ap, ◌∙◌, append-nil, append_assoc, subst, length, take, refl, arith}
+use Rattle.std.specs.Prelude.{IfErr, IfSome, IsErr, OnOk, Ok, Err}
 use Rattle.std.specs.declared.result.Result.{Result}
 use Rattle.std.specs.Borrow.{Bor}
 use Rattle.std.specs.Io.KnownBytes.{Appends, Keeps}
@@ -17,8 +17,7 @@ use Rattle.adapter.specs.declared.access.DeviceStep.{DeviceStep}
 use Rattle.adapter.specs.declared.tape.Entry.{Entry}
 use Rattle.block_server.specs.Promise.{Simulates}
 use Rattle.block_server.specs.View.{ServerView}
-use Rattle.script.specs.Script.{Asks, AskInTurn, done, IsBad, IsFirstLine, IsScript, lines_of, lines_after}
-use Rattle.script.proofs.ScriptLemmas.{AskFrom, ask_more, ask_one, ask_from, asked_lines, not_bad}
+use Rattle.script.specs.Script.{Asks, AskInTurn, done, IsFirstLine, IsScript, LineLaws, SplitsAt, asked_lines, lines_of, lines_after}
 use Rattle.play.specs.Lines.{call_text}
 use Rattle.play.specs.Played.{Prints, none, call, PrintsPart, Ran, IsWhole}
 
@@ -43,19 +42,15 @@ abbrev pub bytes_left : Option (Bor (List ℕ)) → ℕ
 bytes_left None = 0
 bytes_left (Some left) = length left.now + 1
 
+-- less is left after a line
+pub fewer_left : (after : Option (Bor (List ℕ))) (n : ℕ) → IfSome after (λ a. length a.now < n) → suc (bytes_left after) ≤ n + 1
+fewer_left None n less = omega arith
+fewer_left (Some a) n less = omega (arith, less)
+
 -- the first line and those after it stand after the lines before
 pub cut_more : (all before : List (List ℕ)) (text first : List ℕ) (after : Option (Bor (List ℕ))) → all ≡ before ++ lines_of text → IsFirstLine text first after
     → all ≡ before ++ first ∷ lines_after after
 cut_more all before text first after cut is = cut ∙ ap (λ (lines : List (List ℕ)). before ++ lines) is
-
--- what is left of a script asks, where the script does
-pub left_ask : (all before : List (List ℕ)) (text : List ℕ) (after : List (List ℕ)) (lines : List (Call DeviceStep)) → all ≡ before ++ text ∷ after → AskInTurn all lines
-    → AskFrom text after
-left_ask all before text after lines cut asks = ask_from before text after lines (subst (λ (texts : List (List ℕ)). AskInTurn texts lines) cut asks)
-
--- so a text that is looked at isn't bad
-pub none_bad : (text : List ℕ) (after : List (List ℕ)) → AskFrom text after → IsBad text → ⊥
-none_bad text after from bad = not_bad text from.asked from.asks bad
 
 module _ {A : Type 0} (device : A → Device) (starved : A → Bool) (trace : Bool) (first : ServerView A) (all : List (List ℕ)) where
   -- these texts were read, their lines led to the server, and what they printed stands in the output
@@ -84,23 +79,23 @@ module _ {A : Type 0} (device : A → Device) (starved : A → Bool) (trace : Bo
   }
 
   -- the lines of one text more
-  asks_more : (texts : List (List ℕ)) (played : List (Call DeviceStep)) (text : List ℕ) (asked : Option (Call DeviceStep)) → AskInTurn texts played → Asks text asked
+  asks_more : (laws : LineLaws) (texts : List (List ℕ)) (played : List (Call DeviceStep)) (text : List ℕ) (asked : Option (Call DeviceStep)) → AskInTurn texts played → Asks text asked
       → AskInTurn (texts ++ text ∷ []) (played ++ asked_lines asked)
-  asks_more texts played text asked asks more = ask_more texts (text ∷ []) played (asked_lines asked) asks (ask_one text asked more)
+  asks_more laws texts played text asked asks more = laws.joined texts (text ∷ []) played (asked_lines asked) asks (laws.single text asked more)
 
   cut_on : (texts : List (List ℕ)) (text : List ℕ) (left : Option (Bor (List ℕ))) → all ≡ texts ++ text ∷ lines_after left
       → all ≡ (texts ++ text ∷ []) ++ lines_after left
   cut_on texts text left cut = cut ∙ sym (append_assoc texts (text ∷ []) (lines_after left))
 
   -- a text that asks nothing
-  pub played_nothing : (now : ServerView A) (shown : ℕ) (text line : List ℕ) (t : Bor (List ℕ)) (left : Option (Bor (List ℕ))) (before after : Option (List ℕ))
+  pub played_nothing : (laws : LineLaws) (now : ServerView A) (shown : ℕ) (text line : List ℕ) (t : Bor (List ℕ)) (left : Option (Bor (List ℕ))) (before after : Option (List ℕ))
       → PlayedSoFar now shown (Some t) before after → IsFirstLine t.now line left → Asks line None → PlayedSoFar now shown left before after
-  played_nothing now shown text line t left before after so_far is asks = record {
+  played_nothing laws now shown text line t left before after so_far is asks = record {
     texts = so_far.texts ++ line ∷ [];
     cut = cut_on so_far.texts line left (cut_more all so_far.texts t.now line left so_far.cut is);
     played = so_far.played;
     asks = subst (λ (lines : List (Call DeviceStep)). AskInTurn (so_far.texts ++ line ∷ []) lines) (append-nil so_far.played)
-        (asks_more so_far.texts so_far.played line None so_far.asks asks);
+        (asks_more laws so_far.texts so_far.played line None so_far.asks asks);
     said = so_far.said;
     text = so_far.text;
     last = so_far.last;
@@ -109,15 +104,15 @@ module _ {A : Type 0} (device : A → Device) (starved : A → Bool) (trace : Bo
   }
 
   -- a line that was played, and printed whole
-  pub played_line : (now next : ServerView A) (shown : ℕ) (text : List ℕ) (asked : Call DeviceStep) (t : Bor (List ℕ)) (left : Option (Bor (List ℕ)))
+  pub played_line : (laws : LineLaws) (now next : ServerView A) (shown : ℕ) (text : List ℕ) (asked : Call DeviceStep) (t : Bor (List ℕ)) (left : Option (Bor (List ℕ)))
       (before mid after : Option (List ℕ)) → PlayedSoFar now shown (Some t) before mid → IsFirstLine t.now text left → Asks text (Some asked)
       → (p : PrintsPart device starved trace shown asked now next mid after) → length p.text ≤ p.part
       → starved now.adapter ≡ false → PlayedSoFar next (length (device next.adapter).tape) left before after
-  played_line now next shown text asked t left before mid after so_far is asks p whole fed = record {
+  played_line laws now next shown text asked t left before mid after so_far is asks p whole fed = record {
     texts = so_far.texts ++ text ∷ [];
     cut = cut_on so_far.texts text left (cut_more all so_far.texts t.now text left so_far.cut is);
     played = so_far.played ++ asked ∷ [];
-    asks = asks_more so_far.texts so_far.played text (Some asked) so_far.asks asks;
+    asks = asks_more laws so_far.texts so_far.played text (Some asked) so_far.asks asks;
     said = so_far.said ++ p.one ∷ [];
     text = so_far.text ++ so_far.last;
     last = call_text trace shown (device next.adapter).tape p.one;
@@ -128,18 +123,18 @@ module _ {A : Type 0} (device : A → Device) (starved : A → Bool) (trace : Bo
 
 module _ {A : Type 0} (device : A → Device) (starved : A → Bool) (trace : Bool) (first : ServerView A) (script : List ℕ) where
   -- a line that was played, and that was the last one; the lines after it ask what they ask
-  pub ran_part : (now next : ServerView A) (shown : ℕ) (text : List ℕ) (asked : Call DeviceStep) (t : Bor (List ℕ)) (left : Option (Bor (List ℕ)))
+  pub ran_part : (laws : LineLaws) (now next : ServerView A) (shown : ℕ) (text : List ℕ) (asked : Call DeviceStep) (t : Bor (List ℕ)) (left : Option (Bor (List ℕ)))
       (before mid after : Option (List ℕ)) → PlayedSoFar device starved trace first (lines_of script) now shown (Some t) before mid → IsFirstLine t.now text left → Asks text (Some asked)
-      → AskFrom text (lines_after left) → (p : PrintsPart device starved trace shown asked now next mid after)
+      → (texts : List (List ℕ)) (lines : List (Call DeviceStep)) → SplitsAt texts text (lines_after left) lines → (p : PrintsPart device starved trace shown asked now next mid after)
       → starved now.adapter ≡ false → (ran : Ran device starved trace script first next before after) × (ran.part ≡ p.part)
-  ran_part now next shown text asked t left before mid after so_far is asks from p fed = (
+  ran_part laws now next shown text asked t left before mid after so_far is asks texts lines from p fed = (
     record {
       played = so_far.played ++ asked ∷ [];
       rest = from.rest;
       asks = subst (λ (texts : List (List ℕ)). AskInTurn texts ((so_far.played ++ asked ∷ []) ++ from.rest))
           (sym (cut_on device starved trace first (lines_of script) so_far.texts text left (cut_more (lines_of script) so_far.texts t.now text left so_far.cut is)))
-          (ask_more (so_far.texts ++ text ∷ []) (lines_after left) (so_far.played ++ asked ∷ []) from.rest
-          (asks_more device starved trace first (lines_of script) so_far.texts so_far.played text (Some asked) so_far.asks asks) from.others);
+          (laws.joined (so_far.texts ++ text ∷ []) (lines_after left) (so_far.played ++ asked ∷ []) from.rest
+          (asks_more device starved trace first (lines_of script) laws so_far.texts so_far.played text (Some asked) so_far.asks asks) from.others);
       shown = length (device next.adapter).tape;
       said = so_far.said ++ p.one ∷ [];
       text = so_far.text ++ so_far.last;

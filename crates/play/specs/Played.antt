@@ -11,7 +11,7 @@ use Rattle.block_machine.specs.Histories.{JointState}
 use Rattle.block_server.specs.Made.{IsInitialServer}
 use Rattle.block_server.specs.Promise.{KeepsPromise, Simulates}
 use Rattle.block_server.specs.View.{ServerView, server_of}
-use Rattle.configuration.specs.Document.{IsReadFrom, IsToldOf}
+use Rattle.configuration.specs.Document.{IsReadFrom, IsTextFault}
 use Rattle.configuration.specs.declared.Config.{Config}
 use Rattle.configuration.specs.declared.ConfigFault.{ConfigFault}
 use Rattle.configuration.specs.declared.ConfigFault.TheVariants as config
@@ -27,8 +27,8 @@ use Rattle.sector_store.specs.declared.pages.Trim.TheVariants.{Full, Weak, Witho
 use Rattle.server_history.specs.Histories.{LeadsToServer}
 use Rattle.play.specs.Lines.{call_text}
 use Rattle.play.specs.declared.session.Ended.{Ended}
-use Rattle.play.specs.declared.session.Stop.{Stop}
-use Rattle.play.specs.declared.session.Stop.TheVariants as stop
+use Rattle.play.specs.declared.session.PlayError.{PlayError}
+use Rattle.play.specs.declared.session.PlayError.TheVariants as stop
 use Rattle.play.specs.declared.session.Ended.TheVariants.{Done, Config as BadConfig, Line as BadLine, NoMemory, Unwritten}
 
 -- ---- the model
@@ -164,21 +164,21 @@ abbrev pub ended_by_line : FirstBad → Ended
 ended_by_line bad = BadLine bad.0
 
 -- what a stop in its midst ends it as
-abbrev pub ended_by_stop : Stop → Ended
+abbrev pub ended_by_stop : PlayError → Ended
 ended_by_stop stop.NoMemory = NoMemory
 ended_by_stop stop.Unwritten = Unwritten
 
 -- What is so where a run stopped at its last line, of whether the adapter is starved and how much of that line's text
 -- was printed: where want of memory is told, nothing was; where an output that failed is told, the adapter isn't
 -- starved.
-abbrev pub IsWhy : Bool → ℕ → Stop → Type 0
+abbrev pub IsWhy : Bool → ℕ → PlayError → Type 0
 IsWhy starved part stop.NoMemory = part ≡ 0
 IsWhy starved part stop.Unwritten = starved ≡ false
 
 -- Why nothing is played: the configuration has a fault, or it has none and the script has a bad line, or memory was
 -- refused.
 abbrev pub IsRefused : List ℕ → List ℕ → Ended → Type 0
-IsRefused config script (BadConfig kind) = IsToldOf config kind
+IsRefused config script (BadConfig kind) = IsTextFault config kind
 IsRefused config script (BadLine number) = (values : Config) × IsReadFrom config values × IsFirstBad script number
 IsRefused config script NoMemory = Unit {0}
 IsRefused config script Done = ⊥

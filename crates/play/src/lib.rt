@@ -3,12 +3,12 @@
 //! The lines of the script are the server's calls, each a list of one for `run`, and are answered
 //! at once, in lines of text. The configuration and the whole script are read before the first line
 //! is played. A run ends where the model is starved: its answers aren't to be believed then.
-//! `play_on` does so over any adapter that can be watched.
+//! `play_adapter` does so over any adapter that can be watched.
 #![tactic(auto)]
 
 mod printed;
 mod session;
 mod setting;
 
-pub use session::{Ended, Finished, Stop, play, play_on, read};
+pub use session::{Ended, Finished, PlayError, parse_inputs, play, play_adapter};
 pub use setting::{model_with, new_model};

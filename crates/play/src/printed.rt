@@ -2,7 +2,7 @@
 ghost use Rattle.std.specs.Prelude.{◌≡◌, ◌≢◌, ◌≤◌, ℕ, IfErr, OnOk, length, take};
 ghost use Rattle.std.specs.Io.KnownBytes.{Appends};
 ghost use Rattle.std.specs.declared.io.ErrorKind.TheVariants.{Interrupted};
-ghost use Rattle.block_server.specs.Sayings.{with_replies};
+ghost use Rattle.block_server.specs.CallResults.{with_replies};
 ghost use Rattle.play.specs.Lines.{call_text, end_text, gained_text, replies_text, done_text, said_text, trace_text};
 ghost use Rattle.script.specs.Answer.{answer_line};
 ghost use Rattle.std.specs.List.{flat_map};

@@ -4,12 +4,12 @@ ghost use Rattle.std.specs.Vec.{vec_capacity};
 ghost use Rattle.ata_types.specs.declared.call.Call.{Call};
 ghost use Rattle.ata_types.specs.declared.call.CallResult.{CallResult};
 ghost use Rattle.adapter.specs.declared.access.DeviceStep.{DeviceStep};
-ghost use Rattle.block_server.specs.Sayings.{with_replies};
+ghost use Rattle.block_server.specs.CallResults.{with_replies};
 ghost use Rattle.block_server.specs.Made.{IsInitialServer, IsReadyFor};
 ghost use Rattle.block_server.specs.Promise.{Simulates};
 ghost use Rattle.block_server.specs.View.{ServerView};
 ghost use Rattle.configuration.specs.Document.{IsReadFrom};
-ghost use Rattle.configuration.specs.Rules.{MeetsAll};
+ghost use Rattle.configuration.specs.Rules.{LacksEveryFault};
 ghost use Rattle.script.specs.Script.{IsScript};
 ghost use Rattle.device_model.specs.Modelled.{device_at, is_starved};
 ghost use Rattle.play.specs.Played.{Ends, IsRefused, IsServerOfModel, IsWhole, IsWhy, PrintsPart, Ran};
@@ -19,10 +19,11 @@ use crate::setting::new_model;
 use adapter::{Adapter, DeviceStep, Stepped};
 use ata_types::Call;
 use block_server::laws::law_runs_keep_their_promise;
-use block_server::{Sayings, Server};
+use block_server::{CallResults, Server};
 use configuration::{Config, ConfigFault, FaultKind};
-use device_model::{Model, NoMemory, Watched};
-use script::{BadLine, CallBuffer, check_script, first_line, read_asked};
+use device_model::{Model, NoMemory, TapedAdapter};
+use script::laws::law_lines_are_asked_in_turn;
+use script::{BadLine, CallBuffer, check_script, first_line, parse_script_line};
 use sector_store::SectorStore;
 use std::alloc::{AllocFailed, Global};
 use std::{io, slice};
@@ -56,22 +57,22 @@ pub struct Finished<S: SectorStore> {
 
 /// Why a run stops before its script's end.
 #[derive(Clone, Copy, Debug, PartialEq, Eq)]
-pub enum Stop {
+pub enum PlayError {
     /// Memory was refused, or the adapter can't go on.
     NoMemory,
     /// The output failed.
     Unwritten,
 }
 
-impl From<Stop> for Ended {
+impl From<PlayError> for Ended {
     ghost use Rattle.play.specs.Played.{ended_by_stop};
 
     ghost from_gives = { λ stop ended. ended ≡ ended_by_stop stop };
 
-    fn from(stop: Stop) -> Ended {
+    fn from(stop: PlayError) -> Ended {
         match stop {
-            Stop::NoMemory => Ended::NoMemory,
-            Stop::Unwritten => Ended::Unwritten,
+            PlayError::NoMemory => Ended::NoMemory,
+            PlayError::Unwritten => Ended::Unwritten,
         }
     }
 }
@@ -80,7 +81,7 @@ impl From<Stop> for Ended {
 #[derive(Drop)]
 struct Room {
     /// What the last call said, for which there is room from the start.
-    said: Sayings,
+    said: CallResults,
     /// What is printed of one line.
     text: Vec<u8>,
 }
@@ -109,7 +110,7 @@ impl From<BadLine> for Ended {
 }
 
 /// The values of a configuration's text, where the lines of the script are good, too.
-pub fn read(alloc: Global, config: &[u8], script: &[u8]) -> Result<Config, Ended>
+pub fn parse_inputs(alloc: Global, config: &[u8], script: &[u8]) -> Result<Config, Ended>
     ensures read { IfOk result (IsReadFrom config.now) }
     ensures good { OnOk result ((calls : List (Call DeviceStep)) × IsScript script.now calls) }
     ensures refused { IfErr result (IsRefused config.now script.now) }
@@ -152,7 +153,7 @@ fn start<S: SectorStore>(
     image: S,
     blank: S,
 ) -> Result<Box<Server<Model<S>>>, NoMemory>
-    requires { MeetsAll config.now }
+    requires { LacksEveryFault config.now }
     ensures { IfOk result (λ server. IsServerOfModel S.size S.told config.now image blank server.value) }
 {
     let model = new_model(alloc, config, image, blank)?;
@@ -164,7 +165,7 @@ fn start<S: SectorStore>(
 }
 
 /// Makes one call, for which there is room. What it said is all that was said then.
-fn make_call<A: Stepped>(server: &mut Server<A>, call: &Call<DeviceStep>, said: &mut Sayings)
+fn make_call<A: Stepped>(server: &mut Server<A>, call: &Call<DeviceStep>, said: &mut CallResults)
     requires { 1 ≤ vec_capacity said.old.earlier }
     ensures keeps { (one : CallResult (Unit {0})) × (said.new.last ≡ Some one)
         × Simulates A.device server.old server.new (call.now ∷ []) (with_replies one said.new.replies.items ∷ []) }
@@ -178,14 +179,14 @@ fn make_call<A: Stepped>(server: &mut Server<A>, call: &Call<DeviceStep>, said: 
 /// Plays a line: makes its call, and prints of it what the tape gained past so many entries, with a trace, and what it
 /// said. Gives how many entries the tape has then. Where it fails, a beginning of that text is printed, which may be
 /// nothing.
-fn play_line<A: Watched, W: io::Write>(
+fn play_line<A: TapedAdapter, W: io::Write>(
     server: &mut Server<A>,
     call: &Call<DeviceStep>,
     room: &mut Room,
     trace: bool,
     shown: usize,
     out: &mut W,
-) -> Result<usize, Stop>
+) -> Result<usize, PlayError>
     requires fed { A.ended server.old.adapter ≡ false }
     requires room { 1 ≤ vec_capacity room.old.said.earlier }
     ensures room { 1 ≤ vec_capacity room.new.said.earlier }
@@ -199,7 +200,7 @@ fn play_line<A: Watched, W: io::Write>(
     let adapter = server.adapter();
     let is_starved = adapter.has_ended();
     if is_starved {
-        return Err(Stop::NoMemory);
+        return Err(PlayError::NoMemory);
     }
     let tape = adapter.tape();
     let Ok(()) = print_call(
@@ -211,10 +212,10 @@ fn play_line<A: Watched, W: io::Write>(
         room.said.replies(),
     ) else {
         // A text in memory wants nothing but memory.
-        return Err(Stop::NoMemory);
+        return Err(PlayError::NoMemory);
     };
     let Ok(()) = write_out(out, room.text.as_slice()) else {
-        return Err(Stop::Unwritten);
+        return Err(PlayError::Unwritten);
     };
     Ok(tape.len())
 }
@@ -223,24 +224,25 @@ fn play_line<A: Watched, W: io::Write>(
 /// with a trace, and what it said. Where memory is refused, to the model too, or the output fails, it stops at that
 /// line: no later one is played.
 #[inline(never)]
-fn perform<A: Watched, W: io::Write>(
+fn perform<A: TapedAdapter, W: io::Write>(
     alloc: Global,
     server: &mut Server<A>,
     script: &[u8],
     trace: bool,
     out: &mut W,
-) -> Result<(), Stop>
+) -> Result<(), PlayError>
     requires good { (calls : List (Call DeviceStep)) × IsScript script.now calls }
     ensures { (ran : Ran A.device A.ended trace script.now server.old server.new (W.contents out.old)
         (W.contents out.new))
         × OnOk result (IsWhole ran) × IfErr result (IsWhy (A.ended server.new.adapter) ran.part) }
 {
+    law_lines_are_asked_in_turn();
     if server.adapter().has_ended() {
-        return Err(Stop::NoMemory);
+        return Err(PlayError::NoMemory);
     }
-    let mut said = Sayings::new(alloc);
+    let mut said = CallResults::new(alloc);
     if said.reserve(1).is_err() {
-        return Err(Stop::NoMemory);
+        return Err(PlayError::NoMemory);
     }
     let mut room = Room {
         said,
@@ -251,7 +253,7 @@ fn perform<A: Watched, W: io::Write>(
     let mut rest = Some(script);
     while let Some(text) = rest {
         let (line, after) = first_line(text);
-        match read_asked(line, &mut asked) {
+        match parse_script_line(line, &mut asked) {
             Ok(true) => shown = play_line(server, asked.call(), &mut room, trace, shown, out)?,
             Ok(false) => {}
             // No line is: the script was looked at.
@@ -274,32 +276,32 @@ fn unbegun<S: SectorStore>(ended: Ended) -> Finished<S>
 /// answers. The adapter comes back as the last line that was played left it; or as it was, with nothing printed, where
 /// no server could be made of it for want of memory. It doesn't come back where there was no memory to keep the server
 /// in: nothing is printed then either. Where it can't go on, `NoMemory` is told, too.
-pub fn play_on<A: Watched + Drop, W: io::Write>(
+pub fn play_adapter<A: TapedAdapter + Drop, W: io::Write>(
     alloc: Global,
     config: &Config,
     script: &[u8],
     adapter: A,
     trace: bool,
     out: &mut W,
-) -> (Result<(), Stop>, Option<A>)
-    requires sound { MeetsAll config.now }
+) -> (Result<(), PlayError>, Option<A>)
+    requires sound { LacksEveryFault config.now }
     requires good { (calls : List (Call DeviceStep)) × IsScript script.now calls }
     requires ready { IsReadyFor config.now (A.device adapter) }
-    ensures left { IfSome result.1 (λ left. ((left ≡ adapter) × (result.0 ≡ Err Stop.NoMemory)
+    ensures left { IfSome result.1 (λ left. ((left ≡ adapter) × (result.0 ≡ Err PlayError.NoMemory)
         × (W.contents out.new ≡ W.contents out.old))
         ⊎ ((server last : ServerView A) × IsInitialServer A.device config.now adapter server
         × (left ≡ last.adapter)
         × (ran : Ran A.device A.ended trace script.now server last (W.contents out.old) (W.contents out.new))
         × OnOk result.0 (IsWhole ran) × IfErr result.0 (IsWhy (A.ended last.adapter) ran.part))) }
-    ensures none { result.1 ≡ None → (result.0 ≡ Err Stop.NoMemory) × (W.contents out.new ≡ W.contents out.old) }
+    ensures none { result.1 ≡ None → (result.0 ≡ Err PlayError.NoMemory) × (W.contents out.new ≡ W.contents out.old) }
 {
     // The configuration is sound, so memory is all that can be wanting.
     let server = match Server::new(alloc, config, adapter) {
         Ok(server) => server,
-        Err((_refused, adapter)) => return (Err(Stop::NoMemory), Some(adapter)),
+        Err((_refused, adapter)) => return (Err(PlayError::NoMemory), Some(adapter)),
     };
     let Ok(mut server) = on_heap(alloc, server) else {
-        return (Err(Stop::NoMemory), None);
+        return (Err(PlayError::NoMemory), None);
     };
     let performed = perform(alloc, &mut server, script, trace, out);
     (performed, Some(closed(server)))
@@ -327,7 +329,7 @@ pub fn play<S: SectorStore, W: io::Write>(
     ensures { Ends S.size S.told config.now script.now image blank trace (W.contents out.old) (W.contents out.new)
         result.ended result.model }
 {
-    let values = match read(alloc, config, script) {
+    let values = match parse_inputs(alloc, config, script) {
         Ok(values) => values,
         Err(ended) => return unbegun(ended),
     };

@@ -1,7 +1,7 @@
 // The model behind the server, as a configuration says.
 ghost use Rattle.std.specs.Prelude.{◌≡◌, IfOk, string_bytes};
 ghost use Rattle.block_server.specs.Made.{IsReadyFor};
-ghost use Rattle.configuration.specs.Rules.{MeetsAll, IsTrim};
+ghost use Rattle.configuration.specs.Rules.{LacksEveryFault, IsTrim};
 ghost use Rattle.device_model.specs.Modelled.{device_at};
 ghost use Rattle.play.specs.Played.{IsModelOf, IsModelWith, word_of};
 
@@ -34,7 +34,7 @@ pub fn new_model<S: SectorStore>(
     image: S,
     blank: S,
 ) -> Result<Model<S>, NoMemory>
-    requires { MeetsAll config.now }
+    requires { LacksEveryFault config.now }
     ensures ready { IfOk result (λ m. IsReadyFor config.now (device_at S.size S.told m)) }
     ensures made { IfOk result (IsModelOf S.size S.told config.now image blank) }
 {
@@ -48,7 +48,7 @@ pub fn model_with<S: SectorStore>(
     config: &Config,
     disks: Disks<S>,
 ) -> Result<Model<S>, NoMemory>
-    requires { MeetsAll config.now }
+    requires { LacksEveryFault config.now }
     ensures ready { IfOk result (λ m. IsReadyFor config.now (device_at S.size S.told m)) }
     ensures made { IfOk result (IsModelWith S.size S.told config.now disks) }
 {

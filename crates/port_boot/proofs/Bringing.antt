@@ -8,19 +8,19 @@ use Rattle.hba_regs.specs.declared.reg.PortReg.{PortReg}
 use Rattle.adapter.specs.Access.{Access}
 use Rattle.adapter.specs.Device.{Notes, Device}
 use Rattle.adapter.specs.declared.tape.Entry.{Entry}
-use Rattle.refinement.specs.Driven.{AnyUse, IsControl, IsSimulated, IsSimulatedAlong}
+use Rattle.refinement.specs.Driven.{AnyUse, OnPortWriting, IsSimulated, IsSimulatedAlong}
 use Rattle.refinement.specs.Driver.{AllFree}
 use Rattle.refinement.specs.Slots.{SlotStates}
 use Rattle.refinement.specs.Driven.{Grows}
 use Rattle.port_control.specs.Calls.{FindsDisk, FindsFault, StaysReceiving, Starts}
 use Rattle.port_control.specs.Engines.{StopsReceiving}
-use Rattle.port_control.specs.Ports.{IsCommandRegister, IsPlacingRegister, IsResetRegister, ReceivesFises, BacksFault, WasReset, IsFound}
+use Rattle.port_control.specs.Ports.{IsCommandRegister, IsPlacingRegister, IsResetRegister, ReceivesFises, BacksFault, SendsComresetThen, IsDeviceFound}
 use Rattle.port_control.specs.declared.PortFault.{PortFault}
 use Rattle.port_control.specs.declared.PortFault.TheVariants.{NoDevice, Busy, EngineStuck, NotAta}
-use Rattle.port_boot.specs.States.{EndsAs, IsBootRegister, IsBootable, IsBroughtUp, EndsBeforeStart, IsStateOfFault}
+use Rattle.port_boot.specs.States.{BacksState, IsBootRegister, IsBootable, IsBroughtUp, EndsBeforeStart, IsStateOfFault}
 use Rattle.port_boot.specs.Laws.SlotCondition.{AnyUses, PortUnused}
 use Rattle.port_boot.specs.Laws.RegisterSet.{BootRegisters, Commanding, Placing, Resetting}
-use Rattle.port_boot.specs.Laws.AccessKind.{Controlling}
+use Rattle.port_boot.specs.Laws.AccessPurpose.{Controlling}
 use Rattle.port_boot.specs.Laws.{Laws, SlotCondition, RegisterSet, registers_of, uses_of}
 use Rattle.refinement.specs.Tape.{TapeTells}
 use Rattle.port_boot.proofs.Stretching.{driven_grows, stays_on, there_after, told_then, comes_in_parts, plugs_in_parts, same_over, told_wider}
@@ -32,14 +32,14 @@ neither_second true b e = absurd (true≢false e)
 
 -- what stands behind the state of a port whose device showed a fault
 pub fault_ends : (port : ℕ) (new : Device) (state : PortState) (fault : PortFault) → IsStateOfFault state fault → fault ≢ EngineStuck → ReceivesFises port (new.port port) → BacksFault fault (new.port port).notes →
-    (wanted : Option (List ℕ)) → EndsAs wanted state port new
+    (wanted : Option (List ℕ)) → BacksState wanted state port new
 fault_ends port new state fault told other receives shown wanted = by fault told other shown
   where
-    by : (f : PortFault) → IsStateOfFault state f → f ≢ EngineStuck → BacksFault f (new.port port).notes → EndsAs wanted state port new
-    by NoDevice is not shown = subst (λ (s : PortState). EndsAs wanted s port new) (sym is) (receives.stopped, shown)
-    by Busy is not shown = subst (λ (s : PortState). EndsAs wanted s port new) (sym is) (receives.stopped, inl (refl, shown))
+    by : (f : PortFault) → IsStateOfFault state f → f ≢ EngineStuck → BacksFault f (new.port port).notes → BacksState wanted state port new
+    by NoDevice is not shown = subst (λ (s : PortState). BacksState wanted s port new) (sym is) (receives.stopped, shown)
+    by Busy is not shown = subst (λ (s : PortState). BacksState wanted s port new) (sym is) (receives.stopped, inl (refl, shown))
     by EngineStuck is not shown = absurd (not refl)
-    by (NotAta signature) is not shown = subst (λ (s : PortState). EndsAs wanted s port new) (sym is) (receives.stopped, inr (inl (refl, (signature, shown))))
+    by (NotAta signature) is not shown = subst (λ (s : PortState). BacksState wanted s port new) (sym is) (receives.stopped, inr (inl (refl, (signature, shown))))
 
 -- placing, resetting and starting are of a boot
 pub placing : (r : PortReg) → IsPlacingRegister r → IsBootRegister r
@@ -54,16 +54,16 @@ starting r is = inl (inl is)
 module _ (laws : Laws) where
   -- ---- stretches of accesses
 
-  module _ (set : RegisterSet) (fitting : SlotCondition) (port : Port) (old new : Device) (f : IsSimulated (IsControl (registers_of set) port) (uses_of fitting port) old new) where
+  module _ (set : RegisterSet) (fitting : SlotCondition) (port : Port) (old new : Device) (f : IsSimulated (OnPortWriting (registers_of set) port) (uses_of fitting port) old new) where
     pub later : length old.tape ≤ length new.tape
     later =
-        let g = driven_grows laws (IsControl (registers_of set) port) old new f.driven in
+        let g = driven_grows laws (OnPortWriting (registers_of set) port) old new f.driven in
         let n : length new.tape ≡ length old.tape + length g.0 = ap (λ (es : List Entry). length es) g.1 ∙ length-append old.tape g.0 in
         omega (arith, n)
 
     pub bootable_after : ((uses : SlotStates) → AllFree uses port.0 → uses_of fitting port uses) → IsBootable port old → IsBootable port new
     bootable_after fits b =
-        let s = same_over laws (IsControl (registers_of set) port) old new f.driven in
+        let s = same_over laws (OnPortWriting (registers_of set) port) old new f.driven in
         record {
           on = stays_on laws set port old new f.driven b.on;
           there = there_after s b.there;
@@ -73,38 +73,38 @@ module _ (laws : Laws) where
 
   -- it is a part of the boot, and as much is told of it
   pub told_boots : (TapeTells : List Access → Type 0) (set : RegisterSet) (fitting : SlotCondition) (port : Port) (old new : Device) → ((r : PortReg) → registers_of set r → IsBootRegister r) →
-      ((uses : SlotStates) → AllFree uses port.0 → uses_of fitting port uses) → IsSimulatedAlong TapeTells (IsControl (registers_of set) port) (uses_of fitting port) old new →
-      IsSimulatedAlong TapeTells (IsControl IsBootRegister port) (λ uses. AllFree uses port.0) old new
+      ((uses : SlotStates) → AllFree uses port.0 → uses_of fitting port uses) → IsSimulatedAlong TapeTells (OnPortWriting (registers_of set) port) (uses_of fitting port) old new →
+      IsSimulatedAlong TapeTells (OnPortWriting IsBootRegister port) (λ uses. AllFree uses port.0) old new
   told_boots TapeTells set fitting port old new wider fits f =
       told_wider laws TapeTells (Controlling set fitting port) (Controlling BootRegisters PortUnused port) (λ uses. uses) old new (laws.control_wider set BootRegisters port wider) fits f
 
-  pub boots : (set : RegisterSet) (fitting : SlotCondition) (port : Port) (old new : Device) → IsSimulated (IsControl (registers_of set) port) (uses_of fitting port) old new →
-      ((r : PortReg) → registers_of set r → IsBootRegister r) → ((uses : SlotStates) → AllFree uses port.0 → uses_of fitting port uses) → IsSimulated (IsControl IsBootRegister port) (λ uses. AllFree uses port.0) old new
+  pub boots : (set : RegisterSet) (fitting : SlotCondition) (port : Port) (old new : Device) → IsSimulated (OnPortWriting (registers_of set) port) (uses_of fitting port) old new →
+      ((r : PortReg) → registers_of set r → IsBootRegister r) → ((uses : SlotStates) → AllFree uses port.0 → uses_of fitting port uses) → IsSimulated (OnPortWriting IsBootRegister port) (λ uses. AllFree uses port.0) old new
   boots set fitting port old new f wider fits = (told_boots (λ made. Unit {0}) set fitting port old new wider fits (record { followed = f; tells = tt })).followed
 
-  pub placed_bootable : (port : Port) (old mid : Device) → IsBootable port old → IsSimulated (IsControl IsPlacingRegister port) AnyUse old mid → IsBootable port mid
+  pub placed_bootable : (port : Port) (old mid : Device) → IsBootable port old → IsSimulated (OnPortWriting IsPlacingRegister port) AnyUse old mid → IsBootable port mid
   placed_bootable port old mid b first = bootable_after Placing AnyUses port old mid first (λ uses free. tt) b
 
-  module _ (port : Port) (old mid reset : Device) (b : IsBootable port old) (first : IsSimulatedAlong (StopsReceiving port) (IsControl IsPlacingRegister port) AnyUse old mid)
-      (second : IsSimulated (IsControl IsResetRegister port) AnyUse mid reset) where
+  module _ (port : Port) (old mid reset : Device) (b : IsBootable port old) (first : IsSimulatedAlong (StopsReceiving port) (OnPortWriting IsPlacingRegister port) AnyUse old mid)
+      (second : IsSimulated (OnPortWriting IsResetRegister port) AnyUse mid reset) where
     pub reset_bootable : IsBootable port reset
     reset_bootable = bootable_after Resetting AnyUses port mid reset second (λ uses free. tt) (placed_bootable port old mid b first.followed)
 
-    pub reset_boots : IsSimulatedAlong (StopsReceiving port) (IsControl IsBootRegister port) (λ uses. AllFree uses port.0) old reset
+    pub reset_boots : IsSimulatedAlong (StopsReceiving port) (OnPortWriting IsBootRegister port) (λ uses. AllFree uses port.0) old reset
     reset_boots = told_then laws (StopsReceiving port) (Controlling BootRegisters PortUnused port) (λ early late. laws.falls_then early late 4 14 port) old mid reset
         (told_boots (StopsReceiving port) Placing AnyUses port old mid placing (λ uses free. tt) first) (boots Resetting AnyUses port mid reset second resetting (λ uses free. tt))
 
     early : Grows old mid
-    early = driven_grows laws (IsControl IsPlacingRegister port) old mid first.followed.driven
+    early = driven_grows laws (OnPortWriting IsPlacingRegister port) old mid first.followed.driven
 
     late : Grows mid reset
-    late = driven_grows laws (IsControl IsResetRegister port) mid reset second.driven
+    late = driven_grows laws (OnPortWriting IsResetRegister port) mid reset second.driven
 
-    pub reset_since : {Then : Device → Device → Type 0} → WasReset port Then mid reset → length old.tape ≤ (reset.port port.0).notes.sctl_written_at
+    pub reset_since : {Then : Device → Device → Type 0} → SendsComresetThen port Then mid reset → length old.tape ≤ (reset.port port.0).notes.sctl_written_at
     reset_since was = le_trans (later Placing AnyUses port old mid first.followed) was.since
 
     -- what was found is so of the whole
-    found_before : IsFound port.0 mid reset → IsFound port.0 old reset
+    found_before : IsDeviceFound port.0 mid reset → IsDeviceFound port.0 old reset
     found_before found = record {
       calm = found.calm;
       clear = record {
@@ -127,13 +127,13 @@ module _ (laws : Laws) where
       found = λ other. found_before (f.found other);
     }
 
-    module _ (new : Device) (third : IsSimulated (IsControl IsCommandRegister port) (λ uses. AllFree uses port.0) reset new) where
-      pub up_boots : IsSimulatedAlong (StopsReceiving port) (IsControl IsBootRegister port) (λ uses. AllFree uses port.0) old new
+    module _ (new : Device) (third : IsSimulated (OnPortWriting IsCommandRegister port) (λ uses. AllFree uses port.0) reset new) where
+      pub up_boots : IsSimulatedAlong (StopsReceiving port) (OnPortWriting IsBootRegister port) (λ uses. AllFree uses port.0) old new
       up_boots = told_then laws (StopsReceiving port) (Controlling BootRegisters PortUnused port) (λ early late. laws.falls_then early late 4 14 port) old reset new reset_boots
           (boots Commanding PortUnused port reset new third starting (λ uses free. free))
 
       last : Grows reset new
-      last = driven_grows laws (IsControl IsCommandRegister port) reset new third.driven
+      last = driven_grows laws (OnPortWriting IsCommandRegister port) reset new third.driven
 
       pub brought_up : FindsDisk port mid reset → Starts port reset new → IsBroughtUp port old new
       brought_up f s =

@@ -8,10 +8,10 @@ use Rattle.adapter.specs.Device.{Device}
 use Rattle.adapter.specs.Rules.{IsOn}
 use Rattle.refinement.specs.Errors.{ChangesByErrors}
 use Rattle.refinement.specs.Facts.{Undisturbed, RunsWell}
-use Rattle.refinement.specs.Links.{SparesRegister}
+use Rattle.refinement.specs.Links.{DoesNotWrite}
 use Rattle.refinement.specs.Started.{IsUp}
 use Rattle.refinement.specs.Driven.{Grows}
-use Rattle.port_boot.specs.States.{HasCauses, RunsOn}
+use Rattle.port_boot.specs.States.{BitsRiseWithCause, RunsOn}
 use Rattle.port_boot.specs.Laws.{Laws}
 use Rattle.std.specs.List.{All}
 use Rattle.std.proofs.lemmas.List.Elements.{All-head, All-tail}
@@ -22,7 +22,7 @@ use Rattle.std.proofs.lemmas.Bool.{cases_eq}
 -- a link that is up stays so where nothing goes wrong
 pub record Endures (port : ℕ) (old new : Device) : Type 0 where
   pub grows : Grows old new
-  pub goes : HasCauses port old new
+  pub goes : BitsRiseWithCause port old new
   pub up : Undisturbed port old new → IsUp (old.port port) → IsUp (new.port port)
 
 -- a port that runs does so still
@@ -41,14 +41,14 @@ module _ (laws : Laws) where
         b.fault parts.1 (a.fault parts.0 clear);
   }
 
-  pub goes_more : (port : ℕ) (old mid new : Device) → Grows old mid → Grows mid new → HasCauses port old mid → HasCauses port mid new → HasCauses port old new
+  pub goes_more : (port : ℕ) (old mid new : Device) → Grows old mid → Grows mid new → BitsRiseWithCause port old mid → BitsRiseWithCause port mid new → BitsRiseWithCause port old new
   goes_more port old mid new early late a b = record {
     undue = λ h. b.undue (a.undue h);
     disks = λ h. laws.tape.change_more port old mid new early late (a.disks h) (b.disks (a.undue h));
     errors = errors_more port old mid new early late a.errors b.errors;
   }
 
-  goes_none : (port : ℕ) (d : Device) → HasCauses port d d
+  goes_none : (port : ℕ) (d : Device) → BitsRiseWithCause port d d
   goes_none port d = record {
     undue = λ h. h;
     disks = λ h. laws.tape.change_none port d;
@@ -74,8 +74,8 @@ module _ (laws : Laws) where
 
   -- ---- one access
 
-  module _ (port : Port) (access : Access) (old new : Device) (on : IsOn old) (control : SparesRegister (Px port Sctl) access) (does : Does access old new) where
-    goes_access : HasCauses port.0 old new
+  module _ (port : Port) (access : Access) (old new : Device) (on : IsOn old) (control : DoesNotWrite (Px port Sctl) access) (does : Does access old new) where
+    goes_access : BitsRiseWithCause port.0 old new
     goes_access = record {
       undue = λ h. laws.tape.access_undue port access old new on.no_reset h control does;
       disks = λ h. laws.tape.access_change port access old new on.no_reset h does;
@@ -89,38 +89,38 @@ module _ (laws : Laws) where
       up = λ calm h. laws.access_stays_up port access old new on.no_reset control calm does h;
     }
 
-    pub lasts_access : SparesRegister (Px port Cmd) access → Lasts port.0 old new
+    pub lasts_access : DoesNotWrite (Px port Cmd) access → Lasts port.0 old new
     lasts_access command = record {
       grows = laws.tape.access_grows access old new does;
       runs = record {
         goes = goes_access;
         started = λ calm h. laws.access_started port access old new on.no_reset
-            (λ v is. absurd (subst (SparesRegister (Px port Cmd)) is command refl)) control calm does h;
+            (λ v is. absurd (subst (DoesNotWrite (Px port Cmd)) is command refl)) control calm does h;
         recorded = λ h. laws.access_recorded port access old new command control does h;
       };
     }
 
   -- ---- stretches
 
-  later : (access : Access) (old new : Device) → IsOn old → SparesRegister Ghc access → Does access old new → IsOn new
-  later access old new on spares does = laws.access_on access old new on (λ v is. absurd (subst (SparesRegister Ghc) is spares refl)) does
+  later : (access : Access) (old new : Device) → IsOn old → DoesNotWrite Ghc access → Does access old new → IsOn new
+  later access old new on spares does = laws.access_on access old new on (λ v is. absurd (subst (DoesNotWrite Ghc) is spares refl)) does
 
-  pub endures : (port : Port) (accesses : List Access) (old new : Device) → IsOn old → DoesAll accesses old new → All (SparesRegister Ghc) accesses → All (SparesRegister (Px port Sctl)) accesses → Endures port.0 old new
+  pub endures : (port : Port) (accesses : List Access) (old new : Device) → IsOn old → DoesAll accesses old new → All (DoesNotWrite Ghc) accesses → All (DoesNotWrite (Px port Sctl)) accesses → Endures port.0 old new
   endures port [] old new on is host control = subst (Endures port.0 old) (sym is) (record { grows = laws.tape.grows_none old; goes = goes_none port.0 old; up = λ calm h. h })
   endures port (access ∷ accesses) old new on (mid, does, rest) host control =
-      endures_more port.0 old mid new (endures_access port access old mid on (All-head (SparesRegister (Px port Sctl)) access accesses control) does)
-      (endures port accesses mid new (later access old mid on (All-head (SparesRegister Ghc) access accesses host) does) rest (All-tail (SparesRegister Ghc) access accesses host)
-      (All-tail (SparesRegister (Px port Sctl)) access accesses control))
+      endures_more port.0 old mid new (endures_access port access old mid on (All-head (DoesNotWrite (Px port Sctl)) access accesses control) does)
+      (endures port accesses mid new (later access old mid on (All-head (DoesNotWrite Ghc) access accesses host) does) rest (All-tail (DoesNotWrite Ghc) access accesses host)
+      (All-tail (DoesNotWrite (Px port Sctl)) access accesses control))
 
-  pub lasts : (port : Port) (accesses : List Access) (old new : Device) → IsOn old → DoesAll accesses old new → All (SparesRegister Ghc) accesses → All (SparesRegister (Px port Sctl)) accesses →
-      All (SparesRegister (Px port Cmd)) accesses → Lasts port.0 old new
+  pub lasts : (port : Port) (accesses : List Access) (old new : Device) → IsOn old → DoesAll accesses old new → All (DoesNotWrite Ghc) accesses → All (DoesNotWrite (Px port Sctl)) accesses →
+      All (DoesNotWrite (Px port Cmd)) accesses → Lasts port.0 old new
   lasts port [] old new on is host control command =
       subst (Lasts port.0 old) (sym is) (record { grows = laws.tape.grows_none old; runs = record { goes = goes_none port.0 old; started = λ calm h. h; recorded = λ h. h } })
   lasts port (access ∷ accesses) old new on (mid, does, rest) host control command =
       lasts_more port.0 old mid new
-      (lasts_access port access old mid on (All-head (SparesRegister (Px port Sctl)) access accesses control) does (All-head (SparesRegister (Px port Cmd)) access accesses command))
-      (lasts port accesses mid new (later access old mid on (All-head (SparesRegister Ghc) access accesses host) does) rest (All-tail (SparesRegister Ghc) access accesses host)
-      (All-tail (SparesRegister (Px port Sctl)) access accesses control) (All-tail (SparesRegister (Px port Cmd)) access accesses command))
+      (lasts_access port access old mid on (All-head (DoesNotWrite (Px port Sctl)) access accesses control) does (All-head (DoesNotWrite (Px port Cmd)) access accesses command))
+      (lasts port accesses mid new (later access old mid on (All-head (DoesNotWrite Ghc) access accesses host) does) rest (All-tail (DoesNotWrite Ghc) access accesses host)
+      (All-tail (DoesNotWrite (Px port Sctl)) access accesses control) (All-tail (DoesNotWrite (Px port Cmd)) access accesses command))
 
   -- a port that runs well runs on so, where nothing goes wrong on it: no bit tells of trouble either
   pub well_on : (port : ℕ) (old new : Device) → RunsOn port old new → Undisturbed port old new → RunsWell (old.port port) → RunsWell (new.port port)

@@ -17,23 +17,23 @@ use Rattle.adapter.specs.Rules.{IsOn, HasPort, MayWrite, IsStable}
 use Rattle.adapter.specs.declared.command.Operation.TheVariants.{Identify}
 use Rattle.adapter.specs.declared.tape.Entry.{Entry}
 use Rattle.adapter.specs.declared.tape.Entry.TheVariants as entry
-use Rattle.adapter.specs.Seen.{PutAt}
-use Rattle.refinement.specs.Driven.{RelatesWith, AnyUse, IsRelated, IsControl, IsDrivenBy, IsSimulated, IsSimulatedAlong, IsSimulatedAlongTo, SendsNone}
-use Rattle.refinement.specs.Halting.{HaltsAsTaken}
+use Rattle.adapter.specs.Seen.{PortRegisterWritten}
+use Rattle.refinement.specs.Driven.{RelatesWith, AnyUse, IsRelated, OnPortWriting, IsDrivenBy, IsSimulated, IsSimulatedAlong, IsSimulatedAlongTo, GainsNoMove}
+use Rattle.refinement.specs.Halting.{HaltIsOfTaken}
 use Rattle.refinement.specs.Links.{SameAdapter}
 use Rattle.refinement.specs.Driver.{AllFree}
 use Rattle.refinement.specs.Slots.{Own, SlotStates, put as used, IsMove, IsOver}
 use Rattle.command_table.specs.Written.{IsUnused}
-use Rattle.disk_page.specs.Asking.{IsAsking, LeavesRunning, BringsLastPage, ReadsPage}
+use Rattle.disk_page.specs.Asking.{IsPageAccess, LeavesRunning, BringsLastPage, ReadsPage}
 use Rattle.identify.specs.declared.DiskInfo.{DiskInfo}
 use Rattle.port_control.specs.Engines.{FailsToStop, FailsToStopReceiving, Stops, StopsReceiving, Sticks}
-use Rattle.port_control.specs.Ports.{IsCommandRegister, IsPlacingRegister, IsRunning, HasStopped, SawDevice}
-use Rattle.port_boot.specs.States.{HasPage, IsFit, IsStateByPage, EndsAs, IsReady, IsBootRegister, IsOfBoot, IsBoot, IsBootTo, IsBootable, IsBroughtUp, IsHaltedAs, IsAfterStart, StopsOnWay, IsStateOfFault}
+use Rattle.port_control.specs.Ports.{IsCommandRegister, IsPlacingRegister, IsRunning, HasStCleared, SawDevice}
+use Rattle.port_boot.specs.States.{HasIdentity, IsFit, IsStateByPage, BacksState, IsReady, IsBootRegister, IsOfBoot, IsBoot, IsBootTo, IsBootable, IsBroughtUp, IsStoppedAs, IsAfterStart, StopsOnWay, IsStateOfFault}
 use Rattle.port_control.specs.declared.PortFault.{PortFault}
 use Rattle.port_control.specs.declared.PortFault.TheVariants.{NoDevice, Busy, EngineStuck, NotAta}
 use Rattle.port_boot.proofs.Bringing.{placing, starting, told_boots}
 use Rattle.port_boot.specs.Laws.SlotCondition.{AnyUses, HeadUnused, PortUnused}
-use Rattle.port_boot.specs.Laws.AccessKind.{Asking, Booting, Controlling}
+use Rattle.port_boot.specs.Laws.AccessPurpose.{Asking, Booting, Controlling}
 use Rattle.port_boot.specs.Laws.RegisterSet.{BootRegisters, Commanding, Placing, ButIssued}
 use Rattle.port_boot.specs.Laws.{Laws}
 use Rattle.refinement.specs.Tape.{TapeTells}
@@ -45,10 +45,10 @@ pub record IsIdentified (port : Port) (d : Device) (page : List ℕ) : Type 0 wh
   pub runs : IsRunning port.0 (d.port port.0)
   pub det : (d.port port.0).sctl_det ≡ 0
   pub saw : SawDevice (d.port port.0).notes
-  pub has : HasPage port.0 d page
+  pub has : HasIdentity port.0 d page
 
-pub page_on : (port : ℕ) (old new : Device) (page : List ℕ) → SendsNone port Identify old new → (new.port port).notes.sctl_written_at ≡ (old.port port).notes.sctl_written_at →
-    HasPage port old page → HasPage port new page
+pub page_on : (port : ℕ) (old new : Device) (page : List ℕ) → GainsNoMove port Identify old new → (new.port port).notes.sctl_written_at ≡ (old.port port).notes.sctl_written_at →
+    HasIdentity port old page → HasIdentity port new page
 page_on port old new page g same h = record {
   before = h.before;
   move = h.move;
@@ -81,7 +81,7 @@ module _ (port : Port) (start old mid : Device) (up : IsBroughtUp port start old
         taken = λ slot. (none slot).free;
       }
 
-  pub asked_page : (page : List ℕ) → BringsLastPage port.0 Identify (length old.tape) page mid → HasPage port.0 mid page
+  pub asked_page : (page : List ℕ) → BringsLastPage port.0 Identify (length old.tape) page mid → HasIdentity port.0 mid page
   asked_page page b =
       let brought = b.brought in
       record {
@@ -98,17 +98,17 @@ module _ (port : Port) (start old mid : Device) (up : IsBroughtUp port start old
 command_quiet : IsCommandRegister Ci → ⊥
 command_quiet e = absurd (let k : Ci ≡ Cmd = e in cc)
 
-asking : (port : Port) (access : Access) → IsAsking port access → IsOfBoot port access
+asking : (port : Port) (access : Access) → IsPageAccess port access → IsOfBoot port access
 asking port access is = inr is
 
-controlling : (port : Port) (access : Access) → IsControl IsBootRegister port access → IsOfBoot port access
+controlling : (port : Port) (access : Access) → OnPortWriting IsBootRegister port access → IsOfBoot port access
 controlling port access is = inl is
 
 unused : (port : Port) (uses : SlotStates) → AllFree uses port.0 → IsUnused port.0 0 uses
 unused port uses free = free 0
 
 -- a port that was to stop was driven so, however it ended
-pub halt_driven : (port : Port) (wanted state : PortState) (old new : Device) → IsHaltedAs port wanted state old new → IsDrivenBy (IsControl IsCommandRegister port) old new
+pub halt_driven : (port : Port) (wanted state : PortState) (old new : Device) → IsStoppedAs port wanted state old new → IsDrivenBy (OnPortWriting IsCommandRegister port) old new
 halt_driven port wanted state old new (inl x) = x.1.told.followed.driven
 halt_driven port wanted state old new (inr x) = x.2.told.followed.driven
 
@@ -124,20 +124,20 @@ module _ (laws : Laws) where
   -- ---- kinds of accesses
 
   -- no access changes what the adapter is
-  pub asking_adapter : (port : Port) (old new : Device) → IsDrivenBy (IsAsking port) old new → SameAdapter old new
-  asking_adapter port = same_over laws (IsAsking port)
+  pub asking_adapter : (port : Port) (old new : Device) → IsDrivenBy (IsPageAccess port) old new → SameAdapter old new
+  asking_adapter port = same_over laws (IsPageAccess port)
 
   -- PxIE may be written
   pub enabling : (port : Port) (v : ℕ) (d : Device) → IsBootable port d → IsStable (MayWrite (Px port Ie) v) d
   enabling port v d b = laws.write_stays (Px port Ie) v d (λ p e. absurd cc) (b.on, b.there, tt)
 
   -- a stop is a part of the boot
-  stop_boots : (TapeTells : List Access → Type 0) (port : Port) (mid new : Device) → IsSimulatedAlong TapeTells (IsControl IsCommandRegister port) AnyUse mid new → IsSimulatedAlong TapeTells (IsOfBoot port) AnyUse mid new
+  stop_boots : (TapeTells : List Access → Type 0) (port : Port) (mid new : Device) → IsSimulatedAlong TapeTells (OnPortWriting IsCommandRegister port) AnyUse mid new → IsSimulatedAlong TapeTells (IsOfBoot port) AnyUse mid new
   stop_boots TapeTells port mid new f = told_wider laws TapeTells (Controlling Commanding AnyUses port) (Booting AnyUses port) (λ uses. uses) mid new
       (λ access may. inl (laws.control_wider Commanding BootRegisters port starting access may)) (λ uses is. is) f
 
   module _ (port : Port) (start old mid : Device) (up : IsBroughtUp port start old) (on : IsOn mid) (l : LeavesRunning port.0 old mid) where
-    module _ (driven : IsDrivenBy (IsAsking port) old mid) where
+    module _ (driven : IsDrivenBy (IsPageAccess port) old mid) where
       pub asked_there : HasPort mid port.0
       asked_there = there_after (asking_adapter port old mid driven) up.bootable.there
 
@@ -145,8 +145,8 @@ module _ (laws : Laws) where
       asked_room = let same = (asking_adapter port old mid driven).size in let room = up.bootable.room in omega (arith, same, room)
 
   -- where it didn't stop, its engine is stuck
-  halting_sticks : (port : Port) (old new : Device) → IsSimulatedAlong (FailsToStop port) (IsControl IsCommandRegister port) AnyUse old new → IsSimulatedAlong (Sticks port) (IsControl IsCommandRegister port) AnyUse old new
-  halting_sticks port old new f = told_more (FailsToStop port) (Sticks port) (IsControl IsCommandRegister port) AnyUse (λ uses. uses) old new (laws.failing_sticks port) f
+  halting_sticks : (port : Port) (old new : Device) → IsSimulatedAlong (FailsToStop port) (OnPortWriting IsCommandRegister port) AnyUse old new → IsSimulatedAlong (Sticks port) (OnPortWriting IsCommandRegister port) AnyUse old new
+  halting_sticks port old new f = told_more (FailsToStop port) (Sticks port) (OnPortWriting IsCommandRegister port) AnyUse (λ uses. uses) old new (laws.failing_sticks port) f
 
   -- ---- no page came
 
@@ -158,9 +158,9 @@ module _ (laws : Laws) where
     pub unasked_agreed : RelatesWith AnyUse mid
     unasked_agreed = let a = up.bootable.agreed in (used a.0 port.0 0 (Own Identify), tt, agrees a.0 (a.1 0) a.2)
 
-    module _ (new : Device) (has : HasStopped (mid.port port.0) (new.port port.0)) where
+    module _ (new : Device) (has : HasStCleared (mid.port port.0) (new.port port.0)) where
       -- asked, and then stopped, of which so much is told
-      module _ (TapeTells : List Access → Type 0) (since : (early late : List Access) → TapeTells late → TapeTells (early ++ late)) (stops : IsSimulatedAlong TapeTells (IsControl IsCommandRegister port) AnyUse mid new) where
+      module _ (TapeTells : List Access → Type 0) (since : (early late : List Access) → TapeTells late → TapeTells (early ++ late)) (stops : IsSimulatedAlong TapeTells (OnPortWriting IsCommandRegister port) AnyUse mid new) where
         given : IsSimulatedAlongTo TapeTells (IsOfBoot port) (IsUnused port.0 0) (λ uses. used uses port.0 0 (Own Identify)) old new
         given = told_both laws (λ early. Unit {0}) TapeTells TapeTells (λ early late any is. since early late is) (Booting HeadUnused port) (Booting AnyUses port) (λ uses. used uses port.0 0 (Own Identify)) (λ uses. uses)
             (λ access may. may)
@@ -176,8 +176,8 @@ module _ (laws : Laws) where
             (let f = laws.fragments.over (Booting HeadUnused port) port Identify 1 old new (inr (refl, refl)) (λ uses free. free) over given.followed in
             record { followed = f.followed; tells = subst TapeTells (sym f.tells) given.tells })
 
-      pub unasked_ends : (wanted : Option (List ℕ)) (result : PortState) → IsHaltedAs port (Unfit 9) result mid new → EndsAs wanted result port.0 new
-      unasked_ends wanted result (inl x) = let P : PortState → Type 0 = λ s. EndsAs wanted s port.0 new in
+      pub unasked_ends : (wanted : Option (List ℕ)) (result : PortState) → IsStoppedAs port (Unfit 9) result mid new → BacksState wanted result port.0 new
+      unasked_ends wanted result (inl x) = let P : PortState → Type 0 = λ s. BacksState wanted s port.0 new in
           subst P (sym x.0) (
             x.1.stopped,
             inr (inr (inl (
@@ -186,9 +186,9 @@ module _ (laws : Laws) where
               ap (λ (n : Notes). n.command_count) has.notes ∙ reads.0,
             ))),
           )
-      unasked_ends wanted result (inr x) = let P : PortState → Type 0 = λ s. EndsAs wanted s port.0 new in subst P (sym x.0) (x.1, x.2.stuck)
+      unasked_ends wanted result (inr x) = let P : PortState → Type 0 = λ s. BacksState wanted s port.0 new in subst P (sym x.0) (x.1, x.2.stuck)
 
-      pub unasked_boots : (result : PortState) → IsHaltedAs port (Unfit 9) result mid new → IsBootTo (Stops port) port result old new
+      pub unasked_boots : (result : PortState) → IsStoppedAs port (Unfit 9) result mid new → IsBootTo (Stops port) port result old new
       unasked_boots result (inl x) =
           let P : PortState → Type 0 = λ s. IsBootTo (Stops port) port s old new in
           subst P (sym x.0) (stopped_boots (Stops port) (λ early late. laws.falls_since early late 0 15 port) x.1.told (record { issued = x.1.stopped.halted.ci 0; free = x.1.stopped.halted.taken 0 }))
@@ -221,7 +221,7 @@ module _ (laws : Laws) where
 
     -- and then PxIE is written
     module _ (v : ℕ) (new : Device) (call : Writes (Px port Ie) v mid new) where
-      w : PutAt port.0 Ie v mid new
+      w : PortRegisterWritten port.0 Ie v mid new
       w = laws.put_at port Ie v mid new call identified.bootable.on.no_reset
 
       pub enabled_on : IsOn new
@@ -263,7 +263,7 @@ module _ (laws : Laws) where
           }
 
       -- what halts the port then is of a command that is taken
-      pub enabled_halts : (RelatesWith (λ uses. AllFree uses port.0) old → (mid.port port.0).halt ≡ NotHalted) → (wanted : Option (List ℕ)) (info : DiskInfo) → v ≡ named_causes → IsFit wanted page info → HaltsAsTaken (new.port port.0)
+      pub enabled_halts : (RelatesWith (λ uses. AllFree uses port.0) old → (mid.port port.0).halt ≡ NotHalted) → (wanted : Option (List ℕ)) (info : DiskInfo) → v ≡ named_causes → IsFit wanted page info → HaltIsOfTaken (new.port port.0)
       enabled_halts calm wanted info told fit =
           let a = identified.bootable.agreed in
           laws.halts_access a.0 a.2.machine port (Writing (Px port Ie) v) mid new a.2.reached a.2.knows.agrees (λ (e : Px port Ie ≡ Px port Cmd). absurd cc) call
@@ -274,11 +274,11 @@ module _ (laws : Laws) where
           (laws.fragments.writes (Booting PortUnused port) (Px port Ie) v mid new (inl (refl, inr (inr refl))) (enabling port v mid identified.bootable) (λ uses free. tt) call).followed
 
     -- or the port is stopped, of which so much is told
-    halted_as : (TapeTells : List Access → Type 0) → ((early late : List Access) → TapeTells late → TapeTells (early ++ late)) → (new : Device) → IsSimulatedAlong TapeTells (IsControl IsCommandRegister port) AnyUse mid new → IsBoot TapeTells port old new
+    halted_as : (TapeTells : List Access → Type 0) → ((early late : List Access) → TapeTells late → TapeTells (early ++ late)) → (new : Device) → IsSimulatedAlong TapeTells (OnPortWriting IsCommandRegister port) AnyUse mid new → IsBoot TapeTells port old new
     halted_as TapeTells since new stops = told_since laws TapeTells (Booting PortUnused port) since (λ uses. uses) old mid new asked_boots
         (told_wider laws TapeTells (Booting AnyUses port) (Booting PortUnused port) (λ uses. uses) mid new (λ access may. may) (λ uses free. tt) (stop_boots TapeTells port mid new stops))
 
-    pub halted_boots : (wanted : Option (List ℕ)) (state result : PortState) (new : Device) → IsStateByPage wanted state page → IsHaltedAs port state result mid new → IsBootTo (Stops port) port result old new
+    pub halted_boots : (wanted : Option (List ℕ)) (state result : PortState) (new : Device) → IsStateByPage wanted state page → IsStoppedAs port state result mid new → IsBootTo (Stops port) port result old new
     halted_boots wanted state result new judged (inl x) =
         let P : PortState → Type 0 = λ s. IsBootTo (Stops port) port s old new in
         let alive : state ≢ Dead = λ (dead : state ≡ Dead). absurd (subst (λ (s : PortState). IsStateByPage wanted s page) dead judged) in
@@ -287,35 +287,35 @@ module _ (laws : Laws) where
         let P : PortState → Type 0 = λ s. IsBootTo (Stops port) port s old new in
         subst P (sym x.0) (inl (halted_as (Sticks port) (λ early late. laws.sticks_since early late port) new (halting_sticks port mid new x.2.told)))
 
-    module _ (new : Device) (stops : IsDrivenBy (IsControl IsCommandRegister port) mid new) (has : HasStopped (mid.port port.0) (new.port port.0)) where
-      halted_page : HasPage port.0 new page
+    module _ (new : Device) (stops : IsDrivenBy (OnPortWriting IsCommandRegister port) mid new) (has : HasStCleared (mid.port port.0) (new.port port.0)) where
+      halted_page : HasIdentity port.0 new page
       halted_page =
           let h = identified in
           let silent = laws.controls_unmoving port Identify mid new
-          (driven_as (IsControl IsCommandRegister port) (IsControl (λ r. r ≢ Ci) port) mid new (laws.control_wider Commanding ButIssued port (λ r is same. command_quiet (subst IsCommandRegister same is))) stops) (λ slot. record { issued = h.runs.ci slot; free = h.runs.taken slot }) in
+          (driven_as (OnPortWriting IsCommandRegister port) (OnPortWriting (λ r. r ≢ Ci) port) mid new (laws.control_wider Commanding ButIssued port (λ r is same. command_quiet (subst IsCommandRegister same is))) stops) (λ slot. record { issued = h.runs.ci slot; free = h.runs.taken slot }) in
           page_on port.0 mid new page silent.0 (ap (λ (n : Notes). n.sctl_written_at) has.notes) h.has
 
-      pub halted_ends : (wanted : Option (List ℕ)) (state result : PortState) → IsStateByPage wanted state page → IsHaltedAs port state result mid new → EndsAs wanted result port.0 new
-      halted_ends wanted (Unfit n) result judged (inl x) = let P : PortState → Type 0 = λ s. EndsAs wanted s port.0 new in subst P (sym x.0) (x.1.stopped, inr (inr (inr (page, halted_page, judged))))
-      halted_ends wanted Foreign result judged (inl x) = let P : PortState → Type 0 = λ s. EndsAs wanted s port.0 new in subst P (sym x.0) (x.1.stopped, (page, halted_page, judged))
+      pub halted_ends : (wanted : Option (List ℕ)) (state result : PortState) → IsStateByPage wanted state page → IsStoppedAs port state result mid new → BacksState wanted result port.0 new
+      halted_ends wanted (Unfit n) result judged (inl x) = let P : PortState → Type 0 = λ s. BacksState wanted s port.0 new in subst P (sym x.0) (x.1.stopped, inr (inr (inr (page, halted_page, judged))))
+      halted_ends wanted Foreign result judged (inl x) = let P : PortState → Type 0 = λ s. BacksState wanted s port.0 new in subst P (sym x.0) (x.1.stopped, (page, halted_page, judged))
       halted_ends wanted Absent result judged (inl x) = absurd judged
       halted_ends wanted Ready result judged (inl x) = absurd judged
       halted_ends wanted Dead result judged (inl x) = absurd judged
-      halted_ends wanted state result judged (inr x) = let P : PortState → Type 0 = λ s. EndsAs wanted s port.0 new in subst P (sym x.0) (x.1, x.2.stuck)
+      halted_ends wanted state result judged (inr x) = let P : PortState → Type 0 = λ s. BacksState wanted s port.0 new in subst P (sym x.0) (x.1, x.2.stuck)
 
   -- ---- the whole boot
 
-  pub up_boots : (TapeTells : List Access → Type 0) (port : Port) (old mid : Device) → IsSimulatedAlong TapeTells (IsControl IsBootRegister port) (λ uses. AllFree uses port.0) old mid → IsBoot TapeTells port old mid
+  pub up_boots : (TapeTells : List Access → Type 0) (port : Port) (old mid : Device) → IsSimulatedAlong TapeTells (OnPortWriting IsBootRegister port) (λ uses. AllFree uses port.0) old mid → IsBoot TapeTells port old mid
   up_boots TapeTells port old mid f = told_wider laws TapeTells (Controlling BootRegisters PortUnused port) (Booting PortUnused port) (λ uses. uses) old mid (controlling port) (λ uses free. free) f
 
   -- no part came after it, since FR didn't fall
-  pub stuck_boots : (port : Port) (old mid : Device) → IsSimulatedAlong (FailsToStopReceiving port) (IsControl IsPlacingRegister port) AnyUse old mid → IsBoot (Sticks port) port old mid
+  pub stuck_boots : (port : Port) (old mid : Device) → IsSimulatedAlong (FailsToStopReceiving port) (OnPortWriting IsPlacingRegister port) AnyUse old mid → IsBoot (Sticks port) port old mid
   stuck_boots port old mid f = told_more (FailsToStopReceiving port) (Sticks port) (IsOfBoot port) (λ uses. AllFree uses port.0) (λ uses. uses) old mid (laws.failing_receiving_sticks port)
       (up_boots (FailsToStopReceiving port) port old mid (told_boots laws (FailsToStopReceiving port) Placing AnyUses port old mid placing (λ uses free. tt) f))
 
   -- no part came after it, since there was a fault
   pub faulty_boots : (port : Port) (old mid : Device) (fault : PortFault) → fault ≢ EngineStuck → (state : PortState) → IsStateOfFault state fault →
-      IsSimulatedAlong (StopsReceiving port) (IsControl IsBootRegister port) (λ uses. AllFree uses port.0) old mid → IsBootTo (StopsOnWay port state) port state old mid
+      IsSimulatedAlong (StopsReceiving port) (OnPortWriting IsBootRegister port) (λ uses. AllFree uses port.0) old mid → IsBootTo (StopsOnWay port state) port state old mid
   faulty_boots port old mid fault other state told first = by fault other told
     where
       early : (s : PortState) → state ≡ s → s ≢ Dead → (IsAfterStart s → ⊥) → IsBootTo (StopsOnWay port state) port state old mid
@@ -331,7 +331,7 @@ module _ (laws : Laws) where
       by (NotAta signature) other told = early (Unfit 8) told (λ e. absurd cc) (λ late. absurd (late.1 refl))
 
   -- what was proved of one part is so of the whole
-  module _ (port : Port) (old mid new : Device) (first : IsSimulatedAlong (StopsReceiving port) (IsControl IsBootRegister port) (λ uses. AllFree uses port.0) old mid) where
+  module _ (port : Port) (old mid new : Device) (first : IsSimulatedAlong (StopsReceiving port) (OnPortWriting IsBootRegister port) (λ uses. AllFree uses port.0) old mid) where
     pub whole_ready : (result : Result DiskInfo PortState) → OnOk result (IsSimulated (IsOfBoot port) (λ uses. AllFree uses port.0) mid new) → OnOk result (IsBoot (StopsReceiving port) port old new)
     whole_ready (Ok info) then = told_then laws (StopsReceiving port) (Booting PortUnused port) (λ early late. laws.falls_then early late 4 14 port) old mid new (up_boots (StopsReceiving port) port old mid first) then
     whole_ready (Err state) then = then

@@ -13,13 +13,13 @@ use Rattle.adapter.specs.Access.{Access, Writes}
 use Rattle.adapter.specs.Access.Access.{Reading, Writing, Loading, Storing}
 use Rattle.adapter.specs.Device.{Device}
 use Rattle.adapter.specs.Rules.{IsOn}
-use Rattle.refinement.specs.Driven.{IsControl, IsDrivenBy}
+use Rattle.refinement.specs.Driven.{OnPortWriting, IsDrivenBy}
 use Rattle.refinement.specs.Errors.{NoneFatal, NoneFails}
 use Rattle.refinement.specs.Facts.{Undisturbed, ShowsNoTrouble}
-use Rattle.refinement.specs.Links.{PlugsNone, SparesRegister}
+use Rattle.refinement.specs.Links.{NoPlugEvents, DoesNotWrite}
 use Rattle.refinement.specs.Started.{IsStarted}
 use Rattle.refinement.specs.Driven.{Grows}
-use Rattle.disk_page.specs.Asking.{IsAsking, LeavesRunning}
+use Rattle.disk_page.specs.Asking.{IsPageAccess, LeavesRunning}
 use Rattle.port_control.specs.Engines.{Stops}
 use Rattle.port_control.specs.Ports.{IsCommandRegister, HasClearErrors}
 use Rattle.port_control.specs.declared.PortFault.{PortFault}
@@ -29,7 +29,7 @@ use Rattle.identify.specs.declared.DiskInfo.{DiskInfo}
 use Rattle.identify.specs.declared.Unfit.{Unfit as Fault}
 use Rattle.identify.specs.declared.Unfit.TheVariants.{BadChecksum, Word83, No48Bit, SectorSize, NoFlush, NoSectors}
 use Rattle.port_boot.specs.Outcomes.{EndsReady, EndsUnready, FailsToIdentify, Identifies, BootBringsUp}
-use Rattle.port_boot.specs.States.{IsStateOfFault, IsStateByPage, IsBootRegister, IsBeforeStart, IsHaltedAs, IsOfBoot, IsBroughtUp, AsksDisk, BringsReady, EndsBeforeStart, EndsAfterStart, IsAfterStart, ShowsNews, HasCauses, RunsOn, StopsThen}
+use Rattle.port_boot.specs.States.{IsStateOfFault, IsStateByPage, IsBootRegister, IsBeforeStart, IsStoppedAs, IsOfBoot, IsBroughtUp, AsksDisk, BringsReady, EndsBeforeStart, EndsAfterStart, IsAfterStart, ShowsOnlyNewErrors, BitsRiseWithCause, RunsOn, StopsAtEnd}
 use Rattle.port_boot.proofs.Identifying.{whole_ended, whole_ready}
 use Rattle.port_boot.proofs.Staying.{boot_driven}
 use Rattle.port_boot.proofs.Enduring.{Endures, Lasts, endures, lasts, lasts_access, lasts_more, goes_more}
@@ -38,7 +38,7 @@ use Rattle.port_boot.proofs.Stretching.{driven_grows, calm_in_parts, comes_in_pa
 use Rattle.std.proofs.lemmas.List.Elements.{All-weaker}
 use Rattle.port_boot.specs.Laws.RegisterSet.{Commanding}
 
-asking_spares : (port : Port) (spared : Reg) → Px port Ci ≢ spared → (access : Access) → IsAsking port access → SparesRegister spared access
+asking_spares : (port : Port) (spared : Reg) → Px port Ci ≢ spared → (access : Access) → IsPageAccess port access → DoesNotWrite spared access
 asking_spares port spared other (Reading r v) is = tt
 asking_spares port spared other (Writing r v) is = λ e. other (sym is.0 ∙ e)
 asking_spares port spared other (Loading at bytes) is = tt
@@ -64,7 +64,7 @@ early_alone port state old new (inl dead) early = absurd (subst IsBeforeStart de
 early_alone port state old new (inr e) early = e
 
 -- a port that was asked for its page doesn't end early, whatever is made of the page
-pub halted_late : (port : Port) (wanted state : PortState) (old new : Device) → (IsBeforeStart wanted → ⊥) → IsHaltedAs port wanted state old new → IsBeforeStart state → ⊥
+pub halted_late : (port : Port) (wanted state : PortState) (old new : Device) → (IsBeforeStart wanted → ⊥) → IsStoppedAs port wanted state old new → IsBeforeStart state → ⊥
 halted_late port wanted state old new late (inl x) early = late (subst IsBeforeStart x.0 early)
 halted_late port wanted state old new late (inr x) early = subst IsBeforeStart x.0 early
 
@@ -99,10 +99,10 @@ handed_on P (Err s) state is h = subst P (sym is) h
 module _ (laws : Laws) where
   -- ---- while the disk is asked for its page
 
-  module _ (port : Port) (start old mid : Device) (up : IsBroughtUp port start old) (driven : IsDrivenBy (IsAsking port) old mid) where
+  module _ (port : Port) (start old mid : Device) (up : IsBroughtUp port start old) (driven : IsDrivenBy (IsPageAccess port) old mid) where
     asked : Lasts port.0 old mid
     asked =
-        let spares = λ (r : Reg) (other : Px port Ci ≢ r). All-weaker (IsAsking port) (SparesRegister r) (asking_spares port r other) driven.accesses driven.only in
+        let spares = λ (r : Reg) (other : Px port Ci ≢ r). All-weaker (IsPageAccess port) (DoesNotWrite r) (asking_spares port r other) driven.accesses driven.only in
         lasts laws port driven.accesses old mid up.bootable.on driven.all (spares Ghc (λ (e : Px port Ci ≡ Ghc). absurd (cc)))
         (spares (Px port Sctl) (λ (e : Px port Ci ≡ Px port Sctl). absurd (cc))) (spares (Px port Cmd) (λ (e : Px port Ci ≡ Px port Cmd). absurd (cc)))
 
@@ -114,11 +114,11 @@ module _ (laws : Laws) where
         (λ (e : Px port Ie ≡ Px port Sctl). absurd (cc)) call (λ (e : Px port Ie ≡ Px port Cmd). absurd (cc)))).runs
 
     -- or the port is stopped
-    pub stops_then : (new : Device) → IsOn mid → LeavesRunning port.0 old mid → IsDrivenBy (IsControl IsCommandRegister port) mid new → StopsThen port old new
+    pub stops_then : (new : Device) → IsOn mid → LeavesRunning port.0 old mid → IsDrivenBy (OnPortWriting IsCommandRegister port) mid new → StopsAtEnd port old new
     stops_then new on l stop =
         let late : Endures port.0 mid new = endures laws port stop.accesses mid new on stop.all
-        (All-weaker (IsControl IsCommandRegister port) (SparesRegister Ghc) (λ access is. laws.of_spares_ghc port access (laws.control_of Commanding port access is)) stop.accesses stop.only)
-        (All-weaker (IsControl IsCommandRegister port) (SparesRegister (Px port Sctl)) (laws.control_spares Commanding port Sctl no_control) stop.accesses stop.only) in
+        (All-weaker (OnPortWriting IsCommandRegister port) (DoesNotWrite Ghc) (λ access is. laws.of_spares_ghc port access (laws.control_of Commanding port access is)) stop.accesses stop.only)
+        (All-weaker (OnPortWriting IsCommandRegister port) (DoesNotWrite (Px port Sctl)) (laws.control_spares Commanding port Sctl no_control) stop.accesses stop.only) in
         let det : (mid.port port.0).sctl_det ≡ 0 = l.controls.sctl_det ∙ up.det in
         record {
           way = record { asked = mid; asks = driven; stops = stop };
@@ -134,7 +134,7 @@ module _ (laws : Laws) where
     linked : (old.port port.0).link_due ≡ false
     linked = (up.recorded up.runs.st).linked
 
-    clear_since : HasCauses port.0 old new → HasClearErrors port.0 start new
+    clear_since : BitsRiseWithCause port.0 old new → HasClearErrors port.0 start new
     clear_since goes =
         let disks = goes.disks linked in
         record {
@@ -142,15 +142,15 @@ module _ (laws : Laws) where
           serr_x = λ none. let parts = comes_in_parts laws port.0 start old new early late none in disks.serr_x parts.1 (up.clear.serr_x parts.0);
         }
 
-    fatal_since : HasCauses port.0 old new → NoneFatal port.0 start new → (place : ℕ) → 27 ≤ place → place ≤ 29 → (new.port port.0).is place ≡ false
+    fatal_since : BitsRiseWithCause port.0 old new → NoneFatal port.0 start new → (place : ℕ) → 27 ≤ place → place ≤ 29 → (new.port port.0).is place ≡ false
     fatal_since goes none place low high =
         goes.errors.fatal (laws.tape.fatal_parts port.0 start old new early.0 late.0 early.1 late.1 none).1 place low high (up.calm place (omega (arith, high)))
 
-    fault_since : HasCauses port.0 old new → NoneFails port.0 start new → (new.port port.0).is 30 ≡ false
+    fault_since : BitsRiseWithCause port.0 old new → NoneFails port.0 start new → (new.port port.0).is 30 ≡ false
     fault_since goes none = goes.errors.fault (laws.tape.fails_parts port.0 start old new early.0 late.0 early.1 late.1 none).1 (up.calm 30 (omega arith))
 
     -- where no disk went or came, and nothing else went wrong since the port was up
-    no_trouble : HasCauses port.0 old new → PlugsNone port.0 start new → Undisturbed port.0 old new → ShowsNoTrouble (new.port port.0)
+    no_trouble : BitsRiseWithCause port.0 old new → NoPlugEvents port.0 start new → Undisturbed port.0 old new → ShowsNoTrouble (new.port port.0)
     no_trouble goes plugs calm =
         let clear = clear_since goes in
         record {
@@ -168,7 +168,7 @@ module _ (laws : Laws) where
         let parts = calm_in_parts laws port.0 start old new early late calm in
         (parts.1, up.well (laws.undisturbed_plugs port.0 start old parts.0))
 
-    pub shows_news : RunsOn port.0 old new → ShowsNews port.0 start new
+    pub shows_news : RunsOn port.0 old new → ShowsOnlyNewErrors port.0 start new
     shows_news runs = record {
       clear = clear_since runs.goes;
       fatal = fatal_since runs.goes;
@@ -187,7 +187,7 @@ module _ (laws : Laws) where
           laws.well_of (new.port port.0) (runs.started calm (up.well parts.0)) (no_trouble runs.goes plugs calm);
     }
 
-    pub ends_late : StopsThen port old new → EndsAfterStart port start new
+    pub ends_late : StopsAtEnd port old new → EndsAfterStart port start new
     ends_late stops = record {
       up = old;
       first = up.way;
@@ -202,7 +202,7 @@ module _ (laws : Laws) where
   module _ (port : Port) (start old new : Device) (rises : BootBringsUp port start old) (wanted : Option (List ℕ))
       (written : (new.port port.0).notes.sctl_written_at ≡ (old.port port.0).notes.sctl_written_at) where
     risen : Grows start old
-    risen = driven_grows laws (IsControl IsBootRegister port) start old rises.boots.followed.driven
+    risen = driven_grows laws (OnPortWriting IsBootRegister port) start old rises.boots.followed.driven
 
     since : length start.tape ≤ (new.port port.0).notes.sctl_written_at
     since = let before = rises.up.since in omega (arith, before, written)

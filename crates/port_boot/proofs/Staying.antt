@@ -8,17 +8,17 @@ use Rattle.adapter.specs.Access.{Access}
 use Rattle.adapter.specs.Device.{Notes, Device}
 use Rattle.adapter.specs.Device as device
 use Rattle.adapter.specs.declared.command.Operation.TheVariants.{Identify}
-use Rattle.refinement.specs.Driven.{IsDrivenBy, IsOf, LeavesPort, SendsNone}
+use Rattle.refinement.specs.Driven.{IsDrivenBy, SparesOtherPorts, LeavesPort, GainsNoMove}
 use Rattle.identify.specs.declared.DiskInfo.{DiskInfo}
 use Rattle.port_control.specs.Ports.{IsStopped, IsRunning, SawDevice, BacksFault}
 use Rattle.port_control.specs.declared.PortFault.{PortFault}
-use Rattle.port_boot.specs.States.{EndsAs, HasFitDisk, HasPage, IsBootTo, IsOfBoot, IsReady, IsUnfit}
+use Rattle.port_boot.specs.States.{BacksState, HasFitDisk, HasIdentity, IsBootTo, IsOfBoot, IsReady, IsUnfit}
 use Rattle.port_boot.proofs.Identifying.{page_on}
 use Rattle.port_boot.specs.Laws.{Laws}
 use Rattle.refinement.specs.Tape.{TapeTells}
 use Rattle.port_boot.specs.Laws.RegisterSet.{BootRegisters}
 
-pub disk_on : (wanted : Option (List ℕ)) (port : ℕ) (old new : Device) (info : DiskInfo) → SendsNone port Identify old new → (new.port port).sctl_det ≡ (old.port port).sctl_det → (new.port port).ie ≡ (old.port port).ie →
+pub disk_on : (wanted : Option (List ℕ)) (port : ℕ) (old new : Device) (info : DiskInfo) → GainsNoMove port Identify old new → (new.port port).sctl_det ≡ (old.port port).sctl_det → (new.port port).ie ≡ (old.port port).ie →
     (new.port port).notes.sctl_written_at ≡ (old.port port).notes.sctl_written_at → HasFitDisk wanted port old info → HasFitDisk wanted port new info
 disk_on wanted port old new info silent det ie same h = record { det = det ∙ h.det; tells = ie ∙ h.tells; page = h.page; has = page_on port old new h.page silent same h.has; fit = h.fit }
 
@@ -52,10 +52,10 @@ module _ (port : ℕ) (old new : Device) (l : LeavesPort (old.port port) (new.po
   written_on : (new.port port).notes.sctl_written_at ≡ (old.port port).notes.sctl_written_at
   written_on = ap (λ (n : Notes). n.sctl_written_at) l.notes
 
-  page_stays : SendsNone port Identify old new → (page : List ℕ) → HasPage port old page → HasPage port new page
+  page_stays : GainsNoMove port Identify old new → (page : List ℕ) → HasIdentity port old page → HasIdentity port new page
   page_stays silent page h = page_on port old new page silent written_on h
 
-  unfit_on : SendsNone port Identify old new → (n : ℕ) → IsUnfit n port old → IsUnfit n port new
+  unfit_on : GainsNoMove port Identify old new → (n : ℕ) → IsUnfit n port old → IsUnfit n port new
   unfit_on silent n (inl (is, shown)) = inl (is, noted_on (old.port port) (new.port port) l (λ k. BacksFault PortFault.Busy k) shown)
   unfit_on silent n (inr (inl (is, shown))) = inr (inl (is, noted_on (old.port port) (new.port port) l (λ k. (signature : ℕ) × BacksFault (PortFault.NotAta signature) k) shown))
   unfit_on silent n (inr (inr (inl (is, saw, count)))) =
@@ -63,14 +63,14 @@ module _ (port : ℕ) (old new : Device) (l : LeavesPort (old.port port) (new.po
   unfit_on silent n (inr (inr (inr (page, has, fault)))) = inr (inr (inr (page, page_stays silent page has, fault)))
 
   -- the page is not asked about where the port is dead
-  pub ends_on : (wanted : Option (List ℕ)) (state : PortState) → (state ≢ Dead → SendsNone port Identify old new) → EndsAs wanted state port old → EndsAs wanted state port new
+  pub ends_on : (wanted : Option (List ℕ)) (state : PortState) → (state ≢ Dead → GainsNoMove port Identify old new) → BacksState wanted state port old → BacksState wanted state port new
   ends_on wanted Absent silent (stopped, shown) = (stopped_on (old.port port) (new.port port) l stopped, noted_on (old.port port) (new.port port) l (λ k. BacksFault PortFault.NoDevice k) shown)
   ends_on wanted (Unfit n) silent (stopped, unfit) = (stopped_on (old.port port) (new.port port) l stopped, unfit_on (silent (λ e. absurd cc)) n unfit)
   ends_on wanted Foreign silent (stopped, (page, has, other)) = (stopped_on (old.port port) (new.port port) l stopped, (page, page_stays (silent (λ e. absurd cc)) page has, other))
   ends_on wanted Dead silent (st, shown) = (l.keeps.st st, noted_on (old.port port) (new.port port) l (λ k. BacksFault PortFault.EngineStuck k) shown)
   ends_on wanted Ready silent none = absurd none
 
-  pub ready_on : (wanted : Option (List ℕ)) (info : DiskInfo) → SendsNone port Identify old new → IsReady wanted port old info → IsReady wanted port new info
+  pub ready_on : (wanted : Option (List ℕ)) (info : DiskInfo) → GainsNoMove port Identify old new → IsReady wanted port old info → IsReady wanted port new info
   ready_on wanted info silent r = record {
     runs = running_on (old.port port) (new.port port) l port r.runs;
     saw = noted_on (old.port port) (new.port port) l SawDevice r.saw;
@@ -88,6 +88,6 @@ boot_driven TapeTells port old new (Unfit n) b = b.followed.driven
 module _ (laws : Laws) where
   -- ---- what the accesses of a boot are
 
-  pub of_boot : (port : Port) (access : Access) → IsOfBoot port access → IsOf port access
+  pub of_boot : (port : Port) (access : Access) → IsOfBoot port access → SparesOtherPorts port access
   of_boot port access (inl control) = laws.control_of BootRegisters port access control
   of_boot port access (inr asking) = laws.asking_is_of port access asking

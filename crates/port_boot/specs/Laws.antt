@@ -4,30 +4,30 @@ use Rattle.ata_types.specs.declared.Port.{Port}
 use Rattle.adapter.specs.Access.{Access, Does, Writes}
 use Rattle.refinement.specs.Laws.{FragmentLaws, TapeLaws}
 use Rattle.refinement.specs.Driver.{AllFree}
-use Rattle.refinement.specs.Driven.{AnyAccess, AnyUse, HasNoCommand, IsControl, IsDrivenBy, IsOf, SendsNone}
+use Rattle.refinement.specs.Driven.{AnyAccess, AnyUse, HasNoCommand, OnPortWriting, IsDrivenBy, SparesOtherPorts, GainsNoMove}
 use Rattle.refinement.specs.Errors.{ChangesByErrors, NoneFails, NoneFatal}
 use Rattle.hba_regs.specs.declared.reg.PortReg.TheVariants.{Ci, Cmd, Sctl}
 use Rattle.refinement.specs.Started.{ClearsNoStart, IsStarted, IsUp}
 use Rattle.adapter.specs.Device.{Device, DevicePort}
 use Rattle.adapter.specs.Device.Halt.{NotHalted}
 use Rattle.refinement.specs.Relation.{StateRelation}
-use Rattle.refinement.specs.Halting.{HaltsAsTaken, IsHaltedAsTaken}
+use Rattle.refinement.specs.Halting.{HaltIsOfTaken, HaltOfTakenIfSt}
 use Rattle.block_machine.specs.Histories.{IsReachable}
 use Rattle.block_machine.specs.State.{Machine}
 use Rattle.adapter.specs.declared.tape.Entry.{Entry}
 use Rattle.port_control.specs.Engines.{FailsToStop, FailsToStopReceiving, Falls, Sticks}
 use Rattle.refinement.specs.Slots.{IsOver, SlotStates}
 use Rattle.hba_regs.specs.declared.reg.Reg.TheVariants.{Ghc, Px}
-use Rattle.disk_page.specs.Asking.{IsAsking, LeavesRunning}
+use Rattle.disk_page.specs.Asking.{IsPageAccess, LeavesRunning}
 use Rattle.port_boot.specs.States.{IsBootRegister, IsOfBoot}
 use Rattle.adapter.specs.Rules.{IsOn, MayWrite, IsStable}
 use Rattle.port_control.specs.Ports.{IsPlacingRegister, IsResetRegister, IsCommandRegister}
-use Rattle.refinement.specs.Facts.{IsRecorded, RunsWell, ShowsNoTrouble, Undisturbed}
+use Rattle.refinement.specs.Facts.{FaultsOnRecord, RunsWell, ShowsNoTrouble, Undisturbed}
 use Rattle.command_table.specs.Written.{IsUnused}
 use Rattle.adapter.specs.declared.command.Operation.{Operation}
-use Rattle.refinement.specs.Links.{PlugsNone, SameAdapter, SparesRegister}
+use Rattle.refinement.specs.Links.{NoPlugEvents, SameAdapter, DoesNotWrite}
 use Rattle.hba_regs.specs.declared.reg.PortReg.{PortReg}
-use Rattle.adapter.specs.Seen.{PutAt}
+use Rattle.adapter.specs.Seen.{PortRegisterWritten}
 use Rattle.hba_regs.specs.declared.reg.Reg.{Reg}
 use Rattle.adapter.specs.Access.Access.{Writing}
 use Rattle.hba_regs.specs.Bits.{bit}
@@ -61,17 +61,17 @@ uses_of HeadUnused port = IsUnused port.0 0
 uses_of PortUnused port = λ uses. AllFree uses port.0
 
 -- a port's registers are read, and those of a set written; a port is booted; or its disk is asked for its page
-pub data AccessKind : Type 0 where
-  Controlling : RegisterSet → SlotCondition → Port → AccessKind
-  Booting : SlotCondition → Port → AccessKind
-  Asking : Port → AccessKind
+pub data AccessPurpose : Type 0 where
+  Controlling : RegisterSet → SlotCondition → Port → AccessPurpose
+  Booting : SlotCondition → Port → AccessPurpose
+  Asking : Port → AccessPurpose
 
-abbrev pub may_of : AccessKind → Access → Type 0
-may_of (Controlling set fitting port) = IsControl (registers_of set) port
+abbrev pub may_of : AccessPurpose → Access → Type 0
+may_of (Controlling set fitting port) = OnPortWriting (registers_of set) port
 may_of (Booting fitting port) = IsOfBoot port
-may_of (Asking port) = IsAsking port
+may_of (Asking port) = IsPageAccess port
 
-abbrev pub fits_of : AccessKind → SlotStates → Type 0
+abbrev pub fits_of : AccessPurpose → SlotStates → Type 0
 fits_of (Controlling set fitting port) = uses_of fitting port
 fits_of (Booting fitting port) = uses_of fitting port
 fits_of (Asking port) = IsUnused port.0 0
@@ -81,48 +81,49 @@ fits_of (Asking port) = IsUnused port.0 0
 pub record Laws : Type 0 where
   -- one access
   pub put_at : (port : Port) (r : PortReg) (v : ℕ) (old new : Device) → Writes (Px port r) v old new → old.hr ≡ false
-      → PutAt port.0 r v old new
+      → PortRegisterWritten port.0 r v old new
   pub access_on : (access : Access) (old new : Device) → IsOn old
       → ((v : ℕ) → access ≡ Writing Ghc v → (bit v 31 ≡ true) × (bit v 0 ≡ false)) → Does access old new → IsOn new
   pub write_stays : (r : Reg) (v : ℕ) (d : Device) → ((port : Port) → r ≢ Px port Ci) → MayWrite r v d
       → IsStable (MayWrite r v) d
   pub tape : TapeLaws
   pub access_unmoving : (port : ℕ) (o : Operation) (access : Access) (old new : Device) → HasNoCommand (old.port port)
-      → Does access old new → SendsNone port o old new
+      → Does access old new → GainsNoMove port o old new
   pub controls_unmoving : (port : Port) (o : Operation) (old new : Device)
-      → IsDrivenBy (IsControl (λ r. r ≢ Ci) port) old new → HasNoCommand (old.port port.0) → SendsNone port.0 o old new
+      → IsDrivenBy (OnPortWriting (λ r. r ≢ Ci) port) old new → HasNoCommand (old.port port.0)
+      → GainsNoMove port.0 o old new
       × HasNoCommand (new.port port.0)
   -- what goes on
   pub access_raises : (port : Port) (access : Access) (old new : Device) → Does access old new
       → ChangesByErrors port.0 old new
   pub access_stays_up : (port : Port) (access : Access) (old new : Device) → old.hr ≡ false
-      → SparesRegister (Px port Sctl) access → Undisturbed port.0 old new → Does access old new → IsUp (old.port port.0)
+      → DoesNotWrite (Px port Sctl) access → Undisturbed port.0 old new → Does access old new → IsUp (old.port port.0)
       → IsUp (new.port port.0)
   pub access_started : (port : Port) (access : Access) (old new : Device) → old.hr ≡ false → ClearsNoStart port access
-      → SparesRegister (Px port Sctl) access → Undisturbed port.0 old new → Does access old new
+      → DoesNotWrite (Px port Sctl) access → Undisturbed port.0 old new → Does access old new
       → IsStarted (old.port port.0) → IsStarted (new.port port.0)
-  pub access_recorded : (port : Port) (access : Access) (old new : Device) → SparesRegister (Px port Cmd) access
-      → SparesRegister (Px port Sctl) access → Does access old new → IsRecorded old.tape (old.port port.0) port.0
-      → IsRecorded new.tape (new.port port.0) port.0
+  pub access_recorded : (port : Port) (access : Access) (old new : Device) → DoesNotWrite (Px port Cmd) access
+      → DoesNotWrite (Px port Sctl) access → Does access old new → FaultsOnRecord old.tape (old.port port.0) port.0
+      → FaultsOnRecord new.tape (new.port port.0) port.0
   pub halts_access : (uses : SlotStates) (m : Machine) (port : Port) (access : Access) (old new : Device)
       → IsReachable m
-      → StateRelation uses m old → SparesRegister (Px port Cmd) access → Does access old new
-      → IsHaltedAsTaken (old.port port.0) → IsHaltedAsTaken (new.port port.0)
-  pub halts_calm : (p : DevicePort) → p.halt ≡ NotHalted → HaltsAsTaken p
+      → StateRelation uses m old → DoesNotWrite (Px port Cmd) access → Does access old new
+      → HaltOfTakenIfSt (old.port port.0) → HaltOfTakenIfSt (new.port port.0)
+  pub halts_calm : (p : DevicePort) → p.halt ≡ NotHalted → HaltIsOfTaken p
   pub started_up : (p : DevicePort) → IsStarted p → p.sctl_det ≢ 1 → IsUp p
   pub well_of : (p : DevicePort) → IsStarted p → ShowsNoTrouble p → RunsWell p
   pub started_well : (p : DevicePort) → RunsWell p → IsStarted p
   -- what the tape tells
-  pub undisturbed_plugs : (port : ℕ) (old new : Device) → Undisturbed port old new → PlugsNone port old new
+  pub undisturbed_plugs : (port : ℕ) (old new : Device) → Undisturbed port old new → NoPlugEvents port old new
   pub undisturbed_fatal : (port : ℕ) (old new : Device) → Undisturbed port old new → NoneFatal port old new
   pub undisturbed_fails : (port : ℕ) (old new : Device) → Undisturbed port old new → NoneFails port old new
   -- fragments
-  pub of_on : (port : Port) (old new : Device) → IsOn old → IsDrivenBy (IsOf port) old new → IsOn new
+  pub of_on : (port : Port) (old new : Device) → IsOn old → IsDrivenBy (SparesOtherPorts port) old new → IsOn new
   pub same_any : (old new : Device) → IsDrivenBy AnyAccess old new → SameAdapter old new
   pub tape_any : (old new : Device) → IsDrivenBy AnyAccess old new → (gained : List Entry)
       × (new.tape ≡ old.tape ++ gained)
-  pub of_spares_ghc : (port : Port) (access : Access) → IsOf port access → SparesRegister Ghc access
-  pub asking_is_of : (port : Port) (access : Access) → IsAsking port access → IsOf port access
+  pub of_spares_ghc : (port : Port) (access : Access) → SparesOtherPorts port access → DoesNotWrite Ghc access
+  pub asking_is_of : (port : Port) (access : Access) → IsPageAccess port access → SparesOtherPorts port access
   pub asked_none : (port : ℕ) (old new : Device) → LeavesRunning port old new → HasNoCommand (old.port port)
       → IsOver (new.port port) 0 → HasNoCommand (new.port port)
   -- what is told of engines
@@ -135,11 +136,11 @@ pub record Laws : Type 0 where
       → Falls start running port (early ++ late)
   pub sticks_since : (early late : List Access) (port : Port) → Sticks port late → Sticks port (early ++ late)
   -- this crate's kinds of accesses
-  pub control_of : (set : RegisterSet) (port : Port) (access : Access) → IsControl (registers_of set) port access
-      → IsOf port access
+  pub control_of : (set : RegisterSet) (port : Port) (access : Access) → OnPortWriting (registers_of set) port access
+      → SparesOtherPorts port access
   pub control_spares : (set : RegisterSet) (port : Port) (r : PortReg) → (registers_of set r → ⊥) → (access : Access)
-      → IsControl (registers_of set) port access → SparesRegister (Px port r) access
+      → OnPortWriting (registers_of set) port access → DoesNotWrite (Px port r) access
   pub control_wider : (set more : RegisterSet) (port : Port)
       → ((r : PortReg) → registers_of set r → registers_of more r) → (access : Access)
-      → IsControl (registers_of set) port access → IsControl (registers_of more) port access
-  pub fragments : FragmentLaws AccessKind may_of fits_of
+      → OnPortWriting (registers_of set) port access → OnPortWriting (registers_of more) port access
+  pub fragments : FragmentLaws AccessPurpose may_of fits_of

@@ -5,12 +5,12 @@ use Rattle.ata_types.specs.declared.Port.{Port}
 use Rattle.ata_types.specs.declared.PortState.{PortState}
 use Rattle.ata_types.specs.declared.PortState.TheVariants.{Dead}
 use Rattle.adapter.specs.Device.{Device}
-use Rattle.refinement.specs.Driven.{IsControl, IsSimulated, IsSimulatedAlong}
+use Rattle.refinement.specs.Driven.{OnPortWriting, IsSimulated, IsSimulatedAlong}
 use Rattle.refinement.specs.Driver.{AllFree}
-use Rattle.refinement.specs.Halting.{HaltsAsTaken}
+use Rattle.refinement.specs.Halting.{HaltIsOfTaken}
 use Rattle.identify.specs.declared.DiskInfo.{DiskInfo}
 use Rattle.port_control.specs.Engines.{Stops, StopsReceiving}
-use Rattle.port_boot.specs.States.{EndsAs, EndsBeforeStart, EndsAfterStart, AsksDisk, BringsReady, IsBoot, IsBootTo, IsBootRegister, IsBroughtUp, IsBeforeStart, IsAfterStart, IsOfBoot, IsReady, RunsOn, ShowsNews, StopsOnWay, StopsThen}
+use Rattle.port_boot.specs.States.{BacksState, EndsBeforeStart, EndsAfterStart, AsksDisk, BringsReady, IsBoot, IsBootTo, IsBootRegister, IsBroughtUp, IsBeforeStart, IsAfterStart, IsOfBoot, IsReady, RunsOn, ShowsOnlyNewErrors, StopsOnWay, StopsAtEnd}
 
 -- A boot that leaves the port ready: what stands behind that; PxSCTL was written in it; what it is to a machine that
 -- agrees; and its way, with what the port shows of trouble; and what halts it is of a command that is taken.
@@ -19,12 +19,12 @@ pub record EndsReady (wanted : Option (List ℕ)) (port : Port) (info : DiskInfo
   pub since : length old.tape ≤ (new.port port.0).notes.sctl_written_at
   pub boots : IsBoot (StopsReceiving port) port old new
   pub way : BringsReady port old new
-  pub news : ShowsNews port.0 old new
-  pub halts : HaltsAsTaken (new.port port.0)
+  pub news : ShowsOnlyNewErrors port.0 old new
+  pub halts : HaltIsOfTaken (new.port port.0)
 
 -- one that leaves it in another state
 pub record EndsUnready (wanted : Option (List ℕ)) (port : Port) (state : PortState) (old new : Device) : Type 0 where
-  pub ended : EndsAs wanted state port.0 new
+  pub ended : BacksState wanted state port.0 new
   pub since : state ≢ Dead → length old.tape ≤ (new.port port.0).notes.sctl_written_at
   pub boots : IsBootTo (StopsOnWay port state) port state old new
   pub early : IsBeforeStart state → EndsBeforeStart port state old new
@@ -34,14 +34,15 @@ pub record EndsUnready (wanted : Option (List ℕ)) (port : Port) (state : PortS
 
 -- It brought the port up.
 pub record BootBringsUp (port : Port) (old new : Device) : Type 0 where
-  pub boots : IsSimulatedAlong (StopsReceiving port) (IsControl IsBootRegister port) (λ uses. AllFree uses port.0) old
+  pub boots : IsSimulatedAlong (StopsReceiving port) (OnPortWriting IsBootRegister port)
+      (λ uses. AllFree uses port.0) old
       new
   pub up : IsBroughtUp port old new
 
 -- Or the port wasn't started, whatever disk is wanted.
 pub record BootFailsToBringUp (port : Port) (state : PortState) (old new : Device) : Type 0 where
   pub boots : IsBootTo (StopsOnWay port state) port state old new
-  pub ended : (wanted : Option (List ℕ)) → EndsAs wanted state port.0 new
+  pub ended : (wanted : Option (List ℕ)) → BacksState wanted state port.0 new
   pub since : state ≢ Dead → length old.tape ≤ (new.port port.0).notes.sctl_written_at
   pub early : (state ≡ Dead) ⊎ EndsBeforeStart port state old new
 
@@ -52,13 +53,13 @@ pub record Identifies (wanted : Option (List ℕ)) (port : Port) (info : DiskInf
   pub ready : IsReady wanted port.0 new info
   pub boots : IsSimulated (IsOfBoot port) (λ uses. AllFree uses port.0) old new
   pub asked : AsksDisk port old new
-  pub halts : HaltsAsTaken (new.port port.0)
+  pub halts : HaltIsOfTaken (new.port port.0)
   pub runs_on : RunsOn port.0 old new
 
 -- Or the port was stopped again.
 pub record FailsToIdentify (wanted : Option (List ℕ)) (port : Port) (state : PortState)
     (old new : Device) : Type 0 where
-  pub ended : EndsAs wanted state port.0 new
+  pub ended : BacksState wanted state port.0 new
   pub boots : IsBootTo (Stops port) port state old new
-  pub stops : StopsThen port old new
+  pub stops : StopsAtEnd port old new
   pub late : IsBeforeStart state → ⊥

@@ -16,26 +16,26 @@ use Rattle.adapter.specs.declared.tape.Entry.{Entry}
 use Rattle.adapter.specs.declared.tape.Entry.TheVariants as entry
 use Rattle.adapter.specs.declared.tape.Move as tape_move
 use Rattle.adapter.specs.Rules.{IsOn, HasPort}
-use Rattle.refinement.specs.Driven.{RelatesWith, IsControl, IsDrivenBy, IsSimulatedAlong, IsSimulatedAlongTo}
+use Rattle.refinement.specs.Driven.{RelatesWith, OnPortWriting, IsDrivenBy, IsSimulatedAlong, IsSimulatedAlongTo}
 use Rattle.refinement.specs.Driver.{AllFree}
-use Rattle.refinement.specs.Errors.{NoneComes, ChangesByDisks, ChangesByErrors, NoneFatal, NoneFails}
-use Rattle.refinement.specs.Facts.{IsRecorded, RunsWell, Undisturbed}
-use Rattle.refinement.specs.Links.{PlugsNone}
+use Rattle.refinement.specs.Errors.{NoDiskComes, ChangesByDisks, ChangesByErrors, NoneFatal, NoneFails}
+use Rattle.refinement.specs.Facts.{FaultsOnRecord, RunsWell, Undisturbed}
+use Rattle.refinement.specs.Links.{NoPlugEvents}
 use Rattle.refinement.specs.Slots.{Own, put, IsMove}
 use Rattle.refinement.specs.Started.{IsUp, IsComingUp, IsStarted}
-use Rattle.disk_page.specs.Asking.{IsAsking}
+use Rattle.disk_page.specs.Asking.{IsPageAccess}
 use Rattle.identify.specs.Page.{Describes, HasNoUnfit, IsFirstUnfit, IsSerial, unfit_number}
 use Rattle.identify.specs.declared.DiskInfo.{DiskInfo}
 use Rattle.identify.specs.declared.Unfit.{Unfit as Fault}
 use Rattle.port_control.specs.Engines.{Stops, StopsReceiving, Sticks}
-use Rattle.port_control.specs.Ports.{FailsToStopPort, PortStops, IsCommandRegister, IsStopped, IsRunning, IsPlacingRegister, IsResetRegister, SawDevice, BacksFault, FindsSignature, LooksAfterReset, WasReset, HasClearErrors, IsFound}
+use Rattle.port_control.specs.Ports.{FailsToStopPort, PortStops, IsCommandRegister, IsStopped, IsRunning, IsPlacingRegister, IsResetRegister, SawDevice, BacksFault, FindsSignature, SeesResetFault, SendsComresetThen, HasClearErrors, IsDeviceFound}
 use Rattle.port_control.specs.declared.PortFault.{PortFault}
 use Rattle.port_control.specs.declared.PortFault.TheVariants.{NoDevice, Busy, EngineStuck, NotAta}
 
 -- ---- the page
 
 -- These are the bytes of the port's last page of IDENTIFY DEVICE, which came after PxSCTL was last written.
-pub record HasPage (port : ℕ) (d : Device) (page : List ℕ) : Type 0 where
+pub record HasIdentity (port : ℕ) (d : Device) (page : List ℕ) : Type 0 where
   pub before : List Entry
   pub move : tape_move.Move
   pub later : List Entry
@@ -46,22 +46,22 @@ pub record HasPage (port : ℕ) (d : Device) (page : List ℕ) : Type 0 where
   pub bytes : page ≡ move.bytes.value
 
 -- the serial number is the one that is named, if one is: 20 characters, filled with spaces
-abbrev pub Fits : Option (List ℕ) → List ℕ → Type 0
-Fits None serial = Unit {0}
-Fits (Some wanted) serial = serial ≡ wanted
+abbrev pub SerialMatches : Option (List ℕ) → List ℕ → Type 0
+SerialMatches None serial = Unit {0}
+SerialMatches (Some wanted) serial = serial ≡ wanted
 
 -- the page has no fault, tells this, and its serial number is the one that is named
 pub record IsFit (wanted : Option (List ℕ)) (page : List ℕ) (info : DiskInfo) : Type 0 where
   pub no_fault : HasNoUnfit page
   pub tells : Describes page info
-  pub fits : Fits wanted info.serial
+  pub fits : SerialMatches wanted info.serial
 
 -- the page has no fault, and another serial number than the one that is named
-pub record IsOther (wanted : Option (List ℕ)) (page : List ℕ) : Type 0 where
+pub record HasOtherSerial (wanted : Option (List ℕ)) (page : List ℕ) : Type 0 where
   pub no_fault : HasNoUnfit page
   pub serial : List ℕ
   pub tells : IsSerial page serial
-  pub other : Fits wanted serial → ⊥
+  pub other : SerialMatches wanted serial → ⊥
 
 -- the page's first fault has this number
 abbrev pub HasUnfitNumber : ℕ → List ℕ → Type 0
@@ -70,7 +70,7 @@ HasUnfitNumber n page = (fault : Fault) × IsFirstUnfit page fault × (n ≡ unf
 -- what a page makes of a port that isn't ready
 abbrev pub IsStateByPage : Option (List ℕ) → PortState → List ℕ → Type 0
 IsStateByPage wanted (Unfit n) page = HasUnfitNumber n page
-IsStateByPage wanted Foreign page = IsOther wanted page
+IsStateByPage wanted Foreign page = HasOtherSerial wanted page
 IsStateByPage wanted _ page = ⊥
 
 -- ---- the states
@@ -81,7 +81,8 @@ abbrev pub IsUnfit : ℕ → ℕ → Device → Type 0
 IsUnfit n port d = ((n ≡ 7) × BacksFault Busy (d.port port).notes)
     ⊎ ((n ≡ 8) × ((signature : ℕ) × BacksFault (NotAta signature) (d.port port).notes))
     ⊎ ((n ≡ 9) × SawDevice (d.port port).notes × ((d.port port).notes.command_count ≡ MOST_READINGS))
-    ⊎ ((page : List ℕ) × HasPage port d page × ((fault : Fault) × IsFirstUnfit page fault × (n ≡ unfit_number fault)))
+    ⊎ ((page : List ℕ) × HasIdentity port d page ×
+    ((fault : Fault) × IsFirstUnfit page fault × (n ≡ unfit_number fault)))
 
 -- the state that tells of a fault
 abbrev pub IsStateOfFault : PortState → PortFault → Type 0
@@ -92,12 +93,13 @@ IsStateOfFault state (NotAta signature) = state ≡ Unfit 8
 
 -- What stands behind each state of a port that a boot leaves, but Ready: Absent, Unfit and Foreign ports are stopped,
 -- with no command issued, active or taken; a Dead one was to stop.
-abbrev pub EndsAs : Option (List ℕ) → PortState → ℕ → Device → Type 0
-EndsAs wanted Absent port d = IsStopped (d.port port) × BacksFault NoDevice (d.port port).notes
-EndsAs wanted (Unfit n) port d = IsStopped (d.port port) × IsUnfit n port d
-EndsAs wanted Foreign port d = IsStopped (d.port port) × ((page : List ℕ) × HasPage port d page × IsOther wanted page)
-EndsAs wanted Dead port d = ((d.port port).st ≡ false) × BacksFault EngineStuck (d.port port).notes
-EndsAs wanted Ready port d = ⊥
+abbrev pub BacksState : Option (List ℕ) → PortState → ℕ → Device → Type 0
+BacksState wanted Absent port d = IsStopped (d.port port) × BacksFault NoDevice (d.port port).notes
+BacksState wanted (Unfit n) port d = IsStopped (d.port port) × IsUnfit n port d
+BacksState wanted Foreign port d = IsStopped (d.port port)
+    × ((page : List ℕ) × HasIdentity port d page × HasOtherSerial wanted page)
+BacksState wanted Dead port d = ((d.port port).st ≡ false) × BacksFault EngineStuck (d.port port).notes
+BacksState wanted Ready port d = ⊥
 
 -- What stands behind a ready port as long as it isn't booted anew: no COMRESET is being sent, it tells by interrupts of
 -- DHRS, PSS, SDBS, PCS, PRCS, IFS, HBDS, HBFS and TFES (PxIE: AHCI 1.3.1, 3.3.6), and the last page is of a disk that
@@ -106,7 +108,7 @@ pub record HasFitDisk (wanted : Option (List ℕ)) (port : ℕ) (d : Device) (in
   pub det : (d.port port).sctl_det ≡ 0
   pub tells : (d.port port).ie ≡ named_causes
   pub page : List ℕ
-  pub has : HasPage port d page
+  pub has : HasIdentity port d page
   pub fit : IsFit wanted page info
 
 -- Behind Ready stands such a disk, on a port that runs, with no command in a slot, and on which a device was seen.
@@ -123,7 +125,7 @@ IsBootRegister r = IsPlacingRegister r ⊎ (IsResetRegister r ⊎ (r ≡ Ie))
 
 -- it is one of these writes, a reading of a register of the port, or one of asking for the page
 abbrev pub IsOfBoot : Port → Access → Type 0
-IsOfBoot port access = IsControl IsBootRegister port access ⊎ IsAsking port access
+IsOfBoot port access = OnPortWriting IsBootRegister port access ⊎ IsPageAccess port access
 
 -- What a boot is to each machine that agrees with a driver that uses no slot of the port: steps of the device alone,
 -- after which none is used; and so much is told of its accesses.
@@ -145,16 +147,16 @@ IsBootTo Tells port _ old new = IsBoot Tells port old new
 -- idle. Then ST was set, last of all (AHCI 1.3.1, 10.1.2).
 pub record BringsUpPort (port : Port) (old new : Device) : Type 0 where
   pub placed : Device
-  pub places : IsDrivenBy (IsControl IsPlacingRegister port) old placed
+  pub places : IsDrivenBy (OnPortWriting IsPlacingRegister port) old placed
   pub found : Device
-  pub resets : WasReset port (FindsSignature port 0x101) placed found
-  pub starts : IsDrivenBy (IsControl IsCommandRegister port) found new
+  pub resets : SendsComresetThen port (FindsSignature port 0x101) placed found
+  pub starts : IsDrivenBy (OnPortWriting IsCommandRegister port) found new
   pub set : (new.port port.0).notes.st_set_at ≡ length new.tape
 
 -- The disk was asked for its page; and last of all the port was made to tell of the causes of interrupts.
 pub record AsksDisk (port : Port) (old new : Device) : Type 0 where
   pub asked : Device
-  pub asks : IsDrivenBy (IsAsking port) old asked
+  pub asks : IsDrivenBy (IsPageAccess port) old asked
   pub tells : Writes (Px port Ie) named_causes asked new
 
 -- The whole way to a port that is ready. It runs well where no disk went or came on the way, and nothing went wrong
@@ -163,7 +165,7 @@ pub record BringsReady (port : Port) (old new : Device) : Type 0 where
   pub up : Device
   pub first : BringsUpPort port old up
   pub then : AsksDisk port up new
-  pub well : PlugsNone port.0 old new → Undisturbed port.0 up new → RunsWell (new.port port.0)
+  pub well : NoPlugEvents port.0 old new → Undisturbed port.0 up new → RunsWell (new.port port.0)
 
 -- The port wasn't started: after COMRESET it was looked at, with this fault. Where no disk came, its link is up if
 -- PxSSTS shows one. But for a missing device, PxSERR and PxIS were cleared.
@@ -171,10 +173,10 @@ pub record EndsBeforeStart (port : Port) (state : PortState) (old new : Device) 
   pub fault : PortFault
   pub told : IsStateOfFault state fault
   pub placed : Device
-  pub places : IsDrivenBy (IsControl IsPlacingRegister port) old placed
-  pub resets : WasReset port (LooksAfterReset port fault) placed new
-  pub coming : NoneComes port.0 old new → IsComingUp (new.port port.0)
-  pub found : fault ≢ NoDevice → IsFound port.0 old new
+  pub places : IsDrivenBy (OnPortWriting IsPlacingRegister port) old placed
+  pub resets : SendsComresetThen port (SeesResetFault port fault) placed new
+  pub coming : NoDiskComes port.0 old new → IsComingUp (new.port port.0)
+  pub found : fault ≢ NoDevice → IsDeviceFound port.0 old new
 
 -- the states in which a port wasn't started
 abbrev pub IsBeforeStart : PortState → Type 0
@@ -198,18 +200,18 @@ StopsOnWay port state accesses = StopsReceiving port accesses × (IsAfterStart s
 -- Nothing of what was before COMRESET: N of PxSERR tells a disk that went or came since, and X one that came; IFS, HBDS
 -- and HBFS of PxIS tell a fatal error since, and TFES a fault. Faults since ST was set are on record, so that no link
 -- is due. And where none of these is on the tape, the port runs well.
-pub record ShowsNews (port : ℕ) (old new : Device) : Type 0 where
+pub record ShowsOnlyNewErrors (port : ℕ) (old new : Device) : Type 0 where
   pub clear : HasClearErrors port old new
   pub fatal : NoneFatal port old new → (place : ℕ) → 27 ≤ place → place ≤ 29 → (new.port port).is place ≡ false
   pub fault : NoneFails port old new → (new.port port).is 30 ≡ false
-  pub recorded : IsRecorded new.tape (new.port port) port
+  pub recorded : FaultsOnRecord new.tape (new.port port) port
   pub well : Undisturbed port old new → RunsWell (new.port port)
 
 -- The disk was asked for its page, and then the port was stopped: of registers PxCMD alone was written after it.
 pub record AsksThenStops (port : Port) (old new : Device) : Type 0 where
   pub asked : Device
-  pub asks : IsDrivenBy (IsAsking port) old asked
-  pub stops : IsDrivenBy (IsControl IsCommandRegister port) asked new
+  pub asks : IsDrivenBy (IsPageAccess port) old asked
+  pub stops : IsDrivenBy (OnPortWriting IsCommandRegister port) asked new
 
 -- A port that was started, asked, and stopped again: PxSERR tells no disk of before COMRESET; its link isn't due
 -- to come up any more; and where nothing went wrong, it is up.
@@ -245,12 +247,12 @@ pub record IsBroughtUp (port : Port) (old new : Device) : Type 0 where
   pub way : BringsUpPort port old new
   pub calm : (place : ℕ) → place < 32 → (new.port port.0).is place ≡ false
   pub clear : HasClearErrors port.0 old new
-  pub recorded : IsRecorded new.tape (new.port port.0) port.0
-  pub well : PlugsNone port.0 old new → IsStarted (new.port port.0)
+  pub recorded : FaultsOnRecord new.tape (new.port port.0) port.0
+  pub well : NoPlugEvents port.0 old new → IsStarted (new.port port.0)
 
 -- What goes on while PxSCTL isn't written and no link is due: no link gets due, N and X rise by disks alone, and the
 -- trouble that PxIS tells by errors alone.
-pub record HasCauses (port : ℕ) (old new : Device) : Type 0 where
+pub record BitsRiseWithCause (port : ℕ) (old new : Device) : Type 0 where
   pub undue : (old.port port).link_due ≡ false → (new.port port).link_due ≡ false
   pub disks : (old.port port).link_due ≡ false → ChangesByDisks port old new
   pub errors : ChangesByErrors port old new
@@ -258,23 +260,23 @@ pub record HasCauses (port : ℕ) (old new : Device) : Type 0 where
 -- and while ST isn't cleared either: a port that was started is so still where nothing went wrong, and the record of
 -- faults goes on
 pub record RunsOn (port : ℕ) (old new : Device) : Type 0 where
-  pub goes : HasCauses port old new
+  pub goes : BitsRiseWithCause port old new
   pub started : Undisturbed port old new → IsStarted (old.port port) → IsStarted (new.port port)
-  pub recorded : IsRecorded old.tape (old.port port) port → IsRecorded new.tape (new.port port) port
+  pub recorded : FaultsOnRecord old.tape (old.port port) port → FaultsOnRecord new.tape (new.port port) port
 
 -- and where ST is cleared in the end, the link of a port that was started is up
-pub record StopsThen (port : Port) (old new : Device) : Type 0 where
+pub record StopsAtEnd (port : Port) (old new : Device) : Type 0 where
   pub way : AsksThenStops port old new
-  pub goes : HasCauses port.0 old new
+  pub goes : BitsRiseWithCause port.0 old new
   pub up : Undisturbed port.0 old new → IsStarted (old.port port.0) → IsUp (new.port port.0)
 
 -- The port was stopped, and is in this state; or its engine is stuck, and it is dead.
-abbrev pub IsHaltedAs : Port → PortState → PortState → Device → Device → Type 0
-IsHaltedAs port wanted state old new = ((state ≡ wanted) × PortStops port old new)
+abbrev pub IsStoppedAs : Port → PortState → PortState → Device → Device → Type 0
+IsStoppedAs port wanted state old new = ((state ≡ wanted) × PortStops port old new)
     ⊎ ((state ≡ Dead) × ((new.port port.0).st ≡ false) × FailsToStopPort port old new)
 
 -- ---- what a port shows
 
 -- where a port shows a device in PxSSTS, whose DET is 3, a disk is in (AHCI 1.3.1, 3.3.10)
-abbrev pub ShowsOwnDisk : DevicePort → Type 0
-ShowsOwnDisk p = p.ssts_det ≡ 3 → p.present ≡ true
+abbrev pub HasDiskIfShown : DevicePort → Type 0
+HasDiskIfShown p = p.ssts_det ≡ 3 → p.present ≡ true

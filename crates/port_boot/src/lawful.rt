@@ -1,7 +1,7 @@
 // What laws of the crates below say of this crate's accesses, for its proofs. Nothing comes of calling it.
 ghost use Rattle.port_boot.specs.Laws.{Laws};
 
-use adapter::laws::law_port_registers_are_accessed;
+use adapter::laws::law_port_register_accesses;
 use disk_page::laws::law_asking_is_of_one_port;
 use port_control::laws::law_what_is_told_of_engines_stays;
 use refinement::facts::{
@@ -18,7 +18,7 @@ use std::marker::Brand;
 pub fn law_base()
     ensures { Laws }
 {
-    law_port_registers_are_accessed();
+    law_port_register_accesses();
     law_adapter_stays();
     law_cleared_stays();
     law_faults_are_recorded();

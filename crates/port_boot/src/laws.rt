@@ -12,11 +12,11 @@ ghost use Rattle.adapter.specs.Rules.{IsOn};
 ghost use Rattle.adapter.specs.Steps.{Can, DeviceTransition, Steps, device_after};
 ghost use Rattle.adapter.specs.declared.tape.Entry.{Entry};
 ghost use Rattle.adapter.specs.declared.command.Operation.TheVariants.{Identify};
-ghost use Rattle.refinement.specs.Driven.{IsControl, IsDrivenBy, IsOf, LeavesPort, SendsNone};
+ghost use Rattle.refinement.specs.Driven.{OnPortWriting, IsDrivenBy, SparesOtherPorts, LeavesPort, GainsNoMove};
 ghost use Rattle.refinement.specs.Facts.{RunsWell, Undisturbed};
-ghost use Rattle.refinement.specs.Links.{SparesRegister};
+ghost use Rattle.refinement.specs.Links.{DoesNotWrite};
 ghost use Rattle.identify.specs.declared.DiskInfo.{DiskInfo};
-ghost use Rattle.port_boot.specs.States.{EndsAs, BringsReady, HasFitDisk, HasPage, IsBootTo, IsOfBoot, IsReady, RunsOn, ShowsOwnDisk, StopsOnWay};
+ghost use Rattle.port_boot.specs.States.{BacksState, BringsReady, HasFitDisk, HasIdentity, IsBootTo, IsOfBoot, IsReady, RunsOn, HasDiskIfShown, StopsOnWay};
 ghost use Rattle.port_control.specs.Engines.{StopsBoth};
 ghost use Rattle.port_control.specs.Ports.{IsCommandRegister};
 
@@ -28,20 +28,20 @@ use adapter::laws::{law_an_enabled_cause_is_pending, law_what_the_tape_tells_is_
 /// and PxIE are as they were, too. A port that is left to the device stays ready, or goes on to end as it did; where it
 /// is dead, its disk may send a page.
 pub fn law_what_was_found_goes_on()
-    ensures page { (port : ℕ) (old new : Device) (page : List ℕ) → SendsNone port Identify old new
-        → (new.port port).notes.sctl_written_at ≡ (old.port port).notes.sctl_written_at → HasPage port old page
-        → HasPage port new page }
+    ensures page { (port : ℕ) (old new : Device) (page : List ℕ) → GainsNoMove port Identify old new
+        → (new.port port).notes.sctl_written_at ≡ (old.port port).notes.sctl_written_at → HasIdentity port old page
+        → HasIdentity port new page }
     ensures disk { (wanted : Option (List ℕ)) (port : ℕ) (old new : Device) (info : DiskInfo)
-        → SendsNone port Identify old new → (new.port port).sctl_det ≡ (old.port port).sctl_det
+        → GainsNoMove port Identify old new → (new.port port).sctl_det ≡ (old.port port).sctl_det
         → (new.port port).ie ≡ (old.port port).ie → (new.port port).notes.sctl_written_at
         ≡ (old.port port).notes.sctl_written_at → HasFitDisk wanted port old info
         → HasFitDisk wanted port new info }
     ensures ready { (wanted : Option (List ℕ)) (port : ℕ) (old new : Device) (info : DiskInfo)
-        → LeavesPort (old.port port) (new.port port) → SendsNone port Identify old new → IsReady wanted port old info
+        → LeavesPort (old.port port) (new.port port) → GainsNoMove port Identify old new → IsReady wanted port old info
         → IsReady wanted port new info }
     ensures ends { (wanted : Option (List ℕ)) (state : PortState) (port : ℕ) (old new : Device)
-        → LeavesPort (old.port port) (new.port port) → (state ≢ Dead → SendsNone port Identify old new)
-        → EndsAs wanted state port old → EndsAs wanted state port new }
+        → LeavesPort (old.port port) (new.port port) → (state ≢ Dead → GainsNoMove port Identify old new)
+        → BacksState wanted state port old → BacksState wanted state port new }
 {}
 
 /// A ready port tells of each cause that is named: where PxIS shows one, its interrupt is pending; and so it is after
@@ -69,7 +69,7 @@ pub fn law_a_ready_port_interrupts()
 
 /// A boot touches no register of another port: its accesses are of its port.
 pub fn law_a_boot_is_of_its_port()
-    ensures { (port : Port) (access : Access) → IsOfBoot port access → IsOf port access }
+    ensures { (port : Port) (access : Access) → IsOfBoot port access → SparesOtherPorts port access }
 {
     law_base();
 }
@@ -80,7 +80,7 @@ pub fn law_boots_are_driven()
         → IsBootTo (StopsOnWay port state) port state old new → IsDrivenBy (IsOfBoot port) old new }
     ensures stops { (port : Port) (state : PortState) (old new : Device) → IsBootTo (StopsBoth port) port state old new
         → IsDrivenBy (IsOfBoot port) old new }
-    ensures commanding { (port : Port) (access : Access) → IsControl IsCommandRegister port access
+    ensures commanding { (port : Port) (access : Access) → OnPortWriting IsCommandRegister port access
         → IsOfBoot port access }
 {
     law_base();
@@ -89,11 +89,11 @@ pub fn law_boots_are_driven()
 /// A port that runs does so still after an access that writes neither its PxCMD nor its PxSCTL, and after several that
 /// don't write GHC either. Where it ran well, and nothing went wrong on it, it runs well.
 pub fn law_a_port_runs_on()
-    ensures over { (port : Port) (access : Access) (old new : Device) → IsOn old → SparesRegister (Px port Sctl) access
-        → SparesRegister (Px port Cmd) access → Does access old new → RunsOn port.0 old new }
+    ensures over { (port : Port) (access : Access) (old new : Device) → IsOn old → DoesNotWrite (Px port Sctl) access
+        → DoesNotWrite (Px port Cmd) access → Does access old new → RunsOn port.0 old new }
     ensures runs { (port : Port) (accesses : List Access) (old new : Device) → IsOn old → DoesAll accesses old new
-        → All (SparesRegister Ghc) accesses → All (SparesRegister (Px port Sctl)) accesses
-        → All (SparesRegister (Px port Cmd)) accesses → RunsOn port.0 old new }
+        → All (DoesNotWrite Ghc) accesses → All (DoesNotWrite (Px port Sctl)) accesses
+        → All (DoesNotWrite (Px port Cmd)) accesses → RunsOn port.0 old new }
     ensures well { (port : ℕ) (old new : Device) → RunsOn port old new → Undisturbed port old new
         → RunsWell (old.port port) → RunsWell (new.port port) }
 {
@@ -104,11 +104,11 @@ pub fn law_a_port_runs_on()
 /// that resets the adapter. And a boot that leaves its port ready begins it, since COMRESET has a port show no device
 /// until its link comes up.
 pub fn law_a_disk_is_in_where_one_shows()
-    ensures steps { (port : ℕ) (old new : Device) → Steps old new → ShowsOwnDisk (old.port port)
-        → ShowsOwnDisk (new.port port) }
+    ensures steps { (port : ℕ) (old new : Device) → Steps old new → HasDiskIfShown (old.port port)
+        → HasDiskIfShown (new.port port) }
     ensures access { (port : ℕ) (access : Access) (old new : Device) → Does access old new
-        → ShowsOwnDisk (old.port port) → ShowsOwnDisk (new.port port) }
+        → HasDiskIfShown (old.port port) → HasDiskIfShown (new.port port) }
     ensures accesses { (port : ℕ) (accesses : List Access) (old new : Device) → DoesAll accesses old new
-        → ShowsOwnDisk (old.port port) → ShowsOwnDisk (new.port port) }
-    ensures begins { (port : Port) (old new : Device) → BringsReady port old new → ShowsOwnDisk (new.port port.0) }
+        → HasDiskIfShown (old.port port) → HasDiskIfShown (new.port port) }
+    ensures begins { (port : Port) (old new : Device) → BringsReady port old new → HasDiskIfShown (new.port port.0) }
 {}

@@ -10,9 +10,9 @@ ghost use Rattle.adapter.specs.Access.{named_causes};
 ghost use Rattle.adapter.specs.Device.{Device};
 ghost use Rattle.adapter.specs.Rules.{IsOn, HasPort};
 ghost use Rattle.refinement.specs.Driven.{RelatesWith, AnyUse};
-ghost use Rattle.port_control.specs.Ports.{IsStopped, HasStopped};
+ghost use Rattle.port_control.specs.Ports.{IsStopped, HasStCleared};
 ghost use Rattle.port_boot.specs.Outcomes.{EndsReady, EndsUnready, FailsToIdentify, BootFailsToBringUp, Identifies, BootBringsUp};
-ghost use Rattle.port_boot.specs.States.{IsStateOfFault, Fits, IsFit, IsStateByPage, IsBootable, IsBroughtUp, IsHaltedAs};
+ghost use Rattle.port_boot.specs.States.{IsStateOfFault, SerialMatches, IsFit, IsStateByPage, IsBootable, IsBroughtUp, IsStoppedAs};
 ghost use Rattle.adapter.specs.Counted.{MakesAtMost};
 ghost use Rattle.port_control.specs.Costs.{STOP_ACCESSES};
 ghost use Rattle.port_boot.specs.Costs.{BOOT_ACCESSES, IDENTIFY_ACCESSES, RISE_ACCESSES};
@@ -51,7 +51,7 @@ fn state_of(fault: PortFault) -> PortState
 
 /// Whether a disk's serial number is the one that is named, if one is.
 fn fits(wanted: &Option<[u8; 20]>, serial: &[u8; 20]) -> bool
-    ensures { IsTrue result ↔ Fits wanted.now serial.now }
+    ensures { IsTrue result ↔ SerialMatches wanted.now serial.now }
 {
     match wanted {
         None => true,
@@ -104,8 +104,8 @@ fn halt<A: Adapter>(adapter: &mut A, port: Port, state: PortState) -> PortState
     requires there { HasPort (A.device adapter.old) port.0 }
     requires agreed { RelatesWith AnyUse (A.device adapter.old) }
     ensures on { IsOn (A.device adapter.new) }
-    ensures has { HasStopped ((A.device adapter.old).port port.0) ((A.device adapter.new).port port.0) }
-    ensures halted { IsHaltedAs port state result (A.device adapter.old) (A.device adapter.new) }
+    ensures has { HasStCleared ((A.device adapter.old).port port.0) ((A.device adapter.new).port port.0) }
+    ensures halted { IsStoppedAs port state result (A.device adapter.old) (A.device adapter.new) }
     ensures cost { MakesAtMost STOP_ACCESSES (A.access_count adapter.old) (A.access_count adapter.new) }
 {
     match stop(adapter, port) {

@@ -8,11 +8,11 @@ use Rattle.hba_regs.specs.declared.reg.PortReg.TheVariants.{Cmd}
 use Rattle.hba_regs.specs.declared.reg.Reg.TheVariants.{Px}
 use Rattle.adapter.specs.Access.{Access}
 use Rattle.adapter.specs.Access.Access.{Reading, Writing, Loading, Storing}
-use Rattle.refinement.specs.Links.{SparesRegister}
-use Rattle.port_control.specs.Engines.{Awaits, Falls, ShowsStillRunning, ReadsCommand}
+use Rattle.refinement.specs.Links.{DoesNotWrite}
+use Rattle.port_control.specs.Engines.{Awaits, Falls, ShowsStillRunning, ReadsPortCmd}
 
 -- a reading writes nothing
-reading_spares : (Shown : ℕ → Type 0) (port : Port) (access : Access) → ReadsCommand Shown port access → SparesRegister (Px port Cmd) access
+reading_spares : (Shown : ℕ → Type 0) (port : Port) (access : Access) → ReadsPortCmd Shown port access → DoesNotWrite (Px port Cmd) access
 reading_spares Shown port (Reading r v) is = tt
 reading_spares Shown port (Writing r v) is = absurd is
 reading_spares Shown port (Loading at bytes) is = absurd is
@@ -28,7 +28,7 @@ module _ (start running : ℕ) (port : Port) where
     here = ap (λ (accesses : List Access). early ++ accesses) is;
     clears = zero;
     number = refl;
-    all = All-nil (ReadsCommand (ShowsStillRunning start running) port);
+    all = All-nil (ReadsPortCmd (ShowsStillRunning start running) port);
   }
 
   -- PxCMD is read
@@ -47,7 +47,7 @@ module _ (start running : ℕ) (port : Port) where
       here = then_reads;
       clears = a.clears;
       number = length-append a.stuck (Reading (Px port Cmd) v ∷ []) ∙ ap (λ (k : ℕ). k + 1) a.number;
-      all = All-push (ReadsCommand (ShowsStillRunning start running) port) a.stuck (Reading (Px port Cmd) v) a.all (refl, shows);
+      all = All-push (ReadsPortCmd (ShowsStillRunning start running) port) a.stuck (Reading (Px port Cmd) v) a.all (refl, shows);
     }
 
     pub awaits_falls : bit v running ≡ false → Falls start running port (early ++ late)
@@ -59,6 +59,6 @@ module _ (start running : ℕ) (port : Port) where
       later = [];
       here = then_reads;
       clears = a.clears;
-      only = All-weaker (ReadsCommand (ShowsStillRunning start running) port) (SparesRegister (Px port Cmd)) (reading_spares (ShowsStillRunning start running) port) a.stuck a.all;
+      only = All-weaker (ReadsPortCmd (ShowsStillRunning start running) port) (DoesNotWrite (Px port Cmd)) (reading_spares (ShowsStillRunning start running) port) a.stuck a.all;
       shown = zero;
     }

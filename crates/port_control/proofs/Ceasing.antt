@@ -10,17 +10,17 @@ use Rattle.adapter.specs.Access.{Access, Reads, Writes, counted}
 use Rattle.adapter.specs.Access.Access.{Reading, Writing}
 use Rattle.adapter.specs.Device.{Bases, Notes, DevicePort, Device}
 use Rattle.adapter.specs.Rules.{MayWrite, IsStable}
-use Rattle.adapter.specs.Seen.{SeenAt}
-use Rattle.refinement.specs.Driven.{AnyUse, IsControl, IsSimulated, IsSimulatedAlong}
+use Rattle.adapter.specs.Seen.{PortRegisterRead}
+use Rattle.refinement.specs.Driven.{AnyUse, OnPortWriting, IsSimulated, IsSimulatedAlong}
 use Rattle.refinement.specs.Driver.{LeavesUses}
-use Rattle.refinement.specs.Facts.{IsAfterReset}
+use Rattle.refinement.specs.Facts.{IsQuiescentPort}
 use Rattle.refinement.specs.Slots.{SlotStates}
 use Rattle.port_control.specs.Engines.{Awaits, Falls, ShowsStillRunning}
-use Rattle.port_control.specs.Ports.{IsCommandRegister, IsUsable, IsStopped, ReceivesFises, SameBeside, HasStopped, programmed}
+use Rattle.port_control.specs.Ports.{IsCommandRegister, IsUsable, IsStopped, ReceivesFises, SameSctlAndNotes, HasStCleared, programmed}
 use Rattle.port_control.proofs.Awaiting.{awaits_none, awaits_more, awaits_falls}
 use Rattle.port_control.proofs.Using.{usable_after, usable_read, beside_then, beside_read, beside_command, bases_command, stopped_on, stopped_read, stopped_write}
 use Rattle.port_control.specs.Laws.RegisterSet.{Commanding}
-use Rattle.port_control.specs.Laws.AccessKind.{Controlling}
+use Rattle.port_control.specs.Laws.AccessPurpose.{Controlling}
 use Rattle.port_control.specs.Laws.{Laws}
 use Rattle.port_control.proofs.Stretching.{followed_read, followed_then, followed_write, told_both}
 
@@ -30,9 +30,9 @@ IsButAt at was v = (k : ℕ) → k < 32 → k ≢ at → bit v k ≡ bit was k
 
 -- ST was cleared, and so many readings found CR set
 pub record IsFalling (port : Port) (start : Device) (n : ℕ) (d : Device) : Type 0 where
-  pub told : IsSimulatedAlong (Awaits 0 15 port n) (IsControl IsCommandRegister port) AnyUse start d
+  pub told : IsSimulatedAlong (Awaits 0 15 port n) (OnPortWriting IsCommandRegister port) AnyUse start d
   pub usable : IsUsable AnyUse port d
-  pub has : HasStopped (start.port port.0) (d.port port.0)
+  pub has : HasStCleared (start.port port.0) (d.port port.0)
   pub low : n ≤ (d.port port.0).notes.engine_count
   pub high : 0 < n → (d.port port.0).notes.engine_count ≤ MOST_READINGS
 
@@ -42,11 +42,11 @@ pub record HasEmptied (port : Port) (start d : Device) : Type 0 where
   pub stopped : IsStopped (d.port port.0)
   pub fre : (d.port port.0).fre ≡ false
   pub bases : (d.port port.0).bases ≡ (start.port port.0).bases
-  pub same : SameBeside (start.port port.0) (d.port port.0)
+  pub same : SameSctlAndNotes (start.port port.0) (d.port port.0)
 
 -- FRE was cleared, and so many readings found FR set
 pub record IsEmptying (port : Port) (start : Device) (n : ℕ) (d : Device) : Type 0 where
-  pub told : IsSimulatedAlong (Awaits 4 14 port n) (IsControl IsCommandRegister port) AnyUse start d
+  pub told : IsSimulatedAlong (Awaits 4 14 port n) (OnPortWriting IsCommandRegister port) AnyUse start d
   pub has : HasEmptied port start d
   pub low : n ≤ (d.port port.0).notes.engine_count
   pub high : 0 < n → (d.port port.0).notes.engine_count ≤ MOST_READINGS
@@ -66,7 +66,7 @@ bit_zero : (was v : ℕ) → IsButAt 4 was v → bit v 0 ≡ bit was 0
 bit_zero was v others = others 0 (lit< tt) (λ e. absurd (omega (arith, e)))
 
 module _ (laws : Laws) where
-  pub reading : (port : Port) (v : ℕ) (old new : Device) → Reads (Px port Cmd) v old new → IsSimulated (IsControl IsCommandRegister port) AnyUse old new
+  pub reading : (port : Port) (v : ℕ) (old new : Device) → Reads (Px port Cmd) v old new → IsSimulated (OnPortWriting IsCommandRegister port) AnyUse old new
   reading port v old new call = followed_read laws (Controlling Commanding port) (Px port Cmd) v old new refl call
 
   -- ---- what is told of the accesses
@@ -74,32 +74,32 @@ module _ (laws : Laws) where
   module _ (start running : ℕ) (port : Port) where
     -- PxCMD was read, and written with the bit of an engine 0
     pub told_clears : (was v : ℕ) (old mid new : Device) → bit v start ≡ false → Reads (Px port Cmd) was old mid → IsStable (MayWrite (Px port Cmd) v) mid →
-        ((uses : SlotStates) → AnyUse uses → LeavesUses uses (Px port Cmd) v mid) → Writes (Px port Cmd) v mid new → IsSimulatedAlong (Awaits start running port 0) (IsControl IsCommandRegister port) AnyUse old new
+        ((uses : SlotStates) → AnyUse uses → LeavesUses uses (Px port Cmd) v mid) → Writes (Px port Cmd) v mid new → IsSimulatedAlong (Awaits start running port 0) (OnPortWriting IsCommandRegister port) AnyUse old new
     told_clears was v old mid new zero read may leaves write =
         told_both laws (λ accesses. accesses ≡ Reading (Px port Cmd) was ∷ []) (λ accesses. accesses ≡ Writing (Px port Cmd) v ∷ []) (Awaits start running port 0)
         (λ early late is then. awaits_none start running port v zero early late then) (Controlling Commanding port) old mid new
         (laws.fragments.reads (Controlling Commanding port) (Px port Cmd) was old mid refl read)
         (laws.fragments.writes (Controlling Commanding port) (Px port Cmd) v mid new (refl, refl) may leaves write)
 
-    module _ (n v : ℕ) (old mid new : Device) (a : IsSimulatedAlong (Awaits start running port n) (IsControl IsCommandRegister port) AnyUse old mid) (call : Reads (Px port Cmd) v mid new) where
+    module _ (n v : ℕ) (old mid new : Device) (a : IsSimulatedAlong (Awaits start running port n) (OnPortWriting IsCommandRegister port) AnyUse old mid) (call : Reads (Px port Cmd) v mid new) where
       -- what is told of them, and of one more reading
       with_reading : (Tells : List Access → Type 0) → ((early late : List Access) → Awaits start running port n early → late ≡ Reading (Px port Cmd) v ∷ [] → Tells (early ++ late)) →
-          IsSimulatedAlong Tells (IsControl IsCommandRegister port) AnyUse old new
+          IsSimulatedAlong Tells (OnPortWriting IsCommandRegister port) AnyUse old new
       with_reading Tells join =
           told_both laws (Awaits start running port n) (λ accesses. accesses ≡ Reading (Px port Cmd) v ∷ []) Tells join
           (Controlling Commanding port) old mid new a
           (laws.fragments.reads (Controlling Commanding port) (Px port Cmd) v mid new refl call)
 
-      pub told_stuck : ShowsStillRunning start running v → IsSimulatedAlong (Awaits start running port (n + 1)) (IsControl IsCommandRegister port) AnyUse old new
+      pub told_stuck : ShowsStillRunning start running v → IsSimulatedAlong (Awaits start running port (n + 1)) (OnPortWriting IsCommandRegister port) AnyUse old new
       told_stuck shows = with_reading (Awaits start running port (n + 1)) (λ early late a is. awaits_more start running port n v early late a is shows)
 
-      pub told_falls : bit v running ≡ false → IsSimulatedAlong (Falls start running port) (IsControl IsCommandRegister port) AnyUse old new
+      pub told_falls : bit v running ≡ false → IsSimulatedAlong (Falls start running port) (OnPortWriting IsCommandRegister port) AnyUse old new
       told_falls zero = with_reading (Falls start running port) (λ early late a is. awaits_falls start running port n v early late a is zero)
 
     -- after all of them
-    pub told_awaits : (n : ℕ) → n ≡ MOST_READINGS → (old new : Device) → IsSimulatedAlong (Awaits start running port n) (IsControl IsCommandRegister port) AnyUse old new →
-        IsSimulatedAlong (Awaits start running port MOST_READINGS) (IsControl IsCommandRegister port) AnyUse old new
-    told_awaits n all old new a = subst (λ (k : ℕ). IsSimulatedAlong (Awaits start running port k) (IsControl IsCommandRegister port) AnyUse old new) all a
+    pub told_awaits : (n : ℕ) → n ≡ MOST_READINGS → (old new : Device) → IsSimulatedAlong (Awaits start running port n) (OnPortWriting IsCommandRegister port) AnyUse old new →
+        IsSimulatedAlong (Awaits start running port MOST_READINGS) (OnPortWriting IsCommandRegister port) AnyUse old new
+    told_awaits n all old new a = subst (λ (k : ℕ). IsSimulatedAlong (Awaits start running port k) (OnPortWriting IsCommandRegister port) AnyUse old new) all a
 
   -- PxCMD is read, and written
   module _ (port : Port) (was v : ℕ) (old mid : Device) (u : IsUsable AnyUse port old) (read : Reads (Px port Cmd) was old mid) where
@@ -109,7 +109,7 @@ module _ (laws : Laws) where
     here : IsUsable AnyUse port mid
     here = usable_read laws AnyUse port Cmd was old mid u read
 
-    s : SeenAt port.0 Cmd was old mid
+    s : PortRegisterRead port.0 Cmd was old mid
     s = laws.seen port Cmd was old mid read u.on.no_reset
 
     last : (mid.port port.0).notes.last_cmd ≡ was
@@ -137,10 +137,10 @@ module _ (laws : Laws) where
       }
 
       module _ (new : Device) (write : Writes (Px port Cmd) v mid new) where
-        pub stop_told : IsSimulatedAlong (Awaits 0 15 port 0) (IsControl IsCommandRegister port) AnyUse old new
+        pub stop_told : IsSimulatedAlong (Awaits 0 15 port 0) (OnPortWriting IsCommandRegister port) AnyUse old new
         stop_told = told_clears 0 15 port was v old mid new zero read stop_may stop_leaves write
 
-        pub stop_has : HasStopped (old.port port.0) (new.port port.0)
+        pub stop_has : HasStCleared (old.port port.0) (new.port port.0)
         stop_has =
             let after : IsUsable AnyUse port new = usable_after laws Commanding port old new u stop_told.followed in
             let set = laws.command_set port v mid new write in
@@ -173,8 +173,8 @@ module _ (laws : Laws) where
       empty_leaves uses is = record { start = λ on. absurd (true≢false (sym on ∙ st_zero)); receive = λ on. absurd (true≢false (sym on ∙ zero)) }
 
       module _ (new : Device) (write : Writes (Px port Cmd) v mid new) where
-        pub empty_begins : IsSimulatedAlong (Awaits 4 14 port 0) (IsControl IsCommandRegister port) AnyUse old new × IsStopped (new.port port.0) × ((new.port port.0).fre ≡ false)
-            × ((new.port port.0).bases ≡ (old.port port.0).bases) × SameBeside (old.port port.0) (new.port port.0)
+        pub empty_begins : IsSimulatedAlong (Awaits 4 14 port 0) (OnPortWriting IsCommandRegister port) AnyUse old new × IsStopped (new.port port.0) × ((new.port port.0).fre ≡ false)
+            × ((new.port port.0).bases ≡ (old.port port.0).bases) × SameSctlAndNotes (old.port port.0) (new.port port.0)
         empty_begins = (
           told_clears 4 14 port was v old mid new zero read empty_may empty_leaves write,
           stopped_write laws port Cmd v mid new empty_may (λ _. st_zero) (λ (e : Cmd ≡ Sact). cc) write still,
@@ -185,7 +185,7 @@ module _ (laws : Laws) where
 
     -- ---- FRE is set
 
-    module _ (quiet : IsAfterReset (old.port port.0)) (placed : (old.port port.0).bases ≡ programmed port.0) (one : bit v 4 ≡ true) (others : IsButAt 4 was v) where
+    module _ (quiet : IsQuiescentPort (old.port port.0)) (placed : (old.port port.0).bases ≡ programmed port.0) (one : bit v 4 ≡ true) (others : IsButAt 4 was v) where
       stands : IsStopped (mid.port port.0)
       stands = stopped_read laws port Cmd was old mid u.on.no_reset read (record { halted = quiet.halted; sact = quiet.sact })
 
@@ -204,7 +204,7 @@ module _ (laws : Laws) where
       receive_leaves uses is = record { start = λ on. absurd (true≢false (sym on ∙ (st_same ∙ stands.halted.st))); receive = λ on. (here.there.0, ap (λ (b : Bases). b.fb) in_place) }
 
       module _ (new : Device) (write : Writes (Px port Cmd) v mid new) where
-        pub receive_done : IsSimulated (IsControl IsCommandRegister port) AnyUse old new × ReceivesFises port.0 (new.port port.0) × SameBeside (old.port port.0) (new.port port.0)
+        pub receive_done : IsSimulated (OnPortWriting IsCommandRegister port) AnyUse old new × ReceivesFises port.0 (new.port port.0) × SameSctlAndNotes (old.port port.0) (new.port port.0)
         receive_done = (
           followed_then laws (Controlling Commanding port) old mid new (reading port was old mid read)
               (followed_write laws (Controlling Commanding port) (Px port Cmd) v mid new (refl, refl) receive_may receive_leaves write),
@@ -221,15 +221,15 @@ module _ (laws : Laws) where
     off : d.hr ≡ false
     off = w.usable.on.no_reset
 
-    pub falls : bit v 15 ≡ false → IsSimulatedAlong (Falls 0 15 port) (IsControl IsCommandRegister port) AnyUse start e
+    pub falls : bit v 15 ≡ false → IsSimulatedAlong (Falls 0 15 port) (OnPortWriting IsCommandRegister port) AnyUse start e
     falls clear = told_falls 0 15 port n v start d e w.told call clear
 
     pub falling_on : IsUsable AnyUse port e
     falling_on = usable_read laws AnyUse port Cmd v d e w.usable call
 
-    pub has_still : HasStopped (start.port port.0) (e.port port.0)
+    pub has_still : HasStCleared (start.port port.0) (e.port port.0)
     has_still =
-        let s : SeenAt port.0 Cmd v d e = laws.seen port Cmd v d e call off in
+        let s : PortRegisterRead port.0 Cmd v d e = laws.seen port Cmd v d e call off in
         let k = s.keeps.port port.0 in
         let c = s.keeps.on.controls port.0 in
         let same = beside_then (start.port port.0) (d.port port.0) (e.port port.0) (w.has.sctl_det, w.has.notes) (beside_read laws port v d e off call) in
@@ -271,7 +271,7 @@ module _ (laws : Laws) where
     -- what goes on, whatever was read
     pub empties : HasEmptied port start e
     empties =
-        let s : SeenAt port.0 Cmd v d e = laws.seen port Cmd v d e call quiet in
+        let s : PortRegisterRead port.0 Cmd v d e = laws.seen port Cmd v d e call quiet in
         record {
           usable = usable_read laws AnyUse port Cmd v d e w.has.usable call;
           stopped = stopped_on (s.keeps.port port.0) w.has.stopped;
@@ -283,7 +283,7 @@ module _ (laws : Laws) where
     pub emptied : bit v 14 ≡ false → (e.port port.0).fr ≡ false
     emptied clear = sym (laws.shown_after port Cmd v d e quiet call).2 ∙ clear
 
-    pub empties_told : bit v 14 ≡ false → IsSimulatedAlong (Falls 4 14 port) (IsControl IsCommandRegister port) AnyUse start e
+    pub empties_told : bit v 14 ≡ false → IsSimulatedAlong (Falls 4 14 port) (OnPortWriting IsCommandRegister port) AnyUse start e
     empties_told clear = told_falls 4 14 port n v start d e w.told call clear
 
     held : bit v 14 ≡ true → not (d.port port.0).st && bit v 15 || not (d.port port.0).fre && bit v 14 ≡ true

@@ -10,13 +10,13 @@ use Rattle.adapter.specs.Access.{Reads, Writes}
 use Rattle.adapter.specs.Access.Access.{Reading, Writing}
 use Rattle.adapter.specs.Device.{Device}
 use Rattle.adapter.specs.Rules.{IsOn, MayWrite, IsStable}
-use Rattle.refinement.specs.Driven.{AnyUse, IsControl, IsSimulated}
-use Rattle.refinement.specs.Links.{SparesRegister}
-use Rattle.port_control.specs.Ports.{IsErrorRegister, IsUsable, ReceivesFises, SawDevice, ClearsErrors, HasClearErrors, Forgets}
+use Rattle.refinement.specs.Driven.{AnyUse, OnPortWriting, IsSimulated}
+use Rattle.refinement.specs.Links.{DoesNotWrite}
+use Rattle.port_control.specs.Ports.{IsErrorRegister, IsUsable, ReceivesFises, SawDevice, ClearsErrors, HasClearErrors, ClearsErrorState}
 use Rattle.port_control.proofs.Using.{usable_after}
 use Rattle.port_control.proofs.Settling.{comes_in_parts, plugs_in_parts, Settles, settles}
 use Rattle.port_control.specs.Laws.RegisterSet.{Clearing}
-use Rattle.port_control.specs.Laws.AccessKind.{Controlling}
+use Rattle.port_control.specs.Laws.AccessPurpose.{Controlling}
 use Rattle.port_control.specs.Laws.{Laws}
 use Rattle.port_control.proofs.Stretching.{followed_read, followed_then, followed_write}
 
@@ -31,21 +31,21 @@ module _ (laws : Laws) where
   is_may port v d u = laws.write_stays (Px port Is) v d (λ p e. cc) (u.on, u.there, tt)
 
   -- what PxSSTS was read as stays
-  saw_still : (port : Port) (r : PortReg) (v : ℕ) (old new : Device) → SparesRegister (Px port Sctl) (Writing (Px port r) v) → Writes (Px port r) v old new →
+  saw_still : (port : Port) (r : PortReg) (v : ℕ) (old new : Device) → DoesNotWrite (Px port Sctl) (Writing (Px port r) v) → Writes (Px port r) v old new →
       SawDevice (old.port port.0).notes → SawDevice (new.port port.0).notes
   saw_still port r v old new spares call saw =
       let link = (laws.access_notes port (Writing (Px port r) v) old new call).link tt in
       (ap (λ (n : ℕ). n % 16) link.0 ∙ saw.0, link.1 spares ∙ saw.1)
 
   module _ (port : Port) (old mid new : Device) (u : IsUsable AnyUse port old) (serr : Writes (Px port Serr) 0xffffffff old mid) where
-    pub first : IsSimulated (IsControl IsErrorRegister port) AnyUse old mid
+    pub first : IsSimulated (OnPortWriting IsErrorRegister port) AnyUse old mid
     first = followed_write laws (Controlling Clearing port) (Px port Serr) 0xffffffff old mid (refl, inl refl) (serr_may port 0xffffffff old u) (λ uses is. tt) serr
 
     pub clearing : IsUsable AnyUse port mid
     clearing = usable_after laws Clearing port old mid u first
 
     -- PxSERR tells no disk of before, whatever is cleared after it
-    pub since_clear : IsSimulated (IsControl IsErrorRegister port) AnyUse mid new → (old.port port.0).link_due ≡ false → HasClearErrors port.0 old new
+    pub since_clear : IsSimulated (OnPortWriting IsErrorRegister port) AnyUse mid new → (old.port port.0).link_due ≡ false → HasClearErrors port.0 old new
     since_clear second undue =
         let s : Settles port old mid = settles laws port old mid u.on first.driven in
         let t : Settles port mid new = settles laws port mid new clearing.on second.driven in
@@ -57,10 +57,10 @@ module _ (laws : Laws) where
         }
 
     module _ (is : Writes (Px port Is) 0xffffffff mid new) where
-      second : IsSimulated (IsControl IsErrorRegister port) AnyUse mid new
+      second : IsSimulated (OnPortWriting IsErrorRegister port) AnyUse mid new
       second = followed_write laws (Controlling Clearing port) (Px port Is) 0xffffffff mid new (refl, inr refl) (is_may port 0xffffffff mid clearing) (λ uses is. tt) is
 
-      pub clears : IsSimulated (IsControl IsErrorRegister port) AnyUse old new
+      pub clears : IsSimulated (OnPortWriting IsErrorRegister port) AnyUse old new
       clears = followed_then laws (Controlling Clearing port) old mid new first second
 
       pub cleared_saw : SawDevice (old.port port.0).notes → SawDevice (new.port port.0).notes
@@ -80,15 +80,15 @@ module _ (laws : Laws) where
   -- ---- and PxTFD is read then
 
   module _ (port : Port) (v : ℕ) (old mid new : Device) (u : IsUsable AnyUse port old) (receives : ReceivesFises port.0 (old.port port.0))
-      (undue : (old.port port.0).link_due ≡ false) (det : (old.port port.0).sctl_det ≡ 0) (first : IsSimulated (IsControl IsErrorRegister port) AnyUse old mid)
+      (undue : (old.port port.0).link_due ≡ false) (det : (old.port port.0).sctl_det ≡ 0) (first : IsSimulated (OnPortWriting IsErrorRegister port) AnyUse old mid)
       (clears : ClearsErrors port old mid) (read : Reads (Px port Tfd) v mid new) where
     forgetting : IsUsable AnyUse port mid
     forgetting = usable_after laws Clearing port old mid u first
 
-    then : IsSimulated (IsControl IsErrorRegister port) AnyUse mid new
+    then : IsSimulated (OnPortWriting IsErrorRegister port) AnyUse mid new
     then = followed_read laws (Controlling Clearing port) (Px port Tfd) v mid new refl read
 
-    pub forgets_followed : IsSimulated (IsControl IsErrorRegister port) AnyUse old new
+    pub forgets_followed : IsSimulated (OnPortWriting IsErrorRegister port) AnyUse old new
     forgets_followed = followed_then laws (Controlling Clearing port) old mid new first then
 
     pub forgets_on : IsOn new
@@ -98,7 +98,7 @@ module _ (laws : Laws) where
     abbrev SameLink : Device → Device → Type 0
     SameLink a b = ((b.port port.0).notes.last_ssts ≡ (a.port port.0).notes.last_ssts) × ((b.port port.0).notes.link_count ≡ (a.port port.0).notes.link_count)
 
-    same_written : (r : PortReg) (w : ℕ) (a b : Device) → SparesRegister (Px port Sctl) (Writing (Px port r) w) → Writes (Px port r) w a b → SameLink a b
+    same_written : (r : PortReg) (w : ℕ) (a b : Device) → DoesNotWrite (Px port Sctl) (Writing (Px port r) w) → Writes (Px port r) w a b → SameLink a b
     same_written r w a b spares call = let link = (laws.access_notes port (Writing (Px port r) w) a b call).link tt in (link.0, link.1 spares)
 
     same_link : SameLink old new
@@ -108,7 +108,7 @@ module _ (laws : Laws) where
         let third = (laws.access_notes port (Reading (Px port Tfd) v) mid new read).link (λ (e : Px port Tfd ≡ Px port Ssts). absurd (cc)) in
         (third.0 ∙ second.0 ∙ first.0, third.1 tt ∙ second.1 ∙ first.1)
 
-    pub forgets : ((place : ℕ) → place < 32 → (mid.port port.0).is place ≡ false) → HasClearErrors port.0 old mid → Forgets port v old new
+    pub forgets : ((place : ℕ) → place < 32 → (mid.port port.0).is place ≡ false) → HasClearErrors port.0 old mid → ClearsErrorState port v old new
     forgets calm clear =
         let s : Settles port old mid = settles laws port old mid u.on first.driven in
         let t : Settles port mid new = settles laws port mid new forgetting.on then.driven in

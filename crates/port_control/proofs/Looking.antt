@@ -13,45 +13,45 @@ use Rattle.hba_regs.specs.declared.reg.Reg.TheVariants.{Px}
 use Rattle.adapter.specs.Access.{Reads, counted, link_counted}
 use Rattle.adapter.specs.Access.Access.{Reading}
 use Rattle.adapter.specs.Device.{Notes, DevicePort, Device}
-use Rattle.refinement.specs.Driven.{AnyUse, IsControl, IsSimulated}
-use Rattle.refinement.specs.Errors.{NoneComes}
-use Rattle.refinement.specs.Facts.{IsAwaited, IsQuiet, IsUnflagged}
+use Rattle.refinement.specs.Driven.{AnyUse, OnPortWriting, IsSimulated}
+use Rattle.refinement.specs.Errors.{NoDiskComes}
+use Rattle.refinement.specs.Facts.{ShowsDrqTillLink, IsCleanToStart, StoppedTfesClear}
 use Rattle.refinement.specs.Started.{IsUp, IsComingUp}
-use Rattle.port_control.specs.Ports.{IsErrorRegister, IsUsable, HasLink, ShowsIdle, SawDevice, SawIdle, ReadsNot, ReadsWithout, ReadsUntil, ShowsSignature}
+use Rattle.port_control.specs.Ports.{IsErrorRegister, IsUsable, HasLink, ShowsIdle, SawDevice, SawIdle, IsVainReading, ReadsInVain, ReadsUntil, ShowsSignature}
 use Rattle.port_control.proofs.Using.{usable_read}
 use Rattle.port_control.proofs.Ceasing.{counted_again}
 use Rattle.port_control.proofs.Settling.{comes_in_parts, Settles, settles}
 use Rattle.port_control.specs.Laws.RegisterSet.{Clearing}
-use Rattle.port_control.specs.Laws.AccessKind.{Controlling}
+use Rattle.port_control.specs.Laws.AccessPurpose.{Controlling}
 use Rattle.port_control.specs.Laws.{Laws}
 use Rattle.port_control.proofs.Stretching.{followed_read, followed_then}
 
 -- so many readings of PxSSTS showed no device with a link
 pub record IsMissing (port : Port) (start : Device) (n : ℕ) (d : Device) : Type 0 where
-  pub followed : IsSimulated (IsControl IsErrorRegister port) AnyUse start d
+  pub followed : IsSimulated (OnPortWriting IsErrorRegister port) AnyUse start d
   pub usable : IsUsable AnyUse port d
   pub on : IsUsable AnyUse port start
   pub det : (d.port port.0).sctl_det ≡ 0
   pub low : n ≤ (d.port port.0).notes.link_count
   pub high : 0 < n → (d.port port.0).notes.link_count ≤ MOST_READINGS
   pub far : 0 < n → (d.port port.0).notes.last_ssts % 16 ≢ 3
-  pub misses : ReadsWithout port Ssts HasLink n start d
+  pub misses : ReadsInVain port Ssts HasLink n start d
 
 -- a link is awaited on a port whose TFES is clear
 abbrev Awaits : DevicePort → Type 0
-Awaits p = IsAwaited p × IsUnflagged p
+Awaits p = ShowsDrqTillLink p × StoppedTfesClear p
 
 -- so many readings of PxTFD showed BSY or DRQ
 pub record IsBusyStill (port : Port) (start : Device) (n : ℕ) (d : Device) : Type 0 where
-  pub followed : IsSimulated (IsControl IsErrorRegister port) AnyUse start d
+  pub followed : IsSimulated (OnPortWriting IsErrorRegister port) AnyUse start d
   pub usable : IsUsable AnyUse port d
   pub det : (d.port port.0).sctl_det ≡ 0
   pub saw : SawDevice (d.port port.0).notes
   pub low : n ≤ (d.port port.0).notes.busy_count
   pub high : 0 < n → (d.port port.0).notes.busy_count ≤ MOST_READINGS
-  pub stays : ReadsWithout port Tfd ShowsIdle n start d
+  pub stays : ReadsInVain port Tfd ShowsIdle n start d
   pub awaits : Awaits (start.port port.0) → Awaits (d.port port.0)
-  pub quiet : 0 < n → Awaits (start.port port.0) → bit (d.port port.0).notes.last_tfd 3 ≡ false → IsQuiet (d.port port.0)
+  pub quiet : 0 < n → Awaits (start.port port.0) → bit (d.port port.0).notes.last_tfd 3 ≡ false → IsCleanToStart (d.port port.0)
 
 counted_far : (det n count : ℕ) → det ≢ 3 → n ≤ count → n < MOST_READINGS → (n + 1 ≤ link_counted det count) × (link_counted det count ≤ MOST_READINGS)
 counted_far det n count far low small =
@@ -61,38 +61,38 @@ counted_far det n count far low small =
     ]
 
 module _ (laws : Laws) where
-  pub looks : (port : Port) (r : PortReg) (v : ℕ) (old new : Device) → Reads (Px port r) v old new → IsSimulated (IsControl IsErrorRegister port) AnyUse old new
+  pub looks : (port : Port) (r : PortReg) (v : ℕ) (old new : Device) → Reads (Px port r) v old new → IsSimulated (OnPortWriting IsErrorRegister port) AnyUse old new
   looks port r v old new call = followed_read laws (Controlling Clearing port) (Px port r) v old new refl call
 
-  looks_more : (port : Port) (r : PortReg) (v : ℕ) (start d e : Device) → IsSimulated (IsControl IsErrorRegister port) AnyUse start d → Reads (Px port r) v d e → IsSimulated (IsControl IsErrorRegister port) AnyUse start e
+  looks_more : (port : Port) (r : PortReg) (v : ℕ) (start d e : Device) → IsSimulated (OnPortWriting IsErrorRegister port) AnyUse start d → Reads (Px port r) v d e → IsSimulated (OnPortWriting IsErrorRegister port) AnyUse start e
   looks_more port r v start d e f call = followed_then laws (Controlling Clearing port) start d e f (looks port r v d e call)
 
   -- ---- readings until something shows
 
   module _ (port : Port) (r : PortReg) (Shown : ℕ → Type 0) where
-    pub without_none : (d : Device) → ReadsWithout port r Shown 0 d d
-    without_none d = record { reads = record { accesses = []; all = refl; only = All-nil (ReadsNot port r Shown) }; number = refl }
+    pub without_none : (d : Device) → ReadsInVain port r Shown 0 d d
+    without_none d = record { reads = record { accesses = []; all = refl; only = All-nil (IsVainReading port r Shown) }; number = refl }
 
     module _ {v : ℕ} {start d e : Device} (n : ℕ) where
-      pub without_more : ReadsWithout port r Shown n start d → Reads (Px port r) v d e → (Shown v → ⊥) → ReadsWithout port r Shown (n + 1) start e
+      pub without_more : ReadsInVain port r Shown n start d → Reads (Px port r) v d e → (Shown v → ⊥) → ReadsInVain port r Shown (n + 1) start e
       without_more w call not = record {
         reads = record {
           accesses = w.reads.accesses ++ Reading (Px port r) v ∷ [];
           all = laws.does_append w.reads.accesses (Reading (Px port r) v ∷ []) start d e w.reads.all (e, call, refl);
-          only = All-append (ReadsNot port r Shown) w.reads.accesses (Reading (Px port r) v ∷ []) w.reads.only
-              (All-cons (ReadsNot port r Shown) (Reading (Px port r) v) [] (refl, not) (All-nil (ReadsNot port r Shown)));
+          only = All-append (IsVainReading port r Shown) w.reads.accesses (Reading (Px port r) v ∷ []) w.reads.only
+              (All-cons (IsVainReading port r Shown) (Reading (Px port r) v) [] (refl, not) (All-nil (IsVainReading port r Shown)));
         };
         number = length-append w.reads.accesses (Reading (Px port r) v ∷ []) ∙ ap (λ (k : ℕ). k + 1) w.number;
       }
 
-      pub until_shown : n < MOST_READINGS → ReadsWithout port r Shown n start d → Reads (Px port r) v d e → Shown v → ReadsUntil port r Shown start e
+      pub until_shown : n < MOST_READINGS → ReadsInVain port r Shown n start d → Reads (Px port r) v d e → Shown v → ReadsUntil port r Shown start e
       until_shown small w call is = record { count = n; few = small; waited = d; waits = w; value = v; shown = is; reads = call }
 
   module _ (port : Port) (start d e : Device) (v n : ℕ) (w : IsMissing port start n d) (call : Reads (Px port Ssts) v d e) where
     off : d.hr ≡ false
     off = w.usable.on.no_reset
 
-    pub missing_followed : IsSimulated (IsControl IsErrorRegister port) AnyUse start e
+    pub missing_followed : IsSimulated (OnPortWriting IsErrorRegister port) AnyUse start e
     missing_followed = looks_more port Ssts v start d e w.followed call
 
     missing_count : (e.port port.0).notes.link_count ≡ link_counted (v % 16) (d.port port.0).notes.link_count
@@ -106,7 +106,7 @@ module _ (laws : Laws) where
     pub device_seen : v % 16 ≡ 3 → SawDevice (e.port port.0).notes
     device_seen three = (ap (λ (k : ℕ). k % 16) missing_last ∙ three, missing_count ∙ ap (λ (k : ℕ). link_counted k (d.port port.0).notes.link_count) three)
 
-    pub device_up : v % 16 ≡ 3 → NoneComes port.0 start e → IsComingUp (start.port port.0) → IsUp (e.port port.0)
+    pub device_up : v % 16 ≡ 3 → NoDiskComes port.0 start e → IsComingUp (start.port port.0) → IsUp (e.port port.0)
     device_up three none coming =
         let s : Settles port start d = settles laws port start d w.on.on w.followed.driven in
         let t : Settles port d e = settles laws port d e w.usable.on (looks port Ssts v d e call).driven in
@@ -135,7 +135,7 @@ module _ (laws : Laws) where
     quiet : d.hr ≡ false
     quiet = w.usable.on.no_reset
 
-    pub busy_followed : IsSimulated (IsControl IsErrorRegister port) AnyUse start e
+    pub busy_followed : IsSimulated (OnPortWriting IsErrorRegister port) AnyUse start e
     busy_followed = looks_more port Tfd v start d e w.followed call
 
     pub busy_saw : SawDevice (e.port port.0).notes
@@ -148,7 +148,7 @@ module _ (laws : Laws) where
     busy_waits small neither = until_shown port Tfd ShowsIdle n small w.stays call neither
 
     -- without DRQ the link isn't due
-    pub busy_quiet : Awaits (start.port port.0) → bit (e.port port.0).notes.last_tfd 3 ≡ false → IsQuiet (e.port port.0)
+    pub busy_quiet : Awaits (start.port port.0) → bit (e.port port.0).notes.last_tfd 3 ≡ false → IsCleanToStart (e.port port.0)
     busy_quiet awaits clear =
         let h = w.awaits awaits in
         let last : (e.port port.0).notes.last_tfd ≡ v = ap (λ (k : Notes). k.last_tfd) (laws.notes_read port Tfd v d e quiet call) in
@@ -188,7 +188,7 @@ module _ (laws : Laws) where
     sig_last = ap (λ (k : Notes). k.last_sig) signed
 
     -- what PxTFD was read as stays, and so what it showed
-    pub sig_quiet : (bit (d.port port.0).notes.last_tfd 3 ≡ false → IsQuiet (d.port port.0)) → bit (e.port port.0).notes.last_tfd 3 ≡ false → IsQuiet (e.port port.0)
+    pub sig_quiet : (bit (d.port port.0).notes.last_tfd 3 ≡ false → IsCleanToStart (d.port port.0)) → bit (e.port port.0).notes.last_tfd 3 ≡ false → IsCleanToStart (e.port port.0)
     sig_quiet was clear = laws.reads_quiet port.0 (Px port Sig) v d e call (was (ap (λ (k : Notes). bit k.last_tfd 3) (sym signed) ∙ clear))
 
     pub sig_shown : ShowsSignature (e.port port.0)

@@ -1,41 +1,41 @@
 -- The four registers of addresses are written.
 use Rattle.std.proofs.Common.{ℕ, ◌≡◌, ◌≢◌, ◌+◌, ◌≤◌, true, inl, inr, refl, sym, ◌∙◌, ap, subst, arith}
 use Rattle.ata_types.specs.declared.Port.{Port}
-use Rattle.ata_types.specs.declared.memory.TheConstants.{DRIVER_BYTES, RECEIVED_OFFSET}
+use Rattle.ata_types.specs.declared.memory.TheConstants.{DRIVER_BYTES, RECEIVED_FIS_OFFSET}
 use Rattle.hba_regs.specs.declared.reg.PortReg.{PortReg}
 use Rattle.hba_regs.specs.declared.reg.PortReg.TheVariants.{Clb, Clbu, Fb, Fbu, Is, Cmd, Sctl}
 use Rattle.hba_regs.specs.declared.reg.Reg.TheVariants.{Px}
 use Rattle.adapter.specs.Access.{Writes, port_written}
 use Rattle.adapter.specs.Device.{Bases, DevicePort, Device}
 use Rattle.adapter.specs.Rules.{MayWrite, IsStable}
-use Rattle.adapter.specs.Seen.{PutAt}
-use Rattle.refinement.specs.Driven.{AnyUse, IsControl, IsSimulated}
+use Rattle.adapter.specs.Seen.{PortRegisterWritten}
+use Rattle.refinement.specs.Driven.{AnyUse, OnPortWriting, IsSimulated}
 use Rattle.refinement.specs.Driver.{LeavesUses}
-use Rattle.refinement.specs.Facts.{IsAfterReset}
+use Rattle.refinement.specs.Facts.{IsQuiescentPort}
 use Rattle.refinement.specs.Places.{list_of, received_of}
 use Rattle.refinement.specs.Slots.{SlotStates}
-use Rattle.port_control.specs.Ports.{IsPlacingRegister, IsUsable, SameButCommand, SameBeside, programmed}
+use Rattle.port_control.specs.Ports.{IsPlacingRegister, IsUsable, SameButCmdNotes, SameSctlAndNotes, programmed}
 use Rattle.port_control.proofs.Using.{usable_after, beside_none, beside_then, same_adapter}
-use Rattle.port_control.specs.Laws.AccessKind.{Controlling}
+use Rattle.port_control.specs.Laws.AccessPurpose.{Controlling}
 use Rattle.port_control.specs.Laws.{Laws}
 use Rattle.port_control.specs.Laws.RegisterSet.{Placing}
 use Rattle.port_control.proofs.Stretching.{followed_then, followed_write}
 
 -- some of the four were written, and the addresses are these
 pub record IsPlacedBy (port : Port) (start d : Device) (b : Bases) : Type 0 where
-  pub followed : IsSimulated (IsControl IsPlacingRegister port) AnyUse start d
+  pub followed : IsSimulated (OnPortWriting IsPlacingRegister port) AnyUse start d
   pub usable : IsUsable AnyUse port d
-  pub quiet : IsAfterReset (d.port port.0)
+  pub quiet : IsQuiescentPort (d.port port.0)
   pub room : DRIVER_BYTES ≤ d.size
   pub bases : (d.port port.0).bases ≡ b
-  pub same : SameBeside (start.port port.0) (d.port port.0)
+  pub same : SameSctlAndNotes (start.port port.0) (d.port port.0)
 
 -- all four
-pub programmed_by : (port list : ℕ) (b : Bases) → list ≡ list_of port → (record b { clb = list; fb = list + RECEIVED_OFFSET; clb_set = true; clbu_set = true; fb_set = true; fbu_set = true }) ≡ programmed port
-programmed_by port list b is = ap (λ (n : ℕ). record b { clb = n; fb = n + RECEIVED_OFFSET; clb_set = true; clbu_set = true; fb_set = true; fbu_set = true }) is
+pub programmed_by : (port list : ℕ) (b : Bases) → list ≡ list_of port → (record b { clb = list; fb = list + RECEIVED_FIS_OFFSET; clb_set = true; clbu_set = true; fb_set = true; fbu_set = true }) ≡ programmed port
+programmed_by port list b is = ap (λ (n : ℕ). record b { clb = n; fb = n + RECEIVED_FIS_OFFSET; clb_set = true; clbu_set = true; fb_set = true; fbu_set = true }) is
 
 module _ (laws : Laws) where
-  pub placed_first : (port : Port) (d : Device) → IsUsable AnyUse port d → IsAfterReset (d.port port.0) → DRIVER_BYTES ≤ d.size → IsPlacedBy port d d (d.port port.0).bases
+  pub placed_first : (port : Port) (d : Device) → IsUsable AnyUse port d → IsQuiescentPort (d.port port.0) → DRIVER_BYTES ≤ d.size → IsPlacedBy port d d (d.port port.0).bases
   placed_first port d u quiet room = record { followed = (laws.fragments.none (Controlling Placing port) d).followed; usable = u; quiet = quiet; room = room; bases = refl; same = beside_none (d.port port.0) }
 
   module _ (port : Port) (start d e : Device) (b : Bases) (w : IsPlacedBy port start d b) where
@@ -44,8 +44,8 @@ module _ (laws : Laws) where
         ((uses : SlotStates) → LeavesUses uses (Px port r) v d) → ((tape : ℕ) (p : DevicePort) → ((port_written r v tape p).bases ≡ change p.bases) × ((port_written r v tape p).sctl_det ≡ p.sctl_det)) →
         Writes (Px port r) v d e → IsPlacedBy port start e (change b)
     more r v change kind control causes command may leaves effect call =
-        let one : IsSimulated (IsControl IsPlacingRegister port) AnyUse d e = followed_write laws (Controlling Placing port) (Px port r) v d e (refl, kind) may (λ uses is. leaves uses) call in
-        let x : PutAt port.0 r v d e = laws.put port r v d e call w.usable.on.no_reset in
+        let one : IsSimulated (OnPortWriting IsPlacingRegister port) AnyUse d e = followed_write laws (Controlling Placing port) (Px port r) v d e (refl, kind) may (λ uses is. leaves uses) call in
+        let x : PortRegisterWritten port.0 r v d e = laws.put port r v d e call w.usable.on.no_reset in
         let notes = laws.written_notes port r v d e control causes (λ is. absurd (command is)) call in
         record {
           followed = followed_then laws (Controlling Placing port) start d e w.followed one;
@@ -55,7 +55,7 @@ module _ (laws : Laws) where
           bases = ap (λ (p : DevicePort). p.bases) x.here ∙ (effect _ (x.mid.port port.0)).0 ∙ ap change ((x.keeps.port port.0).bases ∙ w.bases);
           same = beside_then (start.port port.0) (d.port port.0) (e.port port.0) w.same (
             ap (λ (p : DevicePort). p.sctl_det) x.here ∙ (effect _ (x.mid.port port.0)).1 ∙ (x.keeps.on.controls port.0).sctl_det,
-            subst (SameButCommand (d.port port.0).notes) (sym notes) refl,
+            subst (SameButCmdNotes (d.port port.0).notes) (sym notes) refl,
           );
         }
 

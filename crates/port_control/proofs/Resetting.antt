@@ -10,16 +10,16 @@ use Rattle.adapter.specs.Access.{Reads, Writes}
 use Rattle.adapter.specs.Access.Access.{Writing}
 use Rattle.adapter.specs.Device.{Device}
 use Rattle.adapter.specs.Rules.{IsOn, MayWrite, IsStable}
-use Rattle.refinement.specs.Driven.{AnyUse, IsControl, IsSimulated}
-use Rattle.refinement.specs.Errors.{NoneComes}
-use Rattle.refinement.specs.Facts.{IsAwaited, IsQuiet, IsUnflagged}
+use Rattle.refinement.specs.Driven.{AnyUse, OnPortWriting, IsSimulated}
+use Rattle.refinement.specs.Errors.{NoDiskComes}
+use Rattle.refinement.specs.Facts.{ShowsDrqTillLink, IsCleanToStart, StoppedTfesClear}
 use Rattle.refinement.specs.Started.{IsUp, IsComingUp}
 use Rattle.refinement.specs.Driven.{Grows}
-use Rattle.port_control.specs.Ports.{IsErrorRegister, IsResetRegister, IsUsable, ReceivesFises, HasLink, ShowsIdle, ReadsWithout, ReadsUntil, ClearsErrors, FindsLink, FindsSignature, FindsBusy, WasReset, HasClearErrors, FindsAwaited, IsFound}
+use Rattle.port_control.specs.Ports.{IsErrorRegister, IsResetRegister, IsUsable, ReceivesFises, HasLink, ShowsIdle, ReadsInVain, ReadsUntil, ClearsErrors, FindsLink, FindsSignature, FindsBusy, SendsComresetThen, HasClearErrors, FindsAwaited, IsDeviceFound}
 use Rattle.port_control.proofs.Using.{usable_after, receiving_write, stays_on, tape_gains}
 use Rattle.port_control.proofs.Settling.{comes_in_parts, plugs_in_parts, no_start, Settles, settles}
 use Rattle.port_control.specs.Laws.RegisterSet.{Clearing, Resetting}
-use Rattle.port_control.specs.Laws.AccessKind.{Controlling}
+use Rattle.port_control.specs.Laws.AccessPurpose.{Controlling}
 use Rattle.port_control.specs.Laws.{Laws}
 use Rattle.port_control.proofs.Stretching.{followed_then, followed_wider, followed_write}
 
@@ -28,8 +28,8 @@ grows_longer old new g =
     let sum : length new.tape ≡ length old.tape + length g.0 = ap length g.1 ∙ length-append old.tape g.0 in
     omega (arith, sum)
 
-module _ (port : Port) (Then : Device → Device → Type 0) (old mid new : Device) (reset : WasReset port (λ ended now. now ≡ ended) old mid) (then : Then mid new) (s : Settles port mid new) where
-  pub reset_on : WasReset port Then old new
+module _ (port : Port) (Then : Device → Device → Type 0) (old mid new : Device) (reset : SendsComresetThen port (λ ended now. now ≡ ended) old mid) (then : Then mid new) (s : Settles port mid new) where
+  pub reset_on : SendsComresetThen port Then old new
   reset_on =
       let longer = grows_longer mid new s.grows in
       let same = s.written in
@@ -50,7 +50,7 @@ module _ (port : Port) (Then : Device → Device → Type 0) (old mid new : Devi
 pub finds_link : (port : Port) {old seen new : Device} → ReadsUntil port Ssts HasLink old seen → ClearsErrors port seen new → FindsLink port old new
 finds_link port {old} {seen} {new} sees clears = record { seen = seen; sees = sees; clears = clears }
 
-pub finds_busy : (port : Port) {old linked new : Device} → FindsLink port old linked → ReadsWithout port Tfd ShowsIdle MOST_READINGS linked new → FindsBusy port old new
+pub finds_busy : (port : Port) {old linked new : Device} → FindsLink port old linked → ReadsInVain port Tfd ShowsIdle MOST_READINGS linked new → FindsBusy port old new
 finds_busy port {old} {linked} {new} links waits = record { linked = linked; links = links; waits = waits }
 
 pub finds_signature : (port : Port) (signature : ℕ) {old linked idle new : Device} → FindsLink port old linked → ReadsUntil port Tfd ShowsIdle linked idle →
@@ -62,7 +62,7 @@ module _ (laws : Laws) where
   sctl_may port v d u r det = laws.write_stays (Px port Sctl) v d (λ p e. cc) (u.on, u.there, (r.stopped.halted.st, det))
 
   module _ (port : Port) (old sent : Device) (u : IsUsable AnyUse port old) (receives : ReceivesFises port.0 (old.port port.0)) (one : Writes (Px port Sctl) 1 old sent) where
-    first : IsSimulated (IsControl IsResetRegister port) AnyUse old sent
+    first : IsSimulated (OnPortWriting IsResetRegister port) AnyUse old sent
     first = followed_write laws (Controlling Resetting port) (Px port Sctl) 1 old sent (refl, inl refl) (sctl_may port 1 old u receives (inr refl)) (λ uses is. tt) one
 
     sending : IsUsable AnyUse port sent
@@ -75,7 +75,7 @@ module _ (laws : Laws) where
     ending_may = sctl_may port 0 sent sending receives_still (inl refl)
 
     module _ (new : Device) (zero : Writes (Px port Sctl) 0 sent new) where
-      pub reset_followed : IsSimulated (IsControl IsResetRegister port) AnyUse old new
+      pub reset_followed : IsSimulated (OnPortWriting IsResetRegister port) AnyUse old new
       reset_followed = followed_then laws (Controlling Resetting port) old sent new first
           (followed_write laws (Controlling Resetting port) (Px port Sctl) 0 sent new (refl, inl refl) ending_may (λ uses is. tt) zero)
 
@@ -88,7 +88,7 @@ module _ (laws : Laws) where
       late : Grows sent new
       late = laws.tape.access_grows (Writing (Px port Sctl) 0) sent new zero
 
-      pub was_reset : WasReset port (λ ended now. now ≡ ended) old new
+      pub was_reset : SendsComresetThen port (λ ended now. now ≡ ended) old new
       was_reset =
           let set = laws.control_set port 0 sent new zero in
           let longer = grows_longer old new (laws.tape.grows_more old sent new early late) in
@@ -104,12 +104,12 @@ module _ (laws : Laws) where
             marked = omega (arith, at);
           }
 
-      pub reset_awaited : IsAwaited (new.port port.0)
+      pub reset_awaited : ShowsDrqTillLink (new.port port.0)
       reset_awaited = laws.writes_awaited port.0 (Px port Sctl) 0 sent new ending_may
-          (λ d steps. ((laws.law_steps_keep _ _ steps).port port.0).cr receives_still.stopped.halted.cr) zero
+          (λ d steps. ((laws.law_steps_guarantee _ _ steps).port port.0).cr receives_still.stopped.halted.cr) zero
           (laws.comreset_begins port 1 old sent receives.stopped.halted.cr refl one)
 
-      pub reset_coming : NoneComes port.0 old new → IsComingUp (new.port port.0)
+      pub reset_coming : NoDiskComes port.0 old new → IsComingUp (new.port port.0)
       reset_coming none =
           let parts = comes_in_parts laws port.0 old sent new early late none in
           laws.access_coming port (Writing (Px port Sctl) 0) sent new
@@ -117,7 +117,7 @@ module _ (laws : Laws) where
           (laws.comreset_comes port 1 old sent receives.stopped.halted.cr refl one)
 
   -- what was found since, where the link was coming up
-  pub found_on : (port : ℕ) (old mid new : Device) → Grows old mid → Grows mid new → (NoneComes port old mid → IsComingUp (mid.port port)) → IsAwaited (mid.port port) → FindsAwaited port mid new → IsFound port old new
+  pub found_on : (port : ℕ) (old mid new : Device) → Grows old mid → Grows mid new → (NoDiskComes port old mid → IsComingUp (mid.port port)) → ShowsDrqTillLink (mid.port port) → FindsAwaited port mid new → IsDeviceFound port old new
   found_on port old mid new early late coming awaited finds = record {
     calm = finds.calm;
     clear = record {
@@ -130,14 +130,14 @@ module _ (laws : Laws) where
   }
 
   -- the two together
-  module _ (port : Port) (old mid new : Device) (u : IsUsable AnyUse port old) (sends : IsSimulated (IsControl IsResetRegister port) AnyUse old mid) (looks : IsSimulated (IsControl IsErrorRegister port) AnyUse mid new) where
+  module _ (port : Port) (old mid new : Device) (u : IsUsable AnyUse port old) (sends : IsSimulated (OnPortWriting IsResetRegister port) AnyUse old mid) (looks : IsSimulated (OnPortWriting IsErrorRegister port) AnyUse mid new) where
     pub looking : IsUsable AnyUse port mid
     looking = usable_after laws Resetting port old mid u sends
 
     pub looked : Settles port mid new
     looked = settles laws port mid new looking.on looks.driven
 
-    pub both_followed : IsSimulated (IsControl IsResetRegister port) AnyUse old new
+    pub both_followed : IsSimulated (OnPortWriting IsResetRegister port) AnyUse old new
     both_followed = followed_then laws (Controlling Resetting port) old mid new sends (followed_wider laws Clearing Resetting port mid new (λ r is. inr is) looks)
 
     pub both_on : IsOn new
@@ -146,20 +146,20 @@ module _ (laws : Laws) where
     sent_grows : Grows old mid
     sent_grows = tape_gains laws Resetting port old mid sends.driven
 
-    module _ (coming : NoneComes port.0 old mid → IsComingUp (mid.port port.0)) where
-      pub both_coming : NoneComes port.0 old new → IsComingUp (new.port port.0)
+    module _ (coming : NoDiskComes port.0 old mid → IsComingUp (mid.port port.0)) where
+      pub both_coming : NoDiskComes port.0 old new → IsComingUp (new.port port.0)
       both_coming none = let parts = comes_in_parts laws port.0 old mid new sent_grows looked.grows none in looked.coming parts.1 (coming parts.0)
 
-      pub both_found : IsAwaited (mid.port port.0) → FindsAwaited port.0 mid new → IsFound port.0 old new
+      pub both_found : ShowsDrqTillLink (mid.port port.0) → FindsAwaited port.0 mid new → IsDeviceFound port.0 old new
       both_found awaited finds = found_on port.0 old mid new sent_grows looked.grows coming awaited finds
 
   -- ---- looking for the device
 
   module _ (port : Port) (old seen cleared new : Device) (receives : ReceivesFises port.0 (old.port port.0)) (a : Settles port old seen) (b : Settles port seen cleared) (c : Settles port cleared new)
-      (up : NoneComes port.0 old seen → IsComingUp (old.port port.0) → IsUp (seen.port port.0))
+      (up : NoDiskComes port.0 old seen → IsComingUp (old.port port.0) → IsUp (seen.port port.0))
       (calm : (place : ℕ) → place < 32 → (cleared.port port.0).is place ≡ false)
       (clear : (seen.port port.0).link_due ≡ false → HasClearErrors port.0 seen cleared)
-      (quiet : IsAwaited (cleared.port port.0) → IsUnflagged (cleared.port port.0) → bit (new.port port.0).notes.last_tfd 3 ≡ false → IsQuiet (new.port port.0)) where
+      (quiet : ShowsDrqTillLink (cleared.port port.0) → StoppedTfesClear (cleared.port port.0) → bit (new.port port.0).notes.last_tfd 3 ≡ false → IsCleanToStart (new.port port.0)) where
     early_half : Grows old cleared
     early_half = laws.tape.grows_more old seen cleared a.grows b.grows
 
@@ -173,7 +173,7 @@ module _ (laws : Laws) where
     receives_cleared = b.receiving receives_seen
 
     -- where no disk came until the device was seen, no link is due from then on
-    undue_seen : NoneComes port.0 old seen → IsComingUp (old.port port.0) → (seen.port port.0).link_due ≡ false
+    undue_seen : NoDiskComes port.0 old seen → IsComingUp (old.port port.0) → (seen.port port.0).link_due ≡ false
     undue_seen none coming = (up none coming).linked
 
     -- and what shows then came since

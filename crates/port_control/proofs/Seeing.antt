@@ -9,12 +9,12 @@ use Rattle.adapter.specs.Access.{Reads, Writes, link_counted}
 use Rattle.adapter.specs.Access.Access.{Writing}
 use Rattle.adapter.specs.Device.{Notes, Device}
 use Rattle.adapter.specs.Rules.{IsOn}
-use Rattle.refinement.specs.Driven.{AnyUse, IsControl, IsSimulated}
+use Rattle.refinement.specs.Driven.{AnyUse, OnPortWriting, IsSimulated}
 use Rattle.port_control.specs.Ports.{IsErrorRegister, IsStopped, IsUsable, HasClearErrors, BacksFault}
 use Rattle.port_control.specs.declared.PortFault.TheVariants.{NoDevice}
 use Rattle.port_control.specs.Laws.{Laws}
 use Rattle.port_control.specs.Laws.RegisterSet.{Clearing}
-use Rattle.port_control.specs.Laws.AccessKind.{Controlling}
+use Rattle.port_control.specs.Laws.AccessPurpose.{Controlling}
 use Rattle.port_control.proofs.Clearing.{clearing, first, serr_may, since_clear}
 use Rattle.port_control.proofs.Looking.{looks}
 use Rattle.port_control.proofs.Stretching.{followed_then}
@@ -39,7 +39,7 @@ module _ (laws : Laws) (port : Port) (v : ℕ) (old mid new : Device) (u : IsUsa
   usable : IsUsable AnyUse port mid
   usable = clearing laws port old mid new u serr
 
-  pub seen_followed : IsSimulated (IsControl IsErrorRegister port) AnyUse old new
+  pub seen_followed : IsSimulated (OnPortWriting IsErrorRegister port) AnyUse old new
   seen_followed = followed_then laws (Controlling Clearing port) old mid new (first laws port old mid new u serr) (looks laws port Ssts v mid new read)
 
   pub seen_on : IsOn new

@@ -6,10 +6,10 @@ use Rattle.hba_regs.specs.declared.reg.Reg.TheVariants.{Px, Ghc}
 use Rattle.adapter.specs.Access.{Access, Does, DoesAll}
 use Rattle.adapter.specs.Device.{Device}
 use Rattle.adapter.specs.Rules.{IsOn}
-use Rattle.refinement.specs.Driven.{IsControl, IsDrivenBy}
-use Rattle.refinement.specs.Errors.{NoneComes, ChangesByDisks}
-use Rattle.refinement.specs.Facts.{IsAwaited, IsQuiet}
-use Rattle.refinement.specs.Links.{SparesRegister, PlugsNone}
+use Rattle.refinement.specs.Driven.{OnPortWriting, IsDrivenBy}
+use Rattle.refinement.specs.Errors.{NoDiskComes, ChangesByDisks}
+use Rattle.refinement.specs.Facts.{ShowsDrqTillLink, IsCleanToStart}
+use Rattle.refinement.specs.Links.{DoesNotWrite, NoPlugEvents}
 use Rattle.refinement.specs.Started.{IsUp, IsComingUp, SetsNoStart}
 use Rattle.refinement.specs.Driven.{Grows}
 use Rattle.port_control.specs.Ports.{IsErrorRegister, ReceivesFises}
@@ -24,17 +24,17 @@ pub record Settles (port : Port) (old new : Device) : Type 0 where
   pub receiving : ReceivesFises port.0 (old.port port.0) → ReceivesFises port.0 (new.port port.0)
   pub det : (new.port port.0).sctl_det ≡ (old.port port.0).sctl_det
   pub written : (new.port port.0).notes.sctl_written_at ≡ (old.port port.0).notes.sctl_written_at
-  pub coming : NoneComes port.0 old new → IsComingUp (old.port port.0) → IsComingUp (new.port port.0)
-  pub up : PlugsNone port.0 old new → ReceivesFises port.0 (old.port port.0) → IsUp (old.port port.0) → IsUp (new.port port.0)
+  pub coming : NoDiskComes port.0 old new → IsComingUp (old.port port.0) → IsComingUp (new.port port.0)
+  pub up : NoPlugEvents port.0 old new → ReceivesFises port.0 (old.port port.0) → IsUp (old.port port.0) → IsUp (new.port port.0)
   pub calm : ReceivesFises port.0 (old.port port.0) → (place : ℕ) → (old.port port.0).is place ≡ false → (new.port port.0).is place ≡ false
-  pub awaited : IsAwaited (old.port port.0) → IsAwaited (new.port port.0)
-  pub quiet : IsQuiet (old.port port.0) → IsQuiet (new.port port.0)
+  pub awaited : ShowsDrqTillLink (old.port port.0) → ShowsDrqTillLink (new.port port.0)
+  pub quiet : IsCleanToStart (old.port port.0) → IsCleanToStart (new.port port.0)
   pub undue : (old.port port.0).link_due ≡ false → (new.port port.0).link_due ≡ false
   pub change : (old.port port.0).link_due ≡ false → ChangesByDisks port.0 old new
 
 -- what isn't written isn't ST
-pub no_start : (port : Port) (access : Access) → SparesRegister (Px port Cmd) access → SetsNoStart port access
-no_start port access spares v is = absurd (subst (SparesRegister (Px port Cmd)) is spares refl)
+pub no_start : (port : Port) (access : Access) → DoesNotWrite (Px port Cmd) access → SetsNoStart port access
+no_start port access spares v is = absurd (subst (DoesNotWrite (Px port Cmd)) is spares refl)
 
 -- PxSCTL and PxCMD aren't written
 spares_control : IsErrorRegister Sctl → ⊥
@@ -49,10 +49,10 @@ module _ (laws : Laws) where
   -- ---- parts of a stretch
 
   module _ (port : ℕ) (old mid new : Device) (early : Grows old mid) (late : Grows mid new) where
-    pub comes_in_parts : NoneComes port old new → NoneComes port old mid × NoneComes port mid new
+    pub comes_in_parts : NoDiskComes port old new → NoDiskComes port old mid × NoDiskComes port mid new
     comes_in_parts none = laws.tape.comes_parts port old mid new early.0 late.0 early.1 late.1 none
 
-    pub plugs_in_parts : PlugsNone port old new → PlugsNone port old mid × PlugsNone port mid new
+    pub plugs_in_parts : NoPlugEvents port old new → NoPlugEvents port old mid × NoPlugEvents port mid new
     plugs_in_parts none = laws.tape.plugs_parts port old mid new early.0 late.0 early.1 late.1 none
 
   settles_none : (port : Port) (d : Device) → Settles port d d
@@ -85,8 +85,8 @@ module _ (laws : Laws) where
     change = λ h. laws.tape.change_more port.0 a b c x.grows y.grows (x.change h) (y.change (x.undue h));
   }
 
-  module _ (port : Port) (access : Access) (old new : Device) (on : IsOn old) (kind : IsControl IsErrorRegister port access) (does : Does access old new) where
-    control : SparesRegister (Px port Sctl) access
+  module _ (port : Port) (access : Access) (old new : Device) (on : IsOn old) (kind : OnPortWriting IsErrorRegister port access) (does : Does access old new) where
+    control : DoesNotWrite (Px port Sctl) access
     control = laws.control_spares Clearing port Sctl spares_control access kind
 
     command : SetsNoStart port access
@@ -98,7 +98,7 @@ module _ (laws : Laws) where
       | inr (r, v, e, w) ↦ receiving_write laws port r v old new on.no_reset (inr w) (subst (λ (a : Access). Does a old new) e does) h
     ]
 
-    quiets : IsQuiet (old.port port.0) → IsQuiet (new.port port.0)
+    quiets : IsCleanToStart (old.port port.0) → IsCleanToStart (new.port port.0)
     quiets q = elim (laws.control_either Clearing port access kind) [
       | inl (r, v, e) ↦ laws.reads_quiet port.0 (Px port r) v old new (subst (λ (a : Access). Does a old new) e does) q
       | inr (r, v, e, w) ↦ laws.writes_quiet port (Px port r) v old new
@@ -109,7 +109,7 @@ module _ (laws : Laws) where
     access_settles : Settles port old new
     access_settles =
         let c = laws.access_controls port access old new on.no_reset does in
-        let up : PlugsNone port.0 old new → ReceivesFises port.0 (old.port port.0) → IsUp (old.port port.0) → IsUp (new.port port.0) =
+        let up : NoPlugEvents port.0 old new → ReceivesFises port.0 (old.port port.0) → IsUp (old.port port.0) → IsUp (new.port port.0) =
         λ none r h. laws.access_up port access old new on.no_reset r.stopped.halted.cr command control none does h in
         record {
           grows = laws.tape.access_grows access old new does;
@@ -126,13 +126,13 @@ module _ (laws : Laws) where
         }
 
   -- over a stretch
-  settles_over : (port : Port) (accesses : List Access) (old new : Device) → IsOn old → All (IsControl IsErrorRegister port) accesses → DoesAll accesses old new → Settles port old new
+  settles_over : (port : Port) (accesses : List Access) (old new : Device) → IsOn old → All (OnPortWriting IsErrorRegister port) accesses → DoesAll accesses old new → Settles port old new
   settles_over port [] old new on all is = subst (Settles port old) (sym is) (settles_none port old)
   settles_over port (access ∷ accesses) old new on all (mid, does, rest) =
-      let kind = All-head (IsControl IsErrorRegister port) access accesses all in
+      let kind = All-head (OnPortWriting IsErrorRegister port) access accesses all in
       let host = laws.of_spares_ghc port access (laws.control_of Clearing port access kind) in
-      let later = laws.access_on access old mid on (λ v is. absurd (subst (SparesRegister Ghc) is host refl)) does in
-      settles_more port old mid new (access_settles port access old mid on kind does) (settles_over port accesses mid new later (All-tail (IsControl IsErrorRegister port) access accesses all) rest)
+      let later = laws.access_on access old mid on (λ v is. absurd (subst (DoesNotWrite Ghc) is host refl)) does in
+      settles_more port old mid new (access_settles port access old mid on kind does) (settles_over port accesses mid new later (All-tail (OnPortWriting IsErrorRegister port) access accesses all) rest)
 
-  pub settles : (port : Port) (old new : Device) → IsOn old → IsDrivenBy (IsControl IsErrorRegister port) old new → Settles port old new
+  pub settles : (port : Port) (old new : Device) → IsOn old → IsDrivenBy (OnPortWriting IsErrorRegister port) old new → Settles port old new
   settles port old new on driven = settles_over port driven.accesses old new on driven.only driven.all

@@ -9,12 +9,12 @@ use Rattle.adapter.specs.Access.{Reads, Writes, port_written, with_st, with_fre}
 use Rattle.adapter.specs.Access.Access.{Reading, Writing}
 use Rattle.adapter.specs.Device.{Bases, Notes, DevicePort, Device}
 use Rattle.adapter.specs.Rules.{MayWrite, IsStable}
-use Rattle.adapter.specs.Seen.{SeenAt, PutAt}
-use Rattle.refinement.specs.Driven.{IsControl, IsSimulated}
+use Rattle.adapter.specs.Seen.{PortRegisterRead, PortRegisterWritten}
+use Rattle.refinement.specs.Driven.{OnPortWriting, IsSimulated}
 use Rattle.refinement.specs.Driver.{AllFree, LeavesUses}
 use Rattle.refinement.specs.Errors.{ChangesByDisks}
-use Rattle.refinement.specs.Facts.{IsQuiet, IsRecorded}
-use Rattle.refinement.specs.Links.{PlugsNone}
+use Rattle.refinement.specs.Facts.{IsCleanToStart, FaultsOnRecord}
+use Rattle.refinement.specs.Links.{NoPlugEvents}
 use Rattle.refinement.specs.Recovering.{IsLinked, RunsLinked}
 use Rattle.refinement.specs.Slots.{SlotState, Free, SlotStates, IsOver, RelatesSlot, IsEmptySlot}
 use Rattle.refinement.specs.Started.{IsUp, IsStarted}
@@ -26,7 +26,7 @@ use Rattle.port_control.proofs.Resetting.{grows_longer}
 use Rattle.port_control.proofs.Settling.{plugs_in_parts}
 use Rattle.port_control.specs.Laws.RegisterSet.{Commanding}
 use Rattle.port_control.specs.Laws.{Laws}
-use Rattle.port_control.specs.Laws.AccessKind.{Starting}
+use Rattle.port_control.specs.Laws.AccessPurpose.{Starting}
 use Rattle.port_control.proofs.Stretching.{followed_read, followed_then, followed_write}
 
 -- a write of PxCMD leaves the addresses and PxSCTL.DET
@@ -91,7 +91,7 @@ module _ (laws : Laws) where
     start_leaves uses free = record { start = λ on. inr free; receive = λ on. (here.there.0, ap (λ (b : Bases). b.fb) still.bases) }
 
     module _ (new : Device) (write : Writes (Px port Cmd) v mid new) where
-      pub start_followed : IsSimulated (IsControl IsCommandRegister port) (NoneUsed port) old new
+      pub start_followed : IsSimulated (OnPortWriting IsCommandRegister port) (NoneUsed port) old new
       start_followed = followed_then laws (Starting port) old mid new (followed_read laws (Starting port) (Px port Cmd) was old mid refl read)
           (followed_write laws (Starting port) (Px port Cmd) v mid new (refl, refl) start_may start_leaves write)
 
@@ -101,7 +101,7 @@ module _ (laws : Laws) where
       started : ((new.port port.0).cr ≡ true) × ((new.port port.0).notes.st_set_at ≡ length new.tape)
       started = laws.start_set port v mid new still.stopped.halted.st one write
 
-      w : PutAt port.0 Cmd v mid new
+      w : PortRegisterWritten port.0 Cmd v mid new
       w = laws.put port Cmd v mid new write here.on.no_reset
 
       pub start_runs : IsRunning port.0 (new.port port.0)
@@ -124,7 +124,7 @@ module _ (laws : Laws) where
 
       pub start_same : SameButStart (old.port port.0) (new.port port.0)
       start_same =
-          let s : SeenAt port.0 Cmd was old mid = laws.seen port Cmd was old mid read u.on.no_reset in (
+          let s : PortRegisterRead port.0 Cmd was old mid = laws.seen port Cmd was old mid read u.on.no_reset in (
             ap (λ (p : DevicePort). p.sctl_det) w.here ∙ (command_bases v _ (w.mid.port port.0)).1 ∙ (w.keeps.on.controls port.0).sctl_det ∙ (s.keeps.on.controls port.0).sctl_det,
             start_notes (old.port port.0).notes (mid.port port.0).notes (new.port port.0).notes _ _ _ same (laws.command_written_notes port v mid new write),
           )
@@ -144,14 +144,14 @@ module _ (laws : Laws) where
           let longer = grows_longer old new (laws.tape.grows_more old mid new early late) in
           omega (arith, low, at, longer)
 
-      pub start_well : IsUp (old.port port.0) → PlugsNone port.0 old new → IsStarted (new.port port.0)
+      pub start_well : IsUp (old.port port.0) → NoPlugEvents port.0 old new → IsStarted (new.port port.0)
       start_well up none =
           let parts = plugs_in_parts laws port.0 old mid new early late none in
           laws.start_is_made port v mid new here.on.no_reset still.stopped.halted.st still.stopped.halted.cr one write
           (laws.access_up port (Reading (Px port Cmd) was) old mid u.on.no_reset receives.stopped.halted.cr (λ n (e : Reading (Px port Cmd) was ≡ Writing (Px port Cmd) n). absurd (cc)) tt parts.0 read up)
           parts.1
 
-      pub start_linked : IsLinked (old.port port.0) → PlugsNone port.0 old new → RunsLinked (new.port port.0)
+      pub start_linked : IsLinked (old.port port.0) → NoPlugEvents port.0 old new → RunsLinked (new.port port.0)
       start_linked link none =
           let parts = plugs_in_parts laws port.0 old mid new early late none in
           laws.start_runs_linked port v mid new here.on.no_reset still.stopped.halted.st still.stopped.halted.cr one parts.1 write
@@ -176,7 +176,7 @@ module _ (laws : Laws) where
           (laws.tape.access_change port (Writing (Px port Cmd) v) mid new here.on.no_reset (undue_mid undue) write)
 
       -- ST is set on a quiet port
-      pub start_recorded : IsQuiet (old.port port.0) → IsRecorded new.tape (new.port port.0) port.0
+      pub start_recorded : IsCleanToStart (old.port port.0) → FaultsOnRecord new.tape (new.port port.0) port.0
       start_recorded quiet =
           laws.writes_recorded port.0 (Px port Cmd) v mid new start_may
           (λ d steps set. inr (laws.steps_quiet port.0 mid d steps (laws.reads_quiet port.0 (Px port Cmd) was old mid read quiet))) write

@@ -4,9 +4,9 @@ use Rattle.ata_types.specs.declared.Port.{Port}
 use Rattle.hba_regs.specs.declared.reg.PortReg.{PortReg}
 use Rattle.adapter.specs.Access.{Access, Reads, Writes}
 use Rattle.adapter.specs.Device.{Device}
-use Rattle.refinement.specs.Driven.{AnyUse, IsControl, IsSimulated, IsSimulatedAlong}
-use Rattle.port_control.specs.Laws.{Laws, RegisterSet, AccessKind, fits_of, may_of, registers_of}
-use Rattle.port_control.specs.Laws.AccessKind.{Controlling}
+use Rattle.refinement.specs.Driven.{AnyUse, OnPortWriting, IsSimulated, IsSimulatedAlong}
+use Rattle.port_control.specs.Laws.{Laws, RegisterSet, AccessPurpose, fits_of, may_of, registers_of}
+use Rattle.port_control.specs.Laws.AccessPurpose.{Controlling}
 use Rattle.refinement.specs.Driver.{LeavesUses}
 use Rattle.adapter.specs.Rules.{MayWrite, IsStable}
 use Rattle.adapter.specs.Access.Access.{Reading, Writing}
@@ -14,12 +14,12 @@ use Rattle.hba_regs.specs.declared.reg.Reg.{Reg}
 use Rattle.refinement.specs.Slots.{SlotStates}
 
 module _ (laws : Laws) where
-  pub followed_then : (kind : AccessKind) (old mid new : Device) → IsSimulated (may_of kind) (fits_of kind) old mid → IsSimulated (may_of kind) (fits_of kind) mid new →
+  pub followed_then : (kind : AccessPurpose) (old mid new : Device) → IsSimulated (may_of kind) (fits_of kind) old mid → IsSimulated (may_of kind) (fits_of kind) mid new →
       IsSimulated (may_of kind) (fits_of kind) old new
   followed_then kind old mid new a b = (laws.fragments.both kind kind (λ uses. uses) (λ uses. uses) (λ access may. may) (λ uses fits. fits) old mid new a b).followed
 
   -- what is told of both
-  pub told_both : (First Second Tells : List Access → Type 0) → ((early late : List Access) → First early → Second late → Tells (early ++ late)) → (kind : AccessKind) (old mid new : Device) →
+  pub told_both : (First Second Tells : List Access → Type 0) → ((early late : List Access) → First early → Second late → Tells (early ++ late)) → (kind : AccessPurpose) (old mid new : Device) →
       IsSimulatedAlong First (may_of kind) (fits_of kind) old mid → IsSimulatedAlong Second (may_of kind) (fits_of kind) mid new → IsSimulatedAlong Tells (may_of kind) (fits_of kind) old new
   told_both First Second Tells join kind old mid new a b =
       let f = laws.fragments.both kind kind (λ uses. uses) (λ uses. uses) (λ access may. may) (λ uses fits. fits) old mid new a.followed b.followed in
@@ -27,19 +27,19 @@ module _ (laws : Laws) where
 
   -- where more registers may be written
   module _ (set more : RegisterSet) (port : Port) (old new : Device) (wider : (r : PortReg) → registers_of set r → registers_of more r) where
-    pub told_wider : (Tells : List Access → Type 0) → IsSimulatedAlong Tells (IsControl (registers_of set) port) AnyUse old new → IsSimulatedAlong Tells (IsControl (registers_of more) port) AnyUse old new
+    pub told_wider : (Tells : List Access → Type 0) → IsSimulatedAlong Tells (OnPortWriting (registers_of set) port) AnyUse old new → IsSimulatedAlong Tells (OnPortWriting (registers_of more) port) AnyUse old new
     told_wider Tells a =
         let f = laws.fragments.wider (Controlling set port) (Controlling more port) (λ uses. uses) (laws.control_wider set more port wider) (λ uses fits. fits) old new a.followed in
         record { followed = f.followed; tells = subst Tells (sym f.tells) a.tells }
 
-    pub followed_wider : IsSimulated (IsControl (registers_of set) port) AnyUse old new → IsSimulated (IsControl (registers_of more) port) AnyUse old new
+    pub followed_wider : IsSimulated (OnPortWriting (registers_of set) port) AnyUse old new → IsSimulated (OnPortWriting (registers_of more) port) AnyUse old new
     followed_wider a = (told_wider (λ made. Unit {0}) (record { followed = a; tells = tt })).followed
 
   -- ---- one access
 
-  pub followed_read : (kind : AccessKind) (r : Reg) (v : ℕ) (old new : Device) → may_of kind (Reading r v) → Reads r v old new → IsSimulated (may_of kind) (fits_of kind) old new
+  pub followed_read : (kind : AccessPurpose) (r : Reg) (v : ℕ) (old new : Device) → may_of kind (Reading r v) → Reads r v old new → IsSimulated (may_of kind) (fits_of kind) old new
   followed_read kind r v old new may call = (laws.fragments.reads kind r v old new may call).followed
 
-  pub followed_write : (kind : AccessKind) (r : Reg) (v : ℕ) (old new : Device) → may_of kind (Writing r v) → IsStable (MayWrite r v) old → ((uses : SlotStates) → fits_of kind uses → LeavesUses uses r v old) →
+  pub followed_write : (kind : AccessPurpose) (r : Reg) (v : ℕ) (old new : Device) → may_of kind (Writing r v) → IsStable (MayWrite r v) old → ((uses : SlotStates) → fits_of kind uses → LeavesUses uses r v old) →
       Writes r v old new → IsSimulated (may_of kind) (fits_of kind) old new
   followed_write kind r v old new may permitted leaves call = (laws.fragments.writes kind r v old new may permitted leaves call).followed

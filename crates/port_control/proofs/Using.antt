@@ -12,24 +12,24 @@ use Rattle.adapter.specs.Access.Access.{Reading, Writing, Loading, Storing}
 use Rattle.adapter.specs.Device.{Notes, DevicePort, Device}
 use Rattle.adapter.specs.Kept.{KeepsPort, KeepsControls}
 use Rattle.adapter.specs.Rules.{HasPort, MayWrite, IsStable, IsOn}
-use Rattle.adapter.specs.Seen.{SeenAt, PutAt}
-use Rattle.refinement.specs.Driven.{AnyUse, IsRelated, IsControl, IsSimulated, AnyAccess, Grows, IsDrivenBy, IsOf}
+use Rattle.adapter.specs.Seen.{PortRegisterRead, PortRegisterWritten}
+use Rattle.refinement.specs.Driven.{AnyUse, IsRelated, OnPortWriting, IsSimulated, AnyAccess, Grows, IsDrivenBy, SparesOtherPorts}
 use Rattle.refinement.specs.Links.{SameAdapter}
 use Rattle.refinement.specs.Slots.{SlotStates}
-use Rattle.port_control.specs.Engines.{Awaits, FailsToStop, FailsToStopReceiving, Falls, ShowsStillRunning, ReadsCommand, ShowsStuck, Sticks}
-use Rattle.port_control.specs.Ports.{IsResetRegister, IsUsable, IsStopped, ReceivesFises, SameButCommand, SameBeside}
+use Rattle.port_control.specs.Engines.{Awaits, FailsToStop, FailsToStopReceiving, Falls, ShowsStillRunning, ReadsPortCmd, ShowsStuck, Sticks}
+use Rattle.port_control.specs.Ports.{IsResetRegister, IsUsable, IsStopped, ReceivesFises, SameButCmdNotes, SameSctlAndNotes}
 use Rattle.port_control.specs.Laws.RegisterSet.{Commanding}
-use Rattle.port_control.specs.Laws.AccessKind.{Controlling}
+use Rattle.port_control.specs.Laws.AccessPurpose.{Controlling}
 use Rattle.port_control.specs.Laws.{Laws, RegisterSet, registers_of}
 use Rattle.port_control.proofs.Stretching.{followed_read}
 
 pub there_after : {old new : Device} {port : ℕ} → SameAdapter old new → HasPort old port → HasPort new port
 there_after {old} {new} {port} s h = (h.0, ap (λ (pi : ℕ). bit pi port) s.pi ∙ h.1)
 
-pub beside_none : (p : DevicePort) → SameBeside p p
+pub beside_none : (p : DevicePort) → SameSctlAndNotes p p
 beside_none p = (refl, refl)
 
-pub beside_then : (a b c : DevicePort) → SameBeside a b → SameBeside b c → SameBeside a c
+pub beside_then : (a b c : DevicePort) → SameSctlAndNotes a b → SameSctlAndNotes b c → SameSctlAndNotes a c
 beside_then a b c x y =
     (y.0 ∙ x.0, subst (λ (n : Notes). c.notes ≡ record n { last_cmd = c.notes.last_cmd; engine_count = c.notes.engine_count }) x.1 y.1)
 
@@ -79,10 +79,10 @@ awaits_sticks start running shows port accesses a = record {
   here = a.here ∙ (sym (append_assoc a.before (Writing (Px port Cmd) a.cleared ∷ []) a.stuck)
       ∙ ap (λ (rest : List Access). (a.before ++ Writing (Px port Cmd) a.cleared ∷ []) ++ rest) (sym (append-nil a.stuck)));
   number = a.number;
-  all = All-weaker (ReadsCommand (ShowsStillRunning start running) port) (ReadsCommand ShowsStuck port) reading a.stuck a.all;
+  all = All-weaker (ReadsPortCmd (ShowsStillRunning start running) port) (ReadsPortCmd ShowsStuck port) reading a.stuck a.all;
 }
   where
-    reading : (access : Access) → ReadsCommand (ShowsStillRunning start running) port access → ReadsCommand ShowsStuck port access
+    reading : (access : Access) → ReadsPortCmd (ShowsStillRunning start running) port access → ReadsPortCmd ShowsStuck port access
     reading (Reading r v) is = (is.0, shows v is.1)
     reading (Writing r v) is = absurd is
     reading (Loading at bytes) is = absurd is
@@ -151,27 +151,27 @@ module _ (laws : Laws) where
   -- ---- what goes on
 
   module _ (set : RegisterSet) (port : Port) (old new : Device) where
-    pub stays_on : IsDrivenBy (IsControl (registers_of set) port) old new → IsOn old → IsOn new
+    pub stays_on : IsDrivenBy (OnPortWriting (registers_of set) port) old new → IsOn old → IsOn new
     stays_on driven on = laws.of_on port old new on
-        (record { accesses = driven.accesses; all = driven.all; only = All-weaker (IsControl (registers_of set) port) (IsOf port) (laws.control_of set port) driven.accesses driven.only })
+        (record { accesses = driven.accesses; all = driven.all; only = All-weaker (OnPortWriting (registers_of set) port) (SparesOtherPorts port) (laws.control_of set port) driven.accesses driven.only })
 
-    any : IsDrivenBy (IsControl (registers_of set) port) old new → IsDrivenBy AnyAccess old new
-    any driven = record { accesses = driven.accesses; all = driven.all; only = All-weaker (IsControl (registers_of set) port) AnyAccess (λ access may. tt) driven.accesses driven.only }
+    any : IsDrivenBy (OnPortWriting (registers_of set) port) old new → IsDrivenBy AnyAccess old new
+    any driven = record { accesses = driven.accesses; all = driven.all; only = All-weaker (OnPortWriting (registers_of set) port) AnyAccess (λ access may. tt) driven.accesses driven.only }
 
-    pub same_adapter : IsDrivenBy (IsControl (registers_of set) port) old new → SameAdapter old new
+    pub same_adapter : IsDrivenBy (OnPortWriting (registers_of set) port) old new → SameAdapter old new
     same_adapter driven = laws.same_over old new (any driven)
 
-    pub tape_gains : IsDrivenBy (IsControl (registers_of set) port) old new → Grows old new
+    pub tape_gains : IsDrivenBy (OnPortWriting (registers_of set) port) old new → Grows old new
     tape_gains driven = laws.tape_over old new (any driven)
 
-    pub usable_by : (Fits : SlotStates → Type 0) → IsDrivenBy (IsControl (registers_of set) port) old new → ((uses : SlotStates) → Fits uses → IsRelated uses old → IsRelated uses new) → IsUsable Fits port old → IsUsable Fits port new
+    pub usable_by : (Fits : SlotStates → Type 0) → IsDrivenBy (OnPortWriting (registers_of set) port) old new → ((uses : SlotStates) → Fits uses → IsRelated uses old → IsRelated uses new) → IsUsable Fits port old → IsUsable Fits port new
     usable_by Fits driven agrees u = record {
       on = stays_on driven u.on;
       there = there_after (same_adapter driven) u.there;
       agreed = (u.agreed.0, u.agreed.1, agrees u.agreed.0 u.agreed.1 u.agreed.2);
     }
 
-    pub usable_after : IsUsable AnyUse port old → IsSimulated (IsControl (registers_of set) port) AnyUse old new → IsUsable AnyUse port new
+    pub usable_after : IsUsable AnyUse port old → IsSimulated (OnPortWriting (registers_of set) port) AnyUse old new → IsUsable AnyUse port new
     usable_after u f = usable_by AnyUse f.driven (λ uses fits. laws.fragments.agreed (Controlling set port) (λ uses. uses) uses old new fits f) u
 
   -- over a reading, whatever uses fit
@@ -181,23 +181,23 @@ module _ (laws : Laws) where
       usable_by Commanding port old new Fits f.driven (λ uses fits. laws.fragments.agreed (Controlling Commanding port) (λ uses. uses) uses old new tt f) u
 
   -- PxCMD is read
-  pub beside_read : (port : Port) (v : ℕ) (old new : Device) → old.hr ≡ false → Reads (Px port Cmd) v old new → SameBeside (old.port port.0) (new.port port.0)
+  pub beside_read : (port : Port) (v : ℕ) (old new : Device) → old.hr ≡ false → Reads (Px port Cmd) v old new → SameSctlAndNotes (old.port port.0) (new.port port.0)
   beside_read port v old new off call =
-      let s : SeenAt port.0 Cmd v old new = laws.seen port Cmd v old new call off in
-      ((s.keeps.on.controls port.0).sctl_det, subst (SameButCommand (old.port port.0).notes) (sym (laws.notes_read port Cmd v old new off call)) refl)
+      let s : PortRegisterRead port.0 Cmd v old new = laws.seen port Cmd v old new call off in
+      ((s.keeps.on.controls port.0).sctl_det, subst (SameButCmdNotes (old.port port.0).notes) (sym (laws.notes_read port Cmd v old new off call)) refl)
 
   module _ (port : Port) (v : ℕ) (old new : Device) (off : old.hr ≡ false) (zero : bit v 0 ≡ false) (call : Writes (Px port Cmd) v old new) where
-    pub beside_command : SameBeside (old.port port.0) (new.port port.0)
+    pub beside_command : SameSctlAndNotes (old.port port.0) (new.port port.0)
     beside_command =
-        let w : PutAt port.0 Cmd v old new = laws.put port Cmd v old new call off in
+        let w : PortRegisterWritten port.0 Cmd v old new = laws.put port Cmd v old new call off in
         let same = laws.written_notes port Cmd v old new (λ (e : Cmd ≡ Sctl). absurd (cc)) (λ (e : Cmd ≡ Is). absurd (cc)) (λ _. zero) call in (
           ap (λ (p : DevicePort). p.sctl_det) w.here ∙ (command_off v _ (w.mid.port port.0) zero).0 ∙ (w.keeps.on.controls port.0).sctl_det,
-          subst (SameButCommand (old.port port.0).notes) (sym same) refl,
+          subst (SameButCmdNotes (old.port port.0).notes) (sym same) refl,
         )
 
     pub bases_command : (new.port port.0).bases ≡ (old.port port.0).bases
     bases_command =
-        let w : PutAt port.0 Cmd v old new = laws.put port Cmd v old new call off in
+        let w : PortRegisterWritten port.0 Cmd v old new = laws.put port Cmd v old new call off in
         ap (λ (p : DevicePort). p.bases) w.here ∙ (command_off v _ (w.mid.port port.0) zero).1 ∙ (w.keeps.port port.0).bases
 
   pub stopped_read : (port : Port) (r : PortReg) (v : ℕ) (old new : Device) → old.hr ≡ false → Reads (Px port r) v old new → IsStopped (old.port port.0) → IsStopped (new.port port.0)
@@ -216,5 +216,5 @@ module _ (laws : Laws) where
 
   pub receiving_write : (port : Port) (r : PortReg) (v : ℕ) (old new : Device) → old.hr ≡ false → IsResetRegister r → Writes (Px port r) v old new → ReceivesFises port.0 (old.port port.0) → ReceivesFises port.0 (new.port port.0)
   receiving_write port r v old new off kind call h =
-      let w : PutAt port.0 r v old new = laws.put port r v old new call off in
+      let w : PortRegisterWritten port.0 r v old new = laws.put port r v old new call off in
       subst (ReceivesFises port.0) (sym w.here) (written_receiving port.0 v _ (w.mid.port port.0) (receiving_on (w.keeps.port port.0) (w.keeps.on.controls port.0) h) r kind)

@@ -7,12 +7,12 @@ use Rattle.adapter.specs.Device.{Device}
 use Rattle.adapter.specs.Rules.{IsOn, HasPort}
 use Rattle.refinement.specs.Driven.{RelatesWith, AnyUse}
 use Rattle.refinement.specs.Driver.{AllFree}
-use Rattle.refinement.specs.Errors.{NoneComes, ChangesByDisks}
-use Rattle.refinement.specs.Facts.{IsQuiet, IsRecorded}
-use Rattle.refinement.specs.Links.{PlugsNone}
+use Rattle.refinement.specs.Errors.{NoDiskComes, ChangesByDisks}
+use Rattle.refinement.specs.Facts.{IsCleanToStart, FaultsOnRecord}
+use Rattle.refinement.specs.Links.{NoPlugEvents}
 use Rattle.refinement.specs.Recovering.{IsLinked, RunsLinked}
 use Rattle.refinement.specs.Started.{IsUp, IsComingUp, IsStarted}
-use Rattle.port_control.specs.Ports.{FindsSignature, HasClearErrors, IsFound, IsRunning, IsStopped, LooksAfterReset, ReceivesFises, SameBeside, SameButStart, SawDevice, SawIdle, BacksFault, ShowsSignature, WasReset}
+use Rattle.port_control.specs.Ports.{FindsSignature, HasClearErrors, IsDeviceFound, IsRunning, IsStopped, SeesResetFault, ReceivesFises, SameSctlAndNotes, SameButStart, SawDevice, SawIdle, BacksFault, ShowsSignature, SendsComresetThen}
 use Rattle.port_control.specs.declared.PortFault.{PortFault}
 use Rattle.port_control.specs.declared.PortFault.TheVariants.{NoDevice, EngineStuck, NotAta}
 
@@ -31,12 +31,12 @@ pub record MayBeginReceiving (port : Port) (d : Device) : Type 0 where
 -- as they were.
 pub record StaysStopped (port : Port) (old new : Device) : Type 0 where
   pub stopped : IsStopped (new.port port.0)
-  pub same : SameBeside (old.port port.0) (new.port port.0)
+  pub same : SameSctlAndNotes (old.port port.0) (new.port port.0)
 
 -- ---- errors, and devices that go and come
 
 -- A port may forget its errors: it is stopped and receives FISes, and no COMRESET is under way (AHCI 1.3.1, 6.2.2).
-pub record MayForget (port : Port) (d : Device) : Type 0 where
+pub record MayClearErrorState (port : Port) (d : Device) : Type 0 where
   pub on : IsOn d
   pub there : HasPort d port.0
   pub agreed : RelatesWith AnyUse d
@@ -65,21 +65,21 @@ pub record MayResetLink (port : Port) (d : Device) : Type 0 where
 -- Whatever was found then: it receives FISes still; and where no disk came meanwhile, its link is coming up, or is up.
 pub record StaysReceiving (port : Port) (old new : Device) : Type 0 where
   pub receives : ReceivesFises port.0 (new.port port.0)
-  pub coming : NoneComes port.0 old new → IsComingUp (new.port port.0)
+  pub coming : NoDiskComes port.0 old new → IsComingUp (new.port port.0)
 
 -- COMRESET was sent, and an ATA disk was found that is idle, as the readings since showed (AHCI 1.3.1, 10.1.2 and
 -- 10.4.2).
 pub record FindsDisk (port : Port) (old new : Device) : Type 0 where
-  pub reset : WasReset port (FindsSignature port 0x101) old new
+  pub reset : SendsComresetThen port (FindsSignature port 0x101) old new
   pub ready : let notes = (new.port port.0).notes in SawDevice notes × SawIdle notes × (notes.last_sig ≡ 0x101)
-  pub found : IsFound port.0 old new
+  pub found : IsDeviceFound port.0 old new
   pub signature : ShowsSignature (new.port port.0)
 
 -- COMRESET was sent, and the readings since showed this fault in place of such a disk.
 pub record FindsFault (port : Port) (told : PortFault) (old new : Device) : Type 0 where
-  pub reset : WasReset port (LooksAfterReset port told) old new
+  pub reset : SendsComresetThen port (SeesResetFault port told) old new
   pub fault : BacksFault told (new.port port.0).notes × (told ≢ EngineStuck)
-  pub found : told ≢ NoDevice → IsFound port.0 old new
+  pub found : told ≢ NoDevice → IsDeviceFound port.0 old new
   pub signature : (signature : ℕ) → told ≡ NotAta signature → ShowsSignature (new.port port.0)
 
 -- ---- to work on the command list
@@ -103,9 +103,9 @@ pub record Starts (port : Port) (old new : Device) : Type 0 where
   pub set : (new.port port.0).notes.st_set_at ≡ length new.tape
   pub marked : (old.port port.0).notes.sctl_written_at ≤ length old.tape
       → (new.port port.0).notes.sctl_written_at ≤ length new.tape
-  pub well : IsUp (old.port port.0) → PlugsNone port.0 old new → IsStarted (new.port port.0)
-  pub linked : IsLinked (old.port port.0) → PlugsNone port.0 old new → RunsLinked (new.port port.0)
-  pub recorded : IsQuiet (old.port port.0) → IsRecorded new.tape (new.port port.0) port.0
+  pub well : IsUp (old.port port.0) → NoPlugEvents port.0 old new → IsStarted (new.port port.0)
+  pub linked : IsLinked (old.port port.0) → NoPlugEvents port.0 old new → RunsLinked (new.port port.0)
+  pub recorded : IsCleanToStart (old.port port.0) → FaultsOnRecord new.tape (new.port port.0) port.0
   pub calm : (place : ℕ) → (old.port port.0).is place ≡ false → (new.port port.0).is place ≡ false
   pub undue : (old.port port.0).link_due ≡ false → (new.port port.0).link_due ≡ false
   pub changes : (old.port port.0).link_due ≡ false → ChangesByDisks port.0 old new

@@ -19,12 +19,12 @@ abbrev pub CLEAR_ACCESSES : ℕ
 CLEAR_ACCESSES = 2
 
 -- errors are cleared, and PxTFD is read
-abbrev pub FORGET_ACCESSES : ℕ
-FORGET_ACCESSES = CLEAR_ACCESSES + 1
+abbrev pub ERROR_STATE_ACCESSES : ℕ
+ERROR_STATE_ACCESSES = CLEAR_ACCESSES + 1
 
 -- PxSERR is written, and PxSSTS read
-abbrev pub SHOW_ACCESSES : ℕ
-SHOW_ACCESSES = 2
+abbrev pub DETECT_ACCESSES : ℕ
+DETECT_ACCESSES = 2
 
 -- PxSSTS is read until it shows a device, errors are cleared, PxTFD is read until it shows an idle one, and PxSIG is
 -- read

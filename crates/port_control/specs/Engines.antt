@@ -8,7 +8,7 @@ use Rattle.hba_regs.specs.declared.reg.PortReg.TheVariants.{Cmd}
 use Rattle.hba_regs.specs.declared.reg.Reg.TheVariants.{Px}
 use Rattle.adapter.specs.Access.{Access}
 use Rattle.adapter.specs.Access.Access.{Reading, Writing}
-use Rattle.refinement.specs.Links.{SparesRegister}
+use Rattle.refinement.specs.Links.{DoesNotWrite}
 
 -- An engine fell: the bit that starts it was written 0, and the bit that shows it running was read 0 after that, with
 -- PxCMD not written between.
@@ -20,7 +20,7 @@ pub record Falls (start running : ℕ) (port : Port) (accesses : List Access) : 
   pub later : List Access
   pub here : accesses ≡ before ++ (Writing (Px port Cmd) cleared ∷ (between ++ (Reading (Px port Cmd) fallen ∷ later)))
   pub clears : bit cleared start ≡ false
-  pub only : All (SparesRegister (Px port Cmd)) between
+  pub only : All (DoesNotWrite (Px port Cmd)) between
   pub shown : bit fallen running ≡ false
 
 -- ST was cleared, and CR was read 0
@@ -44,9 +44,9 @@ abbrev pub ShowsStuck : ℕ → Type 0
 ShowsStuck v = ShowsStillRunning 0 15 v ⊎ ShowsStillRunning 4 14 v
 
 -- it reads PxCMD, whose value shows this
-abbrev pub ReadsCommand : (ℕ → Type 0) → Port → Access → Type 0
-ReadsCommand Shown port (Reading r v) = (r ≡ Px port Cmd) × Shown v
-ReadsCommand Shown port access = ⊥
+abbrev pub ReadsPortCmd : (ℕ → Type 0) → Port → Access → Type 0
+ReadsPortCmd Shown port (Reading r v) = (r ≡ Px port Cmd) × Shown v
+ReadsPortCmd Shown port access = ⊥
 
 -- An engine is awaited: the bit that starts it was written 0, and so many readings of PxCMD since, and nothing else,
 -- showed that it runs still.
@@ -57,7 +57,7 @@ pub record Awaits (start running : ℕ) (port : Port) (count : ℕ) (accesses : 
   pub here : accesses ≡ before ++ (Writing (Px port Cmd) cleared ∷ stuck)
   pub clears : bit cleared start ≡ false
   pub number : length stuck ≡ count
-  pub all : All (ReadsCommand (ShowsStillRunning start running) port) stuck
+  pub all : All (ReadsPortCmd (ShowsStillRunning start running) port) stuck
 
 -- ST was cleared, and then 64 readings, the last of the accesses, showed CR still
 abbrev pub FailsToStop : Port → List Access → Type 0
@@ -74,4 +74,4 @@ pub record Sticks (port : Port) (accesses : List Access) : Type 0 where
   pub later : List Access
   pub here : accesses ≡ before ++ (stuck ++ later)
   pub number : length stuck ≡ MOST_READINGS
-  pub all : All (ReadsCommand ShowsStuck port) stuck
+  pub all : All (ReadsPortCmd ShowsStuck port) stuck

@@ -4,27 +4,27 @@ use Rattle.ata_types.specs.declared.Port.{Port}
 use Rattle.adapter.specs.Access.{Access, Does, DoesAll, PortShows, Reads, Writes, note}
 use Rattle.refinement.specs.Laws.{FragmentLaws, TapeLaws}
 use Rattle.refinement.specs.Relation.{StateRelation}
-use Rattle.refinement.specs.Driver.{AllFree, IsWrittenBack}
-use Rattle.refinement.specs.Driven.{AnyAccess, AnyUse, IsControl, IsDrivenBy, IsOf}
-use Rattle.refinement.specs.Errors.{NoneComes}
+use Rattle.refinement.specs.Driver.{AllFree, KeepsOtherCmdBits}
+use Rattle.refinement.specs.Driven.{AnyAccess, AnyUse, OnPortWriting, IsDrivenBy, SparesOtherPorts}
+use Rattle.refinement.specs.Errors.{NoDiskComes}
 use Rattle.hba_regs.specs.declared.reg.PortReg.TheVariants.{Ci, Clb, Clbu, Cmd, Fb, Fbu, Is, Sact, Sctl, Serr, Ssts, Tfd}
 use Rattle.adapter.specs.Device.{Device, DevicePort}
 use Rattle.adapter.specs.declared.tape.Entry.{Entry}
 use Rattle.refinement.specs.Slots.{Free, SlotStates}
 use Rattle.hba_regs.specs.declared.reg.Reg.TheVariants.{Ghc, Px}
 use Rattle.adapter.specs.Rules.{HasPort, IsOn, MaySetFre, MayStart, MayStopReceiving, MayWrite, IsStable}
-use Rattle.refinement.specs.Facts.{IsAfterReset, IsAwaited, IsHalted, IsQuiet, IsRecorded, IsUnflagged, KeepsRecord}
+use Rattle.refinement.specs.Facts.{IsQuiescentPort, ShowsDrqTillLink, IsEngineStopped, IsCleanToStart, FaultsOnRecord, StoppedTfesClear, KeepsRecord}
 use Rattle.port_control.specs.Ports.{IsErrorRegister, IsPlacingRegister, IsResetRegister, IsCommandRegister}
 use Rattle.refinement.specs.Recovering.{IsLinked, RunsLinked}
 use Rattle.refinement.specs.Started.{IsComingUp, IsStarted, IsUp, SetsNoStart}
 use Rattle.block_machine.specs.Histories.{IsReachable}
 use Rattle.adapter.specs.Kept.{Keeps}
-use Rattle.ata_types.specs.declared.memory.TheConstants.{LIST_BYTES, RECEIVED_BYTES}
-use Rattle.refinement.specs.Links.{LeavesControls, PlugsNone, SameAdapter, SparesRegister}
+use Rattle.ata_types.specs.declared.memory.TheConstants.{LIST_BYTES, RECEIVED_FIS_BYTES}
+use Rattle.refinement.specs.Links.{LeavesControls, NoPlugEvents, SameAdapter, DoesNotWrite}
 use Rattle.refinement.specs.Noted.{LeavesNotes}
 use Rattle.block_machine.specs.State.{Machine}
 use Rattle.hba_regs.specs.declared.reg.PortReg.{PortReg}
-use Rattle.adapter.specs.Seen.{PutAt, SeenAt}
+use Rattle.adapter.specs.Seen.{PortRegisterWritten, PortRegisterRead}
 use Rattle.adapter.specs.Access.Access.{Reading, Writing}
 use Rattle.hba_regs.specs.declared.reg.Reg.{Reg}
 use Rattle.adapter.specs.Steps.{Steps}
@@ -47,15 +47,15 @@ registers_of Clearing = IsErrorRegister
 registers_of Resetting = IsResetRegister
 
 -- a port's registers are read, and those of a set written; or a port is started, none of whose slots is used
-pub data AccessKind : Type 0 where
-  Controlling : RegisterSet → Port → AccessKind
-  Starting : Port → AccessKind
+pub data AccessPurpose : Type 0 where
+  Controlling : RegisterSet → Port → AccessPurpose
+  Starting : Port → AccessPurpose
 
-abbrev pub may_of : AccessKind → Access → Type 0
-may_of (Controlling set port) = IsControl (registers_of set) port
-may_of (Starting port) = IsControl IsCommandRegister port
+abbrev pub may_of : AccessPurpose → Access → Type 0
+may_of (Controlling set port) = OnPortWriting (registers_of set) port
+may_of (Starting port) = OnPortWriting IsCommandRegister port
 
-abbrev pub fits_of : AccessKind → SlotStates → Type 0
+abbrev pub fits_of : AccessPurpose → SlotStates → Type 0
 fits_of (Controlling set port) = AnyUse
 fits_of (Starting port) = λ uses. AllFree uses port.0
 
@@ -64,12 +64,12 @@ fits_of (Starting port) = λ uses. AllFree uses port.0
 pub record Laws : Type 0 where
   -- one access
   pub seen : (port : Port) (r : PortReg) (v : ℕ) (old new : Device) → Reads (Px port r) v old new → old.hr ≡ false
-      → SeenAt port.0 r v old new
+      → PortRegisterRead port.0 r v old new
   pub put : (port : Port) (r : PortReg) (v : ℕ) (old new : Device) → Writes (Px port r) v old new → old.hr ≡ false
-      → PutAt port.0 r v old new
+      → PortRegisterWritten port.0 r v old new
   pub does_append : (early late : List Access) (old mid new : Device) → DoesAll early old mid → DoesAll late mid new
       → DoesAll (early ++ late) old new
-  pub law_steps_keep : (old new : Device) → Steps old new → Keeps old new
+  pub law_steps_guarantee : (old new : Device) → Steps old new → Keeps old new
   pub access_on : (access : Access) (old new : Device) → IsOn old
       → ((v : ℕ) → access ≡ Writing Ghc v → (bit v 31 ≡ true) × (bit v 0 ≡ false)) → Does access old new → IsOn new
   pub write_stays : (r : Reg) (v : ℕ) (d : Device) → ((port : Port) → r ≢ Px port Ci) → MayWrite r v d
@@ -80,19 +80,20 @@ pub record Laws : Type 0 where
   pub list_upper_may : (d : Device) (port : Port) → IsOn d → HasPort d port.0 → (d.port port.0).st ≡ false
       → (d.port port.0).cr ≡ false → IsStable (MayWrite (Px port Clbu) 0) d
   pub received_may : (d : Device) (port : Port) → IsOn d → HasPort d port.0 → (d.port port.0).fre ≡ false
-      → (d.port port.0).fr ≡ false → received_of port.0 + RECEIVED_BYTES ≤ d.size
+      → (d.port port.0).fr ≡ false → received_of port.0 + RECEIVED_FIS_BYTES ≤ d.size
       → IsStable (MayWrite (Px port Fb) (received_of port.0)) d
   pub received_upper_may : (d : Device) (port : Port) → IsOn d → HasPort d port.0 → (d.port port.0).fre ≡ false
       → (d.port port.0).fr ≡ false → IsStable (MayWrite (Px port Fbu) 0) d
   pub starting_may : (port : Port) (was v : ℕ) (d : Device) → IsOn d → HasPort d port.0 → (d.port port.0).notes.last_cmd
-      ≡ was → MayStart (d.port port.0) → IsWrittenBack true true was v → IsStable (MayWrite (Px port Cmd) v) d
+      ≡ was → MayStart (d.port port.0) → KeepsOtherCmdBits true true was v → IsStable (MayWrite (Px port Cmd) v) d
   pub stopping_may : (port : Port) (was v : ℕ) (d : Device) → IsOn d → HasPort d port.0 → (d.port port.0).notes.last_cmd
-      ≡ was → IsWrittenBack false (d.port port.0).fre was v → IsStable (MayWrite (Px port Cmd) v) d
+      ≡ was → KeepsOtherCmdBits false (d.port port.0).fre was v → IsStable (MayWrite (Px port Cmd) v) d
   pub receiving_may : (port : Port) (was v : ℕ) (d : Device) → IsOn d → HasPort d port.0
-      → (d.port port.0).notes.last_cmd ≡ was → MaySetFre (d.port port.0) → IsWrittenBack (d.port port.0).st true was v
+      → (d.port port.0).notes.last_cmd ≡ was → MaySetFre (d.port port.0)
+      → KeepsOtherCmdBits (d.port port.0).st true was v
       → IsStable (MayWrite (Px port Cmd) v) d
   pub no_receiving_may : (port : Port) (was v : ℕ) (d : Device) → IsOn d → HasPort d port.0
-      → (d.port port.0).notes.last_cmd ≡ was → MayStopReceiving (d.port port.0) → IsWrittenBack false false was v
+      → (d.port port.0).notes.last_cmd ≡ was → MayStopReceiving (d.port port.0) → KeepsOtherCmdBits false false was v
       → IsStable (MayWrite (Px port Cmd) v) d
   -- what it notes and sets
   pub command_noted : (port : Port) (v : ℕ) (old new : Device) → Reads (Px port Cmd) v old new
@@ -123,14 +124,15 @@ pub record Laws : Type 0 where
   pub access_clear : (port : Port) (place : ℕ) (access : Access) (old new : Device) → (old.port port.0).cr ≡ false
       → Does access old new → (old.port port.0).is place ≡ false → (new.port port.0).is place ≡ false
   pub halted_writes : (port : Port) (r : Reg) (v : ℕ) (old new : Device) → IsStable (MayWrite r v) old
-      → (r ≡ Px port Cmd → bit v 0 ≡ false) → Writes r v old new → IsHalted (old.port port.0)
-      → IsHalted (new.port port.0)
+      → (r ≡ Px port Cmd → bit v 0 ≡ false) → Writes r v old new → IsEngineStopped (old.port port.0)
+      → IsEngineStopped (new.port port.0)
   pub law_stop_is_found : (uses : SlotStates) (m : Machine) (port : Port) (v : ℕ) (old new : Device) → IsReachable m
       → StateRelation uses m old → (old.port port.0).st ≡ false → Reads (Px port Cmd) v old new → bit v 15 ≡ false
-      → IsHalted (new.port port.0)
+      → IsEngineStopped (new.port port.0)
   pub reset_writes : (port : Port) (r : Reg) (v : ℕ) (old new : Device) → IsStable (MayWrite r v) old
-      → (r ≡ Px port Cmd → (bit v 0 ≡ false) × (bit v 4 ≡ false)) → Writes r v old new → IsAfterReset (old.port port.0)
-      → IsAfterReset (new.port port.0)
+      → (r ≡ Px port Cmd → (bit v 0 ≡ false) × (bit v 4 ≡ false)) → Writes r v old new
+      → IsQuiescentPort (old.port port.0)
+      → IsQuiescentPort (new.port port.0)
   pub bits_clear : (uses : SlotStates) (m : Machine) (d : Device) (port slot : ℕ) → StateRelation uses m d
       → (d.port port).st ≡ false
       → ((d.port port).ci slot ≡ false) × ((d.port port).sact slot ≡ false)
@@ -141,64 +143,72 @@ pub record Laws : Type 0 where
       → uses port slot ≡ Free → (d.port port).sact slot ≡ false
   -- the link
   pub comreset_begins : (port : Port) (v : ℕ) (old new : Device) → (old.port port.0).cr ≡ false → v % 16 ≡ 1
-      → Writes (Px port Sctl) v old new → IsAwaited (new.port port.0)
+      → Writes (Px port Sctl) v old new → ShowsDrqTillLink (new.port port.0)
   pub writes_awaited : (port : ℕ) (r : Reg) (v : ℕ) (old new : Device) → IsStable (MayWrite r v) old
-      → IsStable (KeepsRecord r v) old → Writes r v old new → IsAwaited (old.port port) → IsAwaited (new.port port)
-  pub reads_awaited : (port : ℕ) (r : Reg) (v : ℕ) (old new : Device) → Reads r v old new → IsAwaited (old.port port)
-      → IsAwaited (new.port port)
-  pub access_awaited : (port : Port) (access : Access) (old new : Device) → SparesRegister (Px port Cmd) access
-      → SparesRegister (Px port Sctl) access → Does access old new → IsAwaited (old.port port.0)
-      → IsAwaited (new.port port.0)
+      → IsStable (KeepsRecord r v) old → Writes r v old new → ShowsDrqTillLink (old.port port)
+      → ShowsDrqTillLink (new.port port)
+  pub reads_awaited : (port : ℕ) (r : Reg) (v : ℕ) (old new : Device) → Reads r v old new
+      → ShowsDrqTillLink (old.port port)
+      → ShowsDrqTillLink (new.port port)
+  pub access_awaited : (port : Port) (access : Access) (old new : Device) → DoesNotWrite (Px port Cmd) access
+      → DoesNotWrite (Px port Sctl) access → Does access old new → ShowsDrqTillLink (old.port port.0)
+      → ShowsDrqTillLink (new.port port.0)
   pub comreset_comes : (port : Port) (v : ℕ) (old new : Device) → (old.port port.0).cr ≡ false → v % 16 ≡ 1
       → Writes (Px port Sctl) v old new → IsComingUp (new.port port.0)
   pub access_coming : (port : Port) (access : Access) (old new : Device) → SetsNoStart port access → Does access old new
-      → NoneComes port.0 old new → IsComingUp (old.port port.0) → IsComingUp (new.port port.0)
+      → NoDiskComes port.0 old new → IsComingUp (old.port port.0) → IsComingUp (new.port port.0)
   pub access_up : (port : Port) (access : Access) (old new : Device) → old.hr ≡ false → (old.port port.0).cr ≡ false
-      → SetsNoStart port access → SparesRegister (Px port Sctl) access → PlugsNone port.0 old new → Does access old new
+      → SetsNoStart port access → DoesNotWrite (Px port Sctl) access → NoPlugEvents port.0 old new
+      → Does access old new
       → IsUp (old.port port.0) → IsUp (new.port port.0)
-  pub up_is_found : (port : Port) (v : ℕ) (old new : Device) → NoneComes port.0 old new → Reads (Px port Ssts) v old new
+  pub up_is_found : (port : Port) (v : ℕ) (old new : Device) → NoDiskComes port.0 old new
+      → Reads (Px port Ssts) v old new
       → v % 16 ≡ 3 → IsComingUp (old.port port.0) → IsUp (new.port port.0)
   pub start_is_made : (port : Port) (v : ℕ) (old new : Device) → old.hr ≡ false → (old.port port.0).st ≡ false
       → (old.port port.0).cr ≡ false → bit v 0 ≡ true → Writes (Px port Cmd) v old new → IsUp (old.port port.0)
-      → PlugsNone port.0 old new → IsStarted (new.port port.0)
+      → NoPlugEvents port.0 old new → IsStarted (new.port port.0)
   pub access_linked : (port : Port) (access : Access) (old new : Device) → old.hr ≡ false
-      → SparesRegister (Px port Sctl) access → PlugsNone port.0 old new → Does access old new
+      → DoesNotWrite (Px port Sctl) access → NoPlugEvents port.0 old new → Does access old new
       → IsLinked (old.port port.0) → IsLinked (new.port port.0)
   pub start_runs_linked : (port : Port) (v : ℕ) (old new : Device) → old.hr ≡ false → (old.port port.0).st ≡ false
-      → (old.port port.0).cr ≡ false → bit v 0 ≡ true → PlugsNone port.0 old new → Writes (Px port Cmd) v old new
+      → (old.port port.0).cr ≡ false → bit v 0 ≡ true → NoPlugEvents port.0 old new → Writes (Px port Cmd) v old new
       → IsLinked (old.port port.0) → RunsLinked (new.port port.0)
   pub file_noted : (port : Port) (v : ℕ) (old new : Device) → Reads (Px port Tfd) v old new
       → (new.port port.0).notes.last_tfd ≡ v
-  pub law_quiet_is_found : (port : Port) (v : ℕ) (old new : Device) → IsAwaited (old.port port.0)
-      → IsUnflagged (old.port port.0) → Reads (Px port Tfd) v old new → bit v 3 ≡ false → IsQuiet (new.port port.0)
-  pub steps_quiet : (port : ℕ) (old new : Device) → Steps old new → IsQuiet (old.port port) → IsQuiet (new.port port)
-  pub reads_quiet : (port : ℕ) (r : Reg) (v : ℕ) (old new : Device) → Reads r v old new → IsQuiet (old.port port)
-      → IsQuiet (new.port port)
+  pub law_quiet_is_found : (port : Port) (v : ℕ) (old new : Device) → ShowsDrqTillLink (old.port port.0)
+      → StoppedTfesClear (old.port port.0) → Reads (Px port Tfd) v old new → bit v 3 ≡ false
+      → IsCleanToStart (new.port port.0)
+  pub steps_quiet : (port : ℕ) (old new : Device) → Steps old new → IsCleanToStart (old.port port)
+      → IsCleanToStart (new.port port)
+  pub reads_quiet : (port : ℕ) (r : Reg) (v : ℕ) (old new : Device) → Reads r v old new → IsCleanToStart (old.port port)
+      → IsCleanToStart (new.port port)
   pub writes_quiet : (port : Port) (r : Reg) (v : ℕ) (old new : Device) → (r ≡ Px port Cmd → bit v 0 ≡ false)
-      → (r ≡ Px port Sctl → v % 16 ≢ 1) → Writes r v old new → IsQuiet (old.port port.0) → IsQuiet (new.port port.0)
+      → (r ≡ Px port Sctl → v % 16 ≢ 1) → Writes r v old new → IsCleanToStart (old.port port.0)
+      → IsCleanToStart (new.port port.0)
   pub reads_unflagged : (port : ℕ) (r : Reg) (v : ℕ) (old new : Device) → Reads r v old new
-      → IsUnflagged (old.port port) → IsUnflagged (new.port port)
+      → StoppedTfesClear (old.port port) → StoppedTfesClear (new.port port)
   -- what the tape tells
   pub tape : TapeLaws
-  pub stopped_recorded : (tape : List Entry) (p : DevicePort) (port : ℕ) → p.st ≡ false → IsRecorded tape p port
+  pub stopped_recorded : (tape : List Entry) (p : DevicePort) (port : ℕ) → p.st ≡ false → FaultsOnRecord tape p port
   pub writes_recorded : (port : ℕ) (r : Reg) (v : ℕ) (old new : Device) → IsStable (MayWrite r v) old
-      → IsStable (KeepsRecord r v) old → Writes r v old new → IsRecorded old.tape (old.port port) port
-      → IsRecorded new.tape (new.port port) port
+      → IsStable (KeepsRecord r v) old → Writes r v old new → FaultsOnRecord old.tape (old.port port) port
+      → FaultsOnRecord new.tape (new.port port) port
   -- fragments
-  pub of_on : (port : Port) (old new : Device) → IsOn old → IsDrivenBy (IsOf port) old new → IsOn new
+  pub of_on : (port : Port) (old new : Device) → IsOn old → IsDrivenBy (SparesOtherPorts port) old new → IsOn new
   pub same_over : (old new : Device) → IsDrivenBy AnyAccess old new → SameAdapter old new
   pub tape_over : (old new : Device) → IsDrivenBy AnyAccess old new → (gained : List Entry)
       × (new.tape ≡ old.tape ++ gained)
-  pub of_spares_ghc : (port : Port) (access : Access) → IsOf port access → SparesRegister Ghc access
+  pub of_spares_ghc : (port : Port) (access : Access) → SparesOtherPorts port access → DoesNotWrite Ghc access
   -- this crate's kinds of accesses
-  pub control_either : (set : RegisterSet) (port : Port) (access : Access) → IsControl (registers_of set) port access
+  pub control_either : (set : RegisterSet) (port : Port) (access : Access)
+      → OnPortWriting (registers_of set) port access
       → ((r : PortReg) × (v : ℕ) × (access ≡ Reading (Px port r) v))
       ⊎ ((r : PortReg) × (v : ℕ) × (access ≡ Writing (Px port r) v) × registers_of set r)
-  pub control_of : (set : RegisterSet) (port : Port) (access : Access) → IsControl (registers_of set) port access
-      → IsOf port access
+  pub control_of : (set : RegisterSet) (port : Port) (access : Access) → OnPortWriting (registers_of set) port access
+      → SparesOtherPorts port access
   pub control_spares : (set : RegisterSet) (port : Port) (r : PortReg) → (registers_of set r → ⊥) → (access : Access)
-      → IsControl (registers_of set) port access → SparesRegister (Px port r) access
+      → OnPortWriting (registers_of set) port access → DoesNotWrite (Px port r) access
   pub control_wider : (set more : RegisterSet) (port : Port)
       → ((r : PortReg) → registers_of set r → registers_of more r) → (access : Access)
-      → IsControl (registers_of set) port access → IsControl (registers_of more) port access
-  pub fragments : FragmentLaws AccessKind may_of fits_of
+      → OnPortWriting (registers_of set) port access → OnPortWriting (registers_of more) port access
+  pub fragments : FragmentLaws AccessPurpose may_of fits_of

@@ -6,5 +6,5 @@ abbrev pub LOOK_ACCESSES : ℕ
 LOOK_ACCESSES = 4
 
 -- PxIS is read, and PxSSTS; or that alone
-abbrev pub FIND_ACCESSES : ℕ
-FIND_ACCESSES = 2
+abbrev pub CHANGE_CHECK_ACCESSES : ℕ
+CHANGE_CHECK_ACCESSES = 2

@@ -9,14 +9,14 @@ use Rattle.hba_regs.specs.declared.reg.PortReg.TheVariants.{Is, Ssts}
 use Rattle.adapter.specs.Access.{Access, Reads, Writes}
 use Rattle.adapter.specs.Access.Access.{Reading, Writing}
 use Rattle.adapter.specs.Device.{Device}
-use Rattle.refinement.specs.Driven.{IsBitOf}
+use Rattle.refinement.specs.Driven.{IsSoleBit}
 use Rattle.port_control.specs.declared.events.PortEvent.{PortEvent}
 use Rattle.port_control.specs.declared.events.PortEvent.TheVariants.{LinkChanged, FatalError, TaskFileError, NoEvent}
 
 -- What PxIS and PxSSTS tell, first things first: the device went or came, or isn't there (PCS, PRCS, or DET other than
 -- 3); an error that the driver ends with a boot (HBDS, HBFS or IFS); a command that failed (TFES); or none of these.
-abbrev pub look_of : ℕ → ℕ → PortEvent
-look_of causes status =
+abbrev pub port_event_of : ℕ → ℕ → PortEvent
+port_event_of causes status =
     if bit causes 6 || bit causes 22 || not (status % 16 == 3) then LinkChanged
     else (if bit causes 28 || bit causes 29 || bit causes 27 then FatalError
     else (if bit causes 30 then TaskFileError else NoEvent))
@@ -24,7 +24,7 @@ look_of causes status =
 -- It reads PxIS or PxSSTS, or it writes PxIS, or IS with the port's bit alone.
 abbrev pub IsLooking : Port → Access → Type 0
 IsLooking port (Reading r v) = (r ≡ Px port Is) ⊎ (r ≡ Px port Ssts)
-IsLooking port (Writing r v) = (r ≡ Px port Is) ⊎ ((r ≡ reg.Is) × IsBitOf port.0 v)
+IsLooking port (Writing r v) = (r ≡ Px port Is) ⊎ ((r ≡ reg.Is) × IsSoleBit port.0 v)
 IsLooking port access = ⊥
 
 -- PxIS is read and written with what was read; then the port's bit of IS, alone, is written; then PxSSTS is read. The
@@ -36,9 +36,9 @@ pub record LooksAt (port : Port) (result : PortEvent) (old new : Device) : Type 
   pub cleared : Device
   pub clears : Writes (Px port Is) causes seen cleared
   pub own : ℕ
-  pub alone : IsBitOf port.0 own
+  pub alone : IsSoleBit port.0 own
   pub acknowledged : Device
   pub acknowledges : Writes reg.Is own cleared acknowledged
   pub status : ℕ
   pub shows : Reads (Px port Ssts) status acknowledged new
-  pub tells : result ≡ look_of causes status
+  pub tells : result ≡ port_event_of causes status

@@ -5,10 +5,10 @@ use Rattle.ata_types.specs.declared.limits.TheConstants.{MOST_READINGS}
 use Rattle.hba_regs.specs.Bits.{bit}
 use Rattle.hba_regs.specs.declared.reg.PortReg.TheVariants.{Ssts, Tfd}
 use Rattle.adapter.specs.Device.{Device, DevicePort}
-use Rattle.refinement.specs.Errors.{NoneComes}
-use Rattle.refinement.specs.Facts.{IsAfterReset, IsAwaited, IsQuiet, IsUnflagged}
+use Rattle.refinement.specs.Errors.{NoDiskComes}
+use Rattle.refinement.specs.Facts.{IsQuiescentPort, ShowsDrqTillLink, IsCleanToStart, StoppedTfesClear}
 use Rattle.refinement.specs.Started.{IsUp, IsComingUp}
-use Rattle.port_control.specs.Ports.{BacksFault, ClearsErrors, FindsAwaited, FindsSignature, HasClearErrors, HasLink, IsStopped, LooksAfterReset, ReadsUntil, ReadsWithout, ReceivesFises, SameBeside, SawDevice, SawIdle, ShowsIdle, ShowsSignature, WasReset, programmed}
+use Rattle.port_control.specs.Ports.{BacksFault, ClearsErrors, FindsAwaited, FindsSignature, HasClearErrors, HasLink, IsStopped, SeesResetFault, ReadsUntil, ReadsInVain, ReceivesFises, SameSctlAndNotes, SawDevice, SawIdle, ShowsIdle, ShowsSignature, SendsComresetThen, programmed}
 use Rattle.port_control.specs.declared.PortFault.{PortFault}
 use Rattle.port_control.specs.declared.PortFault.TheVariants.{Busy, EngineStuck, NoDevice, NotAta}
 
@@ -18,32 +18,32 @@ pub record ClearsFre (old new : DevicePort) : Type 0 where
   pub stopped : IsStopped new
   pub fre : new.fre ≡ false
   pub bases : new.bases ≡ old.bases
-  pub same : SameBeside old new
+  pub same : SameSctlAndNotes old new
 
 -- The command list and the received FIS area are in their places; PxSCTL.DET and what readings noted, but of PxCMD, are
 -- as they were.
 pub record PlacesAreas (port : ℕ) (old new : DevicePort) : Type 0 where
-  pub quiet : IsAfterReset new
+  pub quiet : IsQuiescentPort new
   pub bases : new.bases ≡ programmed port
-  pub same : SameBeside old new
+  pub same : SameSctlAndNotes old new
 
 -- COMRESET was sent and ended: the port receives FISes still, and awaits its link, which is coming up where no disk
 -- came.
 pub record SendsComreset (port : Port) (old new : Device) : Type 0 where
-  pub reset : WasReset port (λ ended now. now ≡ ended) old new
+  pub reset : SendsComresetThen port (λ ended now. now ≡ ended) old new
   pub receives : ReceivesFises port.0 (new.port port.0)
-  pub awaited : IsAwaited (new.port port.0)
-  pub coming : NoneComes port.0 old new → IsComingUp (new.port port.0)
+  pub awaited : ShowsDrqTillLink (new.port port.0)
+  pub coming : NoDiskComes port.0 old new → IsComingUp (new.port port.0)
 
 -- A device with a link was awaited, and found.
 pub record DeviceComes (port : Port) (old new : Device) : Type 0 where
   pub sees : ReadsUntil port Ssts HasLink old new
   pub saw : SawDevice (new.port port.0).notes
-  pub up : NoneComes port.0 old new → IsComingUp (old.port port.0) → IsUp (new.port port.0)
+  pub up : NoDiskComes port.0 old new → IsComingUp (old.port port.0) → IsUp (new.port port.0)
 
 -- Or it was awaited in vain.
 pub record MissesDevice (port : Port) (old new : Device) : Type 0 where
-  pub misses : ReadsWithout port Ssts HasLink MOST_READINGS old new
+  pub misses : ReadsInVain port Ssts HasLink MOST_READINGS old new
   pub fault : BacksFault NoDevice (new.port port.0).notes
 
 -- PxSERR and PxIS were cleared. No cause is told of then; nor an error, where no link was due, but of disks that went
@@ -59,9 +59,9 @@ pub record AwaitsIdle (port : Port) (found : Bool) (old new : Device) : Type 0 w
   pub saw : SawDevice (new.port port.0).notes
   pub idle : found ≡ true → SawIdle (new.port port.0).notes × ReadsUntil port Tfd ShowsIdle old new
   pub busy : found ≡ false → BacksFault Busy (new.port port.0).notes
-      × ReadsWithout port Tfd ShowsIdle MOST_READINGS old new
-  pub quiet : IsAwaited (old.port port.0) → IsUnflagged (old.port port.0)
-      → bit (new.port port.0).notes.last_tfd 3 ≡ false → IsQuiet (new.port port.0)
+      × ReadsInVain port Tfd ShowsIdle MOST_READINGS old new
+  pub quiet : ShowsDrqTillLink (old.port port.0) → StoppedTfesClear (old.port port.0)
+      → bit (new.port port.0).notes.last_tfd 3 ≡ false → IsCleanToStart (new.port port.0)
 
 -- An ATA disk was found that is idle.
 pub record SeesDisk (port : Port) (old new : Device) : Type 0 where
@@ -72,7 +72,7 @@ pub record SeesDisk (port : Port) (old new : Device) : Type 0 where
 
 -- Or this fault was found in its place.
 pub record SeesFault (port : Port) (told : PortFault) (old new : Device) : Type 0 where
-  pub looks : LooksAfterReset port told old new
+  pub looks : SeesResetFault port told old new
   pub fault : BacksFault told (new.port port.0).notes × (told ≢ EngineStuck)
   pub found : told ≢ NoDevice → FindsAwaited port.0 old new
   pub signature : (signature : ℕ) → told ≡ NotAta signature → ShowsSignature (new.port port.0)

@@ -11,10 +11,10 @@ use Rattle.adapter.specs.Access.{Access, Reads, Writes}
 use Rattle.adapter.specs.Access.Access.{Reading}
 use Rattle.adapter.specs.Device.{Bases, Notes, DevicePort, Device}
 use Rattle.adapter.specs.Rules.{IsOn, HasPort}
-use Rattle.refinement.specs.Driven.{RelatesWith, AnyUse, IsControl, IsDrivenBy, IsSimulatedAlong}
-use Rattle.refinement.specs.Errors.{NoneComes}
-use Rattle.refinement.specs.Facts.{IsAwaited, IsHalted, IsQuiet}
-use Rattle.refinement.specs.Links.{PlugsNone}
+use Rattle.refinement.specs.Driven.{RelatesWith, AnyUse, OnPortWriting, IsDrivenBy, IsSimulatedAlong}
+use Rattle.refinement.specs.Errors.{NoDiskComes}
+use Rattle.refinement.specs.Facts.{ShowsDrqTillLink, IsEngineStopped, IsCleanToStart}
+use Rattle.refinement.specs.Links.{NoPlugEvents}
 use Rattle.refinement.specs.Places.{list_of, received_of}
 use Rattle.refinement.specs.Slots.{SlotStates}
 use Rattle.refinement.specs.Started.{IsUp, IsComingUp}
@@ -55,7 +55,7 @@ programmed port =
 
 -- ST and CR are 0, and no command is issued, active or taken.
 pub record IsStopped (p : DevicePort) : Type 0 where
-  pub halted : IsHalted p
+  pub halted : IsEngineStopped p
   pub sact : (slot : ℕ) → p.sact slot ≡ false
 
 -- Stopped, and FISes are received, with command list and received FIS area in their places.
@@ -103,12 +103,12 @@ BacksFault (NotAta signature) n = SawDevice n × ShowsIdle n.last_tfd × (n.last
 -- ---- what the calls leave
 
 -- all that readings noted is as it was, but for those of PxCMD
-abbrev pub SameButCommand : Notes → Notes → Type 0
-SameButCommand old new = new ≡ record old { last_cmd = new.last_cmd; engine_count = new.engine_count }
+abbrev pub SameButCmdNotes : Notes → Notes → Type 0
+SameButCmdNotes old new = new ≡ record old { last_cmd = new.last_cmd; engine_count = new.engine_count }
 
 -- so are PxSCTL.DET and all that readings noted
-abbrev pub SameBeside : DevicePort → DevicePort → Type 0
-SameBeside old new = (new.sctl_det ≡ old.sctl_det) × SameButCommand old.notes new.notes
+abbrev pub SameSctlAndNotes : DevicePort → DevicePort → Type 0
+SameSctlAndNotes old new = (new.sctl_det ≡ old.sctl_det) × SameButCmdNotes old.notes new.notes
 
 -- the same where ST is set, but for when that was
 abbrev pub SameButStart : DevicePort → DevicePort → Type 0
@@ -121,23 +121,23 @@ SameButStart old new =
     })
 
 -- ST is 0 with no command issued or active; all else of the driver's is as it was.
-pub record HasStopped (old new : DevicePort) : Type 0 where
+pub record HasStCleared (old new : DevicePort) : Type 0 where
   pub st : new.st ≡ false
   pub ci : (slot : ℕ) → new.ci slot ≡ false
   pub sact : (slot : ℕ) → new.sact slot ≡ false
   pub fre : new.fre ≡ old.fre
   pub bases : new.bases ≡ old.bases
   pub sctl_det : new.sctl_det ≡ old.sctl_det
-  pub notes : SameButCommand old.notes new.notes
+  pub notes : SameButCmdNotes old.notes new.notes
 
 -- it reads this register of the port, whose value doesn't show this
-abbrev pub ReadsNot : Port → PortReg → (ℕ → Type 0) → Access → Type 0
-ReadsNot port r Shown (Reading at v) = (at ≡ Px port r) × (Shown v → ⊥)
-ReadsNot port r Shown access = ⊥
+abbrev pub IsVainReading : Port → PortReg → (ℕ → Type 0) → Access → Type 0
+IsVainReading port r Shown (Reading at v) = (at ≡ Px port r) × (Shown v → ⊥)
+IsVainReading port r Shown access = ⊥
 
 -- The register was read so many times, and no value showed this; nothing else was done.
-pub record ReadsWithout (port : Port) (r : PortReg) (Shown : ℕ → Type 0) (count : ℕ) (old new : Device) : Type 0 where
-  pub reads : IsDrivenBy (ReadsNot port r Shown) old new
+pub record ReadsInVain (port : Port) (r : PortReg) (Shown : ℕ → Type 0) (count : ℕ) (old new : Device) : Type 0 where
+  pub reads : IsDrivenBy (IsVainReading port r Shown) old new
   pub number : length reads.accesses ≡ count
 
 -- The register was read until its value showed this, 64 times at most.
@@ -145,7 +145,7 @@ pub record ReadsUntil (port : Port) (r : PortReg) (Shown : ℕ → Type 0) (old 
   pub count : ℕ
   pub few : count < MOST_READINGS
   pub waited : Device
-  pub waits : ReadsWithout port r Shown count old waited
+  pub waits : ReadsInVain port r Shown count old waited
   pub value : ℕ
   pub shown : Shown value
   pub reads : Reads (Px port r) value waited new
@@ -177,17 +177,17 @@ pub record FindsSignature (port : Port) (signature : ℕ) (old new : Device) : T
 pub record FindsBusy (port : Port) (old new : Device) : Type 0 where
   pub linked : Device
   pub links : FindsLink port old linked
-  pub waits : ReadsWithout port Tfd ShowsIdle MOST_READINGS linked new
+  pub waits : ReadsInVain port Tfd ShowsIdle MOST_READINGS linked new
 
 -- What was done after COMRESET, where a fault is told: without a device, 64 readings of PxSSTS never showed one.
-abbrev pub LooksAfterReset : Port → PortFault → Device → Device → Type 0
-LooksAfterReset port NoDevice old new = ReadsWithout port Ssts HasLink MOST_READINGS old new
-LooksAfterReset port Busy old new = FindsBusy port old new
-LooksAfterReset port (NotAta signature) old new = FindsSignature port signature old new
-LooksAfterReset port EngineStuck old new = ⊥
+abbrev pub SeesResetFault : Port → PortFault → Device → Device → Type 0
+SeesResetFault port NoDevice old new = ReadsInVain port Ssts HasLink MOST_READINGS old new
+SeesResetFault port Busy old new = FindsBusy port old new
+SeesResetFault port (NotAta signature) old new = FindsSignature port signature old new
+SeesResetFault port EngineStuck old new = ⊥
 
 -- COMRESET was sent first of all, and ended; then this was done. PxSCTL.DET is 0.
-pub record WasReset (port : Port) (Then : Device → Device → Type 0) (old new : Device) : Type 0 where
+pub record SendsComresetThen (port : Port) (Then : Device → Device → Type 0) (old new : Device) : Type 0 where
   pub sent : Device
   pub sends : Writes (Px port Sctl) 1 old sent
   pub ended : Device
@@ -200,30 +200,31 @@ pub record WasReset (port : Port) (Then : Device → Device → Type 0) (old new
 -- PxSERR shows N only where a disk of the port went or came since, and X only where one came: nothing is left of what
 -- was before (AHCI 1.3.1, 3.3.12).
 pub record HasClearErrors (port : ℕ) (old new : Device) : Type 0 where
-  pub serr_n : PlugsNone port old new → (new.port port).serr_n ≡ false
-  pub serr_x : NoneComes port old new → (new.port port).serr_x ≡ false
+  pub serr_n : NoPlugEvents port old new → (new.port port).serr_n ≡ false
+  pub serr_x : NoDiskComes port old new → (new.port port).serr_x ≡ false
 
 -- A device was seen since COMRESET, and PxSERR and PxIS were cleared. Where no disk came, the link isn't due to come up
 -- any more; where none went either, it is up, with the disk's first FIS received. And whatever went or came: once PxTFD
 -- is read without DRQ, which it shows from COMRESET until the link comes up, the link isn't due, so that ST may be set.
-pub record IsFound (port : ℕ) (old new : Device) : Type 0 where
+pub record IsDeviceFound (port : ℕ) (old new : Device) : Type 0 where
   pub calm : (place : ℕ) → place < 32 → (new.port port).is place ≡ false
   pub clear : HasClearErrors port old new
-  pub undue : NoneComes port old new → (new.port port).link_due ≡ false
-  pub up : PlugsNone port old new → IsUp (new.port port)
-  pub quiet : bit (new.port port).notes.last_tfd 3 ≡ false → IsQuiet (new.port port)
+  pub undue : NoDiskComes port old new → (new.port port).link_due ≡ false
+  pub up : NoPlugEvents port old new → IsUp (new.port port)
+  pub quiet : bit (new.port port).notes.last_tfd 3 ≡ false → IsCleanToStart (new.port port)
 
 -- So it is where the link was coming up before, and was awaited.
 pub record FindsAwaited (port : ℕ) (old new : Device) : Type 0 where
   pub calm : (place : ℕ) → place < 32 → (new.port port).is place ≡ false
   pub clear : IsComingUp (old.port port) → HasClearErrors port old new
-  pub undue : NoneComes port old new → IsComingUp (old.port port) → (new.port port).link_due ≡ false
-  pub up : PlugsNone port old new → IsComingUp (old.port port) → IsUp (new.port port)
-  pub quiet : IsAwaited (old.port port) → bit (new.port port).notes.last_tfd 3 ≡ false → IsQuiet (new.port port)
+  pub undue : NoDiskComes port old new → IsComingUp (old.port port) → (new.port port).link_due ≡ false
+  pub up : NoPlugEvents port old new → IsComingUp (old.port port) → IsUp (new.port port)
+  pub quiet : ShowsDrqTillLink (old.port port) → bit (new.port port).notes.last_tfd 3 ≡ false
+      → IsCleanToStart (new.port port)
 
 -- Each bit of PxSERR and PxIS was cleared, and PxTFD was read with this value. The port receives FISes still; nothing
 -- of before is told, nor would be at the next start; and what was read last of PxSSTS is as it was.
-pub record Forgets (port : Port) (shown : ℕ) (old new : Device) : Type 0 where
+pub record ClearsErrorState (port : Port) (shown : ℕ) (old new : Device) : Type 0 where
   pub cleared : Device
   pub clears : ClearsErrors port old cleared
   pub reads : Reads (Px port Tfd) shown cleared new
@@ -233,7 +234,7 @@ pub record Forgets (port : Port) (shown : ℕ) (old new : Device) : Type 0 where
   pub count : (new.port port.0).notes.link_count ≡ (old.port port.0).notes.link_count
   pub calm : (place : ℕ) → place < 32 → (new.port port.0).is place ≡ false
   pub clear : HasClearErrors port.0 old new
-  pub quiet : IsQuiet (new.port port.0)
+  pub quiet : IsCleanToStart (new.port port.0)
 
 -- the signature that was read last is the one that the port shows
 abbrev pub ShowsSignature : DevicePort → Type 0
@@ -243,23 +244,23 @@ ShowsSignature p = p.notes.last_sig ≡ p.sig
 
 -- The port was stopped: CR fell, as was read after ST was cleared.
 pub record PortStops (port : Port) (old new : Device) : Type 0 where
-  pub told : IsSimulatedAlong (Stops port) (IsControl IsCommandRegister port) AnyUse old new
+  pub told : IsSimulatedAlong (Stops port) (OnPortWriting IsCommandRegister port) AnyUse old new
   pub stopped : IsStopped (new.port port.0)
 
 -- The port was to stop, and CR didn't fall in 64 readings, the last of the accesses.
 pub record FailsToStopPort (port : Port) (old new : Device) : Type 0 where
-  pub told : IsSimulatedAlong (FailsToStop port) (IsControl IsCommandRegister port) AnyUse old new
+  pub told : IsSimulatedAlong (FailsToStop port) (OnPortWriting IsCommandRegister port) AnyUse old new
   pub stuck : BacksFault EngineStuck (new.port port.0).notes
 
 -- A stopped port receives FISes, with its areas in their places: FR fell, as was read after FRE was cleared.
 pub record Receives (port : Port) (old new : Device) : Type 0 where
-  pub told : IsSimulatedAlong (StopsReceiving port) (IsControl IsPlacingRegister port) AnyUse old new
+  pub told : IsSimulatedAlong (StopsReceiving port) (OnPortWriting IsPlacingRegister port) AnyUse old new
   pub receives : ReceivesFises port.0 (new.port port.0)
 
 -- A stopped port was to receive FISes, and FR didn't fall in 64 readings, the last of the accesses. FRE is 0, and the
 -- addresses are as they were.
 pub record FailsToReceive (port : Port) (old new : Device) : Type 0 where
-  pub told : IsSimulatedAlong (FailsToStopReceiving port) (IsControl IsPlacingRegister port) AnyUse old new
+  pub told : IsSimulatedAlong (FailsToStopReceiving port) (OnPortWriting IsPlacingRegister port) AnyUse old new
   pub stuck : BacksFault EngineStuck (new.port port.0).notes
   pub fre : (new.port port.0).fre ≡ false
   pub bases : (new.port port.0).bases ≡ (old.port port.0).bases

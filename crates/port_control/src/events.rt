@@ -10,9 +10,9 @@ ghost use Rattle.adapter.specs.Rules.{IsOn, HasPort};
 ghost use Rattle.refinement.specs.Driven.{AnyUse, IsSimulated};
 ghost use Rattle.hba_regs.specs.Bits.{bit};
 ghost use Rattle.port_control.specs.Glances.{FindsChange, FindsDevice};
-ghost use Rattle.port_control.specs.Looks.{look_of, IsLooking, LooksAt};
+ghost use Rattle.port_control.specs.Looks.{port_event_of, IsLooking, LooksAt};
 ghost use Rattle.adapter.specs.Counted.{MakesAtMost};
-ghost use Rattle.port_control.specs.LookCosts.{FIND_ACCESSES, LOOK_ACCESSES};
+ghost use Rattle.port_control.specs.LookCosts.{CHANGE_CHECK_ACCESSES, LOOK_ACCESSES};
 
 use adapter::Adapter;
 use ata_types::Port;
@@ -65,13 +65,13 @@ fn tells_change(interrupts: PortInterrupts, status: SataStatus) -> bool
 
 /// What was read tells, first things first (AHCI 1.3.1, 3.3.5 and 3.3.10).
 fn told(interrupts: PortInterrupts, status: SataStatus) -> PortEvent
-    ensures { result ≡ look_of interrupts.0 status.0 }
+    ensures { result ≡ port_event_of interrupts.0 status.0 }
 {
     if tells_change(interrupts, status) {
         return PortEvent::LinkChanged;
     }
-    let host = interrupts.has_host_bus_data() || interrupts.has_host_bus_fatal();
-    if host || interrupts.has_interface_fatal() {
+    let host = interrupts.has_host_bus_data_error() || interrupts.has_host_bus_fatal_error();
+    if host || interrupts.has_interface_fatal_error() {
         return PortEvent::FatalError;
     }
     if interrupts.has_task_file_error() {
@@ -122,7 +122,7 @@ pub fn has_changed<A: Adapter>(adapter: &mut A, port: Port) -> bool
     ensures on { IsOn (A.device adapter.new) }
     ensures finds { FindsChange port result (A.device adapter.old) (A.device adapter.new) }
     ensures followed { IsSimulated (IsLooking port) AnyUse (A.device adapter.old) (A.device adapter.new) }
-    ensures cost { MakesAtMost FIND_ACCESSES (A.access_count adapter.old) (A.access_count adapter.new) }
+    ensures cost { MakesAtMost CHANGE_CHECK_ACCESSES (A.access_count adapter.old) (A.access_count adapter.new) }
 {
     law_base();
     let interrupts = PortInterrupts(adapter.read(Reg::Px(port, PortReg::Is)));

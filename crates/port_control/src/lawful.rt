@@ -1,12 +1,12 @@
 // What laws of the crates below say of accesses that control a port, for their proofs. Nothing comes of calling it.
 ghost use Rattle.port_control.specs.Laws.{Laws};
 
-use adapter::laws::{law_accesses_compose, law_port_registers_are_accessed, law_steps_keep};
+use adapter::laws::{law_accesses_compose, law_port_register_accesses, law_steps_guarantee};
 use refinement::facts::{
     law_adapter_stays, law_controls_are_set, law_controls_stay, law_errors_are_cleared,
-    law_faults_are_recorded, law_halted_stays, law_link_comes_up, law_link_is_awaited,
-    law_notes_are_set, law_notes_stay, law_quiet_is_found, law_reset_is_found,
-    law_running_well_is_found, law_stop_is_found,
+    law_faults_are_recorded, law_link_comes_up, law_link_is_awaited, law_notes_are_set,
+    law_notes_stay, law_quiet_is_found, law_reset_is_found, law_running_well_is_found,
+    law_stop_is_found, law_stopped_engine_stays,
 };
 use refinement::fragments::{
     law_causes_stay_clear, law_other_ports_are_left, law_tapes, law_written_notes_stay,
@@ -25,14 +25,14 @@ pub fn law_base()
     ensures { Laws }
 {
     law_accesses_compose();
-    law_port_registers_are_accessed();
-    law_steps_keep();
+    law_port_register_accesses();
+    law_steps_guarantee();
     law_adapter_stays();
     law_controls_are_set();
     law_controls_stay();
     law_errors_are_cleared();
     law_faults_are_recorded();
-    law_halted_stays();
+    law_stopped_engine_stays();
     law_link_comes_up();
     law_link_is_awaited();
     law_notes_are_set();

@@ -10,18 +10,18 @@
 ghost use Rattle.std.specs.Prelude.{ℕ, ◌≡◌, ◌≢◌, ◌<◌, ◌≤◌, ◌||◌, true, false, IfOk, IfErr, OnOk};
 ghost use Rattle.hba_regs.specs.Bits.{bit};
 ghost use Rattle.adapter.specs.Rules.{IsOn};
-ghost use Rattle.refinement.specs.Driven.{AnyUse, IsControl, IsSimulated, IsSimulatedAlong};
+ghost use Rattle.refinement.specs.Driven.{AnyUse, OnPortWriting, IsSimulated, IsSimulatedAlong};
 ghost use Rattle.refinement.specs.Driver.{AllFree};
-ghost use Rattle.refinement.specs.Facts.{IsAfterReset};
-ghost use Rattle.port_control.specs.Calls.{AsksForDevice, FindsDisk, FindsFault, MayBeginReceiving, MayBeStarted, MayForget, MayResetLink, StaysReceiving, Starts, StaysStopped};
+ghost use Rattle.refinement.specs.Facts.{IsQuiescentPort};
+ghost use Rattle.port_control.specs.Calls.{AsksForDevice, FindsDisk, FindsFault, MayBeginReceiving, MayBeStarted, MayClearErrorState, MayResetLink, StaysReceiving, Starts, StaysStopped};
 ghost use Rattle.port_control.specs.Engines.{FailsToStopReceiving, StopsReceiving};
 ghost use Rattle.port_control.specs.Parts.{AwaitsIdle, ClearsFre, DeviceComes, LeavesNoError, MissesDevice, PlacesAreas, SeesDisk, SeesFault, SendsComreset};
-ghost use Rattle.port_control.specs.Ports.{FailsToStopPort, FailsToReceive, PortStops, Receives, IsCommandRegister, IsPlacingRegister, IsErrorRegister, IsResetRegister, IsUsable, IsStopped, ReceivesFises, SawDevice, BacksFault, SameBeside, HasStopped, Forgets, programmed};
+ghost use Rattle.port_control.specs.Ports.{FailsToStopPort, FailsToReceive, PortStops, Receives, IsCommandRegister, IsPlacingRegister, IsErrorRegister, IsResetRegister, IsUsable, IsStopped, ReceivesFises, SawDevice, BacksFault, SameSctlAndNotes, HasStCleared, ClearsErrorState, programmed};
 ghost use Rattle.adapter.specs.Counted.{MakesAtMost};
-ghost use Rattle.port_control.specs.Costs.{AWAIT_DEVICE_ACCESSES, CLEAR_ACCESSES, COMRESET_ACCESSES, FORGET_ACCESSES, RECEIVE_ACCESSES, SHOW_ACCESSES, START_ACCESSES, STOP_ACCESSES};
+ghost use Rattle.port_control.specs.Costs.{AWAIT_DEVICE_ACCESSES, CLEAR_ACCESSES, COMRESET_ACCESSES, ERROR_STATE_ACCESSES, RECEIVE_ACCESSES, DETECT_ACCESSES, START_ACCESSES, STOP_ACCESSES};
 
 use adapter::Adapter;
-use ata_types::{DRIVER_BYTES, MOST_READINGS, PORT_BYTES, Port, RECEIVED_OFFSET};
+use ata_types::{DRIVER_BYTES, MOST_READINGS, PORT_BYTES, Port, RECEIVED_FIS_OFFSET};
 use hba_regs::{ATA_SIGNATURE, PortCommand, PortReg, Reg, SataControl, SataStatus, TaskFile};
 use lawful::law_base;
 
@@ -104,7 +104,7 @@ pub fn is_bsy_or_drq(task_file: TaskFile) -> bool
 pub fn stop<A: Adapter>(adapter: &mut A, port: Port) -> Result<Stopped, PortFault>
     requires usable { IsUsable AnyUse port (A.device adapter.old) }
     ensures on { IsOn (A.device adapter.new) }
-    ensures has { HasStopped ((A.device adapter.old).port port.0) ((A.device adapter.new).port port.0) }
+    ensures has { HasStCleared ((A.device adapter.old).port port.0) ((A.device adapter.new).port port.0) }
     ensures names { IfOk result (λ token. token.port ≡ port) }
     ensures halts { OnOk result (PortStops port (A.device adapter.old) (A.device adapter.new)) }
     ensures fails { IfErr result (λ fault. (fault ≡ PortFault.EngineStuck) × FailsToStopPort port (A.device adapter.old)
@@ -128,11 +128,11 @@ fn stop_receiving<A: Adapter>(adapter: &mut A, port: Port) -> bool
     requires usable { IsUsable AnyUse port (A.device adapter.old) }
     requires stopped { IsStopped ((A.device adapter.old).port port.0) }
     ensures clears { ClearsFre ((A.device adapter.old).port port.0) ((A.device adapter.new).port port.0) }
-    ensures stops { result ≡ true → IsSimulatedAlong (StopsReceiving port) (IsControl IsCommandRegister port) AnyUse
+    ensures stops { result ≡ true → IsSimulatedAlong (StopsReceiving port) (OnPortWriting IsCommandRegister port) AnyUse
         (A.device adapter.old) (A.device adapter.new) }
     ensures fallen { result ≡ true → ((A.device adapter.new).port port.0).fr ≡ false }
     ensures sticks { result ≡ false
-        → IsSimulatedAlong (FailsToStopReceiving port) (IsControl IsCommandRegister port) AnyUse
+        → IsSimulatedAlong (FailsToStopReceiving port) (OnPortWriting IsCommandRegister port) AnyUse
         (A.device adapter.old) (A.device adapter.new)
         × BacksFault PortFault.EngineStuck ((A.device adapter.new).port port.0).notes }
     ensures cost { MakesAtMost STOP_ACCESSES (A.access_count adapter.old) (A.access_count adapter.new) }
@@ -152,9 +152,9 @@ fn stop_receiving<A: Adapter>(adapter: &mut A, port: Port) -> bool
 // Puts the command list and the received FIS area in their places, below 4 GiB (AHCI 1.3.1, 3.3.1 to 3.3.4).
 fn place<A: Adapter>(adapter: &mut A, port: Port)
     requires usable { IsUsable AnyUse port (A.device adapter.old) }
-    requires quiet { IsAfterReset ((A.device adapter.old).port port.0) }
+    requires quiet { IsQuiescentPort ((A.device adapter.old).port port.0) }
     requires room { DRIVER_BYTES ≤ (A.device adapter.old).size }
-    ensures followed { IsSimulated (IsControl IsPlacingRegister port) AnyUse (A.device adapter.old)
+    ensures followed { IsSimulated (OnPortWriting IsPlacingRegister port) AnyUse (A.device adapter.old)
         (A.device adapter.new) }
     ensures places { PlacesAreas port.0 ((A.device adapter.old).port port.0) ((A.device adapter.new).port port.0) }
     ensures cost { MakesAtMost 4 (A.access_count adapter.old) (A.access_count adapter.new) }
@@ -163,19 +163,19 @@ fn place<A: Adapter>(adapter: &mut A, port: Port)
     let list = PORT_BYTES * u32::from(port.0);
     adapter.write(Reg::Px(port, PortReg::Clb), list);
     adapter.write(Reg::Px(port, PortReg::Clbu), 0);
-    adapter.write(Reg::Px(port, PortReg::Fb), list + RECEIVED_OFFSET);
+    adapter.write(Reg::Px(port, PortReg::Fb), list + RECEIVED_FIS_OFFSET);
     adapter.write(Reg::Px(port, PortReg::Fbu), 0);
 }
 
 // Sets FRE (AHCI 1.3.1, 10.3.2).
 fn start_receiving<A: Adapter>(adapter: &mut A, port: Port)
     requires usable { IsUsable AnyUse port (A.device adapter.old) }
-    requires quiet { IsAfterReset ((A.device adapter.old).port port.0) }
+    requires quiet { IsQuiescentPort ((A.device adapter.old).port port.0) }
     requires bases { ((A.device adapter.old).port port.0).bases ≡ programmed port.0 }
-    ensures followed { IsSimulated (IsControl IsCommandRegister port) AnyUse (A.device adapter.old)
+    ensures followed { IsSimulated (OnPortWriting IsCommandRegister port) AnyUse (A.device adapter.old)
         (A.device adapter.new) }
     ensures receives { ReceivesFises port.0 ((A.device adapter.new).port port.0) }
-    ensures same { SameBeside ((A.device adapter.old).port port.0) ((A.device adapter.new).port port.0) }
+    ensures same { SameSctlAndNotes ((A.device adapter.old).port port.0) ((A.device adapter.new).port port.0) }
     ensures cost { MakesAtMost START_ACCESSES (A.access_count adapter.old) (A.access_count adapter.new) }
 {
     law_base();
@@ -184,7 +184,7 @@ fn start_receiving<A: Adapter>(adapter: &mut A, port: Port)
 }
 
 /// Has a stopped port receive FISes: clears FRE, waits until FR is 0, puts the command list at `PORT_BYTES` times the
-/// port's number and the received FIS area `RECEIVED_OFFSET` bytes after it, and sets FRE (AHCI 1.3.1, 10.1.2
+/// port's number and the received FIS area `RECEIVED_FIS_OFFSET` bytes after it, and sets FRE (AHCI 1.3.1, 10.1.2
 /// and 10.3.2). The other bits of PxCMD are written as they were read.
 ///
 /// `EngineStuck` where 64 readings find FR set: FRE is 0 then, and the addresses are as they were.
@@ -215,7 +215,7 @@ pub fn receive<A: Adapter>(
 fn send_comreset<A: Adapter>(adapter: &mut A, port: Port)
     requires usable { IsUsable AnyUse port (A.device adapter.old) }
     requires receives { ReceivesFises port.0 ((A.device adapter.old).port port.0) }
-    ensures followed { IsSimulated (IsControl IsResetRegister port) AnyUse (A.device adapter.old)
+    ensures followed { IsSimulated (OnPortWriting IsResetRegister port) AnyUse (A.device adapter.old)
         (A.device adapter.new) }
     ensures sends { SendsComreset port (A.device adapter.old) (A.device adapter.new) }
     ensures cost { MakesAtMost 2 (A.access_count adapter.old) (A.access_count adapter.new) }
@@ -229,7 +229,7 @@ fn send_comreset<A: Adapter>(adapter: &mut A, port: Port)
 fn wait_for_device<A: Adapter>(adapter: &mut A, port: Port) -> bool
     requires usable { IsUsable AnyUse port (A.device adapter.old) }
     requires det { ((A.device adapter.old).port port.0).sctl_det ≡ 0 }
-    ensures followed { IsSimulated (IsControl IsErrorRegister port) AnyUse (A.device adapter.old)
+    ensures followed { IsSimulated (OnPortWriting IsErrorRegister port) AnyUse (A.device adapter.old)
         (A.device adapter.new) }
     ensures finds { result ≡ true → DeviceComes port (A.device adapter.old) (A.device adapter.new) }
     ensures misses { result ≡ false → MissesDevice port (A.device adapter.old) (A.device adapter.new) }
@@ -249,7 +249,7 @@ fn wait_for_device<A: Adapter>(adapter: &mut A, port: Port) -> bool
 fn clear_errors<A: Adapter>(adapter: &mut A, port: Port)
     requires usable { IsUsable AnyUse port (A.device adapter.old) }
     requires receives { ReceivesFises port.0 ((A.device adapter.old).port port.0) }
-    ensures followed { IsSimulated (IsControl IsErrorRegister port) AnyUse (A.device adapter.old)
+    ensures followed { IsSimulated (OnPortWriting IsErrorRegister port) AnyUse (A.device adapter.old)
         (A.device adapter.new) }
     ensures saw { SawDevice ((A.device adapter.old).port port.0).notes → SawDevice
         ((A.device adapter.new).port port.0).notes }
@@ -265,12 +265,12 @@ fn clear_errors<A: Adapter>(adapter: &mut A, port: Port)
 /// and reads what its device shows then, PxTFD (AHCI 1.3.1, 6.2.2). No COMRESET may be under way, so that no link is
 /// due.
 pub fn clear_error_state<A: Adapter>(adapter: &mut A, port: Port) -> TaskFile
-    requires may { MayForget port (A.device adapter.old) }
-    ensures followed { IsSimulated (IsControl IsErrorRegister port) AnyUse (A.device adapter.old)
+    requires may { MayClearErrorState port (A.device adapter.old) }
+    ensures followed { IsSimulated (OnPortWriting IsErrorRegister port) AnyUse (A.device adapter.old)
         (A.device adapter.new) }
     ensures on { IsOn (A.device adapter.new) }
-    ensures forgets { Forgets port result.0 (A.device adapter.old) (A.device adapter.new) }
-    ensures cost { MakesAtMost FORGET_ACCESSES (A.access_count adapter.old) (A.access_count adapter.new) }
+    ensures forgets { ClearsErrorState port result.0 (A.device adapter.old) (A.device adapter.new) }
+    ensures cost { MakesAtMost ERROR_STATE_ACCESSES (A.access_count adapter.old) (A.access_count adapter.new) }
 {
     law_base();
     clear_errors(adapter, port);
@@ -279,13 +279,13 @@ pub fn clear_error_state<A: Adapter>(adapter: &mut A, port: Port) -> TaskFile
 
 /// Whether a device with a link shows in a port, as where a device went or came: clears each bit of PxSERR, and reads
 /// PxSSTS (AHCI 1.3.1, 3.3.10 and 3.3.12). A stopped port stays stopped.
-pub fn shows_device<A: Adapter>(adapter: &mut A, port: Port) -> bool
+pub fn clear_serr_and_detect<A: Adapter>(adapter: &mut A, port: Port) -> bool
     requires usable { IsUsable AnyUse port (A.device adapter.old) }
     ensures on { IsOn (A.device adapter.new) }
-    ensures followed { IsSimulated (IsControl IsErrorRegister port) AnyUse (A.device adapter.old)
+    ensures followed { IsSimulated (OnPortWriting IsErrorRegister port) AnyUse (A.device adapter.old)
         (A.device adapter.new) }
     ensures asks { AsksForDevice port result (A.device adapter.old) (A.device adapter.new) }
-    ensures cost { MakesAtMost SHOW_ACCESSES (A.access_count adapter.old) (A.access_count adapter.new) }
+    ensures cost { MakesAtMost DETECT_ACCESSES (A.access_count adapter.old) (A.access_count adapter.new) }
 {
     law_base();
     adapter.write(Reg::Px(port, PortReg::Serr), ALL_ONES);
@@ -298,7 +298,7 @@ fn wait_until_idle<A: Adapter>(adapter: &mut A, port: Port) -> bool
     requires usable { IsUsable AnyUse port (A.device adapter.old) }
     requires det { ((A.device adapter.old).port port.0).sctl_det ≡ 0 }
     requires saw { SawDevice ((A.device adapter.old).port port.0).notes }
-    ensures followed { IsSimulated (IsControl IsErrorRegister port) AnyUse (A.device adapter.old)
+    ensures followed { IsSimulated (OnPortWriting IsErrorRegister port) AnyUse (A.device adapter.old)
         (A.device adapter.new) }
     ensures awaits { AwaitsIdle port result (A.device adapter.old) (A.device adapter.new) }
     ensures cost { MakesAtMost MOST_READINGS (A.access_count adapter.old) (A.access_count adapter.new) }
@@ -318,7 +318,7 @@ fn look<A: Adapter>(adapter: &mut A, port: Port) -> Result<(), PortFault>
     requires usable { IsUsable AnyUse port (A.device adapter.old) }
     requires receives { ReceivesFises port.0 ((A.device adapter.old).port port.0) }
     requires det { ((A.device adapter.old).port port.0).sctl_det ≡ 0 }
-    ensures followed { IsSimulated (IsControl IsErrorRegister port) AnyUse (A.device adapter.old)
+    ensures followed { IsSimulated (OnPortWriting IsErrorRegister port) AnyUse (A.device adapter.old)
         (A.device adapter.new) }
     ensures sees { OnOk result (SeesDisk port (A.device adapter.old) (A.device adapter.new)) }
     ensures fault { IfErr result (λ fault. SeesFault port fault (A.device adapter.old) (A.device adapter.new)) }
@@ -360,7 +360,7 @@ pub fn comreset<A: Adapter>(
     receiving: Receiving,
 ) -> Result<Receiving, (PortFault, Receiving)>
     requires may { MayResetLink receiving.port (A.device adapter.old) }
-    ensures followed { IsSimulated (IsControl IsResetRegister receiving.port) AnyUse (A.device adapter.old)
+    ensures followed { IsSimulated (OnPortWriting IsResetRegister receiving.port) AnyUse (A.device adapter.old)
         (A.device adapter.new) }
     ensures on { IsOn (A.device adapter.new) }
     ensures resets { StaysReceiving receiving.port (A.device adapter.old) (A.device adapter.new) }
@@ -387,7 +387,8 @@ pub fn comreset<A: Adapter>(
 /// set ST again after an error needs no COMRESET.
 pub fn start<A: Adapter>(adapter: &mut A, receiving: Receiving) -> Running
     requires may { MayBeStarted receiving.port (A.device adapter.old) }
-    ensures followed { IsSimulated (IsControl IsCommandRegister receiving.port) (λ uses. AllFree uses receiving.port.0)
+    ensures followed { IsSimulated (OnPortWriting IsCommandRegister receiving.port)
+        (λ uses. AllFree uses receiving.port.0)
         (A.device adapter.old) (A.device adapter.new) }
     ensures on { IsOn (A.device adapter.new) }
     ensures names { result.port ≡ receiving.port }

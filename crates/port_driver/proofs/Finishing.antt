@@ -20,7 +20,7 @@ use Rattle.port_driver.specs.Ports.{AnswersDoneSlots, AnswersSlot, HasFoundPort,
 use Rattle.dma_frames.specs.Table.{LendsOnly, Table}
 use Rattle.host_boot.specs.Taken.{probe_result_of}
 use Rattle.host_boot.specs.declared.ProbeResult.{ProbeResult}
-use Rattle.request_queue.specs.Entries.{Held, IsEarlier, BookIsInOrder, has_id, without_entry}
+use Rattle.request_queue.specs.Entries.{BookEntry, IsEarlier, BookIsInOrder, has_id, without_entry}
 use Rattle.server_history.specs.Served.{AnswersDone, AnswersEach, AnswersOne, IssuesAll, done_reply}
 use Rattle.server_history.specs.Server.{ServerState, InCallInvariant, mode_in, no_slots, state_of, used_for}
 use Rattle.slots.specs.Uses.{PortSlots, HasLeastId, use_at, with_use}
@@ -30,33 +30,33 @@ use Rattle.port_driver.proofs.Sending.{ready_listed, ready_there}
 -- each slot that is used has a request
 abbrev pub HaveRequests : Type 0
 HaveRequests = (s : ServerState) (port : Port) (slot : ℕ) (used : SlotUse) → InCallInvariant s → state_of (probe_result_of s.ports port.0) ≡ Ready → used_for s.slots port.0 slot ≡ Some used
-    → (request : Held) × Contains s.book request × (request.entry.id ≡ used.id) × (request.entry.port ≡ port) × (request.entry.issued ≡ true)
+    → (request : BookEntry) × Contains s.book request × (request.entry.id ≡ used.id) × (request.entry.port ≡ port) × (request.entry.issued ≡ true)
 
 -- an id is one request's
 abbrev pub IdsDiffer : Type 0
-IdsDiffer = (entries : List Held) (a b : Held) → BookIsInOrder entries → Contains entries a → Contains entries b → a.entry.id ≡ b.entry.id → a ≡ b
+IdsDiffer = (entries : List BookEntry) (a b : BookEntry) → BookIsInOrder entries → Contains entries a → Contains entries b → a.entry.id ≡ b.entry.id → a ≡ b
 
 -- a server goes on while one is answered
 abbrev pub AnswersKeep : Type 0
-AnswersKeep = (s new : ServerState) (port : Port) (request : Held) → InCallInvariant s → state_of (probe_result_of s.ports port.0) ≡ Ready
+AnswersKeep = (s new : ServerState) (port : Port) (request : BookEntry) → InCallInvariant s → state_of (probe_result_of s.ports port.0) ≡ Ready
     → (one : AnswersOne port request s new) → IsOver (s.device.port port.0) one.slot → InCallInvariant new
 
 -- what is left of a book once the request with this id is taken out
 abbrev pub LeavesOthers : Type 0
-LeavesOthers = (entries : List Held) (id : RequestId) (e : Held) → Contains (without_entry id entries) e ↔ (Contains entries e × (e.entry.id ≢ id))
+LeavesOthers = (entries : List BookEntry) (id : RequestId) (e : BookEntry) → Contains (without_entry id entries) e ↔ (Contains entries e × (e.entry.id ≢ id))
 
 -- ---- a book without a request
 
 -- where one stands in front, or not
-either : (b : Bool) (x : Held) (xs : List Held) → length (cond b (x ∷ xs) xs) ≤ suc (length xs)
+either : (b : Bool) (x : BookEntry) (xs : List BookEntry) → length (cond b (x ∷ xs) xs) ≤ suc (length xs)
 either true x xs = omega arith
 either false x xs = omega arith
 
-left : (id : RequestId) (book : List Held) → length (without_entry id book) ≤ length book
+left : (id : RequestId) (book : List BookEntry) → length (without_entry id book) ≤ length book
 left id [] = omega arith
 left id (x ∷ xs) = let e = either (not (has_id id x)) x (without_entry id xs) in let l = left id xs in omega (arith, e, l)
 
-shorter_at : (id : RequestId) (book : List Held) (place : ℕ) (d : Held) → place < length book → has_id id (get_or book place d) ≡ true → length (without_entry id book) < length book
+shorter_at : (id : RequestId) (book : List BookEntry) (place : ℕ) (d : BookEntry) → place < length book → has_id id (get_or book place d) ≡ true → length (without_entry id book) < length book
 shorter_at id [] place d low is = absurd (omega (arith, low))
 shorter_at id (x ∷ xs) zero d low is =
     let l = left id xs in
@@ -68,25 +68,25 @@ shorter_at id (x ∷ xs) (suc place) d low is =
     omega (arith, e, l)
 
 -- it is shorter
-pub shorter : (id : RequestId) (book : List Held) (e : Held) → Contains book e → e.entry.id ≡ id → length (without_entry id book) < length book
+pub shorter : (id : RequestId) (book : List BookEntry) (e : BookEntry) → Contains book e → e.entry.id ≡ id → length (without_entry id book) < length book
 shorter id book e here same =
     shorter_at id book here.0 e here.1 (ap (has_id id) here.2 ∙ eq-eqb e.entry.id.0 id.0 (ap (λ (i : RequestId). i.0) same))
 
 -- ---- one request
 
-module _ (s : ServerState) (table : Table) (book : List Held) (slots : PortSlots) (port : Port) (done : ℕ) (l : HasDonePort s table book slots port done) where
+module _ (s : ServerState) (table : Table) (book : List BookEntry) (slots : PortSlots) (port : Port) (done : ℕ) (l : HasDonePort s table book slots port done) where
   -- what is lent is where it was
   pub answers_same : with_answers s table book slots port ≡ s
   answers_same =
       (λ i. record s { table = sym l.table_is i; slots = set s.slots port.0 (sym l.slots_are i); book = sym l.book_is i })
       ∙ ap (λ (list : List PortSlots). record s { slots = list }) (set-get_or s.slots port.0 no_slots)
 
-  pub answers_again : (t : Table) (b : List Held) (u : PortSlots) (t' : Table) (b' : List Held) (u' : PortSlots)
+  pub answers_again : (t : Table) (b : List BookEntry) (u : PortSlots) (t' : Table) (b' : List BookEntry) (u' : PortSlots)
       → with_answers (with_answers s t b u port) t' b' u' port ≡ with_answers s t' b' u' port
   answers_again t b u t' b' u' = ap (λ (list : List PortSlots). record s { table = t'; slots = list; book = b' }) (set-set s.slots port.0 u u')
 
   -- other parts in its place
-  pub lends_then : (t : Table) (b : List Held) (u : PortSlots) → InCallInvariant (with_answers s t b u port) → HasDonePort (with_answers s t b u port) t b u port done
+  pub lends_then : (t : Table) (b : List BookEntry) (u : PortSlots) → InCallInvariant (with_answers s t b u port) → HasDonePort (with_answers s t b u port) t b u port done
   lends_then t b u kept = record {
     kept = kept;
     ready = l.ready;
@@ -100,20 +100,20 @@ module _ (s : ServerState) (table : Table) (book : List Held) (slots : PortSlots
     served : used_for s.slots port.0 slot ≡ Some used
     served = ap (λ (u : PortSlots). use_at u slot) l.slots_are ∙ taken
 
-    its : (request : Held) × Contains book request × (request.entry.id ≡ used.id) × (request.entry.port ≡ port)
-    its = let x = have s port slot used l.kept l.ready served in (x.0, subst (λ (b : List Held). Contains b x.0) l.book_is x.1, x.2, x.3)
+    its : (request : BookEntry) × Contains book request × (request.entry.id ≡ used.id) × (request.entry.port ≡ port)
+    its = let x = have s port slot used l.kept l.ready served in (x.0, subst (λ (b : List BookEntry). Contains b x.0) l.book_is x.1, x.2, x.3)
 
-    pub unanswered : (request : Held) × Contains book request × (request.entry.id ≡ used.id)
+    pub unanswered : (request : BookEntry) × Contains book request × (request.entry.id ≡ used.id)
     unanswered = (its.0, its.1, its.2)
 
     -- this one was taken out of the book, its frames were given back, and its slot is free
-    pub answered : IdsDiffer → slot < 32 → (e : Held) → Contains book e → e.entry.id ≡ used.id → (new : Table) → LendsOnly table new e.frames None
-        → (later : List Held) → later ≡ without_entry used.id book → (u : PortSlots) → u ≡ with_use slots slot None → AnswersSlot port slot (record { id = used.id; client = e.entry.client; outcome = Ok }) s (with_answers s new later u port)
+    pub answered : IdsDiffer → slot < 32 → (e : BookEntry) → Contains book e → e.entry.id ≡ used.id → (new : Table) → LendsOnly table new e.frames None
+        → (later : List BookEntry) → later ≡ without_entry used.id book → (u : PortSlots) → u ≡ with_use slots slot None → AnswersSlot port slot (record { id = used.id; client = e.entry.client; outcome = Ok }) s (with_answers s new later u port)
     answered one small e here id_is new lent later later_is u freed = record {
       request = e;
       answers = record {
-        here = subst (λ (b : List Held). Contains b e) (sym l.book_is) here;
-        port_is = subst (λ (x : Held). x.entry.port ≡ port) (one book its.0 e (subst BookIsInOrder l.book_is l.kept.ordered) its.1 here (its.2 ∙ sym id_is)) its.3;
+        here = subst (λ (b : List BookEntry). Contains b e) (sym l.book_is) here;
+        port_is = subst (λ (x : BookEntry). x.entry.port ≡ port) (one book its.0 e (subst BookIsInOrder l.book_is l.kept.ordered) its.1 here (its.2 ∙ sym id_is)) its.3;
         slot = slot;
         small = small;
         used = used;
@@ -123,7 +123,7 @@ module _ (s : ServerState) (table : Table) (book : List Held) (slots : PortSlots
         server = λ i. record s {
           table = new;
           slots = set s.slots port.0 ((freed ∙ ap (λ (x : PortSlots). with_use x slot None) (sym l.slots_are)) i);
-          book = (later_is ∙ ap (λ (b : List Held). without_entry used.id b) (sym l.book_is) ∙ ap (λ (i : RequestId). without_entry i s.book) (sym id_is)) i;
+          book = (later_is ∙ ap (λ (b : List BookEntry). without_entry used.id b) (sym l.book_is) ∙ ap (λ (i : RequestId). without_entry i s.book) (sym id_is)) i;
         };
       };
       slot_is = refl;
@@ -133,14 +133,14 @@ module _ (s : ServerState) (table : Table) (book : List Held) (slots : PortSlots
 -- ---- one after another
 
 -- one more was answered, after those
-each_more : (port : Port) (done : ℕ) (requests : List Held) (old mid new : ServerState) (e : Held) → AnswersEach port done requests old mid → (one : AnswersOne port e mid new) → bit done one.slot ≡ true
+each_more : (port : Port) (done : ℕ) (requests : List BookEntry) (old mid new : ServerState) (e : BookEntry) → AnswersEach port done requests old mid → (one : AnswersOne port e mid new) → bit done one.slot ≡ true
     → AnswersEach port done (requests ++ e ∷ []) old new
 each_more port done [] old mid new e each one its_bit =
     subst (λ (from : ServerState). AnswersEach port done (e ∷ []) from new) each (new, one, its_bit, refl)
 each_more port done (x ∷ xs) old mid new e each one its_bit = (each.0, each.1, each.2, each_more port done xs each.0 mid new e each.3 one its_bit)
 
 -- each of these was accepted before the request
-abbrev pub AllBefore : List Held → RequestId → Type 0
+abbrev pub AllBefore : List BookEntry → RequestId → Type 0
 AllBefore requests id = All (λ e. e.entry.id.0 < id.0) requests
 
 -- the id that a slot is used for
@@ -152,8 +152,8 @@ is_none : {used : SlotUse} → None ≡ Some used → ⊥
 is_none same = cc
 
 -- What was answered so far of what was found done: what is still to be answered comes after it.
-pub record AnswersSome (port : Port) (done : ℕ) (before after : List Reply) (old new : ServerState) (table : Table) (book : List Held) (slots : PortSlots) : Type 0 where
-  pub requests : List Held
+pub record AnswersSome (port : Port) (done : ℕ) (before after : List Reply) (old new : ServerState) (table : Table) (book : List BookEntry) (slots : PortSlots) : Type 0 where
+  pub requests : List BookEntry
   pub told : after ≡ before ++ map done_reply requests
   pub ordered : AllPairs IsEarlier requests
   pub each : AnswersEach port done requests old new
@@ -161,7 +161,7 @@ pub record AnswersSome (port : Port) (done : ℕ) (before after : List Reply) (o
   pub later : (slot : ℕ) (used : SlotUse) → slot < 32 → bit done slot ≡ true → use_at slots slot ≡ Some used → AllBefore requests used.id
 
 -- none, at first
-pub none_answered : (s : ServerState) (table : Table) (book : List Held) (slots : PortSlots) (port : Port) (done : ℕ) → HasDonePort s table book slots port done → (before : List Reply)
+pub none_answered : (s : ServerState) (table : Table) (book : List BookEntry) (slots : PortSlots) (port : Port) (done : ℕ) → HasDonePort s table book slots port done → (before : List Reply)
     → AnswersSome port done before before s (with_answers s table book slots port) table book slots
 none_answered s table book slots port done l before = record {
   requests = [];
@@ -173,7 +173,7 @@ none_answered s table book slots port done l before = record {
 }
 
 -- all, once no slot of it is used
-pub all_answered : (port : Port) (done : ℕ) (before after : List Reply) (old new : ServerState) (table : Table) (book : List Held) (slots : PortSlots) → AnswersSome port done before after old new table book slots
+pub all_answered : (port : Port) (done : ℕ) (before after : List Reply) (old new : ServerState) (table : Table) (book : List BookEntry) (slots : PortSlots) → AnswersSome port done before after old new table book slots
     → ((slot : ℕ) → slot < 32 → bit_at done slot ≡ 1 → use_at slots slot ≡ None) → AnswersDoneSlots port done before after old new
 all_answered port done before after old new table book slots some none = record {
   requests = some.requests;
@@ -184,13 +184,13 @@ all_answered port done before after old new table book slots some none = record 
 }
 
 -- the earliest of those that are left is answered
-module _ (have : HaveRequests) (keep : AnswersKeep) (leaves : LeavesOthers) (port : Port) (done : ℕ) (before after : List Reply) (old s : ServerState) (table : Table) (book : List Held) (slots : PortSlots)
+module _ (have : HaveRequests) (keep : AnswersKeep) (leaves : LeavesOthers) (port : Port) (done : ℕ) (before after : List Reply) (old s : ServerState) (table : Table) (book : List BookEntry) (slots : PortSlots)
     (some : AnswersSome port done before after old s table book slots) (slot : ℕ) (earliest : HasLeastId slots done slot)
-    (reply : Reply) (t : Table) (b : List Held) (u : PortSlots) (answers : AnswersSlot port slot reply s (with_answers s t b u port)) (freed : u ≡ with_use slots slot None) where
+    (reply : Reply) (t : Table) (b : List BookEntry) (u : PortSlots) (answers : AnswersSlot port slot reply s (with_answers s t b u port)) (freed : u ≡ with_use slots slot None) where
   abbrev new : ServerState
   new = with_answers s t b u port
 
-  abbrev e : Held
+  abbrev e : BookEntry
   e = answers.request
 
   its_bit : bit done slot ≡ true
@@ -223,7 +223,7 @@ module _ (have : HaveRequests) (keep : AnswersKeep) (leaves : LeavesOthers) (por
     differs : used.id ≢ e.entry.id
     differs =
         let x = have new port k used kept some.lends.ready (ap (λ (x : PortSlots). use_at x k) (lends_then s table book slots port done some.lends t b u kept).slots_are ∙ taken) in
-        let left : Contains (without_entry e.entry.id s.book) x.0 = subst (λ (c : List Held). Contains c x.0) (ap (λ (x : ServerState). x.book) answers.answers.server) x.1 in
+        let left : Contains (without_entry e.entry.id s.book) x.0 = subst (λ (c : List BookEntry). Contains c x.0) (ap (λ (x : ServerState). x.book) answers.answers.server) x.1 in
         λ same. ((leaves s.book e.entry.id x.0).0 left).1 (x.2 ∙ same)
 
     comes_later : e.entry.id.0 < used.id.0
@@ -251,12 +251,12 @@ module _ (have : HaveRequests) (keep : AnswersKeep) (leaves : LeavesOthers) (por
 -- ---- what was found done on the port
 
 -- it was answered, and what is due then is issued
-module _ (s : ServerState) (port : Port) (done : ℕ) (before after : List Reply) (table : Table) (book : List Held) (slots : PortSlots)
+module _ (s : ServerState) (port : Port) (done : ℕ) (before after : List Reply) (table : Table) (book : List BookEntry) (slots : PortSlots)
     (answers : AnswersDoneSlots port done before after s (with_answers s table book slots port)) (lent : HasDonePort (with_answers s table book slots port) table book slots port done) where
   pub lends_on : (mode : QueueMode) → mode_in s port ≡ mode → (found : ProbeResult) → probe_result_of s.ports port.0 ≡ found → HasFoundPort (with_answers s table book slots port) s.device book slots port mode found
   lends_on mode mode_is found found_is = record { kept = lent.kept; found_is = found_is; device_is = refl; book_is = refl; slots_are = lent.slots_are; mode_is = mode_is }
 
-  pub finishes : (device : Device) (later : List Held) (u : PortSlots) → IssuesAll port (with_answers s table book slots port) (with_port_slots (with_answers s table book slots port) device later u port)
+  pub finishes : (device : Device) (later : List BookEntry) (u : PortSlots) → IssuesAll port (with_answers s table book slots port) (with_port_slots (with_answers s table book slots port) device later u port)
       → (number : ℕ) → number ≡ port.0 → AnswersDone port done (map done_reply answers.requests) s (record s { device = device; table = table; slots = set s.slots number u; book = later })
   finishes device later u issues number is = record {
     requests = answers.requests;

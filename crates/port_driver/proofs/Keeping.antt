@@ -9,7 +9,7 @@ use Rattle.ata_types.specs.declared.request.Frame.{Frame}
 use Rattle.dma_frames.specs.Loan.{Lending}
 use Rattle.dma_frames.specs.Table.{LendsOnly, Table, lent_to}
 use Rattle.server_history.specs.Kept.{LoansEndInTurn, TakesBack}
-use Rattle.server_history.specs.Server.{AreOfTwo, IsLentOut}
+use Rattle.server_history.specs.Server.{DifferInRequest, IsLentOut}
 
 -- a list of one loan has no other
 only : (loan other : Lending) → Contains (loan ∷ []) other → other ≡ loan
@@ -48,23 +48,23 @@ module _ (rest : List Lending) (loan : Lending) where
     λ here. ⊎_elim (Contains-append_right (loan ∷ []) rest other) (Contains-append_left (loan ∷ []) rest other) (Contains-append_cases rest (loan ∷ []) other here),
   )
 
-  module _ (two : AllPairs AreOfTwo all) where
+  module _ (two : AllPairs DifferInRequest all) where
     -- the others are of two requests still
-    pub two_left : AllPairs AreOfTwo rest
+    pub two_left : AllPairs DifferInRequest rest
     two_left i j d lt small same =
         two i j d lt (let l = longer in omega (arith, l, small))
         (ap (λ (x : Lending). x.request) (get_or-append rest (loan ∷ []) d i (omega (arith, lt, small))) ∙ same
         ∙ sym (ap (λ (x : Lending). x.request) (get_or-append rest (loan ∷ []) d j small)))
 
     -- and none is of the last one's
-    two_last : (other : Lending) → Contains rest other → AreOfTwo loan other
+    two_last : (other : Lending) → Contains rest other → DifferInRequest loan other
     two_last other (place, small, is) same =
         two place (length rest) other small (let l = longer in omega (arith, l))
         (ap (λ (x : Lending). x.request) (get_or-append rest (loan ∷ []) other place small ∙ is) ∙ sym same
         ∙ sym (ap (λ (x : Lending). x.request) (get_or-append_seam rest loan [] other)))
 
   -- The last one is given back, and then the others.
-  module _ (law : LoansEndInTurn) (old mid : Table) (lent : All (IsLentOut old) all) (two : AllPairs AreOfTwo all) (lends : LendsOnly old mid loan.frames None) where
+  module _ (law : LoansEndInTurn) (old mid : Table) (lent : All (IsLentOut old) all) (two : AllPairs DifferInRequest all) (lends : LendsOnly old mid loan.frames None) where
     out : (other : Lending) → Contains all other → IsLentOut old other
     out other here = All-contains (IsLentOut old) all other lent here
 
@@ -73,7 +73,7 @@ module _ (rest : List Lending) (loan : Lending) where
         let b : Lending = get_or rest k d in
         let here : Contains rest b = (k, small, get_or_default rest k b d small) in
         law.stays old mid (loan ∷ []) b (one_back old mid loan lends)
-        (λ other ended. subst (λ (l : Lending). IsLentOut old l × AreOfTwo l b) (sym (only loan other ended)) (out loan is_last, two_last two b here))
+        (λ other ended. subst (λ (l : Lending). IsLentOut old l × DifferInRequest l b) (sym (only loan other ended)) (out loan is_last, two_last two b here))
         (out b (Contains-append_left rest (loan ∷ []) b here))
 
     pub all_back : (new : Table) → TakesBack mid new (Contains rest) → TakesBack old new (Contains all)

@@ -13,15 +13,15 @@ use Rattle.refinement.specs.Driven.{RelatesWith, AnyUse, IsSimulated}
 use Rattle.refinement.specs.Slots.{IsOver}
 use Rattle.dma_frames.specs.Table.{Table}
 use Rattle.identify.specs.declared.error_log.FailedSlot.{FailedSlot}
-use Rattle.error_recovery.specs.Recovery.{FitsFor, IsAloneIn, MayRecover, RecoversOrStops, Rests}
+use Rattle.error_recovery.specs.Recovery.{PlainUsesSlot0, PlainIsSlot0, MayRecover, RecoversOrStops, BacksFailure}
 use Rattle.error_recovery.specs.declared.Recovered.{Recovered}
 use Rattle.host_boot.specs.Taken.{probe_result_of}
 use Rattle.commands.specs.Masks.{ReadsDone}
 use Rattle.port_control.specs.Looks.{IsLooking, LooksAt}
 use Rattle.port_control.specs.declared.events.PortEvent.TheVariants.{TaskFileError}
-use Rattle.request_queue.specs.Entries.{Held}
+use Rattle.request_queue.specs.Entries.{BookEntry}
 use Rattle.request_queue.specs.declared.disposition.FailedRequest.{FailedRequest}
-use Rattle.server_history.specs.ErrorHandling.{AreQueued, IsFailed, ErrorIsFound, TellsErrorHandling}
+use Rattle.server_history.specs.ErrorHandling.{AreAllQueuedAs, IsFailedRequest, ErrorIsFound, TellsErrorHandling}
 use Rattle.server_history.specs.Served.{IsMaskOf, is_used}
 use Rattle.server_history.specs.Server.{ServerState, InCallInvariant, slots_at, state_of, used_for}
 use Rattle.port_control.specs.declared.events.PortError.{PortError}
@@ -43,9 +43,9 @@ pub record FailureLaws : Type 0 where
       → ReadsDone port mask done s.device new → bit done slot ≡ true → IsOver (new.port port.0) slot
   pub may : (s : ServerState) (seen found : Device) (port : Port) (mask done : ℕ) → InCallInvariant s → state_of (probe_result_of s.ports port.0) ≡ ReadyState → LooksAt port TaskFileError s.device seen
       → IsSimulated (IsLooking port) AnyUse s.device seen → ReadsDone port mask done seen found → MayRecover port.0 found
-  pub agreed : (s : ServerState) (port : Port) (queued : Bool) → InCallInvariant s → state_of (probe_result_of s.ports port.0) ≡ ReadyState → AreQueued queued (slots_at s.slots port.0) → RelatesWith (FitsFor queued port.0) s.device
-  pub alike : (s : ServerState) (port : Port) (slot : ℕ) (used : SlotUse) → InCallInvariant s → used_for s.slots port.0 slot ≡ Some used → AreQueued used.queued (slots_at s.slots port.0)
-  pub alone : (s : ServerState) (port : Port) (queued : Bool) (outstanding : ℕ) → InCallInvariant s → IsMaskOf (slots_at s.slots port.0) outstanding → AreQueued queued (slots_at s.slots port.0) → IsAloneIn queued outstanding
+  pub agreed : (s : ServerState) (port : Port) (queued : Bool) → InCallInvariant s → state_of (probe_result_of s.ports port.0) ≡ ReadyState → AreAllQueuedAs queued (slots_at s.slots port.0) → RelatesWith (PlainUsesSlot0 queued port.0) s.device
+  pub alike : (s : ServerState) (port : Port) (slot : ℕ) (used : SlotUse) → InCallInvariant s → used_for s.slots port.0 slot ≡ Some used → AreAllQueuedAs used.queued (slots_at s.slots port.0)
+  pub alone : (s : ServerState) (port : Port) (queued : Bool) (outstanding : ℕ) → InCallInvariant s → IsMaskOf (slots_at s.slots port.0) outstanding → AreAllQueuedAs queued (slots_at s.slots port.0) → PlainIsSlot0 queued outstanding
 
 -- a slot that is used is used for something
 its_use : (o : Option SlotUse) → is_used o ≡ true → (used : SlotUse) × (o ≡ Some used)
@@ -53,7 +53,7 @@ its_use None is = absurd (false≢true is)
 its_use (Some used) is = (used, refl)
 
 -- whoever is named had its bit among those that were outstanding
-named_among : (queued : Bool) (port : Port) (outstanding : ℕ) (accesses : List Access) (old new : Device) (its : FailedSlot) → Rests queued port outstanding accesses old new (Some its)
+named_among : (queued : Bool) (port : Port) (outstanding : ℕ) (accesses : List Access) (old new : Device) (its : FailedSlot) → BacksFailure queued port outstanding accesses old new (Some its)
     → (its.slot.0 < 32) × (bit outstanding its.slot.0 ≡ true)
 named_among false port outstanding accesses old new its rests =
     (subst (λ (n : ℕ). n < 32) (sym rests.slot_is) (omega arith), subst (λ (n : ℕ). bit outstanding n ≡ true) (sym rests.slot_is) rests.among)
@@ -86,7 +86,7 @@ pub record Answered (x : Troubled) (f : FoundDone x) : Type 0 where
   pub before : List Reply
   pub after : List Reply
   pub t : Table
-  pub b : List Held
+  pub b : List BookEntry
   pub u : PortSlots
   pub answers : AnswersDoneSlots x.port f.done before after (from x f) (with_answers (from x f) t b u x.port)
   pub lent : HasDonePort (with_answers (from x f) t b u x.port) t b u x.port f.done
@@ -99,7 +99,7 @@ pub record Waiting (x : Troubled) (f : FoundDone x) (a : Answered x f) : Type 0 
   pub outstanding : ℕ
   pub left : (slot : ℕ) → slot < 32 → (bit_at outstanding slot ≡ 1) ↔ IsTaken a.u slot
   pub queued : Bool
-  pub kinds : AreQueued queued a.u
+  pub kinds : AreAllQueuedAs queued a.u
 
 module _ (x : Troubled) where
   abbrev seen : ServerState
@@ -135,8 +135,8 @@ module _ (x : Troubled) where
       pub mid_there : HasPort f.found x.port.0
       mid_there = ready_there (mid x f a) x.port a.lent.kept a.lent.ready
 
-      pub alike : (slot : ℕ) (used : SlotUse) → use_at a.u slot ≡ Some used → AreQueued used.queued a.u
-      alike slot used taken = subst (AreQueued used.queued) a.lent.slots_are (x.laws.alike (mid x f a) x.port slot used a.lent.kept (ap (λ (p : PortSlots). use_at p slot) a.lent.slots_are ∙ taken))
+      pub alike : (slot : ℕ) (used : SlotUse) → use_at a.u slot ≡ Some used → AreAllQueuedAs used.queued a.u
+      alike slot used taken = subst (AreAllQueuedAs used.queued) a.lent.slots_are (x.laws.alike (mid x f a) x.port slot used a.lent.kept (ap (λ (p : PortSlots). use_at p slot) a.lent.slots_are ∙ taken))
 
       pub places : length a.u.places ≡ 32
       places = ap (λ (p : PortSlots). length p.places) (sym a.lent.slots_are) ∙ (a.lent.kept.slots x.port.0 mid_there.0).places
@@ -145,13 +145,13 @@ module _ (x : Troubled) where
         mid_mask : IsMaskOf (slots_at (mid x f a).slots x.port.0) w.outstanding
         mid_mask = subst (λ (p : PortSlots). IsMaskOf p w.outstanding) (sym a.lent.slots_are) (mask_of a.u w.outstanding w.left)
 
-        mid_kinds : AreQueued w.queued (slots_at (mid x f a).slots x.port.0)
-        mid_kinds = subst (AreQueued w.queued) (sym a.lent.slots_are) w.kinds
+        mid_kinds : AreAllQueuedAs w.queued (slots_at (mid x f a).slots x.port.0)
+        mid_kinds = subst (AreAllQueuedAs w.queued) (sym a.lent.slots_are) w.kinds
 
-        pub agreed : RelatesWith (FitsFor w.queued x.port.0) f.found
+        pub agreed : RelatesWith (PlainUsesSlot0 w.queued x.port.0) f.found
         agreed = x.laws.agreed (mid x f a) x.port w.queued a.lent.kept a.lent.ready mid_kinds
 
-        pub alone : IsAloneIn w.queued w.outstanding
+        pub alone : PlainIsSlot0 w.queued w.outstanding
         alone = x.laws.alone (mid x f a) x.port w.queued w.outstanding a.lent.kept mid_mask mid_kinds
 
         module _ (result : Recovered) (new : Device) (its_end : (m : RecoversOrStops x.port w.outstanding w.queued result f.found new) × TellsErrorHandling x.port_error x.port w.outstanding w.queued result m.accesses f.found new) where
@@ -160,10 +160,10 @@ module _ (x : Troubled) where
 
           pub named : (its : FailedSlot) → result.failed ≡ Some its → (used : SlotUse) × (use_at a.u its.slot.0 ≡ Some used)
           named its is =
-              let among = named_among w.queued x.port w.outstanding handling.accesses f.found new its (subst (Rests w.queued x.port w.outstanding handling.accesses f.found new) is handling.tells.rests) in
+              let among = named_among w.queued x.port w.outstanding handling.accesses f.found new its (subst (BacksFailure w.queued x.port w.outstanding handling.accesses f.found new) is handling.tells.rests) in
               its_use (use_at a.u its.slot.0) (sym (mask_of a.u w.outstanding w.left its.slot.0 among.0) ∙ among.1)
 
-          pub mends_rest : (failed : Option FailedRequest) → IsFailed a.u result.failed failed → CompletesAndRecovers x.port x.port_error a.before a.after failed result.next x.s a.t a.b a.u new
+          pub mends_rest : (failed : Option FailedRequest) → IsFailedRequest a.u result.failed failed → CompletesAndRecovers x.port x.port_error a.before a.after failed result.next x.s a.t a.b a.u new
           mends_rest failed names = record {
             mid = mid x f a;
             kept = a.lent.kept;

@@ -8,7 +8,7 @@ use Rattle.std.proofs.lemmas.Nat.Bits.{bit_at_ones}
 use Rattle.std.proofs.lemmas.List.{drop_all, get_or_past, length-append, length-drop, length-take-le, take_all}
 use Rattle.std.proofs.lemmas.List.Sorted.{IsPermutation-sym, length_permutation}
 use Rattle.ata_types.specs.declared.request.Reply.{Reply}
-use Rattle.server_history.specs.ErrorHandling.{AreQueued}
+use Rattle.server_history.specs.ErrorHandling.{AreAllQueuedAs}
 use Rattle.slots.specs.Uses.{PortSlots, use_at}
 
 -- ---- slots
@@ -18,7 +18,7 @@ all_ones : (slot : ℕ) → slot < 32 → bit_at 4294967295 slot ≡ 1
 all_ones slot small = bit_at_ones 32 slot small
 
 -- where none is used, each that is used has whatever kind
-pub none_queued : (slots : PortSlots) → length slots.places ≡ 32 → ((slot : ℕ) → slot < 32 → bit_at 4294967295 slot ≡ 1 → use_at slots slot ≡ None) → AreQueued false slots
+pub none_queued : (slots : PortSlots) → length slots.places ≡ 32 → ((slot : ℕ) → slot < 32 → bit_at 4294967295 slot ≡ 1 → use_at slots slot ≡ None) → AreAllQueuedAs false slots
 none_queued slots places none slot used taken =
     ⊎_elim
     (λ (small : slot < 32). let z : None ≡ Some used = sym (none slot small (all_ones slot small)) ∙ taken in absurd cc)

@@ -29,18 +29,18 @@ use Rattle.port_boot.specs.States.{IsBootable}
 use Rattle.port_control.specs.Ports.{IsStopped}
 use Rattle.port_control.specs.declared.Stopped.{Stopped}
 use Rattle.port_control.specs.Looks.{IsLooking}
-use Rattle.request_queue.specs.Entries.{Held, is_of}
+use Rattle.request_queue.specs.Entries.{BookEntry, is_of}
 use Rattle.request_queue.specs.Dispositions.{Holdings, AreResolved, disposition_of}
 use Rattle.request_queue.specs.declared.disposition.FailedRequest.{FailedRequest}
 use Rattle.request_queue.specs.declared.disposition.Revalidation.{Revalidation}
-use Rattle.server_history.specs.ErrorHandling.{BootsAfter, IsFailed, IsRevalidated, IsRevalidation, IsErrorHandled, HasResolved, HandlesPortError, requests_of, with_port_found}
+use Rattle.server_history.specs.ErrorHandling.{BootsAfter, IsFailedRequest, IsRevalidated, IsRevalidation, IsErrorHandled, HasResolved, HandlesPortError, requests_of, with_port_found}
 use Rattle.server_history.specs.Served.{IssuesAll, done_reply}
-use Rattle.server_history.specs.Server.{ServerState, InCallInvariant, SettledInvariant, kept_at, mode_at, mode_found, mode_in, no_slots, plain_mode, slots_at, state_of}
+use Rattle.server_history.specs.Server.{ServerState, InCallInvariant, SettledInvariant, quarantined_at, mode_at, probed_mode, mode_in, no_slots, plain_mode, slots_at, state_of}
 use Rattle.server_history.specs.Turns.{IsPortTurn, InRestart, ServesPort}
 use Rattle.port_control.specs.declared.events.PortError.{PortError}
 use Rattle.port_control.specs.declared.events.PortError.TheVariants.{FatalError, TaskFileError, TimedOut, LinkChanged}
 use Rattle.slots.specs.Uses.{PortSlots, use_at}
-use Rattle.port_driver.specs.Dispositions.{HavePlaces, BookIsSound, holding}
+use Rattle.port_driver.specs.Dispositions.{HaveLoanRoom, BookIsSound, holding}
 use Rattle.port_driver.specs.Ports.{HasFoundPort, with_port_slots}
 use Rattle.port_driver.specs.Recovery.{HandlesPortErrorOf, CompletesAndRecovers, SeesPortError}
 use Rattle.port_driver.proofs.Sending.{ready_there}
@@ -50,9 +50,9 @@ pub record RestoringLaws : Type 0 where
   pub bootable : (s mid : ServerState) (device : Device) (port : Port) (token : Stopped) → InCallInvariant s → state_of (probe_result_of s.ports port.0) ≡ ReadyState → (r : IsErrorHandled port s mid device)
       → IsSimulated (IsLooking port) AnyUse s.device r.seen → r.result.next ≡ Restart token → IsBootable port device × IsStopped (device.port port.0) × ((device.port port.0).notes.link_count ≡ MOST_READINGS)
   pub mode : (s mid : ServerState) (device : Device) (port : Port) → InCallInvariant s → state_of (probe_result_of s.ports port.0) ≡ ReadyState → (r : IsErrorHandled port s mid device)
-      → IsSimulated (IsLooking port) AnyUse s.device r.seen → mode_in s port ≡ mode_found device.cap (probe_result_of s.ports port.0)
+      → IsSimulated (IsLooking port) AnyUse s.device r.seen → mode_in s port ≡ probed_mode device.cap (probe_result_of s.ports port.0)
   pub places : (s : ServerState) (port : Port) → InCallInvariant s → state_of (probe_result_of s.ports port.0) ≡ ReadyState
-      → (kept_at s.kept port.0 ≡ []) × (count_by (λ (e : Held). e.entry.issued) (requests_of port s.book) ≤ 32)
+      → (quarantined_at s.kept port.0 ≡ []) × (count_by (λ (e : BookEntry). e.entry.issued) (requests_of port s.book) ≤ 32)
   pub settled : (s new : ServerState) (port : Port) (later : List Reply) → InCallInvariant s → state_of (probe_result_of s.ports port.0) ≡ ReadyState → (a : HasResolved port later s new)
       → IsSimulated (IsLooking port) AnyUse s.device a.error_handled.seen → InCallInvariant new
   pub error_handled : (s new : ServerState) (port : Port) (replies : List Reply) → SettledInvariant s → state_of (probe_result_of s.ports port.0) ≡ ReadyState → (r : HandlesPortError port replies s new)
@@ -89,7 +89,7 @@ pub record Recovery : Type 0 where
   pub failed : Option FailedRequest
   pub next : Next
   pub t : Table
-  pub b : List Held
+  pub b : List BookEntry
   pub u : PortSlots
   pub one : Device
   pub rest : CompletesAndRecovers port port_error before told failed next s t b u one
@@ -100,7 +100,7 @@ pub record Restoration (x : Recovery) : Type 0 where
   pub found : ProbeResult
   pub is_found : IsRevalidated (wanted_of x.s.wanted x.port.0) x.port x.port_error x.was x.next x.one two found
   pub mode : QueueMode
-  pub mode_is : mode ≡ mode_found two.cap found
+  pub mode_is : mode ≡ probed_mode two.cap found
   pub fresh : PortSlots
   pub usable : fresh.usable ≡ mode.usable
   pub as_many : length fresh.places ≡ 32
@@ -109,7 +109,7 @@ pub record Restoration (x : Recovery) : Type 0 where
   pub expects : IsRevalidation x.port_error x.was found revalidation
   pub now : Holdings
   pub later : List Reply
-  pub meets : AreResolved (disposition_of x.failed revalidation) (requests_of x.port x.b) later (holding x.b x.t (kept_at x.s.kept x.port.0)) now
+  pub meets : AreResolved (disposition_of x.failed revalidation) (requests_of x.port x.b) later (holding x.b x.t (quarantined_at x.s.kept x.port.0)) now
 
 -- the server then
 abbrev pub then : (x : Recovery) → Restoration x → ServerState
@@ -119,7 +119,7 @@ then x y = with_port_found x.port y.two y.found x.was y.mode y.fresh y.now x.s
 pub record Ordered (x : Recovery) (y : Restoration x) : Type 0 where
   pub settled : SettledInvariant x.s
   pub three : Device
-  pub book : List Held
+  pub book : List BookEntry
   pub slots : PortSlots
   pub issues : IssuesAll x.port (then x y) (with_port_slots (then x y) three book slots x.port)
   pub all : List Reply
@@ -137,8 +137,8 @@ module _ (x : Recovery) where
   mid_ready : state_of (probe_result_of x.rest.mid.ports x.port.0) ≡ ReadyState
   mid_ready = ap (λ (n : ServerState). state_of (probe_result_of n.ports x.port.0)) x.rest.mid_is ∙ x.sees.ready
 
-  pub mode_then : (mode : QueueMode) → mode ≡ mode_at x.s.modes x.port.0 → mode ≡ mode_found x.one.cap (Ready x.was)
-  mode_then mode said = said ∙ x.laws.mode x.s x.rest.mid x.one x.port x.sees.kept x.sees.ready x.rest.error_handled x.rest.followed ∙ ap (mode_found x.one.cap) x.is_ready
+  pub mode_then : (mode : QueueMode) → mode ≡ mode_at x.s.modes x.port.0 → mode ≡ probed_mode x.one.cap (Ready x.was)
+  mode_then mode said = said ∙ x.laws.mode x.s x.rest.mid x.one x.port x.sees.kept x.sees.ready x.rest.error_handled x.rest.followed ∙ ap (probed_mode x.one.cap) x.is_ready
 
   -- the token is of the port
   pub token_of : (stopped : Stopped) → x.next ≡ Restart stopped → stopped.port ≡ x.port
@@ -152,13 +152,13 @@ module _ (x : Recovery) where
   pub sound : BookIsSound x.t x.b
   sound = subst (λ (n : ServerState). BookIsSound n.table n.book) x.rest.mid_is (record { ordered = x.rest.kept.ordered; accepted = x.rest.kept.accepted })
 
-  places : (kept_at x.s.kept x.port.0 ≡ []) × (count_by (λ (e : Held). e.entry.issued) (requests_of x.port x.b) ≤ 32)
-  places = subst (λ (n : ServerState). (kept_at n.kept x.port.0 ≡ []) × (count_by (λ (e : Held). e.entry.issued) (requests_of x.port n.book) ≤ 32)) x.rest.mid_is (x.laws.places x.rest.mid x.port x.rest.kept mid_ready)
+  places : (quarantined_at x.s.kept x.port.0 ≡ []) × (count_by (λ (e : BookEntry). e.entry.issued) (requests_of x.port x.b) ≤ 32)
+  places = subst (λ (n : ServerState). (quarantined_at n.kept x.port.0 ≡ []) × (count_by (λ (e : BookEntry). e.entry.issued) (requests_of x.port n.book) ≤ 32)) x.rest.mid_is (x.laws.places x.rest.mid x.port x.rest.kept mid_ready)
 
-  pub kept_said : (number : ℕ) → number ≡ x.port.0 → (default : List Lending) → kept_at x.s.kept x.port.0 ≡ get_or x.s.kept number default
+  pub kept_said : (number : ℕ) → number ≡ x.port.0 → (default : List Lending) → quarantined_at x.s.kept x.port.0 ≡ get_or x.s.kept number default
   kept_said number is default = let f = x.sees.kept.four_kept in let l = low in get_or_default x.s.kept x.port.0 [] default (omega (arith, f, l)) ∙ ap (λ (n : ℕ). get_or x.s.kept n default) (sym is)
 
-  pub have_places : (number : ℕ) → number ≡ x.port.0 → (default : List Lending) → HavePlaces (filter (λ (e : Held). is_of x.port e.entry) x.b) (get_or x.s.kept number default)
+  pub have_places : (number : ℕ) → number ≡ x.port.0 → (default : List Lending) → HaveLoanRoom (filter (λ (e : BookEntry). is_of x.port e.entry) x.b) (get_or x.s.kept number default)
   have_places number is default =
       let few = places.1 in
       let none = ap length (sym (kept_said number is default) ∙ places.0) in
@@ -180,11 +180,11 @@ module _ (x : Recovery) where
       slots = y.fresh;
       unused = record { usable = y.usable; places = y.as_many; free = y.free };
       failed = x.failed;
-      names = subst (λ (n : PortSlots). IsFailed n x.rest.error_handled.result.failed x.failed) (sym slots_mid) x.rest.names;
+      names = subst (λ (n : PortSlots). IsFailedRequest n x.rest.error_handled.result.failed x.failed) (sym slots_mid) x.rest.names;
       revalidation = y.revalidation;
       expects = subst (λ (its : PortError). IsRevalidation its x.was y.found y.revalidation) (sym x.rest.trouble_is) y.expects;
       now = y.now;
-      meets = subst (λ (n : ServerState). AreResolved (disposition_of x.failed y.revalidation) (requests_of x.port n.book) y.later (holding n.book n.table (kept_at n.kept x.port.0)) y.now) (sym x.rest.mid_is) y.meets;
+      meets = subst (λ (n : ServerState). AreResolved (disposition_of x.failed y.revalidation) (requests_of x.port n.book) y.later (holding n.book n.table (quarantined_at n.kept x.port.0)) y.now) (sym x.rest.mid_is) y.meets;
       server = (λ i. record (then x y) { slots = sym (set-set x.s.slots x.port.0 x.u y.fresh) i }) ∙ (λ i. put (sym x.rest.mid_is i));
     }
       where

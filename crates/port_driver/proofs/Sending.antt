@@ -12,10 +12,10 @@ use Rattle.ata_types.specs.declared.request.RequestId.{RequestId}
 use Rattle.adapter.specs.Device.{Device}
 use Rattle.refinement.specs.Readying.{IsStored}
 use Rattle.block_machine.specs.Due.{AreAllDueInOrder, IsDue, is_plain}
-use Rattle.block_machine.specs.Rules.{IsAllowedCount, frames_for}
+use Rattle.block_machine.specs.Rules.{IsAllowedCount, frame_count_for}
 use Rattle.block_machine.specs.declared.due.QueueMode.{QueueMode}
 use Rattle.block_machine.specs.declared.due.Unanswered.{Unanswered}
-use Rattle.port_driver.specs.Ports.{HasFoundPort, MayGoIn, with_port_slots}
+use Rattle.port_driver.specs.Ports.{HasFoundPort, MayIssueIn, with_port_slots}
 use Rattle.dma_frames.specs.Table.{Table}
 use Rattle.adapter.specs.Rules.{HasPort}
 use Rattle.refinement.specs.Driven.{RelatesWith}
@@ -24,7 +24,7 @@ use Rattle.host_boot.specs.Taken.{probe_result_of}
 use Rattle.host_boot.specs.declared.ProbeResult.{ProbeResult}
 use Rattle.host_boot.specs.declared.ProbeResult.TheVariants.{Unserved, Ready as FoundReady, Unready}
 use Rattle.identify.specs.declared.DiskInfo.{DiskInfo}
-use Rattle.request_queue.specs.Entries.{Held, IsAccepted, BookIsInOrder, asks, asks_of, at_entry, due_ids, issue}
+use Rattle.request_queue.specs.Entries.{BookEntry, IsAccepted, BookIsInOrder, asks, asks_of, update_if_id, due_ids, issue}
 use Rattle.request_queue.specs.Store.{blank_entry}
 use Rattle.request_queue.specs.declared.PendingRequest.{PendingRequest}
 use Rattle.server_history.specs.Served.{IssuesAll, IssuesEach, IssuesOne, task_of, use_for}
@@ -35,13 +35,13 @@ use Rattle.commands.specs.Tasks.{HasBlockOf, IsFitTransfer, IsTransfer, IssuesTa
 
 -- ---- what a request of the book is
 
-module _ (table : Table) (e : Held) (is : IsAccepted table e) (mode : QueueMode) (slot : ℕ)
+module _ (table : Table) (e : BookEntry) (is : IsAccepted table e) (mode : QueueMode) (slot : ℕ)
     (head : is_plain mode e.entry.op ≡ true → slot ≡ 0) where
   counted : (op : Op) → e.entry.op ≡ op → IsAllowedCount op e.entry.range.count
   counted op same = subst (λ (o : Op). IsAllowedCount o e.entry.range.count) same is.sectors
 
-  enough : (op : Op) → e.entry.op ≡ op → length e.frames ≡ frames_for op e.entry.range.count
-  enough op same = is.frames ∙ ap (λ (o : Op). frames_for o e.entry.range.count) same
+  enough : (op : Op) → e.entry.op ≡ op → length e.frames ≡ frame_count_for op e.entry.range.count
+  enough op same = is.frames ∙ ap (λ (o : Op). frame_count_for o e.entry.range.count) same
 
   not_flush : (op : Op) → op ≢ Flush → e.entry.op ≡ op → e.entry.op ≢ Flush
   not_flush op other same flush = other (sym same ∙ flush)
@@ -57,7 +57,7 @@ module _ (table : Table) (e : Held) (is : IsAccepted table e) (mode : QueueMode)
   in_slot_0 : (queued : Bool) → queued ≡ not (is_plain mode e.entry.op) → (op : Op) → is_plain mode op ≡ true → e.entry.op ≡ op → (slot ≡ 0) × (queued ≡ false)
   in_slot_0 queued kind op plain same = let is_so = ap (is_plain mode) same ∙ plain in (head is_so, kind ∙ ap not is_so)
 
-  goes : (queued : Bool) → queued ≡ not (is_plain mode e.entry.op) → MayGoIn (record { op = e.entry.op; range = e.entry.range; queued = queued }) e.frames slot
+  goes : (queued : Bool) → queued ≡ not (is_plain mode e.entry.op) → MayIssueIn (record { op = e.entry.op; range = e.entry.range; queued = queued }) e.frames slot
   goes queued kind = record {
     transfer = fits queued;
     trim = λ same. ((counted Trim same).0, (counted Trim same).1, is.below (not_flush Trim (λ e. cc) same));
@@ -66,16 +66,16 @@ module _ (table : Table) (e : Held) (is : IsAccepted table e) (mode : QueueMode)
 
   -- it may go in the slot, wherever its entry and its frames are told
   pub may_go : (queued : Bool) → queued ≡ not (is_plain mode e.entry.op) → (entry : PendingRequest) → entry ≡ e.entry → (frames : List Frame) → frames ≡ e.frames
-      → MayGoIn (record { op = entry.op; range = entry.range; queued = queued }) frames slot
+      → MayIssueIn (record { op = entry.op; range = entry.range; queued = queued }) frames slot
   may_go queued kind entry entry_is frames frames_are =
-      subst (λ (x : PendingRequest). MayGoIn (record { op = x.op; range = x.range; queued = queued }) frames slot) (sym entry_is)
-      (subst (λ (fs : List Frame). MayGoIn (record { op = e.entry.op; range = e.entry.range; queued = queued }) fs slot) (sym frames_are) (goes queued kind))
+      subst (λ (x : PendingRequest). MayIssueIn (record { op = x.op; range = x.range; queued = queued }) frames slot) (sym entry_is)
+      (subst (λ (fs : List Frame). MayIssueIn (record { op = e.entry.op; range = e.entry.range; queued = queued }) fs slot) (sym frames_are) (goes queued kind))
 
 -- ---- what is lent
 
 -- a due request of the port, with this id
-abbrev pub IsTurn : List Held → Port → QueueMode → RequestId → Type 0
-IsTurn book port mode id = (request : Held) × Contains book request × (request.entry.id ≡ id) × (request.entry.port ≡ port) × IsDue mode (asks_of book) (asks request.entry)
+abbrev pub IsTurn : List BookEntry → Port → QueueMode → RequestId → Type 0
+IsTurn book port mode id = (request : BookEntry) × Contains book request × (request.entry.id ≡ id) × (request.entry.port ≡ port) × IsDue mode (asks_of book) (asks request.entry)
 
 -- the slots of a port, wherever that is said to be
 pub slots_said : (s : ServerState) (port : ℕ) → InCallInvariant s → port < 4 → (number : ℕ) → number ≡ port → (default : PortSlots) → get_or s.slots port no_slots ≡ get_or s.slots number default
@@ -96,7 +96,7 @@ ready_there s port k ready = k.there port.0 (served_ready (probe_result_of s.por
 pub ready_listed : (s : ServerState) (port : Port) → InCallInvariant s → state_of (probe_result_of s.ports port.0) ≡ Ready → port.0 < length s.slots
 ready_listed s port k ready = let f = k.four in let p = (ready_there s port k ready).0 in omega (arith, f, p)
 
-module _ (s : ServerState) (device : Device) (book : List Held) (slots : PortSlots) (port : Port) (mode : QueueMode) (found : ProbeResult) (ready : state_of found ≡ Ready)
+module _ (s : ServerState) (device : Device) (book : List BookEntry) (slots : PortSlots) (port : Port) (mode : QueueMode) (found : ProbeResult) (ready : state_of found ≡ Ready)
     (l : HasFoundPort s device book slots port mode found) where
   its_ready : state_of (probe_result_of s.ports port.0) ≡ Ready
   its_ready = ap state_of l.found_is ∙ ready
@@ -111,22 +111,22 @@ module _ (s : ServerState) (device : Device) (book : List Held) (slots : PortSlo
       ∙ ap (λ (list : List PortSlots). record s { slots = list }) (set-get_or s.slots port.0 no_slots)
 
   -- other parts in its place
-  module _ (new : Device) (later : List Held) (used : PortSlots) where
+  module _ (new : Device) (later : List BookEntry) (used : PortSlots) where
     pub lent_on_from : InCallInvariant (with_port_slots s new later used port) → HasFoundPort (with_port_slots s new later used port) new later used port mode found
     lent_on_from kept = record { kept = kept; found_is = l.found_is; device_is = refl; book_is = refl; slots_are = get_or-set_same s.slots port.0 used no_slots (ready_listed s port l.kept its_ready); mode_is = l.mode_is }
 
-    pub lent_again : (d : Device) (b : List Held) (u : PortSlots) → with_port_slots (with_port_slots s new later used port) d b u port ≡ with_port_slots s d b u port
+    pub lent_again : (d : Device) (b : List BookEntry) (u : PortSlots) → with_port_slots (with_port_slots s new later used port) d b u port ≡ with_port_slots s d b u port
     lent_again d b u = ap (λ (list : List PortSlots). record s { device = d; slots = list; book = b }) (set-set s.slots port.0 used u)
 
   module _ (id : RequestId) (turn : IsTurn book port mode id) where
-    abbrev e : Held
+    abbrev e : BookEntry
     e = turn.0
 
     here : Contains s.book e
-    here = subst (λ (b : List Held). Contains b e) (sym l.book_is) turn.1
+    here = subst (λ (b : List BookEntry). Contains b e) (sym l.book_is) turn.1
 
     due : IsDue (mode_in s port) (asks_of s.book) (asks e.entry)
-    due = subst (λ (m : QueueMode). IsDue m (asks_of s.book) (asks e.entry)) (sym l.mode_is) (subst (λ (b : List Held). IsDue mode (asks_of b) (asks e.entry)) (sym l.book_is) turn.4)
+    due = subst (λ (m : QueueMode). IsDue m (asks_of s.book) (asks e.entry)) (sym l.mode_is) (subst (λ (b : List BookEntry). IsDue mode (asks_of b) (asks e.entry)) (sym l.book_is) turn.4)
 
     its_due : IsDue (mode_in s e.entry.port) (asks_of s.book) (asks e.entry)
     its_due = subst (λ (p : Port). IsDue (mode_in s p) (asks_of s.book) (asks e.entry)) (sym turn.3) due
@@ -138,15 +138,16 @@ module _ (s : ServerState) (device : Device) (book : List Held) (slots : PortSlo
     its = All-contains (IsAccepted s.table) s.book e l.kept.accepted here
 
     -- what was found in the book by its id
-    module _ (one : (entries : List Held) (a b : Held) → BookIsInOrder entries → Contains entries a → Contains entries b → a.entry.id ≡ b.entry.id → a ≡ b) where
-      pub found_is : (found : Held) → Contains book found → found.entry.id ≡ id → found ≡ e
+    module _ (one : (entries : List BookEntry) (a b : BookEntry) → BookIsInOrder entries → Contains entries a → Contains entries b → a.entry.id ≡ b.entry.id → a ≡ b) where
+      pub found_is : (found : BookEntry) → Contains book found → found.entry.id ≡ id → found ≡ e
       found_is found there_too same = one book found e (subst BookIsInOrder l.book_is l.kept.ordered) there_too turn.1 (same ∙ sym turn.2)
 
-      pub entry_is : (r : PendingRequest) → (found : Held) × Contains book found × (found.entry ≡ r) × (r.id ≡ id) → r ≡ e.entry
-      entry_is r f = sym f.2 ∙ ap (λ (x : Held). x.entry) (found_is f.0 f.1 (ap (λ (x : PendingRequest). x.id) f.2 ∙ f.3))
+      module _ (r : PendingRequest) (fs : List Frame) (held : Contains book (record { entry = r; frames = fs })) (same : r.id ≡ id) where
+        pub entry_is : r ≡ e.entry
+        entry_is = ap (λ (x : BookEntry). x.entry) (found_is (record { entry = r; frames = fs }) held same)
 
-      pub frames_are : (fs : List Frame) → (found : Held) × Contains book found × (found.entry.id ≡ id) × (found.frames ≡ fs) → fs ≡ e.frames
-      frames_are fs f = sym f.3 ∙ ap (λ (x : Held). x.frames) (found_is f.0 f.1 f.2)
+        pub frames_are : fs ≡ e.frames
+        frames_are = ap (λ (x : BookEntry). x.frames) (found_is (record { entry = r; frames = fs }) held same)
 
     -- as its port's mode has it, wherever its entry is told
     pub task_is : (plain : Bool) (r : PendingRequest) → plain ≡ is_plain mode r.op → r ≡ e.entry → record { op = r.op; range = r.range; queued = not plain } ≡ task_of mode e
@@ -155,7 +156,7 @@ module _ (s : ServerState) (device : Device) (book : List Held) (slots : PortSlo
         ∙ ap (λ (x : PendingRequest). record { op = x.op; range = x.range; queued = not (is_plain mode x.op) }) r_is
 
     -- a slot that it may be issued in
-    pub may_issue : ((s : ServerState) (request : Held) → InCallInvariant s → Contains s.book request → IsDue (mode_in s request.entry.port) (asks_of s.book) (asks request.entry)
+    pub may_issue : ((s : ServerState) (request : BookEntry) → InCallInvariant s → Contains s.book request → IsDue (mode_in s request.entry.port) (asks_of s.book) (asks request.entry)
         → (slot : ℕ) → IsLowestFree (slots_at s.slots request.entry.port.0) slot
         → (slot < (mode_in s request.entry.port).usable) × (slot < 32) × (slot ≤ s.device.cap / 256 % 32)
         × (is_plain (mode_in s request.entry.port) request.entry.op ≡ true → slot ≡ 0) × RelatesWith (IsUnused request.entry.port.0 slot) s.device)
@@ -168,7 +169,7 @@ module _ (s : ServerState) (device : Device) (book : List Held) (slots : PortSlo
           subst (RelatesWith (IsUnused port.0 slot)) l.device_is (subst (λ (p : Port). RelatesWith (IsUnused p.0 slot) s.device) turn.3 m.4),
         )
 
-    pub may_issue_task : ((s : ServerState) (request : Held) → InCallInvariant s → Contains s.book request → IsDue (mode_in s request.entry.port) (asks_of s.book) (asks request.entry)
+    pub may_issue_task : ((s : ServerState) (request : BookEntry) → InCallInvariant s → Contains s.book request → IsDue (mode_in s request.entry.port) (asks_of s.book) (asks request.entry)
         → (slot : ℕ) → IsLowestFree (slots_at s.slots request.entry.port.0) slot
         → (slot < (mode_in s request.entry.port).usable) × (slot < 32) × (slot ≤ s.device.cap / 256 % 32)
         × (is_plain (mode_in s request.entry.port) request.entry.op ≡ true → slot ≡ 0) × RelatesWith (IsUnused request.entry.port.0 slot) s.device)
@@ -184,14 +185,14 @@ module _ (s : ServerState) (device : Device) (book : List Held) (slots : PortSlo
         })
 
     -- and there is one
-    pub is_free : ((s : ServerState) (request : Held) → InCallInvariant s → Contains s.book request → IsDue (mode_in s request.entry.port) (asks_of s.book) (asks request.entry)
+    pub is_free : ((s : ServerState) (request : BookEntry) → InCallInvariant s → Contains s.book request → IsDue (mode_in s request.entry.port) (asks_of s.book) (asks request.entry)
         → ((slot : ℕ) → slot < (slots_at s.slots request.entry.port.0).usable → IsTaken (slots_at s.slots request.entry.port.0) slot) → ⊥)
         → ((slot : ℕ) → slot < slots.usable → IsTaken slots slot) → ⊥
     is_free full all = full s e l.kept here its_due (subst (λ (u : PortSlots). (slot : ℕ) → slot < u.usable → IsTaken u slot) its_slots all)
 
     -- it was issued
     pub sent : (slot : ℕ) → slot < 32 → IsLowestFree slots slot → (new : Device) → IssuesTask port slot (task_of mode e) e.frames device new
-        → IsStored new port.0 slot (meaning_of (task_of mode e)) (addresses_of port.0 e.entry.op e.entry.range.count e.frames) → HasBlockOf e.entry.op e.entry.range port.0 new.memory → (later : List Held) → later ≡ map (at_entry id issue) book
+        → IsStored new port.0 slot (meaning_of (task_of mode e)) (addresses_of port.0 e.entry.op e.entry.range.count e.frames) → HasBlockOf e.entry.op e.entry.range port.0 new.memory → (later : List BookEntry) → later ≡ map (update_if_id id issue) book
         → (used : PortSlots) → used ≡ with_use slots slot (Some (record { id = id; queued = not (is_plain mode e.entry.op) })) → IssuesOne port id s (with_port_slots s new later used port)
     sent slot small lowest new issues stored block later later_is used used_is = record {
       request = e;
@@ -206,7 +207,7 @@ module _ (s : ServerState) (device : Device) (book : List Held) (slots : PortSlo
           (subst (λ (d : Device). IssuesTask port slot (task_of mode e) e.frames d new) (sym l.device_is) issues);
       stored = subst (λ (m : QueueMode). IsStored new port.0 slot (meaning_of (task_of m e)) (addresses_of port.0 e.entry.op e.entry.range.count e.frames)) (sym l.mode_is) stored;
       block = block;
-      server = λ i. record s { device = new; slots = set_to i; book = (later_is ∙ ap (map (at_entry id issue)) (sym l.book_is)) i };
+      server = λ i. record s { device = new; slots = set_to i; book = (later_is ∙ ap (map (update_if_id id issue)) (sym l.book_is)) i };
     }
       where
         use_is : with_use slots slot (Some (record { id = id; queued = not (is_plain mode e.entry.op) })) ≡ with_use (slots_at s.slots port.0) slot (Some (use_for (mode_in s port) e))
@@ -218,20 +219,20 @@ module _ (s : ServerState) (device : Device) (book : List Held) (slots : PortSlo
 -- ---- one after another
 
 -- what is asked is asked of a request of the book
-asked_of : (book : List Held) (u : Unanswered) → Contains (asks_of book) u → (e : Held) × Contains book e × (u ≡ asks e.entry)
+asked_of : (book : List BookEntry) (u : Unanswered) → Contains (asks_of book) u → (e : BookEntry) × Contains book e × (u ≡ asks e.entry)
 asked_of book u there =
-    let blank : Held = record { entry = blank_entry; frames = [] } in
-    let long = length-map book (λ (e : Held). asks e.entry) in
+    let blank : BookEntry = record { entry = blank_entry; frames = [] } in
+    let long = length-map book (λ (e : BookEntry). asks e.entry) in
     let low = there.1 in
     let lt : there.0 < length book = omega (arith, low, long) in
-    (get_or book there.0 blank, Contains-get_or book there.0 blank lt, sym there.2 ∙ get_or-map (λ (e : Held). asks e.entry) book there.0 blank u lt)
+    (get_or book there.0 blank, Contains-get_or book there.0 blank lt, sym there.2 ∙ get_or-map (λ (e : BookEntry). asks e.entry) book there.0 blank u lt)
 
 -- at a place, one is next
 pub next_there : (ids : List RequestId) (place : ℕ) (d : RequestId) → place < length ids → drop place ids ≡ get_or ids place d ∷ drop (place + 1) ids
 next_there ids place d low = drop_more ids place d low
 
 -- the next one is due
-pub next_due : (book : List Held) (port : Port) (mode : QueueMode) (ids : List RequestId) (place : ℕ) (d : RequestId) → place < length ids → AreAllDueInOrder mode port (drop place ids) (asks_of book) → IsTurn book port mode (get_or ids place d)
+pub next_due : (book : List BookEntry) (port : Port) (mode : QueueMode) (ids : List RequestId) (place : ℕ) (d : RequestId) → place < length ids → AreAllDueInOrder mode port (drop place ids) (asks_of book) → IsTurn book port mode (get_or ids place d)
 next_due book port mode ids place d low turns =
     let t : AreAllDueInOrder mode port (get_or ids place d ∷ drop (place + 1) ids) (asks_of book) = subst (λ (xs : List RequestId). AreAllDueInOrder mode port xs (asks_of book)) (next_there ids place d low) turns in
     let r = t.0 in
@@ -242,7 +243,7 @@ next_due book port mode ids place d low turns =
 
 -- on it nothing is due, and so nothing issued
 pub none_issued : ((s : ServerState) (port : Port) → InCallInvariant s → ((info : DiskInfo) → probe_result_of s.ports port.0 ≡ FoundReady info → ⊥) → due_ids (mode_in s port) port (asks_of s.book) ≡ [])
-    → (s : ServerState) (device : Device) (book : List Held) (slots : PortSlots) (port : Port) (mode : QueueMode) (found : ProbeResult) → HasFoundPort s device book slots port mode found → ((info : DiskInfo) → found ≡ FoundReady info → ⊥)
+    → (s : ServerState) (device : Device) (book : List BookEntry) (slots : PortSlots) (port : Port) (mode : QueueMode) (found : ProbeResult) → HasFoundPort s device book slots port mode found → ((info : DiskInfo) → found ≡ FoundReady info → ⊥)
     → IssuesAll port s (with_port_slots s device book slots port)
 none_issued undue s device book slots port mode found l unready =
     subst (λ (ids : List RequestId). IssuesEach port ids s (with_port_slots s device book slots port)) (sym (undue s port l.kept (λ info is. unready info (sym l.found_is ∙ is)))) same

@@ -12,7 +12,7 @@ use Rattle.port_control.specs.Looks.{LooksAt}
 use Rattle.port_control.specs.declared.events.PortEvent.{PortEvent}
 use Rattle.port_control.specs.declared.events.PortEvent.TheVariants as look
 use Rattle.server_history.specs.ErrorHandling.{ErrorIsFound}
-use Rattle.server_history.specs.Served.{HasNone, IsMaskOf, is_used}
+use Rattle.server_history.specs.Served.{IsEmptyMask, IsMaskOf, is_used}
 use Rattle.port_control.specs.declared.events.PortError.{PortError}
 use Rattle.port_control.specs.declared.events.PortError.TheVariants.{FatalError, TaskFileError, TimedOut, LinkChanged}
 use Rattle.slots.specs.Uses.{PortSlots, IsTaken, use_at}
@@ -54,11 +54,11 @@ mask_of slots mask exact slot small = by (use_at slots slot) refl
     by (Some u) is = eq-eqb (bit_at mask slot) 1 ((exact slot small).1 (subst IsSome (sym is) refl)) ∙ sym (ap is_used is)
 
 -- 0 has no bit
-pub none_of_zero : (mask : ℕ) → mask ≡ 0 → HasNone mask
+pub none_of_zero : (mask : ℕ) → mask ≡ 0 → IsEmptyMask mask
 none_of_zero mask zero slot small = ap (λ (n : ℕ). bit n slot) zero ∙ ap (λ (n : ℕ). n == 1) (bit_at-zero slot)
 
 -- and a mask without one is 0
-pub zero_of_none : (mask : ℕ) → mask < 4294967296 → HasNone mask → mask ≡ 0
+pub zero_of_none : (mask : ℕ) → mask < 4294967296 → IsEmptyMask mask → mask ≡ 0
 zero_of_none mask fits none = same_from_bits_below 32 mask 0 fits (omega arith)
     (λ slot small. clear slot (none slot small) ∙ sym (bit_at-zero slot))
   where

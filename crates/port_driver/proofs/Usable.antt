@@ -4,7 +4,7 @@ use Rattle.hba_regs.specs.Bits.{bit}
 use Rattle.block_machine.specs.declared.due.QueueMode.{QueueMode}
 use Rattle.host_boot.specs.declared.ProbeResult.{ProbeResult}
 use Rattle.host_boot.specs.declared.ProbeResult.TheVariants.{Ready, Unready, Unserved}
-use Rattle.server_history.specs.Server.{mode_found}
+use Rattle.server_history.specs.Server.{probed_mode}
 
 abbrev either_mode : Bool → ℕ → ℕ → QueueMode
 either_mode queues slots depth = if queues then record { queued = true; usable = min slots (min depth 32) } else record { queued = false; usable = 1 }
@@ -13,7 +13,7 @@ few_slots : (queues : Bool) (slots depth : ℕ) → (either_mode queues slots de
 few_slots true slots depth = search rules
 few_slots false slots depth = omega arith
 
-pub few_usable : (cap : ℕ) (found : ProbeResult) → (mode_found cap found).usable ≤ 32
+pub few_usable : (cap : ℕ) (found : ProbeResult) → (probed_mode cap found).usable ≤ 32
 few_usable cap (Ready info) = few_slots (bit cap 30 && info.ncq) (cap / 256 % 32 + 1) info.depth
 few_usable cap (Unready state) = omega arith
 few_usable cap Unserved = omega arith

@@ -4,26 +4,26 @@ use Rattle.ata_types.specs.declared.limits.TheConstants.{MOST_UNANSWERED}
 use Rattle.ata_types.specs.declared.request.Reply.{Reply}
 use Rattle.dma_frames.specs.Loan.{Lending}
 use Rattle.dma_frames.specs.Table.{Table}
-use Rattle.request_queue.specs.Entries.{Held, IsAccepted, BookIsInOrder}
+use Rattle.request_queue.specs.Entries.{BookEntry, IsAccepted, BookIsInOrder}
 use Rattle.request_queue.specs.Dispositions.{Holdings}
 
-abbrev pub holding : List Held → Table → List Lending → Holdings
+abbrev pub holding : List BookEntry → Table → List Lending → Holdings
 holding book table kept = record { book = book; table = table; kept = kept }
 
 -- a book in order, each request of which is as it was accepted, and has its frames lent to it
-pub record BookIsSound (table : Table) (book : List Held) : Type 0 where
+pub record BookIsSound (table : Table) (book : List BookEntry) : Type 0 where
   pub ordered : BookIsInOrder book
   pub accepted : All (IsAccepted table) book
 
 -- each request of a sound book may be answered: there is room for that many replies after these
-pub record MayAnswerAll (table : Table) (book : List Held) (replies : List Reply) : Type 0 where
+pub record MayAnswerAll (table : Table) (book : List BookEntry) (replies : List Reply) : Type 0 where
   pub sound : BookIsSound table book
   pub room : length replies + length book ≤ MOST_UNANSWERED
 
 -- there is a place for the request's loan, if it is issued
-abbrev pub HasPlaces : Held → List Lending → Type 0
-HasPlaces request kept = request.entry.issued ≡ true → length kept < 32
+abbrev pub HasLoanRoom : BookEntry → List Lending → Type 0
+HasLoanRoom request kept = request.entry.issued ≡ true → length kept < 32
 
 -- there are places for the loans of these requests that are issued
-abbrev pub HavePlaces : List Held → List Lending → Type 0
-HavePlaces requests kept = length kept + count_by (λ e. e.entry.issued) requests ≤ 32
+abbrev pub HaveLoanRoom : List BookEntry → List Lending → Type 0
+HaveLoanRoom requests kept = length kept + count_by (λ e. e.entry.issued) requests ≤ 32

@@ -8,9 +8,9 @@ use Rattle.host_boot.specs.Taken.{probe_result_of, wanted_of}
 use Rattle.host_boot.specs.declared.ProbeResult.{ProbeResult}
 use Rattle.host_boot.specs.declared.ProbeResult.TheVariants.{Ready, Unready, Unserved}
 use Rattle.identify.specs.declared.wanted.Wanted.TheVariants.{Nothing}
-use Rattle.request_queue.specs.Entries.{Held}
+use Rattle.request_queue.specs.Entries.{BookEntry}
 use Rattle.server_history.specs.ErrorHandling.{AreUnused}
-use Rattle.server_history.specs.Server.{ServerState, SettledInvariant, kept_at, last_disk_of, mode_at, no_slots, plain_mode, remembered_at, slots_at}
+use Rattle.server_history.specs.Server.{ServerState, SettledInvariant, quarantined_at, last_disk_of, mode_at, no_slots, plain_mode, remembered_at, slots_at}
 use Rattle.server_history.specs.Turns.{ProbesUnready, ServesPort, TicksPort}
 use Rattle.port_driver.specs.declared.served_port.ServedPort.{ServedPort}
 use Rattle.port_driver.specs.declared.served_port.Shared.{Shared}
@@ -22,7 +22,7 @@ pub record HasPortAt (s : ServerState) (number : ℕ) (p : ServedPort) : Type 0 
   pub remembered_is : remembered_at s.remembered number ≡ p.remembered
   pub mode_is : mode_at s.modes number ≡ p.mode
   pub slots_are : slots_at s.slots number ≡ p.slots
-  pub kept_is : kept_at s.kept number ≡ p.kept
+  pub kept_is : quarantined_at s.kept number ≡ p.kept
 
 -- the server has this device, and these loans and requests; and its port is this one
 pub record HasPortAndShared (s : ServerState) (device : Device) (shared : Shared) (port : Port)
@@ -77,7 +77,7 @@ abbrev pub IsAtRest : Port → ServerState → ServerState → Type 0
 IsAtRest port old new = new ≡ old
 
 -- and the turn in a tick, where the book was this when requests had got older
-abbrev pub TurnInTick : ProbeResult → List Held → Port → List Reply → ServerState → ServerState → Type 0
+abbrev pub TurnInTick : ProbeResult → List BookEntry → Port → List Reply → ServerState → ServerState → Type 0
 TurnInTick found book port replies old new = TurnBy (TicksPort book) IsAtRest found port replies old new
 
 -- a port that there isn't
@@ -92,7 +92,7 @@ no_port = record {
 }
 
 -- the port was found to be this: the disk that it was last ready with is remembered, and no slot of it is used
-pub record BeginsAnew (found : ProbeResult) (mode : QueueMode) (old new : ServedPort) : Type 0 where
+pub record NotesProbeResult (found : ProbeResult) (mode : QueueMode) (old new : ServedPort) : Type 0 where
   pub unused : AreUnused mode new.slots
   pub fields : new ≡ record old {
     found = found;

@@ -14,14 +14,14 @@ use Rattle.host_boot.specs.Taken.{probe_result_of}
 use Rattle.host_boot.specs.declared.ProbeResult.{ProbeResult}
 use Rattle.commands.specs.Tasks.{IsFitTransfer, IsTransfer}
 use Rattle.commands.specs.declared.ncq.Task.{Task}
-use Rattle.request_queue.specs.Entries.{Held, IsEarlier}
+use Rattle.request_queue.specs.Entries.{BookEntry, IsEarlier}
 use Rattle.server_history.specs.Served.{AnswersEach, AnswersOne, done_reply}
 use Rattle.server_history.specs.Server.{ServerState, InCallInvariant, mode_in, slots_at, state_of, used_for}
 use Rattle.slots.specs.Uses.{PortSlots}
 
 -- the server keeps what it keeps, and has this device, this book, and these slots of a port that was found so and has
 -- this mode
-pub record HasFoundPort (s : ServerState) (device : Device) (book : List Held) (slots : PortSlots) (port : Port)
+pub record HasFoundPort (s : ServerState) (device : Device) (book : List BookEntry) (slots : PortSlots) (port : Port)
     (mode : QueueMode)
     (found : ProbeResult) : Type 0 where
   pub kept : InCallInvariant s
@@ -32,13 +32,13 @@ pub record HasFoundPort (s : ServerState) (device : Device) (book : List Held) (
   pub mode_is : mode_in s port ≡ mode
 
 -- the server, with these in their place
-abbrev pub with_port_slots : ServerState → Device → List Held → PortSlots → Port → ServerState
+abbrev pub with_port_slots : ServerState → Device → List BookEntry → PortSlots → Port → ServerState
 with_port_slots s device book slots port =
     record s { device = device; slots = slice_set s.slots port.0 slots; book = book }
 
 -- The server keeps what it keeps, and has these loans, this book, and these slots of a port that is ready. The commands
 -- of the slots that have their bits set here are over.
-pub record HasDonePort (s : ServerState) (table : Table) (book : List Held) (slots : PortSlots) (port : Port)
+pub record HasDonePort (s : ServerState) (table : Table) (book : List BookEntry) (slots : PortSlots) (port : Port)
     (done : ℕ) : Type 0 where
   pub kept : InCallInvariant s
   pub ready : state_of (probe_result_of s.ports port.0) ≡ Ready
@@ -48,12 +48,12 @@ pub record HasDonePort (s : ServerState) (table : Table) (book : List Held) (slo
   pub over : (slot : ℕ) → slot < 32 → bit done slot ≡ true → IsOver (s.device.port port.0) slot
 
 -- the server, with these in their place
-abbrev pub with_answers : ServerState → Table → List Held → PortSlots → Port → ServerState
+abbrev pub with_answers : ServerState → Table → List BookEntry → PortSlots → Port → ServerState
 with_answers s table book slots port = record s { table = table; slots = slice_set s.slots port.0 slots; book = book }
 
 -- the request of this slot was answered by this reply
 pub record AnswersSlot (port : Port) (slot : ℕ) (reply : Reply) (old new : ServerState) : Type 0 where
-  pub request : Held
+  pub request : BookEntry
   pub answers : AnswersOne port request old new
   pub slot_is : answers.slot ≡ slot
   pub reply_is : reply ≡ done_reply request
@@ -61,7 +61,7 @@ pub record AnswersSlot (port : Port) (slot : ℕ) (reply : Reply) (old new : Ser
 -- What was found done was answered, in order of acceptance, by replies that came after others; and no slot of it is in
 -- use any more.
 pub record AnswersDoneSlots (port : Port) (done : ℕ) (before after : List Reply) (old new : ServerState) : Type 0 where
-  pub requests : List Held
+  pub requests : List BookEntry
   pub told : after ≡ before ++ map done_reply requests
   pub ordered : AllPairs IsEarlier requests
   pub each : AnswersEach port done requests old new
@@ -71,7 +71,7 @@ pub record AnswersDoneSlots (port : Port) (done : ℕ) (before after : List Repl
 
 -- The task may be issued in the slot: a transfer has its frames; a trim names 1 to 4,194,240 sectors, each below 2^48
 -- (64 entries of 65,535 in its block); and a trim and a flush aren't queued, and go in slot 0.
-pub record MayGoIn (task : Task) (frames : List Frame) (slot : ℕ) : Type 0 where
+pub record MayIssueIn (task : Task) (frames : List Frame) (slot : ℕ) : Type 0 where
   pub transfer : IsTransfer task.op → IsFitTransfer task frames
   pub trim : task.op ≡ Trim → (1 ≤ task.range.count) × (task.range.count ≤ 4194240)
       × (task.range.first.0 + task.range.count ≤ 2 ^ 48)

@@ -11,9 +11,9 @@ use Rattle.host_boot.specs.Taken.{probe_result_of}
 use Rattle.port_control.specs.Looks.{IsLooking}
 use Rattle.port_control.specs.declared.events.PortEvent.{PortEvent}
 use Rattle.port_control.specs.declared.events.PortEvent.TheVariants as look
-use Rattle.request_queue.specs.Entries.{Held}
+use Rattle.request_queue.specs.Entries.{BookEntry}
 use Rattle.request_queue.specs.declared.disposition.FailedRequest.{FailedRequest}
-use Rattle.server_history.specs.ErrorHandling.{IsFailed, ErrorIsFound, IsErrorHandled, HandlesPortError}
+use Rattle.server_history.specs.ErrorHandling.{IsFailedRequest, ErrorIsFound, IsErrorHandled, HandlesPortError}
 use Rattle.server_history.specs.Served.{done_reply}
 use Rattle.server_history.specs.Server.{ServerState, InCallInvariant, state_of}
 use Rattle.port_control.specs.declared.events.PortError.{PortError}
@@ -51,7 +51,7 @@ pub record IsInError (s : ServerState) (device : Device) (shared : Shared) (port
 -- command failed, and to what the port has to go through.
 pub record CompletesAndRecovers (port : Port) (port_error : PortError) (before after : List Reply)
     (failed : Option FailedRequest)
-    (next : Next) (s : ServerState) (table : Table) (book : List Held)
+    (next : Next) (s : ServerState) (table : Table) (book : List BookEntry)
     (slots : PortSlots) (new : Device) : Type 0 where
   pub mid : ServerState
   pub kept : InCallInvariant mid
@@ -60,7 +60,7 @@ pub record CompletesAndRecovers (port : Port) (port_error : PortError) (before a
   pub followed : IsSimulated (IsLooking port) AnyUse s.device error_handled.seen
   pub mid_is : mid ≡ with_answers (record s { device = error_handled.found }) table book slots port
   pub next_is : error_handled.result.next ≡ next
-  pub names : IsFailed slots error_handled.result.failed failed
+  pub names : IsFailedRequest slots error_handled.result.failed failed
   pub told : after ≡ before ++ map done_reply error_handled.requests
 
 -- This error of the port was handled, which was found out by accesses of a look alone.

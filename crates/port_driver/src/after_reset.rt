@@ -2,7 +2,7 @@
 ghost use Rattle.std.specs.Prelude.{◌≡◌, ◌≤◌, ◌+◌, ◌++◌, List, length};
 ghost use Rattle.ata_types.specs.declared.request.Reply.{Reply};
 ghost use Rattle.port_driver.specs.Parts.{HasPortAndShared, with_served_port};
-ghost use Rattle.server_history.specs.Resets.{IsResetRevalidation, MaySettle, SettlesPort};
+ghost use Rattle.server_history.specs.Resets.{IsResetRevalidation, MayResolve, ResolvesPort};
 ghost use Rattle.server_history.specs.Server.{ServerState};
 
 use crate::recovery::is_same_disk;
@@ -30,11 +30,11 @@ impl ServedPort {
     /// Resolves the unanswered requests of the port after a reset, in order of acceptance, whether the reset ended or
     /// got stuck. The replies come after those that there are.
     pub fn resolve_after_reset(&mut self, shared: &mut Shared, port: Port, replies: &mut Replies)
-        requires settle { (s : ServerState) × MaySettle s × HasPortAndShared s s.device shared.old port self.old }
+        requires settle { (s : ServerState) × MayResolve s × HasPortAndShared s s.device shared.old port self.old }
         requires room { length replies.old.items + length shared.old.book ≤ MOST_UNANSWERED }
-        ensures settles { (s : ServerState) → MaySettle s → HasPortAndShared s s.device shared.old port self.old
+        ensures settles { (s : ServerState) → MayResolve s → HasPortAndShared s s.device shared.old port self.old
             → (its : List Reply) × (replies.new.items ≡ replies.old.items ++ its)
-            × SettlesPort port its s (with_served_port s s.device shared.new port self.new) }
+            × ResolvesPort port its s (with_served_port s s.device shared.new port self.new) }
         ensures rest { self.new ≡ record self.old { kept = self.new.kept } }
         ensures room { length replies.new.items + length shared.new.book ≤ MOST_UNANSWERED }
     {

@@ -11,7 +11,7 @@ use ata_types::{MOST_UNANSWERED, Outcome, Replies, Reply, Slot};
 use dma_frames::FrameTable;
 use request_queue::Book;
 use request_queue::laws::{law_an_id_is_one_request, law_operations_change_one_request};
-use server_history::laws::{law_a_used_slot_has_its_request, law_requests_keep};
+use server_history::laws::{law_a_used_slot_has_its_request, law_requests_preserve_invariant};
 use slots::Slots;
 
 /// Answers the request of a used slot, whose command is over: its slot is free then, it leaves the book, and its frames
@@ -58,7 +58,7 @@ pub(crate) fn answer_done(
     ensures room { length replies.new.items + length book.new ≤ MOST_UNANSWERED }
 {
     law_a_used_slot_has_its_request();
-    law_requests_keep();
+    law_requests_preserve_invariant();
     law_operations_change_one_request();
     while let Some(slot) = slots.earliest(done) {
         replies.push(answer_one(book, table, slots, slot));

@@ -3,19 +3,18 @@
 ghost use Rattle.std.specs.Prelude.{◌≡◌, ◌≢◌, ◌++◌, ◌∷◌, Contains, List, filter};
 ghost use Rattle.ata_types.specs.declared.request.Outcome.TheVariants.{Revoked};
 ghost use Rattle.ata_types.specs.declared.request.Reply.{Reply};
-ghost use Rattle.port_driver.specs.Dispositions.{HasPlaces, HavePlaces, MayAnswerAll, holding};
+ghost use Rattle.port_driver.specs.Dispositions.{HasLoanRoom, HaveLoanRoom, MayAnswerAll, holding};
 ghost use Rattle.dma_frames.specs.Loan.{Lending};
-ghost use Rattle.request_queue.specs.Entries.{Held, IsUnanswered, is_of, waits_under};
-ghost use Rattle.request_queue.specs.Dispositions.{AnswersAlike, AreResolved, IsResolved, disposition_of};
+ghost use Rattle.request_queue.specs.Entries.{BookEntry, IsUnanswered, is_of, waits_under};
+ghost use Rattle.request_queue.specs.Dispositions.{CompletesAllWith, AreResolved, IsResolved, disposition_of};
 ghost use Rattle.request_queue.specs.declared.disposition.Disposition.TheVariants.{Complete};
 
 use crate::kept::Quarantine;
 use crate::served_port::Shared;
 use ata_types::{ClientId, Outcome, Port, Replies, Reply, RequestId};
 use request_queue::laws::{
-    law_accepted_requests_stay, law_an_id_is_one_request,
-    law_answers_of_one_outcome_are_one_change, law_operations_change_one_request,
-    law_the_book_stays_in_order,
+    law_accepted_is_preserved, law_an_id_is_one_request, law_answers_of_one_outcome_are_one_change,
+    law_operations_change_one_request, law_the_book_stays_in_order,
 };
 use request_queue::{Disposition, FailedRequest, Revalidation};
 
@@ -30,20 +29,20 @@ impl Shared {
         replies: &mut Replies,
     )
         requires may { MayAnswerAll self.old.table.value self.old.book replies.old.items }
-        requires here { (request : Held) × Contains self.old.book request × (request.entry.id ≡ id)
-            × HasPlaces request kept.old }
-        ensures resolves { (request : Held) → Contains self.old.book request → request.entry.id ≡ id
+        requires here { (request : BookEntry) × Contains self.old.book request × (request.entry.id ≡ id)
+            × HasLoanRoom request kept.old }
+        ensures resolves { (request : BookEntry) → Contains self.old.book request → request.entry.id ≡ id
             → (its : List Reply) × (replies.new.items ≡ replies.old.items ++ its)
             × IsResolved request (disposition_of failed.now revalidation request.entry) its
             (holding self.old.book self.old.table.value kept.old)
             (holding self.new.book self.new.table.value kept.new) }
-        ensures others { (e : Held) → Contains self.old.book e → e.entry.id ≢ id → Contains self.new.book e }
-        ensures places { (request : Held) (rest : List Held) → Contains self.old.book request
-            → request.entry.id ≡ id → HavePlaces (request ∷ rest) kept.old → HavePlaces rest kept.new }
+        ensures others { (e : BookEntry) → Contains self.old.book e → e.entry.id ≢ id → Contains self.new.book e }
+        ensures places { (request : BookEntry) (rest : List BookEntry) → Contains self.old.book request
+            → request.entry.id ≡ id → HaveLoanRoom (request ∷ rest) kept.old → HaveLoanRoom rest kept.new }
         ensures may { MayAnswerAll self.new.table.value self.new.book replies.new.items }
     {
         law_an_id_is_one_request();
-        law_accepted_requests_stay();
+        law_accepted_is_preserved();
         law_operations_change_one_request();
         law_the_book_stays_in_order();
         let entry = self.book.request(id);
@@ -70,15 +69,15 @@ impl Shared {
     fn answer_revoked(&mut self, id: RequestId, replies: &mut Replies)
         requires may { MayAnswerAll self.old.table.value self.old.book replies.old.items }
         requires here { IsUnanswered id self.old.book }
-        ensures resolves { (request : Held) (kept : List Lending) → Contains self.old.book request
+        ensures resolves { (request : BookEntry) (kept : List Lending) → Contains self.old.book request
             → request.entry.id ≡ id → (its : List Reply) × (replies.new.items ≡ replies.old.items ++ its)
             × IsResolved request (Complete Revoked) its (holding self.old.book self.old.table.value kept)
             (holding self.new.book self.new.table.value kept) }
-        ensures others { (e : Held) → Contains self.old.book e → e.entry.id ≢ id → Contains self.new.book e }
+        ensures others { (e : BookEntry) → Contains self.old.book e → e.entry.id ≢ id → Contains self.new.book e }
         ensures may { MayAnswerAll self.new.table.value self.new.book replies.new.items }
     {
         law_an_id_is_one_request();
-        law_accepted_requests_stay();
+        law_accepted_is_preserved();
         law_operations_change_one_request();
         law_the_book_stays_in_order();
         let table = &mut *self.table;
@@ -97,7 +96,7 @@ impl Shared {
     pub fn answer_waiting(&mut self, client: ClientId, number: u8, replies: &mut Replies)
         requires { MayAnswerAll self.old.table.value self.old.book replies.old.items }
         ensures { (kept : List Lending) → (its : List Reply) × (replies.new.items ≡ replies.old.items ++ its)
-            × AnswersAlike (waits_under client number) Revoked its (holding self.old.book self.old.table.value kept)
+            × CompletesAllWith (waits_under client number) Revoked its (holding self.old.book self.old.table.value kept)
             (holding self.new.book self.new.table.value kept) }
     {
         law_answers_of_one_outcome_are_one_change();
@@ -118,10 +117,10 @@ impl Shared {
         replies: &mut Replies,
     )
         requires may { MayAnswerAll self.old.table.value self.old.book replies.old.items }
-        requires places { HavePlaces (filter (λ (e : Held). is_of port e.entry) self.old.book) kept.old }
+        requires places { HaveLoanRoom (filter (λ (e : BookEntry). is_of port e.entry) self.old.book) kept.old }
         ensures resolves { (its : List Reply) × (replies.new.items ≡ replies.old.items ++ its)
             × AreResolved (disposition_of failed.now revalidation)
-            (filter (λ (e : Held). is_of port e.entry) self.old.book) its
+            (filter (λ (e : BookEntry). is_of port e.entry) self.old.book) its
             (holding self.old.book self.old.table.value kept.old)
             (holding self.new.book self.new.table.value kept.new) }
         ensures may { MayAnswerAll self.new.table.value self.new.book replies.new.items }

@@ -2,7 +2,7 @@
 // may still move their sectors.
 ghost use Rattle.std.specs.Prelude.{◌≡◌, ◌<◌, ◌++◌, ◌∷◌, [], All, AllPairs, Contains, IfOk, length};
 ghost use Rattle.server_history.specs.Kept.{TakesBack};
-ghost use Rattle.server_history.specs.Server.{AreOfTwo, IsLentOut};
+ghost use Rattle.server_history.specs.Server.{DifferInRequest, IsLentOut};
 
 use ata_types::SLOTS;
 use dma_frames::{FrameTable, Loan};
@@ -11,7 +11,7 @@ use std::alloc::{AllocError, Global};
 use std::marker::Model;
 
 /// The loans of one port that are kept, 32 at most, in the order in which they came. They can't be dropped:
-/// `give_back` ends them, and `end` the list.
+/// `give_back` ends them, and `destroy` the list.
 pub struct Quarantine {
     loans: Vec<Loan>,
 }
@@ -47,7 +47,7 @@ impl Quarantine {
     /// Ends the loans: their frames are lent to none.
     pub fn give_back(&mut self, table: &mut FrameTable)
         requires lent { All (IsLentOut table.old) self.old }
-        requires apart { AllPairs AreOfTwo self.old }
+        requires apart { AllPairs DifferInRequest self.old }
         ensures empty { self.new ≡ [] }
         ensures back { TakesBack table.old table.new (Contains self.old) }
     {
@@ -58,7 +58,7 @@ impl Quarantine {
     }
 
     /// Ends what has no loans.
-    pub fn end(self)
+    pub fn destroy(self)
         requires { self ≡ [] }
     {
         let Quarantine { loans } = self;

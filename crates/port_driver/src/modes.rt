@@ -1,8 +1,8 @@
 // How a port takes commands.
 ghost use Rattle.std.specs.Prelude.{ℕ, ◌≡◌, ◌≤◌, ◌+◌, ◌/◌, ◌%◌};
 ghost use Rattle.hba_regs.specs.Bits.{bit};
-ghost use Rattle.port_driver.specs.Modes.{mode_of_port};
-ghost use Rattle.server_history.specs.Server.{mode_found};
+ghost use Rattle.port_driver.specs.Modes.{mode_from_slots};
+ghost use Rattle.server_history.specs.Server.{probed_mode};
 
 use ata_types::SLOTS;
 use block_machine::QueueMode;
@@ -16,9 +16,9 @@ pub(crate) const PLAIN: QueueMode = QueueMode {
 
 /// How a port that was found so takes commands, by an adapter with so many slots a port, which queues or doesn't:
 /// queued where adapter and disk both can, in as many slots as both have, 32 at most; else one at a time.
-pub fn mode_found(slots: u8, queued: bool, found: &ProbeResult) -> QueueMode
-    ensures mode { result ≡ mode_of_port slots queued found.now }
-    ensures found { (cap : ℕ) → slots ≡ cap / 256 % 32 + 1 → queued ≡ bit cap 30 → result ≡ mode_found cap found.now }
+pub fn probed_mode(slots: u8, queued: bool, found: &ProbeResult) -> QueueMode
+    ensures mode { result ≡ mode_from_slots slots queued found.now }
+    ensures found { (cap : ℕ) → slots ≡ cap / 256 % 32 + 1 → queued ≡ bit cap 30 → result ≡ probed_mode cap found.now }
     ensures few { result.usable ≤ 32 }
 {
     match found {

@@ -1,16 +1,16 @@
 // What is due on a port is issued.
-ghost use Rattle.std.specs.Prelude.{◌≡◌, ◌<◌, ◌≤◌, ◌*◌, ◌/◌, ◌%◌, [], length};
+ghost use Rattle.std.specs.Prelude.{◌≡◌, ◌<◌, ◌≤◌, ◌/◌, ◌%◌};
 ghost use Rattle.ata_types.specs.declared.PortState.TheVariants.{Ready};
-ghost use Rattle.block_machine.specs.Due.{IsDue, due_of};
-ghost use Rattle.port_driver.specs.Ports.{HasFoundPort, MayGoIn, with_port_slots};
+ghost use Rattle.block_machine.specs.Due.{IsDue};
+ghost use Rattle.port_driver.specs.Issuing.{IssuesWhatIsDue};
+ghost use Rattle.port_driver.specs.Ports.{HasFoundPort, MayIssueIn, with_port_slots};
 ghost use Rattle.commands.specs.Issuing.{IsIssued, MayIssueTask};
-ghost use Rattle.request_queue.specs.Entries.{Held, asks, asks_of};
-ghost use Rattle.server_history.specs.Served.{IssuesAll, IssuesOne};
+ghost use Rattle.request_queue.specs.Entries.{BookEntry, asks, asks_of};
+ghost use Rattle.server_history.specs.Served.{IssuesOne};
 ghost use Rattle.server_history.specs.Server.{ServerState, state_of};
 ghost use Rattle.std.specs.List.{Contains};
 ghost use Rattle.adapter.specs.Counted.{MakesAtMost};
 ghost use Rattle.commands.specs.Costs.{ISSUE_ACCESSES};
-ghost use Rattle.port_driver.specs.Costs.{ISSUES_ACCESSES};
 
 use crate::served_port::ServedPort;
 use adapter::Adapter;
@@ -24,7 +24,8 @@ use request_queue::laws::{
 };
 use request_queue::{Book, DueIds};
 use server_history::laws::{
-    law_a_due_request_may_issue, law_a_port_goes_on_after_its_errors, law_requests_keep,
+    law_a_due_request_may_issue, law_a_port_goes_on_after_its_errors,
+    law_requests_preserve_invariant,
 };
 
 /// Issues a task in a slot that it may go in: the slot's command then says the task.
@@ -32,7 +33,7 @@ fn issue_task<A: Adapter>(adapter: &mut A, port: Port, slot: Slot, task: &Task, 
     requires may { MayIssueTask port slot.0 (A.device adapter.old) }
     requires small { slot.0 < 32 }
     requires usable { slot.0 ≤ (A.device adapter.old).cap / 256 % 32 }
-    requires fits { MayGoIn task.now frames.now slot.0 }
+    requires fits { MayIssueIn task.now frames.now slot.0 }
     ensures issued { IsIssued port slot.0 task.now frames.now (A.device adapter.old) (A.device adapter.new) }
     ensures cost { MakesAtMost ISSUE_ACCESSES (A.access_count adapter.old) (A.access_count adapter.new) }
 {
@@ -50,7 +51,7 @@ impl ServedPort {
         requires ready { state_of self.old.found ≡ Ready }
         requires lends { (s : ServerState)
             × HasFoundPort s (A.device adapter.old) book.old self.old.slots port self.old.mode self.old.found }
-        requires due { (request : Held) × Contains book.old request × (request.entry.id ≡ id)
+        requires due { (request : BookEntry) × Contains book.old request × (request.entry.id ≡ id)
             × (request.entry.port ≡ port) × IsDue self.old.mode (asks_of book.old) (asks request.entry) }
         ensures issues { (s : ServerState)
             → HasFoundPort s (A.device adapter.old) book.old self.old.slots port self.old.mode self.old.found
@@ -60,7 +61,7 @@ impl ServedPort {
     {
         law_a_due_request_may_issue();
         law_an_id_is_one_request();
-        let entry = book.request(id);
+        let (entry, loan) = book.entry(id);
         let task = Task {
             op: entry.op,
             range: entry.range,
@@ -69,29 +70,43 @@ impl ServedPort {
         let Some(slot) = self.slots.take(id, task.queued) else {
             unreachable!()
         };
-        issue_task(adapter, port, slot, &task, book.loan(id).frames());
+        issue_task(adapter, port, slot, &task, loan.frames());
         book.issue(id);
     }
 
-    /// Issues the due requests of the port, which is ready, in order of acceptance.
+    /// Issues the due requests of the port, which is ready, in order of acceptance. No list of them is made where the
+    /// book has no request, or one alone.
     pub fn issue_due<A: Adapter>(&mut self, adapter: &mut A, book: &mut Book, port: Port)
         requires ready { state_of self.old.found ≡ Ready }
         requires lends { (s : ServerState)
             × HasFoundPort s (A.device adapter.old) book.old self.old.slots port self.old.mode self.old.found }
-        ensures issues { (s : ServerState)
-            → HasFoundPort s (A.device adapter.old) book.old self.old.slots port self.old.mode self.old.found
-            → IssuesAll port s (with_port_slots s (A.device adapter.new) book.new self.new.slots port) }
-        ensures rest { self.new ≡ record self.old { slots = self.new.slots } }
-        ensures as_many { length book.new ≡ length book.old }
-        ensures none { due_of self.old.mode port (asks_of book.old) ≡ [] → adapter.new ≡ adapter.old }
-        ensures each { MakesAtMost (ISSUE_ACCESSES * length (due_of self.old.mode port (asks_of book.old)))
-            (A.access_count adapter.old) (A.access_count adapter.new) }
-        ensures cost { MakesAtMost ISSUES_ACCESSES (A.access_count adapter.old) (A.access_count adapter.new) }
+        ensures { IssuesWhatIsDue A.device A.access_count port self.old self.new adapter.old adapter.new
+            book.old book.new }
+    {
+        law_due_in_turn();
+        law_the_book_stays_in_order();
+        if book.is_empty() {
+            return;
+        }
+        match book.lone_due(self.mode, port) {
+            Some(id) => self.issue_one(adapter, book, port, id),
+            None => self.issue_listed(adapter, book, port),
+        }
+    }
+
+    /// The same, by a list of what is due. Room for it is cleared on entry, so that it stands in a function of its own.
+    #[inline(never)]
+    fn issue_listed<A: Adapter>(&mut self, adapter: &mut A, book: &mut Book, port: Port)
+        requires ready { state_of self.old.found ≡ Ready }
+        requires lends { (s : ServerState)
+            × HasFoundPort s (A.device adapter.old) book.old self.old.slots port self.old.mode self.old.found }
+        ensures { IssuesWhatIsDue A.device A.access_count port self.old self.new adapter.old adapter.new
+            book.old book.new }
     {
         law_due_in_turn();
         law_operations_change_what_is_due();
         law_the_book_stays_in_order();
-        law_requests_keep();
+        law_requests_preserve_invariant();
         let mut due = DueIds::new();
         book.issuable(self.mode, port, &mut due);
         for place in 0..due.len() {
@@ -103,13 +118,8 @@ impl ServedPort {
     pub fn issue_where_ready<A: Adapter>(&mut self, adapter: &mut A, book: &mut Book, port: Port)
         requires lends { (s : ServerState)
             × HasFoundPort s (A.device adapter.old) book.old self.old.slots port self.old.mode self.old.found }
-        ensures issues { (s : ServerState)
-            → HasFoundPort s (A.device adapter.old) book.old self.old.slots port self.old.mode self.old.found
-            → IssuesAll port s (with_port_slots s (A.device adapter.new) book.new self.new.slots port) }
-        ensures rest { self.new ≡ record self.old { slots = self.new.slots } }
-        ensures as_many { length book.new ≡ length book.old }
-        ensures none { due_of self.old.mode port (asks_of book.old) ≡ [] → adapter.new ≡ adapter.old }
-        ensures cost { MakesAtMost ISSUES_ACCESSES (A.access_count adapter.old) (A.access_count adapter.new) }
+        ensures { IssuesWhatIsDue A.device A.access_count port self.old self.new adapter.old adapter.new
+            book.old book.new }
     {
         law_a_port_goes_on_after_its_errors();
         if let ProbeResult::Ready(_) = self.found {

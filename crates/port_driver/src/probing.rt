@@ -14,9 +14,9 @@ ghost use Rattle.server_history.specs.Probing.{IsLookedAt};
 ghost use Rattle.adapter.specs.Counted.{MakesAtMost};
 ghost use Rattle.host_boot.specs.Costs.{BOOT_AGAIN_ACCESSES};
 ghost use Rattle.port_control.specs.Costs.{STOP_ACCESSES};
-ghost use Rattle.port_control.specs.LookCosts.{FIND_ACCESSES};
+ghost use Rattle.port_control.specs.LookCosts.{CHANGE_CHECK_ACCESSES};
 
-use super::modes::{PLAIN, mode_found};
+use super::modes::{PLAIN, probed_mode};
 use adapter::Adapter;
 use ata_types::{Port, PortState};
 use block_machine::QueueMode;
@@ -24,7 +24,7 @@ use error_recovery::{Next, stop_for_reset};
 use host_boot::{ProbeResult, reboot_port};
 use identify::Wanted;
 use port_control::events::{has_changed, has_device};
-use server_history::laws::law_looks_keep;
+use server_history::laws::law_looks_preserve_invariant;
 
 /// Whether a port in such a state shows what it is booted again for: an absent one a device; one whose disk isn't
 /// served a change of it, or none. No other is looked at, and of a dead one no access is made.
@@ -35,9 +35,9 @@ pub(crate) fn needs_probe<A: Adapter>(adapter: &mut A, port: Port, state: PortSt
     ensures looks { IsLookedAt state port result (A.device adapter.old) (A.device adapter.new) }
     ensures followed { IsSimulated (IsLooking port) AnyUse (A.device adapter.old) (A.device adapter.new) }
     ensures dead { state ≡ PortState.Dead → adapter.new ≡ adapter.old }
-    ensures cost { MakesAtMost FIND_ACCESSES (A.access_count adapter.old) (A.access_count adapter.new) }
+    ensures cost { MakesAtMost CHANGE_CHECK_ACCESSES (A.access_count adapter.old) (A.access_count adapter.new) }
 {
-    law_looks_keep();
+    law_looks_preserve_invariant();
     match state {
         PortState::Absent => has_device(adapter, port),
         PortState::Foreign => has_changed(adapter, port),
@@ -69,7 +69,7 @@ pub(crate) fn probe_anew<A: Adapter>(
     match recovered.next {
         Next::Restart(stopped) => {
             let booted = reboot_port(adapter, stopped, wanted);
-            let mode = mode_found(booted.slots, booted.queued, &booted.found);
+            let mode = probed_mode(booted.slots, booted.queued, &booted.found);
             (booted.found, mode)
         }
         _ => (ProbeResult::Unready(PortState::Dead), PLAIN),

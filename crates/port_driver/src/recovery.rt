@@ -12,8 +12,8 @@ ghost use Rattle.host_boot.specs.declared.ProbeResult.TheVariants.{Ready};
 ghost use Rattle.port_boot.specs.States.{IsBootable};
 ghost use Rattle.port_control.specs.Ports.{IsStopped};
 ghost use Rattle.port_control.specs.declared.Stopped as stopped_token;
-ghost use Rattle.server_history.specs.ErrorHandling.{AreQueued, BootsAfter, IsFailed, IsRevalidated, IsRevalidation, IsSameDisk, TellsErrorHandling};
-ghost use Rattle.server_history.specs.Server.{mode_found};
+ghost use Rattle.server_history.specs.ErrorHandling.{AreAllQueuedAs, BootsAfter, IsFailedRequest, IsRevalidated, IsRevalidation, IsSameDisk, TellsErrorHandling};
+ghost use Rattle.server_history.specs.Server.{probed_mode};
 ghost use Rattle.slots.specs.Uses.{use_at};
 ghost use Rattle.slots.specs.declared.SlotUse.{SlotUse};
 ghost use Rattle.adapter.specs.Counted.{MakesAtMost};
@@ -21,7 +21,7 @@ ghost use Rattle.commands.specs.Costs.{DONE_ACCESSES};
 ghost use Rattle.port_driver.specs.Costs.{booting_accesses, handling_accesses};
 
 use super::answering::answer_done;
-use super::modes::{PLAIN, mode_found};
+use super::modes::{PLAIN, probed_mode};
 use super::served_port::{ServedPort, Shared};
 use adapter::Adapter;
 use ata_types::{MOST_READINGS, MOST_UNANSWERED, Port, PortState, Replies};
@@ -33,7 +33,7 @@ use identify::{DiskInfo, Wanted};
 use port_control::Stopped;
 use port_control::events::{PortError, PortEvent};
 use request_queue::{FailedRequest, Revalidation};
-use server_history::laws::{law_looks_keep, law_port_errors_may_be_handled};
+use server_history::laws::{law_looks_preserve_invariant, law_port_errors_may_be_handled};
 use slots::Slots;
 
 /// The trouble that a look tells, if it tells one. (That a request is hung no look tells.)
@@ -97,7 +97,7 @@ impl ServedPort {
         ensures cost { MakesAtMost (DONE_ACCESSES + handling_accesses port_error)
             (A.access_count adapter.old) (A.access_count adapter.new) }
     {
-        law_looks_keep();
+        law_looks_preserve_invariant();
         law_port_errors_may_be_handled();
         let used = self.slots.taken();
         let finished = done(adapter, port, used);
@@ -127,9 +127,10 @@ pub(crate) fn order_from(replies: &mut Replies, first: usize)
 
 /// Whether the commands of the used slots are queued, which all of them are, or none.
 pub(crate) fn are_queued(slots: &Slots) -> bool
-    requires alike { (slot : ℕ) (used : SlotUse) → use_at slots.now slot ≡ Some used → AreQueued used.queued slots.now }
+    requires alike { (slot : ℕ) (used : SlotUse) → use_at slots.now slot ≡ Some used
+        → AreAllQueuedAs used.queued slots.now }
     requires places { length slots.now.places ≡ 32 }
-    ensures { AreQueued result slots.now }
+    ensures { AreAllQueuedAs result slots.now }
 {
     let Some(slot) = slots.earliest(u32::MAX) else {
         return false;
@@ -144,7 +145,7 @@ pub(crate) fn are_queued(slots: &Slots) -> bool
 pub(crate) fn failed_in(slots: &Slots, named: &Option<FailedSlot>) -> Option<FailedRequest>
     requires { (its : FailedSlot) → named.now ≡ Some its → (used : SlotUse)
         × (use_at slots.now its.slot.0 ≡ Some used) }
-    ensures { IsFailed slots.now named.now result }
+    ensures { IsFailedRequest slots.now named.now result }
 {
     let Some(its) = named else {
         return None;
@@ -190,7 +191,7 @@ pub(crate) fn resume_or_reboot<A: Adapter>(
     wanted: &Wanted,
 ) -> (ProbeResult, QueueMode)
     requires on { IsOn (A.device adapter.old) }
-    requires mode { mode ≡ mode_found (A.device adapter.old).cap (Ready was.now) }
+    requires mode { mode ≡ probed_mode (A.device adapter.old).cap (Ready was.now) }
     requires bootable { (stopped : stopped_token.Stopped) → next ≡ Next.Restart stopped
         → IsBootable stopped.port (A.device adapter.old)
         × IsStopped ((A.device adapter.old).port stopped.port.0)
@@ -199,14 +200,14 @@ pub(crate) fn resume_or_reboot<A: Adapter>(
     ensures found { (port : Port) → ((stopped : stopped_token.Stopped) → next ≡ Next.Restart stopped
         → stopped.port ≡ port) → IsRevalidated wanted.now port port_error was.now next (A.device adapter.old)
         (A.device adapter.new) result.0 }
-    ensures mode { result.1 ≡ mode_found (A.device adapter.new).cap result.0 }
+    ensures mode { result.1 ≡ probed_mode (A.device adapter.new).cap result.0 }
     ensures cost { MakesAtMost (booting_accesses port_error) (A.access_count adapter.old) (A.access_count adapter.new) }
 {
     match next {
         Next::Running(_) => (ProbeResult::Ready(*was), mode),
         Next::Restart(stopped) => {
             let booted = boot_after(adapter, port_error, stopped, wanted);
-            let mode = mode_found(booted.slots, booted.queued, &booted.found);
+            let mode = probed_mode(booted.slots, booted.queued, &booted.found);
             (booted.found, mode)
         }
         Next::Dead => (ProbeResult::Unready(PortState::Dead), PLAIN),

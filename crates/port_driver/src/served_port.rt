@@ -1,9 +1,9 @@
 // A port that a server drives, and what all its ports share.
 ghost use Rattle.std.specs.Prelude.{◌≡◌, ◌≤◌};
-ghost use Rattle.port_driver.specs.Parts.{BeginsAnew, no_port};
+ghost use Rattle.port_driver.specs.Parts.{NotesProbeResult, no_port};
 ghost use Rattle.server_history.specs.ErrorHandling.{AreUnused};
 ghost use Rattle.server_history.specs.Server.{last_disk_of, plain_mode};
-ghost use Rattle.server_history.specs.Stalled.{stuck_found};
+ghost use Rattle.server_history.specs.StuckServer.{stuck_found};
 ghost use Rattle.server_history.specs.Turns.{is_ready};
 
 use crate::kept::Quarantine;
@@ -79,9 +79,9 @@ impl ServedPort {
 
     /// Notes what it was found to be by a boot, or once its error was handled, and how it takes commands then. The disk
     /// that it was last ready with is remembered, and no slot of it is used.
-    pub fn begin_anew(&mut self, found: ProbeResult, mode: QueueMode)
+    pub fn note_probe_result(&mut self, found: ProbeResult, mode: QueueMode)
         requires { mode.usable ≤ 32 }
-        ensures { BeginsAnew found mode self.old self.new }
+        ensures { NotesProbeResult found mode self.old self.new }
     {
         self.remembered = self.last_disk();
         self.found = found;
@@ -92,17 +92,17 @@ impl ServedPort {
     /// Notes that a reset of its adapter got stuck: it is dead, if it is served, its disk is remembered, it takes
     /// plain commands, and no slot of it is used.
     pub fn note_stuck_reset(&mut self)
-        ensures { BeginsAnew (stuck_found self.old.found) plain_mode self.old self.new }
+        ensures { NotesProbeResult (stuck_found self.old.found) plain_mode self.old self.new }
     {
         let found = match self.found {
             ProbeResult::Unserved => ProbeResult::Unserved,
             _ => ProbeResult::Unready(PortState::Dead),
         };
-        self.begin_anew(found, PLAIN);
+        self.note_probe_result(found, PLAIN);
     }
 
     /// Its loans.
-    pub fn into_kept(self) -> Quarantine
+    pub fn into_quarantine(self) -> Quarantine
         ensures { result ≡ self.kept }
     {
         let ServedPort {

@@ -7,7 +7,7 @@ ghost use Rattle.port_driver.specs.Parts.{IsSettledWith, TakesTurn, TurnInServic
 ghost use Rattle.port_driver.specs.Recovery.{HandlesPortErrorOf, IsInError};
 ghost use Rattle.hba_regs.specs.Bits.{bit};
 ghost use Rattle.refinement.specs.Slots.{IsOver};
-ghost use Rattle.request_queue.specs.Entries.{Held, IsOverdue};
+ghost use Rattle.request_queue.specs.Entries.{BookEntry, IsOverdue};
 ghost use Rattle.server_history.specs.Served.{AnswersDone};
 ghost use Rattle.server_history.specs.Server.{ServerState, SettledInvariant, state_of};
 ghost use Rattle.server_history.specs.Turns.{ProbesUnready, ServesPort, is_ready};
@@ -23,7 +23,7 @@ use host_boot::ProbeResult;
 use port_control::events::{PortError, take_event};
 use server_history::laws::{
     law_a_finished_port_settles, law_a_port_goes_on_after_its_errors, law_a_port_is_served,
-    law_a_timed_out_port_is_restarted, law_an_unready_port_is_probed, law_looks_keep,
+    law_a_timed_out_port_is_restarted, law_an_unready_port_is_probed, law_looks_preserve_invariant,
 };
 
 impl ServedPort {
@@ -99,7 +99,7 @@ impl ServedPort {
             self.mode,
             &self.wanted,
         );
-        self.begin_anew(found, mode);
+        self.note_probe_result(found, mode);
         let revalidation = revalidation_of(port_error, &was, &found);
         shared.resolve(&mut self.kept, port, &failed, revalidation, replies);
         order_from(replies, first);
@@ -124,7 +124,7 @@ impl ServedPort {
         ensures room { length replies.new.items + length shared.new.book ≤ MOST_UNANSWERED }
         ensures cost { MakesAtMost TURN_ACCESSES (A.access_count adapter.old) (A.access_count adapter.new) }
     {
-        law_looks_keep();
+        law_looks_preserve_invariant();
         law_a_port_is_served();
         let look = take_event(adapter, port);
         if let Some(port_error) = error_of(look) {
@@ -159,7 +159,7 @@ impl ServedPort {
             return;
         }
         let (found, mode) = probe_anew(adapter, port, &self.wanted);
-        self.begin_anew(found, mode);
+        self.note_probe_result(found, mode);
     }
 
     /// The port's turn in a service: a ready one is served, and another one that is served is probed. Of one that isn't
@@ -200,7 +200,7 @@ impl ServedPort {
     )
         requires settled { (s : ServerState) × IsSettledWith s (A.device adapter.old) shared.old port self.old }
         requires room { length replies.old.items + length shared.old.book ≤ MOST_UNANSWERED }
-        ensures turn { (s : ServerState) (book : List Held) → IsTrue is_overdue ↔ IsOverdue port book
+        ensures turn { (s : ServerState) (book : List BookEntry) → IsTrue is_overdue ↔ IsOverdue port book
             → IsSettledWith s (A.device adapter.old) shared.old port self.old
             → TakesTurn (TurnInTick self.old.found book port) replies.old.items replies.new.items s
             (with_served_port s (A.device adapter.new) shared.new port self.new) }
@@ -209,7 +209,7 @@ impl ServedPort {
         ensures cost { MakesAtMost (port_error_accesses PortError.TimedOut)
             (A.access_count adapter.old) (A.access_count adapter.new) }
     {
-        law_looks_keep();
+        law_looks_preserve_invariant();
         law_a_timed_out_port_is_restarted();
         let ProbeResult::Ready(_) = self.found else {
             return;

@@ -3,7 +3,7 @@ use Rattle.std.specs.Prelude.{ℕ, ◌≡◌, ◌⊎◌, ◌++◌, List, [], ◌
 use Rattle.ata_types.specs.declared.request.RequestId.{RequestId}
 use Rattle.adapter.specs.Access.{Access, Does, DoesAll}
 use Rattle.adapter.specs.Device.{Device}
-use Rattle.block_machine.specs.Events.{AllDevices, IsByDevice}
+use Rattle.block_machine.specs.Events.{AllByDevice, IsByDevice}
 use Rattle.block_machine.specs.Histories.{IsReachable}
 use Rattle.block_machine.specs.Left.{after}
 use Rattle.block_machine.specs.State.{Machine}
@@ -28,8 +28,8 @@ AccessLeads (Some access) old new = Does access old new
 -- Over an access these are the device's steps, and after them one of the driver's own at most; without one, that alone.
 abbrev pub IsOneAct : Option Access → List Step → Type 0
 IsOneAct None steps = (steps ≡ []) ⊎ ((step : Step) × (IsByDevice step → ⊥) × (steps ≡ step ∷ []))
-IsOneAct (Some access) steps = AllDevices steps ⊎ ((step : Step) × (before : List Step) × (steps ≡ step ∷ before)
-    × AllDevices before)
+IsOneAct (Some access) steps = AllByDevice steps ⊎ ((step : Step) × (before : List Step) × (steps ≡ step ∷ before)
+    × AllByDevice before)
 
 -- The act is done, from a machine that agrees with what the driver knew: its steps lead to one that agrees with what it
 -- knows then.
@@ -61,13 +61,13 @@ act_steps (act ∷ acts) = act_steps acts ++ act.steps
 
 -- What the driver has put into each slot, and, by port, the requests that it took from their slots and hasn't decided
 -- on.
-pub record InSlots : Type 0 where
+pub record DriverSlots : Type 0 where
   pub uses : SlotStates
   pub parked : ℕ → List RequestId
 
 -- with the device, all that the driver knows
-abbrev pub at_slots : InSlots → Device → DriverState
-at_slots s d = record { uses = s.uses; parked = s.parked; device = d }
+abbrev pub driver_state : DriverSlots → Device → DriverState
+driver_state s d = record { uses = s.uses; parked = s.parked; device = d }
 
 -- From this machine, acts with these accesses lead to what the driver knows then; and this is told of them.
 pub record ActsReach (accesses : List Access) (k : DriverState) (m : Machine) (later : DriverState) (Tells : List Act
@@ -79,22 +79,22 @@ pub record ActsReach (accesses : List Access) (k : DriverState) (m : Machine) (l
 
 -- So it is whatever is in the slots, from each machine that is reached and agrees with that, where the two fit; and the
 -- acts lead to what is in the slots next.
-abbrev pub ActsReachWith : List Access → (InSlots → Machine → Type 0) → (InSlots → InSlots)
-    → (InSlots → Machine → List Act → Type 0) → Device → Device → Type 0
-ActsReachWith accesses Fits next Tells old new = (s : InSlots) (m : Machine) → IsReachable m
-    → DriverRelation m (at_slots s old) → Fits s m
-    → ActsReach accesses (at_slots s old) m (at_slots (next s) new) (Tells s m)
+abbrev pub ActsReachWith : List Access → (DriverSlots → Machine → Type 0) → (DriverSlots → DriverSlots)
+    → (DriverSlots → Machine → List Act → Type 0) → Device → Device → Type 0
+ActsReachWith accesses Fits next Tells old new = (s : DriverSlots) (m : Machine) → IsReachable m
+    → DriverRelation m (driver_state s old) → Fits s m
+    → ActsReach accesses (driver_state s old) m (driver_state (next s) new) (Tells s m)
 
 -- a part of a call, which made these accesses, from the old device to the new
-pub record Performs (accesses : List Access) (Fits : InSlots → Machine → Type 0) (next : InSlots → InSlots)
-    (Tells : InSlots → Machine → List Act → Type 0) (old new : Device) : Type 0 where
+pub record Performs (accesses : List Access) (Fits : DriverSlots → Machine → Type 0) (next : DriverSlots → DriverSlots)
+    (Tells : DriverSlots → Machine → List Act → Type 0) (old new : Device) : Type 0 where
   pub does : DoesAll accesses old new
   pub comes : ActsReachWith accesses Fits next Tells old new
 
 -- whatever is in the slots
-abbrev pub AnySlots : InSlots → Machine → Type 0
+abbrev pub AnySlots : DriverSlots → Machine → Type 0
 AnySlots s m = Unit {0}
 
 -- the device alone makes steps
-abbrev pub ByDeviceAlone : InSlots → Machine → List Act → Type 0
-ByDeviceAlone s m acts = AllDevices (act_steps acts)
+abbrev pub ByDeviceAlone : DriverSlots → Machine → List Act → Type 0
+ByDeviceAlone s m acts = AllByDevice (act_steps acts)

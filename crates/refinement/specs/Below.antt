@@ -6,7 +6,7 @@ use Rattle.hba_regs.specs.declared.reg.Reg.TheVariants.{Px}
 use Rattle.adapter.specs.Access.{Reads}
 use Rattle.adapter.specs.Device.{Device}
 use Rattle.adapter.specs.Kept.{Keeps}
-use Rattle.adapter.specs.Seen.{SeenAt}
+use Rattle.adapter.specs.Seen.{PortRegisterRead}
 use Rattle.adapter.specs.Steps.{Can, DeviceTransition, Steps, device_after}
 use Rattle.block_machine.specs.Events.{AllMay}
 use Rattle.block_machine.specs.Histories.{IsReachable}
@@ -20,6 +20,6 @@ pub record StepLaws : Type 0 where
   pub step : (step : DeviceTransition) (d : Device) → Can step d → Keeps d (device_after step d)
   -- what a reading of a port's register shows
   pub seen : (port : Port) (r : PortReg) (v : ℕ) (old new : Device) → Reads (Px port r) v old new → old.hr ≡ false
-      → SeenAt port.0 r v old new
+      → PortRegisterRead port.0 r v old new
   -- the machine's steps lead on from one that is reached
   pub reached : (m : Machine) (steps : List Step) → IsReachable m → AllMay m steps → IsReachable (after m steps)

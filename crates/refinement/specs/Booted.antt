@@ -28,7 +28,7 @@ waking = record first_read_device { port = changed (λ _. empty_port) 0 waking_p
 -- There such accesses may give these values: COMRESET is sent and ended, PxSSTS is read with a device, PxSERR and PxIS
 -- are cleared, PxTFD is read idle, so that ST may be set, and is, and PxIS is read with no cause. Each write is
 -- permitted when it is made, whatever the device does first. The port runs well then.
-pub record BootIsFound : Type 0 where
+pub record BootWitness : Type 0 where
   pub sent : Device
   pub may_send : IsStable (MayWrite (Px (port_at 0) Sctl) 1) waking
   pub sends : Writes (Px (port_at 0) Sctl) 1 waking sent

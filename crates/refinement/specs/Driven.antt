@@ -13,12 +13,12 @@ use Rattle.adapter.specs.Device.{DevicePort, Device}
 use Rattle.adapter.specs.Kept.{KeepsPort, KeepsControls}
 use Rattle.adapter.specs.declared.command.Operation.{Operation}
 use Rattle.adapter.specs.declared.tape.Entry.{Entry}
-use Rattle.block_machine.specs.Events.{AllDevices}
+use Rattle.block_machine.specs.Events.{AllByDevice}
 use Rattle.block_machine.specs.Histories.{IsReachable}
 use Rattle.block_machine.specs.State.{Machine}
 use Rattle.refinement.specs.Acts.{Act, ActsReachWith, act_steps}
 use Rattle.refinement.specs.Driver.{DriverState, DriverRelation}
-use Rattle.refinement.specs.Links.{SparesRegister}
+use Rattle.refinement.specs.Links.{DoesNotWrite}
 use Rattle.refinement.specs.Slots.{SlotStates, IsMove, IsOver}
 
 -- what the driver knows: the use of each slot, the requests that it took from their slots, and the device
@@ -41,8 +41,8 @@ abbrev pub AnyUse : SlotStates → Type 0
 AnyUse uses = Unit {0}
 
 -- they are used in this way
-abbrev pub IsUse : SlotStates → SlotStates → Type 0
-IsUse uses other = other ≡ uses
+abbrev pub SameUses : SlotStates → SlotStates → Type 0
+SameUses uses other = other ≡ uses
 
 -- ---- accesses
 
@@ -57,38 +57,38 @@ abbrev pub AnyAccess : Access → Type 0
 AnyAccess access = Unit {0}
 
 -- it reads a register of the port, or writes one of these of its registers
-abbrev pub IsControl : (PortReg → Type 0) → Port → Access → Type 0
-IsControl Written port (Reading (Px at r) v) = at ≡ port
-IsControl Written port (Writing (Px at r) v) = (at ≡ port) × Written r
-IsControl Written port access = ⊥
+abbrev pub OnPortWriting : (PortReg → Type 0) → Port → Access → Type 0
+OnPortWriting Written port (Reading (Px at r) v) = at ≡ port
+OnPortWriting Written port (Writing (Px at r) v) = (at ≡ port) × Written r
+OnPortWriting Written port access = ⊥
 
 -- the value has the port's bit alone
-pub record IsBitOf (port v : ℕ) : Type 0 where
+pub record IsSoleBit (port v : ℕ) : Type 0 where
   pub here : bit v port ≡ true
   pub alone : (k : ℕ) → k ≢ port → bit v k ≡ false
 
 -- It reads or writes a register of the port, writes IS with the port's bit alone, reads a register of the adapter's
 -- own, or loads or stores bytes: it touches no register of another port, nor another port's bit of IS.
-abbrev pub IsOf : Port → Access → Type 0
-IsOf port (Reading (Px at r) v) = at ≡ port
-IsOf port (Writing (Px at r) v) = at ≡ port
-IsOf port (Writing Is v) = IsBitOf port.0 v
-IsOf port (Writing r v) = ⊥
-IsOf port access = Unit {0}
+abbrev pub SparesOtherPorts : Port → Access → Type 0
+SparesOtherPorts port (Reading (Px at r) v) = at ≡ port
+SparesOtherPorts port (Writing (Px at r) v) = at ≡ port
+SparesOtherPorts port (Writing Is v) = IsSoleBit port.0 v
+SparesOtherPorts port (Writing r v) = ⊥
+SparesOtherPorts port access = Unit {0}
 
 -- no access of this kind writes the register
 abbrev pub NoneWrites : (Access → Type 0) → Reg → Type 0
-NoneWrites May r = (access : Access) → May access → SparesRegister r access
+NoneWrites May r = (access : Access) → May access → DoesNotWrite r access
 
 -- the tape has gained no move of the port's by a command of this operation
-abbrev pub SendsNone : ℕ → Operation → Device → Device → Type 0
-SendsNone port o old new = (gained : List Entry) × (new.tape ≡ old.tape ++ gained)
+abbrev pub GainsNoMove : ℕ → Operation → Device → Device → Type 0
+GainsNoMove port o old new = (gained : List Entry) × (new.tape ≡ old.tape ++ gained)
     × All (λ e. IsMove port o e → ⊥) gained
 
 -- Acts in which the device alone makes steps. Where no access of the kind writes PxCI or PxSACT of a port, its slots
 -- are used after each act as before the first.
-pub record AreDevices (May : Access → Type 0) (uses : SlotStates) (acts : List Act) : Type 0 where
-  pub only : AllDevices (act_steps acts)
+pub record OnlyDeviceActs (May : Access → Type 0) (uses : SlotStates) (acts : List Act) : Type 0 where
+  pub only : AllByDevice (act_steps acts)
   pub kept : (port : Port) → NoneWrites May (Px port Ci) → NoneWrites May (Px port Sact)
       → All (λ act. act.later.uses port.0 ≡ uses port.0) acts
 
@@ -98,7 +98,7 @@ pub record IsSimulatedTo (May : Access → Type 0) (Fits : SlotStates → Type 0
     (old new : Device) : Type 0 where
   pub driven : IsDrivenBy May old new
   pub comes : ActsReachWith driven.accesses (λ s m. Fits s.uses) (λ s. record s { uses = next s.uses })
-      (λ s m. AreDevices May s.uses) old new
+      (λ s m. OnlyDeviceActs May s.uses) old new
 
 -- the same, where each slot goes on as it is used
 abbrev pub IsSimulated : (Access → Type 0) → (SlotStates → Type 0) → Device → Device → Type 0

@@ -16,12 +16,12 @@ use Rattle.block_machine.specs.State.{Pending, Machine}
 use Rattle.block_machine.specs.declared.due.QueueMode.{QueueMode}
 use Rattle.block_machine.specs.Due.{is_plain}
 use Rattle.block_machine.specs.Steps.{Step, Issue, May}
-use Rattle.block_machine.specs.Left.{after, AllTellSectors}
-use Rattle.block_machine.specs.Events.{AllMay, AllDevices}
+use Rattle.block_machine.specs.Left.{after, AllStepsFaithful}
+use Rattle.block_machine.specs.Events.{AllMay, AllByDevice}
 use Rattle.refinement.specs.Places.{list_of, received_of, table_of, scratch_of, IsTableByte, IsScratch}
 use Rattle.refinement.specs.Slots.{Free, Armed, Own, Serves, SlotStates, put, SlotDecodesTo, Means, HasTrimBlock, IsPlaced, op_of}
 use Rattle.refinement.specs.Relation.{StateRelation, HaveSlots}
-use Rattle.refinement.specs.Tape.{TellsAmong, PutsInDisks}
+use Rattle.refinement.specs.Tape.{TellsDeviceSteps, PutsInDisks}
 
 -- ---- stores
 
@@ -55,12 +55,12 @@ AllFree uses port = (slot : ℕ) → uses port slot ≡ Free
 
 -- A write of PxCMD sets ST on a port that runs or has no slot in use, and FRE where the received FIS area is in its
 -- place.
-pub record IsCommand (uses : SlotStates) (port v : ℕ) (p : DevicePort) : Type 0 where
+pub record IsSafeCmdWrite (uses : SlotStates) (port v : ℕ) (p : DevicePort) : Type 0 where
   pub start : bit v 0 ≡ true → (p.st ≡ true) ⊎ AllFree uses port
   pub receive : bit v 4 ≡ true → (port < 4) × (p.bases.fb ≡ received_of port)
 
 -- a value of PxCMD with these bits ST and FRE, and the others as they were read
-pub record IsWrittenBack (st fre : Bool) (was v : ℕ) : Type 0 where
+pub record KeepsOtherCmdBits (st fre : Bool) (was v : ℕ) : Type 0 where
   pub start : bit v 0 ≡ st
   pub receive : bit v 4 ≡ fre
   pub others : (place : ℕ) → place < 32 → place ≢ 0 → place ≢ 4 → bit v place ≡ bit was place
@@ -69,7 +69,7 @@ pub record IsWrittenBack (st fre : Bool) (was v : ℕ) : Type 0 where
 -- PxSACT and PxCI have no bit.
 abbrev pub LeavesUses : SlotStates → Reg → ℕ → Device → Type 0
 LeavesUses uses (Px port Clb) v d = (v ≡ list_of port.0) ⊎ AllFree uses port.0
-LeavesUses uses (Px port Cmd) v d = IsCommand uses port.0 v (d.port port.0)
+LeavesUses uses (Px port Cmd) v d = IsSafeCmdWrite uses port.0 v (d.port port.0)
 LeavesUses uses (Px port Sact) v d = (slot : ℕ) → bit v slot ≡ false
 LeavesUses uses (Px port Ci) v d = (slot : ℕ) → bit v slot ≡ false
 LeavesUses uses r v d = Unit {0}
@@ -94,15 +94,15 @@ pub record IsBacked (old new : Device) (m : Machine) (steps : List Step) : Type 
   pub telling : new.telling ≡ old.telling
   pub gained : List Entry
   pub tape : new.tape ≡ old.tape ++ gained
-  pub tells : TellsAmong m gained steps
-  pub told : old.telling ≡ true → AllTellSectors m steps
+  pub tells : TellsDeviceSteps m gained steps
+  pub told : old.telling ≡ true → AllStepsFaithful m steps
   pub plugged : (port : ℕ) → (disks : List device.Disk) × ((new.port port).plugged ≡ (old.port port).plugged ++ disks)
       × PutsInDisks port disks steps
 
 -- The device backs the steps, and all of them are its own: the driver made none.
 pub record ByDevice (old new : Device) (m : Machine) (steps : List Step) : Type 0 where
   pub backed : IsBacked old new m steps
-  pub only : AllDevices steps
+  pub only : AllByDevice steps
 
 -- The driver goes from what it knew to what it knows then: from this machine each of these steps may come, the device
 -- backs them, and the machine after them agrees with what the driver knows then.
@@ -113,7 +113,7 @@ pub record DriverAdvances (k : DriverState) (m : Machine) (steps : List Step) (l
 
 -- What the device leaves of what is not in use: all headers, but for PRDBC, and all tables; and the scratch frame where
 -- slot 0 has no command of the driver's own.
-pub record LeavesFree (uses : SlotStates) (old new : Device) : Type 0 where
+pub record KeepsTables (uses : SlotStates) (old new : Device) : Type 0 where
   pub tables : (port slot at : ℕ) → port < 4 → slot < 32 → IsTableByte port slot at → new.memory at ≡ old.memory at
   pub scratch : (port at : ℕ) → port < 4 → ((o : Operation) → uses port 0 ≡ Own o → ⊥) → IsScratch port at
       → new.memory at ≡ old.memory at
@@ -164,9 +164,9 @@ pub record IsOwnPrepared (uses : SlotStates) (d : Device) (port : ℕ) (o : Oper
 
 -- What an access adds that ends with a step of the driver's own: steps of the device first, and then this one, after
 -- which the machine agrees with what the driver knows then.
-pub record EndsWith (k : DriverState) (m : Machine) (step : Step) (later : DriverState) : Type 0 where
+pub record EndsInStep (k : DriverState) (m : Machine) (step : Step) (later : DriverState) : Type 0 where
   pub steps : List Step
-  pub only : AllDevices steps
+  pub only : AllByDevice steps
   pub may : AllMay m (step ∷ steps)
   pub backed : IsBacked k.device later.device m (step ∷ steps)
   pub knows : DriverRelation (after m (step ∷ steps)) later
@@ -182,13 +182,13 @@ abbrev pub HasNoSlot : SlotStates → RequestId → Type 0
 HasNoSlot uses id = (port slot : ℕ) → uses port slot ≡ Serves id → ⊥
 
 -- but for this request, what was parked is parked
-abbrev pub ForgetsRequest : RequestId → (ℕ → List RequestId) → (ℕ → List RequestId) → Type 0
-ForgetsRequest id parked later = (port : ℕ) (other : RequestId) → Contains (parked port) other → (other ≡ id → ⊥)
+abbrev pub ForgetsAtMost : RequestId → (ℕ → List RequestId) → (ℕ → List RequestId) → Type 0
+ForgetsAtMost id parked later = (port : ℕ) (other : RequestId) → Contains (parked port) other → (other ≡ id → ⊥)
     → Contains (later port) other
 
 -- but for the kept requests, what was parked is parked
-abbrev pub ForgetsKept : Machine → (ℕ → List RequestId) → (ℕ → List RequestId) → Type 0
-ForgetsKept m parked later = (port : ℕ) (other : RequestId) → Contains (parked port) other
+abbrev pub ForgetsAtMostKept : Machine → (ℕ → List RequestId) → (ℕ → List RequestId) → Type 0
+ForgetsAtMostKept m parked later = (port : ℕ) (other : RequestId) → Contains (parked port) other
     → ((e : Pending) → Contains m.kept e → e.request.id ≢ other) → Contains (later port) other
 
 -- the slot was given up, and its request isn't decided yet

@@ -3,8 +3,8 @@ use Rattle.std.specs.Prelude.{ℕ, true, false, ◌≡◌, ◌≤◌, ◌++◌, 
 use Rattle.adapter.specs.Device.{DevicePort, Device}
 use Rattle.adapter.specs.declared.tape.Entry.{Entry}
 use Rattle.adapter.specs.declared.tape.Entry.TheVariants as entry
-use Rattle.refinement.specs.Facts.{IsAfterReset, IsFaultOf}
-use Rattle.refinement.specs.Links.{PlugsNone}
+use Rattle.refinement.specs.Facts.{IsQuiescentPort, IsFaultOf}
+use Rattle.refinement.specs.Links.{NoPlugEvents}
 
 -- each bit of PxIS that is set stays so, and so do N and X of PxSERR
 pub record KeepsErrors (old new : DevicePort) : Type 0 where
@@ -13,23 +13,23 @@ pub record KeepsErrors (old new : DevicePort) : Type 0 where
   pub serr_x : old.serr_x ≡ true → new.serr_x ≡ true
 
 -- a disk of the port comes
-abbrev pub IsComing : ℕ → Entry → Type 0
-IsComing port (entry.Plug at name) = at.0 ≡ port
-IsComing port _ = ⊥
+abbrev pub IsDiskComing : ℕ → Entry → Type 0
+IsDiskComing port (entry.Plug at name) = at.0 ≡ port
+IsDiskComing port _ = ⊥
 
 -- the tape gained no entry of a disk of the port that comes
-pub record NoneComes (port : ℕ) (old new : Device) : Type 0 where
+pub record NoDiskComes (port : ℕ) (old new : Device) : Type 0 where
   pub gained : List Entry
   pub tape : new.tape ≡ old.tape ++ gained
-  pub none : All (λ e. IsComing port e → ⊥) gained
+  pub none : All (λ e. IsDiskComing port e → ⊥) gained
 
 -- N of PxSERR rises only for a disk that goes or comes, and X only for one that comes. Where no disk has come and
 -- PxSSTS.DET is 3, it was 3 before, and none has gone.
 pub record ChangesByDisks (port : ℕ) (old new : Device) : Type 0 where
-  pub serr_n : PlugsNone port old new → (old.port port).serr_n ≡ false → (new.port port).serr_n ≡ false
-  pub serr_x : NoneComes port old new → (old.port port).serr_x ≡ false → (new.port port).serr_x ≡ false
-  pub det : NoneComes port old new → (new.port port).ssts_det ≡ 3 → ((old.port port).ssts_det ≡ 3)
-      × PlugsNone port old new
+  pub serr_n : NoPlugEvents port old new → (old.port port).serr_n ≡ false → (new.port port).serr_n ≡ false
+  pub serr_x : NoDiskComes port old new → (old.port port).serr_x ≡ false → (new.port port).serr_x ≡ false
+  pub det : NoDiskComes port old new → (new.port port).ssts_det ≡ 3 → ((old.port port).ssts_det ≡ 3)
+      × NoPlugEvents port old new
 
 -- Each bit that tells of trouble is clear still if it was: N and X of PxSERR, and 27 to 30 of PxIS.
 pub record StaysClear (old new : DevicePort) : Type 0 where
@@ -57,7 +57,7 @@ pub record NoneFails (port : ℕ) (old new : Device) : Type 0 where
 
 -- What the tape tells nothing of in two parts of a call it tells nothing of in the whole, and the other way round,
 -- where the tape only grows; and where nothing was done it tells nothing of it.
-pub record IsOfEachPart (Untold : ℕ → Device → Device → Type 0) : Type 0 where
+pub record IsCompositional (Untold : ℕ → Device → Device → Type 0) : Type 0 where
   pub none : (port : ℕ) (d : Device) → Untold port d d
   pub more : (port : ℕ) (old mid new : Device) → Untold port old mid → Untold port mid new → Untold port old new
   pub parts : (port : ℕ) (old mid new : Device) (early late : List Entry) → mid.tape ≡ old.tape ++ early
@@ -74,7 +74,7 @@ pub record ChangesByErrors (port : ℕ) (old new : Device) : Type 0 where
 
 -- A port as a reset of its adapter leaves it, before anything else comes (AHCI 1.3.1, 3.3 and 10.4.3).
 pub record IsLeftByReset (p : DevicePort) : Type 0 where
-  pub stopped : IsAfterReset p
+  pub stopped : IsQuiescentPort p
   pub is : (place : ℕ) → p.is place ≡ false
   pub serr_n : p.serr_n ≡ false
   pub serr_x : p.serr_x ≡ false
@@ -87,7 +87,7 @@ pub record IsLeftByReset (p : DevicePort) : Type 0 where
 
 -- What a port shows after it while its engine stands: no bit of PxIS, and PxSCTL.DET 0; and until X tells of a disk or
 -- a link that came, no device in PxSSTS, and task file and signature as the reset left them.
-pub record IsCleared (p : DevicePort) : Type 0 where
+pub record ShowsResetState (p : DevicePort) : Type 0 where
   pub is : (place : ℕ) → p.is place ≡ false
   pub sctl_det : p.sctl_det ≡ 0
   pub calm : p.serr_x ≡ false → (p.ssts_det ≡ 0) × (p.tfd ≡ 0x7f) × (p.sig ≡ 0xffffffff)

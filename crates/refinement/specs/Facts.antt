@@ -17,14 +17,14 @@ use Rattle.adapter.specs.declared.tape.Entry.{Entry}
 use Rattle.adapter.specs.declared.tape.Entry.TheVariants as entry
 use Rattle.adapter.specs.declared.tape.Fault as tape_fault
 use Rattle.block_machine.specs.State.{Pending, Machine}
-use Rattle.block_machine.specs.Steps.{MayStillMove, AllTouched, NoneKept}
+use Rattle.block_machine.specs.Steps.{MayStillMove, AllTouched, NoneQuarantined}
 use Rattle.refinement.specs.Follows.{SimulatesSteps}
 use Rattle.refinement.specs.Slots.{Serves, SlotStates, IsOver, Brought}
 
 -- ---- an engine that has stopped
 
 -- ST and CR are 0, no command is issued, and none is taken (AHCI 1.3.1, 10.1.2).
-pub record IsHalted (p : DevicePort) : Type 0 where
+pub record IsEngineStopped (p : DevicePort) : Type 0 where
   pub st : p.st ≡ false
   pub cr : p.cr ≡ false
   pub ci : (slot : ℕ) → p.ci slot ≡ false
@@ -32,8 +32,8 @@ pub record IsHalted (p : DevicePort) : Type 0 where
 
 -- A port after a reset of its adapter: halted, with no bit of SACT, and the engine that receives FISes is stopped, too
 -- (AHCI 1.3.1, 10.4.3).
-pub record IsAfterReset (p : DevicePort) : Type 0 where
-  pub halted : IsHalted p
+pub record IsQuiescentPort (p : DevicePort) : Type 0 where
+  pub halted : IsEngineStopped p
   pub sact : (slot : ℕ) → p.sact slot ≡ false
   pub fre : p.fre ≡ false
   pub fr : p.fr ≡ false
@@ -49,7 +49,7 @@ pub record EndedIn (m : Machine) (port : Port) (id : RequestId) : Type 0 where
   pub port_is : pending.request.port ≡ port
   pub ended : pending.ended ≡ true
   pub touched : AllTouched pending
-  pub booked : NoneKept m port → Contains m.book pending
+  pub booked : NoneQuarantined m port → Contains m.book pending
 
 -- the slot's command is over, and its bit of SACT is clear
 pub record IsSlotClear (p : DevicePort) (slot : ℕ) : Type 0 where
@@ -149,33 +149,33 @@ pub record ShowsFault (entries : List Entry) (p : DevicePort) (port : ℕ) : Typ
 -- What the tape has of a port whose ST is 1. TFES, bit 30 of PxIS, tells that a fault has halted the port; and then the
 -- task file shows the last one since ST was set. No link is due, so none comes up and ends the halt. It goes by the
 -- halt, which lasts until the disk goes on, since the driver clears TFES before it reads PxTFD.
-pub record HasFaults (tape : List Entry) (p : DevicePort) (port : ℕ) : Type 0 where
+pub record RecordsFaults (tape : List Entry) (p : DevicePort) (port : ℕ) : Type 0 where
   pub known : p.notes.st_set_at ≤ length tape
   pub linked : p.link_due ≡ false
   pub flag : p.is 30 ≡ true → IsFaulted p.halt
   pub fault : IsFaulted p.halt → ShowsFault (drop p.notes.st_set_at tape) p port
 
 -- so it is while ST is 1
-abbrev pub IsRecorded : List Entry → DevicePort → ℕ → Type 0
-IsRecorded tape p port = p.st ≡ true → HasFaults tape p port
+abbrev pub FaultsOnRecord : List Entry → DevicePort → ℕ → Type 0
+FaultsOnRecord tape p port = p.st ≡ true → RecordsFaults tape p port
 
 -- From COMRESET until the link comes up the engine stands, and the task file shows DRQ, bit 3.
-abbrev pub IsAwaited : DevicePort → Type 0
-IsAwaited p = (p.link_due ≡ true) ⊎ (p.sctl_det ≡ 1) → (p.cr ≡ false) × (bit p.tfd 3 ≡ true)
+abbrev pub ShowsDrqTillLink : DevicePort → Type 0
+ShowsDrqTillLink p = (p.link_due ≡ true) ⊎ (p.sctl_det ≡ 1) → (p.cr ≡ false) × (bit p.tfd 3 ≡ true)
 
 -- the engine stands, and TFES is clear
-abbrev pub IsUnflagged : DevicePort → Type 0
-IsUnflagged p = (p.cr ≡ false) × (p.is 30 ≡ false)
+abbrev pub StoppedTfesClear : DevicePort → Type 0
+StoppedTfesClear p = (p.cr ≡ false) × (p.is 30 ≡ false)
 
 -- Nothing of the past would be taken for news of the next start: the engine stands, TFES is clear, and no link is due.
-pub record IsQuiet (p : DevicePort) : Type 0 where
-  pub unflagged : IsUnflagged p
+pub record IsCleanToStart (p : DevicePort) : Type 0 where
+  pub unflagged : StoppedTfesClear p
   pub linked : p.link_due ≡ false
   pub no_comreset : p.sctl_det ≢ 1
 
 -- What is asked of a write, beside the register's rules: ST is set on a quiet port, and SCTL is written while the
 -- engine stands.
 abbrev pub KeepsRecord : Reg → ℕ → Device → Type 0
-KeepsRecord (Px port Cmd) v d = bit v 0 ≡ true → ((d.port port.0).st ≡ true) ⊎ IsQuiet (d.port port.0)
+KeepsRecord (Px port Cmd) v d = bit v 0 ≡ true → ((d.port port.0).st ≡ true) ⊎ IsCleanToStart (d.port port.0)
 KeepsRecord (Px port Sctl) v d = (d.port port.0).cr ≡ false
 KeepsRecord _ v d = Unit {0}

@@ -5,7 +5,7 @@ use Rattle.adapter.specs.Device.{Device}
 use Rattle.adapter.specs.declared.tape.Entry.{Entry}
 use Rattle.block_machine.specs.State.{Machine}
 use Rattle.block_machine.specs.Steps.{Step}
-use Rattle.block_machine.specs.Left.{after, AllTellSectors}
+use Rattle.block_machine.specs.Left.{after, AllStepsFaithful}
 use Rattle.block_machine.specs.Events.{AllMay}
 use Rattle.refinement.specs.Slots.{SlotStates}
 use Rattle.refinement.specs.Relation.{StateRelation}
@@ -17,7 +17,7 @@ pub record SimulatesSteps (uses : SlotStates) (m : Machine) (old new : Device) :
   pub steps : List Step
   pub telling : new.telling ≡ old.telling
   pub may : AllMay m steps
-  pub told : old.telling ≡ true → AllTellSectors m steps
+  pub told : old.telling ≡ true → AllStepsFaithful m steps
   pub gained : List Entry
   pub tape : new.tape ≡ old.tape ++ gained
   pub tells : TapeTells m gained steps

@@ -6,7 +6,7 @@ use Rattle.adapter.specs.Memory.{changed}
 use Rattle.adapter.specs.declared.command.Operation.{Operation}
 use Rattle.block_machine.specs.State.{Pending, Machine}
 use Rattle.block_machine.specs.Steps.{MayStillMove}
-use Rattle.refinement.specs.Acts.{InSlots}
+use Rattle.refinement.specs.Acts.{DriverSlots}
 use Rattle.refinement.specs.Driver.{DriverState}
 use Rattle.refinement.specs.Slots.{SlotState, Free, Armed, Own, Serves, SlotStates, IsOver}
 
@@ -23,8 +23,8 @@ served_ids uses port zero = []
 served_ids uses port (suc n) = with_served (uses port n) (served_ids uses port n)
 
 -- Each slot of the port is over, and none is armed while ST is one.
-abbrev pub IsPortOver : SlotStates → DevicePort → ℕ → Type 0
-IsPortOver uses p port = (slot : ℕ) → IsOver p slot × (uses port slot ≡ Armed → p.st ≡ false)
+abbrev pub AreSlotsOver : SlotStates → DevicePort → ℕ → Type 0
+AreSlotsOver uses p port = (slot : ℕ) → IsOver p slot × (uses port slot ≡ Armed → p.st ≡ false)
 
 -- every slot of the port was given up, and the requests that they served aren't decided yet
 abbrev pub parking_all : DriverState → ℕ → DriverState
@@ -34,7 +34,7 @@ parking_all k port = record k {
 }
 
 -- what is in the slots then, and parked
-abbrev pub given_up : ℕ → InSlots → InSlots
+abbrev pub given_up : ℕ → DriverSlots → DriverSlots
 given_up port s = record {
   uses = changed s.uses port (λ slot. Free);
   parked = changed s.parked port

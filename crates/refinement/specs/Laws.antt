@@ -11,13 +11,13 @@ use Rattle.adapter.specs.Rules.{MayWrite, IsStable}
 use Rattle.adapter.specs.declared.command.Operation.{Operation}
 use Rattle.adapter.specs.declared.tape.Entry.{Entry}
 use Rattle.refinement.specs.Acts.{ByDeviceAlone, Performs}
-use Rattle.refinement.specs.Driven.{Grows, IsRelated, IsSimulated, IsSimulatedTo, IsSimulatedAlong, IsSimulatedAlongTo, NoneWrites, SendsNone}
+use Rattle.refinement.specs.Driven.{Grows, IsRelated, IsSimulated, IsSimulatedTo, IsSimulatedAlong, IsSimulatedAlongTo, NoneWrites, GainsNoMove}
 use Rattle.refinement.specs.Driver.{AllFree, IsOwnPrepared, LeavesUses, MayStore}
-use Rattle.refinement.specs.Errors.{ChangesByDisks, NoneComes, NoneFails, NoneFatal}
-use Rattle.refinement.specs.Facts.{IsHalted, Undisturbed}
+use Rattle.refinement.specs.Errors.{ChangesByDisks, NoDiskComes, NoneFails, NoneFatal}
+use Rattle.refinement.specs.Facts.{IsEngineStopped, Undisturbed}
 use Rattle.refinement.specs.GivingUp.{given_up}
-use Rattle.refinement.specs.Links.{PlugsNone}
-use Rattle.refinement.specs.Links.{SparesRegister}
+use Rattle.refinement.specs.Links.{NoPlugEvents}
+use Rattle.refinement.specs.Links.{DoesNotWrite}
 use Rattle.refinement.specs.Recovering.{WorksPlainly}
 use Rattle.refinement.specs.Slots.{Free, IsOver, Own, SlotStates, op_of, put}
 
@@ -62,7 +62,7 @@ pub record FragmentLaws (Kind : Type 0) (may : Kind → Access → Type 0)
       (old new : Device)
       → fits kind uses → NoneWrites (may kind) (Px port Ci) → NoneWrites (may kind) (Px port Sact) → op_of o ≡ None
       → (uses port.0 0 ≡ Own o → ⊥) → IsSimulatedTo (may kind) (fits kind) next old new → IsRelated uses old
-      → SendsNone port.0 o old new
+      → GainsNoMove port.0 o old new
   pub plain : (kind : Kind) (next : SlotStates → SlotStates) (uses : SlotStates) (port : Port) (old new : Device)
       → fits kind uses
       → NoneWrites (may kind) (Px port Sact) → IsSimulatedTo (may kind) (fits kind) next old new
@@ -73,7 +73,7 @@ pub record FragmentLaws (Kind : Type 0) (may : Kind → Access → Type 0)
       → Performs a.driven.accesses (λ s m. fits kind s.uses) (λ s. record s { uses = next s.uses }) ByDeviceAlone old
       new
   pub giving_up : (kind then : Kind) (next : SlotStates → SlotStates) (port : ℕ) (old mid new : Device)
-      → (a : IsSimulated (may kind) (fits kind) old mid) → IsHalted (mid.port port)
+      → (a : IsSimulated (may kind) (fits kind) old mid) → IsEngineStopped (mid.port port)
       → ((uses : SlotStates) → AllFree uses port → fits then uses)
       → (b : IsSimulatedTo (may then) (fits then) next mid new)
       → Performs (a.driven.accesses ++ b.driven.accesses)
@@ -88,13 +88,13 @@ pub record TapeLaws : Type 0 where
   pub access_grows : (access : Access) (old new : Device) → Does access old new → Grows old new
   -- parts of it, and the whole: of disks that come, or that come and go, of fatal errors, of faults, and of all these
   pub comes_parts : (port : ℕ) (old mid new : Device) (early late : List Entry) → mid.tape ≡ old.tape ++ early
-      → new.tape ≡ mid.tape ++ late → NoneComes port old new → NoneComes port old mid × NoneComes port mid new
-  pub plugs_come : (port : ℕ) (old new : Device) → PlugsNone port old new → NoneComes port old new
-  pub plugs_none : (port : ℕ) (d : Device) → PlugsNone port d d
-  pub plugs_more : (port : ℕ) (old mid new : Device) → PlugsNone port old mid → PlugsNone port mid new
-      → PlugsNone port old new
+      → new.tape ≡ mid.tape ++ late → NoDiskComes port old new → NoDiskComes port old mid × NoDiskComes port mid new
+  pub plugs_come : (port : ℕ) (old new : Device) → NoPlugEvents port old new → NoDiskComes port old new
+  pub plugs_none : (port : ℕ) (d : Device) → NoPlugEvents port d d
+  pub plugs_more : (port : ℕ) (old mid new : Device) → NoPlugEvents port old mid → NoPlugEvents port mid new
+      → NoPlugEvents port old new
   pub plugs_parts : (port : ℕ) (old mid new : Device) (early late : List Entry) → mid.tape ≡ old.tape ++ early
-      → new.tape ≡ mid.tape ++ late → PlugsNone port old new → PlugsNone port old mid × PlugsNone port mid new
+      → new.tape ≡ mid.tape ++ late → NoPlugEvents port old new → NoPlugEvents port old mid × NoPlugEvents port mid new
   pub fatal_none : (port : ℕ) (d : Device) → NoneFatal port d d
   pub fatal_more : (port : ℕ) (old mid new : Device) → NoneFatal port old mid → NoneFatal port mid new
       → NoneFatal port old new
@@ -114,5 +114,5 @@ pub record TapeLaws : Type 0 where
   pub access_change : (port : Port) (access : Access) (old new : Device) → old.hr ≡ false
       → (old.port port.0).link_due ≡ false → Does access old new → ChangesByDisks port.0 old new
   pub access_undue : (port : Port) (access : Access) (old new : Device) → old.hr ≡ false
-      → (old.port port.0).link_due ≡ false → SparesRegister (Px port Sctl) access → Does access old new
+      → (old.port port.0).link_due ≡ false → DoesNotWrite (Px port Sctl) access → Does access old new
       → (new.port port.0).link_due ≡ false

@@ -12,9 +12,9 @@ use Rattle.adapter.specs.declared.tape.Entry.{Entry}
 use Rattle.adapter.specs.declared.tape.Entry.TheVariants as entry
 
 -- the access doesn't write the register
-abbrev pub SparesRegister : Reg → Access → Type 0
-SparesRegister r (Writing other v) = other ≢ r
-SparesRegister r access = Unit {0}
+abbrev pub DoesNotWrite : Reg → Access → Type 0
+DoesNotWrite r (Writing other v) = other ≢ r
+DoesNotWrite r access = Unit {0}
 
 -- ---- the adapter
 
@@ -30,32 +30,32 @@ pub record SameAdapter (old new : Device) : Type 0 where
 -- Each control of the port that the access doesn't write is as the driver left it: ST and FRE of PxCMD, and when ST was
 -- set, and a port that runs goes on running; DET of PxSCTL, and when it was written; and the addresses.
 pub record LeavesControls (access : Access) (port : Port) (old new : DevicePort) : Type 0 where
-  pub command : SparesRegister (Px port Cmd) access
+  pub command : DoesNotWrite (Px port Cmd) access
       → (new.st ≡ old.st) × (new.fre ≡ old.fre) × (new.notes.st_set_at ≡ old.notes.st_set_at)
       × (old.st ≡ true → old.cr ≡ true → new.cr ≡ true)
-  pub control : SparesRegister (Px port Sctl) access
+  pub control : DoesNotWrite (Px port Sctl) access
       → (new.sctl_det ≡ old.sctl_det) × (new.notes.sctl_written_at ≡ old.notes.sctl_written_at)
-  pub interrupts : SparesRegister (Px port Ie) access → new.ie ≡ old.ie
-  pub list : SparesRegister (Px port Clb) access → (new.bases.clb ≡ old.bases.clb)
+  pub interrupts : DoesNotWrite (Px port Ie) access → new.ie ≡ old.ie
+  pub list : DoesNotWrite (Px port Clb) access → (new.bases.clb ≡ old.bases.clb)
       × (new.bases.clb_set ≡ old.bases.clb_set)
-  pub list_upper : SparesRegister (Px port Clbu) access → new.bases.clbu_set ≡ old.bases.clbu_set
-  pub received : SparesRegister (Px port Fb) access → (new.bases.fb ≡ old.bases.fb)
+  pub list_upper : DoesNotWrite (Px port Clbu) access → new.bases.clbu_set ≡ old.bases.clbu_set
+  pub received : DoesNotWrite (Px port Fb) access → (new.bases.fb ≡ old.bases.fb)
       × (new.bases.fb_set ≡ old.bases.fb_set)
-  pub received_upper : SparesRegister (Px port Fbu) access → new.bases.fbu_set ≡ old.bases.fbu_set
+  pub received_upper : DoesNotWrite (Px port Fbu) access → new.bases.fbu_set ≡ old.bases.fbu_set
 
 -- ---- the disk
 
 -- a disk of the port goes or comes
-abbrev pub IsPlugging : ℕ → Entry → Type 0
-IsPlugging port (entry.Unplug at) = at.0 ≡ port
-IsPlugging port (entry.Plug at name) = at.0 ≡ port
-IsPlugging port _ = ⊥
+abbrev pub IsPlugEvent : ℕ → Entry → Type 0
+IsPlugEvent port (entry.Unplug at) = at.0 ≡ port
+IsPlugEvent port (entry.Plug at name) = at.0 ≡ port
+IsPlugEvent port _ = ⊥
 
 -- the tape gained no entry of a disk of the port that goes or comes
-pub record PlugsNone (port : ℕ) (old new : Device) : Type 0 where
+pub record NoPlugEvents (port : ℕ) (old new : Device) : Type 0 where
   pub gained : List Entry
   pub tape : new.tape ≡ old.tape ++ gained
-  pub none : All (λ e. IsPlugging port e → ⊥) gained
+  pub none : All (λ e. IsPlugEvent port e → ⊥) gained
 
 -- the same disk is in, or out, with as many sectors
 pub record LeavesDisk (old new : DevicePort) : Type 0 where
@@ -87,5 +87,5 @@ abbrev pub LeavesLink : DevicePort → DevicePort → Type 0
 LeavesLink old new = SameLink old new ⊎ ComesUp old new
 
 -- a device shows in PxSSTS, whose DET is 3, or no disk is in (AHCI 1.3.1, 3.3.10)
-abbrev pub HasDeviceOrNone : DevicePort → Type 0
-HasDeviceOrNone p = (p.ssts_det ≡ 3) ⊎ (p.present ≡ false)
+abbrev pub ShowsDiskIfIn : DevicePort → Type 0
+ShowsDiskIfIn p = (p.ssts_det ≡ 3) ⊎ (p.present ≡ false)

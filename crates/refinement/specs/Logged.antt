@@ -16,7 +16,7 @@ use Rattle.refinement.specs.Driver.{DriverRelation, IsOwnPrepared, idle}
 use Rattle.refinement.specs.Facts.{RunsWell}
 use Rattle.refinement.specs.Slots.{Free, Own, SlotStates, put}
 use Rattle.refinement.specs.Witness.{page_bytes, ready_port, ready_with}
-use Rattle.refinement.specs.Recovering.{RunsLinked, EndsHalt, FailsOpenly}
+use Rattle.refinement.specs.Recovering.{RunsLinked, EndsHalt, FaultLeavesIssued}
 
 -- the FIS of READ LOG EXT, log 10h, one page
 abbrev pub log_bytes : List ℕ
@@ -49,7 +49,7 @@ pub record LogIsEnded : Type 0 where
   pub issued : Device
   pub writes : Writes (Px (port_at 0) Ci) 1 logging issued
   pub ends : EndsHalt log_uses 0 issued
-  pub opens : FailsOpenly log_uses 0 issued
+  pub opens : FaultLeavesIssued log_uses 0 issued
   pub over : Device
   pub reads : Reads (Px (port_at 0) Ci) 0 issued over
   pub found : Device

@@ -8,26 +8,26 @@ use Rattle.hba_regs.specs.declared.reg.PortReg.TheVariants.{Cmd, Tfd, Sig, Ssts,
 use Rattle.adapter.specs.Access.{Access, Reads}
 use Rattle.adapter.specs.Access.Access.{Reading}
 use Rattle.adapter.specs.Device.{Device, Notes}
-use Rattle.refinement.specs.Links.{SparesRegister}
+use Rattle.refinement.specs.Links.{DoesNotWrite}
 
 -- the access doesn't read the register
-abbrev pub SparesReading : Reg → Access → Type 0
-SparesReading r (Reading other v) = other ≢ r
-SparesReading r access = Unit {0}
+abbrev pub DoesNotRead : Reg → Access → Type 0
+DoesNotRead r (Reading other v) = other ≢ r
+DoesNotRead r access = Unit {0}
 
 -- Each value that was last read is as it was, but for a reading of its register, and so is its count; those of the
 -- link, of busy and of the command also but for a write of PxSCTL.
 pub record LeavesNotes (access : Access) (port : Port) (old new : Notes) : Type 0 where
-  pub command : SparesReading (Px port Cmd) access → (new.last_cmd ≡ old.last_cmd)
+  pub command : DoesNotRead (Px port Cmd) access → (new.last_cmd ≡ old.last_cmd)
       × (new.engine_count ≡ old.engine_count)
-  pub link : SparesReading (Px port Ssts) access
-      → (new.last_ssts ≡ old.last_ssts) × (SparesRegister (Px port Sctl) access → new.link_count ≡ old.link_count)
-  pub file : SparesReading (Px port Tfd) access
-      → (new.last_tfd ≡ old.last_tfd) × (SparesRegister (Px port Sctl) access → new.busy_count ≡ old.busy_count)
-  pub issued : SparesReading (Px port Ci) access
-      → (new.last_ci ≡ old.last_ci) × (SparesRegister (Px port Sctl) access → new.command_count ≡ old.command_count)
-  pub active : SparesReading (Px port Sact) access → new.last_sact ≡ old.last_sact
-  pub signature : SparesReading (Px port Sig) access → new.last_sig ≡ old.last_sig
+  pub link : DoesNotRead (Px port Ssts) access
+      → (new.last_ssts ≡ old.last_ssts) × (DoesNotWrite (Px port Sctl) access → new.link_count ≡ old.link_count)
+  pub file : DoesNotRead (Px port Tfd) access
+      → (new.last_tfd ≡ old.last_tfd) × (DoesNotWrite (Px port Sctl) access → new.busy_count ≡ old.busy_count)
+  pub issued : DoesNotRead (Px port Ci) access
+      → (new.last_ci ≡ old.last_ci) × (DoesNotWrite (Px port Sctl) access → new.command_count ≡ old.command_count)
+  pub active : DoesNotRead (Px port Sact) access → new.last_sact ≡ old.last_sact
+  pub signature : DoesNotRead (Px port Sig) access → new.last_sig ≡ old.last_sig
 
 -- A reading of the register is noted here, as the last one.
 abbrev pub NotesLast : PortReg → (Notes → ℕ) → Type 0

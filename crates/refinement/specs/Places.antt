@@ -1,7 +1,7 @@
 -- Where the driver keeps the structures of a port, and where the sectors of a request lie (this project's own).
 -- The numbers are those that ata_types names.
 use Rattle.std.specs.Prelude.{ℕ, ◌+◌, ◌*◌, ◌/◌, ◌%◌, ◌<◌, ◌≤◌, ◌⊎◌, List}
-use Rattle.ata_types.specs.declared.memory.TheConstants.{FRAME_BYTES, HEADER_BYTES, PORT_BYTES, RECEIVED_OFFSET, SCRATCH_OFFSET, TABLES_OFFSET, TABLE_BYTES}
+use Rattle.ata_types.specs.declared.memory.TheConstants.{FRAME_BYTES, HEADER_BYTES, PORT_BYTES, RECEIVED_FIS_OFFSET, SCRATCH_OFFSET, TABLES_OFFSET, TABLE_BYTES}
 use Rattle.ata_types.specs.declared.request.Frame.{Frame}
 use Rattle.block_machine.specs.State.{frame_at}
 
@@ -11,7 +11,7 @@ abbrev pub list_of : ℕ → ℕ
 list_of port = PORT_BYTES * port
 
 abbrev pub received_of : ℕ → ℕ
-received_of port = PORT_BYTES * port + RECEIVED_OFFSET
+received_of port = PORT_BYTES * port + RECEIVED_FIS_OFFSET
 
 abbrev pub table_of : ℕ → ℕ → ℕ
 table_of port slot = PORT_BYTES * port + TABLES_OFFSET + TABLE_BYTES * slot

@@ -8,7 +8,7 @@ use Rattle.adapter.specs.Access.Access.{Storing}
 use Rattle.adapter.specs.Commands.{Meaning, is_queued}
 use Rattle.adapter.specs.Device.{Device}
 use Rattle.refinement.specs.Driver.{MissesTable}
-use Rattle.refinement.specs.Links.{SparesRegister}
+use Rattle.refinement.specs.Links.{DoesNotWrite}
 use Rattle.refinement.specs.Slots.{Free, Armed, SlotStates, IsPlaced, SlotDecodesTo}
 use Rattle.refinement.specs.Started.{ClearsNoStart}
 
@@ -26,7 +26,7 @@ pub record IsReadied (uses : SlotStates) (d : Device) (port slot : ℕ) (c : Mea
 -- The access leaves what is stored for the slot: it writes neither GHC nor PxCLB, doesn't clear ST, and stores nothing
 -- in header or table.
 pub record LeavesStored (port : Port) (slot : ℕ) (access : Access) : Type 0 where
-  pub host : SparesRegister Ghc access
+  pub host : DoesNotWrite Ghc access
   pub start : ClearsNoStart port access
-  pub list : SparesRegister (Px port Clb) access
+  pub list : DoesNotWrite (Px port Clb) access
   pub table : (at : ℕ) (bytes : List ℕ) → access ≡ Storing at bytes → MissesTable port.0 slot at (length bytes)

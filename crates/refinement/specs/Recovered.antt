@@ -11,13 +11,13 @@ use Rattle.adapter.specs.Steps.{Steps}
 use Rattle.adapter.specs.declared.tape.Entry.TheVariants as entry
 use Rattle.adapter.specs.declared.tape.Fault as tape_fault
 use Rattle.refinement.specs.Relation.{port_at}
-use Rattle.refinement.specs.Facts.{IsHalted, RunsWell}
+use Rattle.refinement.specs.Facts.{IsEngineStopped, RunsWell}
 use Rattle.refinement.specs.Recovering.{IsLinked, WorksPlainly}
 
 -- The first read may fail. Then such accesses may give these values: PxCMD is written with ST 0, and CR may fall;
 -- PxSERR and PxIS are cleared, PxTFD and PxSSTS are read, and ST is set and PxIS read with no cause. Each write is
 -- permitted when it is made. The port worked on plain commands alone, with its link up; and it runs well then.
-pub record RecoveryIsFound : Type 0 where
+pub record RecoveredWitness : Type 0 where
   pub plain : WorksPlainly (first_read_device.port 0)
   pub linked : IsLinked (first_read_device.port 0)
   pub failed : Device
@@ -28,7 +28,7 @@ pub record RecoveryIsFound : Type 0 where
   pub stops : Writes (Px (port_at 0) Cmd) 0x10 failed stopping
   pub stopped : Device
   pub falls : Steps stopping stopped
-  pub stands : IsHalted (stopped.port 0)
+  pub stands : IsEngineStopped (stopped.port 0)
   pub may_clear : IsStable (MayWrite (Px (port_at 0) Serr) 0xffffffff) stopped
   pub cleared : Device
   pub clears : Writes (Px (port_at 0) Serr) 0xffffffff stopped cleared

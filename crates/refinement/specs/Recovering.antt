@@ -3,7 +3,7 @@ use Rattle.std.specs.Prelude.{ℕ, true, false, ◌≡◌, ◌≢◌, ◌⊎◌,
 use Rattle.adapter.specs.Commands.{is_queued}
 use Rattle.adapter.specs.Device.{FetchedCommand, DevicePort, Device}
 use Rattle.adapter.specs.Device.Halt.{NotHalted}
-use Rattle.adapter.specs.Steps.{restarted}
+use Rattle.adapter.specs.Steps.{halt_after_start}
 use Rattle.refinement.specs.Facts.{IsFaulted}
 use Rattle.refinement.specs.Slots.{SlotStates, Free}
 
@@ -19,7 +19,7 @@ pub record IsLinked (p : DevicePort) : Type 0 where
 -- The port works on plain commands alone: no bit of PxSACT is set, no queued command is taken, and no halt is of one.
 -- So once ST is set no halt is left (AHCI 1.3.1, 6.2.2).
 pub record WorksPlainly (p : DevicePort) : Type 0 where
-  pub restarts : restarted p.halt ≡ NotHalted
+  pub restarts : halt_after_start p.halt ≡ NotHalted
   pub unarmed : (slot : ℕ) → p.sact slot ≡ false
   pub plain : (slot : ℕ) (t : FetchedCommand) → p.taken slot ≡ Some t → is_queued t.meaning.operation ≡ false
 
@@ -46,7 +46,7 @@ pub record EndsHalt (uses : SlotStates) (port : ℕ) (d : Device) : Type 0 where
 -- No reset is pending and no link is due, and slot 0 of a running port alone may have a command, a plain one. TFES, bit
 -- 30 of PxIS, is clear; or a fault halts the port, and the command isn't over. (A command that a fault has halted
 -- doesn't end.)
-pub record FailsOpenly (uses : SlotStates) (port : ℕ) (d : Device) : Type 0 where
+pub record FaultLeavesIssued (uses : SlotStates) (port : ℕ) (d : Device) : Type 0 where
   pub off : d.hr ≡ false
   pub st : (d.port port).st ≡ true
   pub plain : (d.port port).sact 0 ≡ false

@@ -17,7 +17,7 @@ abbrev pub port_at : ℕ → Port
 port_at n = record { 0 = n }
 
 -- the received FIS area is where it belongs
-pub record IsReceiving (p : DevicePort) (port : ℕ) : Type 0 where
+pub record HasReceivedArea (p : DevicePort) (port : ℕ) : Type 0 where
   pub below : port < 4
   pub area : p.bases.fb ≡ received_of port
 
@@ -54,7 +54,7 @@ ServeApart uses = (port slot other_port other_slot : ℕ) (id : RequestId) → u
 pub record StateRelation (uses : SlotStates) (m : Machine) (d : Device) : Type 0 where
   pub slot : (port slot : ℕ) → RelatesSlot m d.memory d.tape (d.port port) port slot (uses port slot)
   pub apart : ServeApart uses
-  pub received : (port : ℕ) → (d.port port).fre ≡ true → IsReceiving (d.port port) port
+  pub received : (port : ℕ) → (d.port port).fre ≡ true → HasReceivedArea (d.port port) port
   pub disk : (port : ℕ) → IsDiskOf m (d.port port) port
   pub memory : SameMemory m d.memory
   pub sectors : d.telling ≡ true → (port : ℕ) → SameSectors m (d.port port).disk port

@@ -6,16 +6,16 @@ use Rattle.adapter.specs.declared.tape.Entry.{Entry}
 use Rattle.block_machine.specs.State.{Block}
 
 -- the block of these bytes, if any
-abbrev pub block_if : Option (List ℕ) → List Block
-block_if None = []
-block_if (Some bytes) = slice_index bytes ∷ []
+abbrev pub optional_block : Option (List ℕ) → List Block
+optional_block None = []
+optional_block (Some bytes) = slice_index bytes ∷ []
 
 -- the blocks that the entries put into the port's sector k
 abbrev pub blocks_put : (port k : ℕ) → List Entry → List Block
 blocks_put port k [] = []
-blocks_put port k (entry ∷ later) = block_if (put_into port k entry) ++ blocks_put port k later
+blocks_put port k (entry ∷ later) = optional_block (put_into port k entry) ++ blocks_put port k later
 
 -- what is lasting there, and what was put there since
-abbrev pub may_return : List Entry → Lasting → (port k : ℕ) → List Block
-may_return tape lasting port k = block_if (option_map (λ sectors. sectors k) lasting.sectors)
+abbrev pub replug_candidates : List Entry → Lasting → (port k : ℕ) → List Block
+replug_candidates tape lasting port k = optional_block (option_map (λ sectors. sectors k) lasting.sectors)
     ++ blocks_put port k (drop lasting.since tape)

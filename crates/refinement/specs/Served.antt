@@ -76,7 +76,7 @@ two_known d =
 -- A machine is reached that agrees with the driver where both slots are armed; and one that has issued both requests,
 -- which have no frame in common. Each write of PxCI is permitted; this machine agrees with the driver when both
 -- commands are issued, and when the device has taken the one, which is queued, while the other waits.
-pub record TwoAreKnown : Type 0 where
+pub record TwoReadsWitness : Type 0 where
   pub before : Machine
   pub reached_before : IsReachable before
   pub armed : DriverRelation before (record { uses = armed_uses; parked = λ port. []; device = two_armed })

@@ -8,7 +8,7 @@ use Rattle.adapter.specs.Access.{Access}
 use Rattle.adapter.specs.Access.Access.{Writing}
 use Rattle.adapter.specs.Device.{DevicePort}
 use Rattle.adapter.specs.Device.Halt.{NotHalted}
-use Rattle.adapter.specs.Steps.{restarted}
+use Rattle.adapter.specs.Steps.{halt_after_start}
 
 -- The link is up: a disk is in, its first FIS has come, no other link is due, and COMRESET isn't being sent. Once ST
 -- is set, no halt is left (AHCI 1.3.1, 6.2.2 and 10.4.2).
@@ -18,7 +18,7 @@ pub record IsUp (p : DevicePort) : Type 0 where
   pub fresh : p.fresh ≡ true
   pub linked : p.link_due ≡ false
   pub released : p.sctl_det ≢ 1
-  pub restarts : restarted p.halt ≡ NotHalted
+  pub restarts : halt_after_start p.halt ≡ NotHalted
 
 -- The engine stands; and if PxSSTS.DET is 3, the link is up.
 pub record IsComingUp (p : DevicePort) : Type 0 where

@@ -118,14 +118,15 @@ PutsInDisks port disks (step ∷ steps) = PutsInDisks port disks steps
 -- ---- what a call adds: device steps, and the driver's own between them
 
 -- no step is the device's
-abbrev pub AllOwn : List Step → Type 0
-AllOwn [] = Unit {0}
-AllOwn (step ∷ before) = AllOwn before × (IsByDevice step → ⊥)
+abbrev pub NoneByDevice : List Step → Type 0
+NoneByDevice [] = Unit {0}
+NoneByDevice (step ∷ before) = NoneByDevice before × (IsByDevice step → ⊥)
 
 -- The entries, the oldest first, tell of the device's steps among these, the newest first; the others are the driver's
 -- own.
-abbrev pub TellsAmong : Machine → List Entry → List Step → Type 0
-TellsAmong m [] steps = AllOwn steps
-TellsAmong m (entry ∷ entries) steps =
-    (own : List Step) × (first : List Step) × (rest : List Step) × AllOwn own × TellsEntry (after m own) entry first
-    × TellsAmong (after m (first ++ own)) entries rest × (steps ≡ rest ++ (first ++ own))
+abbrev pub TellsDeviceSteps : Machine → List Entry → List Step → Type 0
+TellsDeviceSteps m [] steps = NoneByDevice steps
+TellsDeviceSteps m (entry ∷ entries) steps =
+    (own : List Step) × (first : List Step) × (rest : List Step) × NoneByDevice own
+    × TellsEntry (after m own) entry first
+    × TellsDeviceSteps (after m (first ++ own)) entries rest × (steps ≡ rest ++ (first ++ own))

@@ -28,14 +28,14 @@ abbrev pub trim_bytes : List ℕ
 trim_bytes = 0x27 ∷ 0x80 ∷ 6 ∷ 1 ∷ 0 ∷ 0 ∷ 0 ∷ 0 ∷ 0 ∷ 0 ∷ 0 ∷ 0 ∷ 1 ∷ replicate 7 0
 
 -- the block: eight sectors from sector 100 on, and nothing more
-abbrev pub trim_block : List ℕ
-trim_block = 100 ∷ 0 ∷ 0 ∷ 0 ∷ 0 ∷ 0 ∷ 8 ∷ 0 ∷ replicate 504 0
+abbrev pub example_trim_block : List ℕ
+example_trim_block = 100 ∷ 0 ∷ 0 ∷ 0 ∷ 0 ∷ 0 ∷ 8 ∷ 0 ∷ replicate 504 0
 
 -- In the first read's memory: the header has W, the table has the trim with the PRD of a page, and the block stands in
 -- the scratch frame.
 unfoldable pub trim_memory : ℕ → ℕ
 trim_memory = patched (patched (patched (patched first_memory 0 (0x45 ∷ [])) 0x1000 trim_bytes) 0x1080 page_bytes)
-    (scratch_of 0) trim_block
+    (scratch_of 0) example_trim_block
 
 -- such a device before bit 0 of PxCI is written, after, and when the command is taken
 abbrev pub prepared_trim : Device

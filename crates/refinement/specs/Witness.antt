@@ -18,7 +18,7 @@ use Rattle.block_machine.specs.State.{Pending, Machine}
 use Rattle.block_machine.specs.Steps.{Again, May, MayStillMove}
 use Rattle.refinement.specs.Relation.{port_at}
 use Rattle.refinement.specs.Driver.{DriverState, DriverRelation, IsPrepared, IsOwnPrepared, HasNoSlot, idle, parking}
-use Rattle.refinement.specs.Facts.{IsHalted, FindsOwnPage}
+use Rattle.refinement.specs.Facts.{IsEngineStopped, FindsOwnPage}
 use Rattle.refinement.specs.Places.{scratch_of}
 use Rattle.refinement.specs.Slots.{Free, Own, Serves, SlotStates, put, IsEnded}
 
@@ -40,7 +40,7 @@ prepared_read = ready_with first_memory
 
 -- A machine is reached that has accepted request 1, and agrees with a driver that has put it into no slot yet. All is
 -- there for the write of bit 0 of PxCI; the write is permitted, and gives the first read.
-pub record PreparedIsKnown : Type 0 where
+pub record PreparedReadWitness : Type 0 where
   pub machine : Machine
   pub reached : IsReachable machine
   pub knows : DriverRelation machine (idle prepared_read)
@@ -59,7 +59,7 @@ abbrev pub first_known : DriverState
 first_known = record { uses = first_uses; parked = λ port. []; device = first_read_device }
 
 -- A machine is reached that has issued request 1, and agrees with the driver of the first read.
-pub record FirstIsKnown : Type 0 where
+pub record FirstReadWitness : Type 0 where
   pub machine : Machine
   pub reached : IsReachable machine
   pub knows : DriverRelation machine first_known
@@ -80,11 +80,11 @@ parked_known = parking (record first_known { device = stopped_read }) 0 0 first_
 
 -- PxCMD may be written so, CR may fall then, and the port has halted. A machine is reached that agrees with the driver,
 -- who has taken request 1 from its slot; and the request may wait again.
-pub record ParkedIsKnown : Type 0 where
+pub record ParkedReadWitness : Type 0 where
   pub permitted : IsStable (MayWrite (Px (port_at 0) Cmd) 0x10) first_read_device
   pub writes : Writes (Px (port_at 0) Cmd) 0x10 first_read_device stopping_read
   pub falls : Steps stopping_read stopped_read
-  pub halted : IsHalted (stopped_read.port 0)
+  pub halted : IsEngineStopped (stopped_read.port 0)
   pub machine : Machine
   pub reached : IsReachable machine
   pub knows : DriverRelation machine parked_known

@@ -5,15 +5,15 @@ ghost use Rattle.hba_regs.specs.declared.reg.Reg.TheVariants.{Px};
 ghost use Rattle.hba_regs.specs.declared.reg.PortReg.TheVariants.{Sact};
 ghost use Rattle.adapter.specs.Access.{Access, Does, DoesAll};
 ghost use Rattle.adapter.specs.declared.command.Operation.{Operation};
-ghost use Rattle.block_machine.specs.Events.{AllDevices, IsByDevice};
+ghost use Rattle.block_machine.specs.Events.{AllByDevice, IsByDevice};
 ghost use Rattle.block_machine.specs.Histories.{IsReachable, IsSimulatedBySteps};
 ghost use Rattle.block_machine.specs.Left.{after};
 ghost use Rattle.block_machine.specs.State.{Machine};
 ghost use Rattle.block_machine.specs.Steps.{Step, May, after_step};
 ghost use Rattle.refinement.specs.Acts.{Act, IsActDone, AreActsDone, accesses_of, act_steps};
-ghost use Rattle.refinement.specs.Driven.{SendsNone};
-ghost use Rattle.refinement.specs.Driver.{DriverState, DriverRelation, ByDevice, DriverAdvances, EndsWith};
-ghost use Rattle.refinement.specs.Links.{SparesRegister};
+ghost use Rattle.refinement.specs.Driven.{GainsNoMove};
+ghost use Rattle.refinement.specs.Driver.{DriverState, DriverRelation, ByDevice, DriverAdvances, EndsInStep};
+ghost use Rattle.refinement.specs.Links.{DoesNotWrite};
 ghost use Rattle.refinement.specs.Recovering.{WorksPlainly};
 ghost use Rattle.refinement.specs.Slots.{Own, op_of};
 
@@ -25,9 +25,10 @@ pub fn law_acts_are_done()
     ensures access { (k later : DriverState) (m : Machine) (access : Access)
         → IsSimulatedBySteps DriverRelation k later (ByDevice k.device later.device) → IsReachable m
         → DriverRelation m k
-        → Does access k.device later.device → (steps : List Step) × AllDevices steps
+        → Does access k.device later.device → (steps : List Step) × AllByDevice steps
         × IsActDone k m (record { access = Some access; steps = steps; later = later }) }
-    ensures ends { (k later : DriverState) (m : Machine) (access : Access) (step : Step) → (e : EndsWith k m step later)
+    ensures ends { (k later : DriverState) (m : Machine) (access : Access) (step : Step)
+        → (e : EndsInStep k m step later)
         → Does access k.device later.device
         → IsActDone k m (record { access = Some access; steps = step ∷ e.steps; later = later }) }
     ensures own { (k later : DriverState) (m : Machine) (step : Step) → (IsByDevice step → ⊥) → May m step
@@ -49,7 +50,7 @@ pub fn law_acts_compose()
 /// What acts give: the driver goes by all their steps, and their accesses are made. A port for which slot 0 has no
 /// command of an operation, before any of them, is sent no page by it; and where none of them writes its PxSACT, one
 /// that works on plain commands alone goes on so.
-pub fn law_acts_give()
+pub fn law_acts_advance_driver()
     ensures goes { (acts : List Act) (k later : DriverState) (m : Machine) → DriverRelation m k
         → AreActsDone acts k m later
         → DriverAdvances k m (act_steps acts) later }
@@ -58,10 +59,10 @@ pub fn law_acts_give()
     ensures silent { (acts : List Act) (k later : DriverState) (m : Machine) (port : ℕ) (o : Operation) → op_of o ≡ None
         → IsReachable m → DriverRelation m k → (k.uses port 0 ≡ Own o → ⊥)
         → All (λ act. act.later.uses port 0 ≡ Own o → ⊥) acts
-        → AreActsDone acts k m later → SendsNone port o k.device later.device }
+        → AreActsDone acts k m later → GainsNoMove port o k.device later.device }
     ensures plain { (acts : List Act) (k later : DriverState) (m : Machine) (port : Port) → IsReachable m
         → DriverRelation m k
-        → All (SparesRegister (Px port Sact)) (accesses_of acts) → AreActsDone acts k m later
+        → All (DoesNotWrite (Px port Sact)) (accesses_of acts) → AreActsDone acts k m later
         → WorksPlainly (k.device.port port.0) → WorksPlainly (later.device.port port.0) }
 {
     law_below();

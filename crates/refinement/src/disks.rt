@@ -9,8 +9,8 @@ ghost use Rattle.adapter.specs.Access.{Reads, Writes, Access, Does};
 ghost use Rattle.adapter.specs.Device.{DevicePort, Device};
 ghost use Rattle.adapter.specs.Idle.{IsIdle};
 ghost use Rattle.adapter.specs.Steps.{Steps};
-ghost use Rattle.refinement.specs.Errors.{NoneComes, NoneFails};
-ghost use Rattle.refinement.specs.Links.{PlugsNone, HasDeviceOrNone};
+ghost use Rattle.refinement.specs.Errors.{NoDiskComes, NoneFails};
+ghost use Rattle.refinement.specs.Links.{NoPlugEvents, ShowsDiskIfIn};
 ghost use Rattle.refinement.specs.Vacant.{IsVacant, IsFreshIfShown};
 
 use super::lawful::law_below;
@@ -19,27 +19,27 @@ use super::lawful::law_below;
 /// none, none then; and where a device shows, its first FIS has come, if it had where one showed before. Whatever else
 /// the device does, also over a reset that ends, and over each access. A reset that has ended shows no device, and so
 /// does COMRESET.
-pub fn law_none_comes_in()
-    ensures out_steps { (port : ℕ) (old new : Device) → NoneComes port old new → Steps old new
+pub fn law_no_disk_comes_in()
+    ensures out_steps { (port : ℕ) (old new : Device) → NoDiskComes port old new → Steps old new
         → (old.port port).present ≡ false → (new.port port).present ≡ false }
-    ensures out_access { (port : Port) (access : Access) (old new : Device) → NoneComes port.0 old new
+    ensures out_access { (port : Port) (access : Access) (old new : Device) → NoDiskComes port.0 old new
         → Does access old new → (old.port port.0).present ≡ false → (new.port port.0).present ≡ false }
-    ensures vacant_steps { (port : ℕ) (old new : Device) → NoneComes port old new → Steps old new
+    ensures vacant_steps { (port : ℕ) (old new : Device) → NoDiskComes port old new → Steps old new
         → IsVacant (old.port port) → IsVacant (new.port port) }
-    ensures vacant_access { (port : Port) (access : Access) (old new : Device) → NoneComes port.0 old new
+    ensures vacant_access { (port : Port) (access : Access) (old new : Device) → NoDiskComes port.0 old new
         → Does access old new → IsVacant (old.port port.0) → IsVacant (new.port port.0) }
-    ensures fresh_steps { (port : ℕ) (old new : Device) → NoneComes port old new → Steps old new
+    ensures fresh_steps { (port : ℕ) (old new : Device) → NoDiskComes port old new → Steps old new
         → IsFreshIfShown (old.port port) → IsFreshIfShown (new.port port) }
-    ensures fresh_access { (port : Port) (access : Access) (old new : Device) → NoneComes port.0 old new
+    ensures fresh_access { (port : Port) (access : Access) (old new : Device) → NoDiskComes port.0 old new
         → Does access old new → IsFreshIfShown (old.port port.0) → IsFreshIfShown (new.port port.0) }
     ensures vacant_reset { (v : ℕ) (old new : Device) → old.hr ≡ true → Reads Ghc v old new → bit v 0 ≡ false
-        → (port : ℕ) → NoneComes port old new → (old.port port).present ≡ false → IsVacant (new.port port) }
+        → (port : ℕ) → NoDiskComes port old new → (old.port port).present ≡ false → IsVacant (new.port port) }
     ensures fresh_reset { (v : ℕ) (old new : Device) → old.hr ≡ true → Reads Ghc v old new → bit v 0 ≡ false
-        → (port : ℕ) → NoneComes port old new → IsFreshIfShown (new.port port) }
+        → (port : ℕ) → NoDiskComes port old new → IsFreshIfShown (new.port port) }
     ensures fresh_comreset { (port : Port) (v : ℕ) (old new : Device) → v % 16 ≡ 1 → Writes (Px port Sctl) v old new
         → IsFreshIfShown (new.port port.0) }
     ensures shown { (port : Port) (v : ℕ) (old new : Device) → Reads (Px port Ssts) v old new → v % 16 ≡ 3
-        → HasDeviceOrNone (new.port port.0) }
+        → ShowsDiskIfIn (new.port port.0) }
 {
     law_below();
 }
@@ -61,10 +61,10 @@ pub fn law_look_tells()
         → ((old.port port.0).serr_n ≡ true → bit v 22 ≡ true) × ((old.port port.0).serr_x ≡ true → bit v 6 ≡ true) }
     ensures lost { (port : Port) (v : ℕ) (old new : Device) → old.hr ≡ false → (old.port port.0).link_due ≡ false
         → Reads (Px port Is) v old new → (bit v 22 ≡ true) ⊎ (bit v 6 ≡ true)
-        → ((old.port port.0).serr_n ≡ true) ⊎ (((old.port port.0).serr_x ≡ true) ⊎ (PlugsNone port.0 old new → ⊥)) }
+        → ((old.port port.0).serr_n ≡ true) ⊎ (((old.port port.0).serr_x ≡ true) ⊎ (NoPlugEvents port.0 old new → ⊥)) }
     ensures unlinked { (port : Port) (v : ℕ) (old new : Device) → old.hr ≡ false → (old.port port.0).link_due ≡ false
         → Reads (Px port Ssts) v old new → v % 16 ≢ 3 → ((old.port port.0).ssts_det ≢ 3)
-        ⊎ (PlugsNone port.0 old new → ⊥) }
+        ⊎ (NoPlugEvents port.0 old new → ⊥) }
     ensures fault { (port : Port) (v : ℕ) (old new : Device) → old.hr ≡ false → Reads (Px port Is) v old new
         → bit v 30 ≡ true → ((old.port port.0).is 30 ≡ true) ⊎ (NoneFails port.0 old new → ⊥) }
 {

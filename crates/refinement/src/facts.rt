@@ -20,19 +20,19 @@ ghost use Rattle.adapter.specs.Rules.{IsUnowned, IsOn, MayWrite, IsStable};
 ghost use Rattle.adapter.specs.Steps.{Steps};
 ghost use Rattle.adapter.specs.declared.command.Operation.{Operation};
 ghost use Rattle.adapter.specs.declared.tape.Entry.{Entry};
-ghost use Rattle.block_machine.specs.Events.{AllDevices};
+ghost use Rattle.block_machine.specs.Events.{AllByDevice};
 ghost use Rattle.block_machine.specs.Histories.{IsReachable, IsSimulatedBySteps};
 ghost use Rattle.block_machine.specs.Left.{after};
 ghost use Rattle.block_machine.specs.State.{Pending, Machine};
-ghost use Rattle.block_machine.specs.Steps.{Step, Release, MayStillMove, NoneKept, after_step};
+ghost use Rattle.block_machine.specs.Steps.{Step, Release, MayStillMove, NoneQuarantined, after_step};
 ghost use Rattle.refinement.specs.Relation.{StateRelation};
 ghost use Rattle.refinement.specs.Awaits.{AwaitsPage};
-ghost use Rattle.refinement.specs.Booted.{BootIsFound};
+ghost use Rattle.refinement.specs.Booted.{BootWitness};
 ghost use Rattle.refinement.specs.Driven.{Grows};
 ghost use Rattle.refinement.specs.Driver.{DriverState, DriverRelation, IsOwnPrepared};
-ghost use Rattle.refinement.specs.Errors.{KeepsErrors, NoneComes, ChangesByDisks, StaysClear, NoneFatal, NoneFails, ChangesByErrors, IsLeftByReset, IsCleared, IsOfEachPart, IsWork};
-ghost use Rattle.refinement.specs.Facts.{IsHalted, IsAfterReset, FindsOwnPage, DeviceSparesFrame, AreOver, RunsWell, Undisturbed, ShowsNoTrouble, TellsNoTrouble, ClearsNoTrouble, IsFaulted, ShowsFault, HasFaults, IsRecorded, IsAwaited, IsUnflagged, IsQuiet, KeepsRecord, EndedIn, IsSlotClear};
-ghost use Rattle.refinement.specs.Links.{SparesRegister, SameAdapter, LeavesControls, PlugsNone, LeavesDisk, LeavesLink, HasDeviceOrNone};
+ghost use Rattle.refinement.specs.Errors.{KeepsErrors, NoDiskComes, ChangesByDisks, StaysClear, NoneFatal, NoneFails, ChangesByErrors, IsLeftByReset, ShowsResetState, IsCompositional, IsWork};
+ghost use Rattle.refinement.specs.Facts.{IsEngineStopped, IsQuiescentPort, FindsOwnPage, DeviceSparesFrame, AreOver, RunsWell, Undisturbed, ShowsNoTrouble, TellsNoTrouble, ClearsNoTrouble, IsFaulted, ShowsFault, RecordsFaults, FaultsOnRecord, ShowsDrqTillLink, StoppedTfesClear, IsCleanToStart, KeepsRecord, EndedIn, IsSlotClear};
+ghost use Rattle.refinement.specs.Links.{DoesNotWrite, SameAdapter, LeavesControls, NoPlugEvents, LeavesDisk, LeavesLink, ShowsDiskIfIn};
 ghost use Rattle.refinement.specs.Noted.{LeavesNotes, NotesLast};
 ghost use Rattle.refinement.specs.Places.{scratch_of};
 ghost use Rattle.refinement.specs.Slots.{SlotStates, Free, Own, Serves, IsOver, Brought, put};
@@ -40,19 +40,20 @@ ghost use Rattle.refinement.specs.Spares.{IsOfAnother};
 ghost use Rattle.refinement.specs.Started.{IsUp, IsComingUp, IsStarted, SetsNoStart, ClearsNoStart};
 
 use super::lawful::law_below;
-use adapter::laws::law_steps_keep;
+use adapter::laws::law_steps_guarantee;
 
 /// A port that has halted stays so, whatever the device does, also over a reset of the adapter that ends, over
 /// readings, and over each write that may be made and doesn't set its ST; and an idle port has halted.
-pub fn law_halted_stays()
-    ensures steps { (port : ℕ) (old new : Device) → Steps old new → IsHalted (old.port port)
-        → IsHalted (new.port port) }
-    ensures reads { (port : ℕ) (r : Reg) (v : ℕ) (old new : Device) → Reads r v old new → IsHalted (old.port port)
-        → IsHalted (new.port port) }
+pub fn law_stopped_engine_stays()
+    ensures steps { (port : ℕ) (old new : Device) → Steps old new → IsEngineStopped (old.port port)
+        → IsEngineStopped (new.port port) }
+    ensures reads { (port : ℕ) (r : Reg) (v : ℕ) (old new : Device) → Reads r v old new
+        → IsEngineStopped (old.port port)
+        → IsEngineStopped (new.port port) }
     ensures writes { (port : Port) (r : Reg) (v : ℕ) (old new : Device) → IsStable (MayWrite r v) old
-        → (r ≡ Px port Cmd → bit v 0 ≡ false) → Writes r v old new → IsHalted (old.port port.0)
-        → IsHalted (new.port port.0) }
-    ensures idle { (p : DevicePort) → IsIdlePort p → IsHalted p }
+        → (r ≡ Px port Cmd → bit v 0 ≡ false) → Writes r v old new → IsEngineStopped (old.port port.0)
+        → IsEngineStopped (new.port port.0) }
+    ensures idle { (p : DevicePort) → IsIdlePort p → IsEngineStopped p }
 {
     law_below();
 }
@@ -62,7 +63,7 @@ pub fn law_stop_is_found()
     ensures { (uses : SlotStates) (m : Machine) (port : Port) (v : ℕ) (old new : Device) → IsReachable m
         → StateRelation uses m old
         → (old.port port.0).st ≡ false → Reads (Px port Cmd) v old new → bit v 15 ≡ false
-        → IsHalted (new.port port.0) }
+        → IsEngineStopped (new.port port.0) }
 {
     law_below();
 }
@@ -76,21 +77,22 @@ pub fn law_reset_is_found()
     ensures begins { (v : ℕ) (old new : Device) → bit v 0 ≡ true → Writes Ghc v old new → new.hr ≡ true }
     ensures told { (v : ℕ) (old new : Device) → Reads Ghc v old new → (new.hr ≡ bit v 0) × (new.ae ≡ bit v 31) }
     ensures reset { (v : ℕ) (old new : Device) → old.hr ≡ true → Reads Ghc v old new → bit v 0 ≡ false
-        → (port : ℕ) → IsAfterReset (new.port port) }
+        → (port : ℕ) → IsQuiescentPort (new.port port) }
     ensures left { (v : ℕ) (old new : Device) → old.hr ≡ true → Reads Ghc v old new → bit v 0 ≡ false
         → (mid : Device) × (mid.hr ≡ false) × ((port : ℕ) → IsLeftByReset (mid.port port)) × Steps mid new
         × Steps old mid }
     ensures cleared { (v : ℕ) (old new : Device) → old.hr ≡ true → Reads Ghc v old new → bit v 0 ≡ false
-        → (port : ℕ) → IsCleared (new.port port) }
-    ensures stays { (port : ℕ) (old new : Device) → Steps old new → IsAfterReset (old.port port)
-        → IsAfterReset (new.port port) }
-    ensures reads { (port : ℕ) (r : Reg) (v : ℕ) (old new : Device) → Reads r v old new → IsAfterReset (old.port port)
-        → IsAfterReset (new.port port) }
+        → (port : ℕ) → ShowsResetState (new.port port) }
+    ensures stays { (port : ℕ) (old new : Device) → Steps old new → IsQuiescentPort (old.port port)
+        → IsQuiescentPort (new.port port) }
+    ensures reads { (port : ℕ) (r : Reg) (v : ℕ) (old new : Device) → Reads r v old new
+        → IsQuiescentPort (old.port port)
+        → IsQuiescentPort (new.port port) }
     ensures writes { (port : Port) (r : Reg) (v : ℕ) (old new : Device) → IsStable (MayWrite r v) old
         → (r ≡ Px port Cmd → (bit v 0 ≡ false) × (bit v 4 ≡ false)) → Writes r v old new
-        → IsAfterReset (old.port port.0) → IsAfterReset (new.port port.0) }
-    ensures idle { (p : DevicePort) → IsIdlePort p → IsAfterReset p }
-    ensures is_idle { (p : DevicePort) → IsAfterReset p → IsIdlePort p }
+        → IsQuiescentPort (old.port port.0) → IsQuiescentPort (new.port port.0) }
+    ensures idle { (p : DevicePort) → IsIdlePort p → IsQuiescentPort p }
+    ensures is_idle { (p : DevicePort) → IsQuiescentPort p → IsIdlePort p }
 {
     law_below();
 }
@@ -126,11 +128,11 @@ pub fn law_over_stays()
         → ((v : ℕ) → access ≡ Writing (Px port Ci) v → bit v slot ≡ false)
         → ((v : ℕ) → access ≡ Writing (Px port Sact) v → bit v slot ≡ false) → Does access old new
         → IsSlotClear (old.port port.0) slot → IsSlotClear (new.port port.0) slot }
-    ensures ended { (m : Machine) (steps : List Step) (port : Port) (id : RequestId) → AllDevices steps
+    ensures ended { (m : Machine) (steps : List Step) (port : Port) (id : RequestId) → AllByDevice steps
         → EndedIn m port id → EndedIn (after m steps) port id }
     ensures ended_beside { (m : Machine) (step : Step) (port : Port) (id : RequestId) → IsOfAnother id step
         → step ≢ Release → EndedIn m port id → EndedIn (after_step m step) port id }
-    ensures ended_released { (m : Machine) (port : Port) (id : RequestId) → NoneKept m port → EndedIn m port id
+    ensures ended_released { (m : Machine) (port : Port) (id : RequestId) → NoneQuarantined m port → EndedIn m port id
         → EndedIn (after_step m Release) port id }
 {
     law_below();
@@ -168,7 +170,7 @@ pub fn law_page_is_awaited()
 /// Where the commands of a request are over, the device uses none of the frames that are lent to it any more, whatever
 /// it does; so they may leave the loan. (One slot alone serves a request.) Nor does it use a client's frame that is
 /// lent to nobody, nor any frame where it is idle. The bytes of such a frame may be loaded and stored.
-pub fn law_frames_are_still()
+pub fn law_device_spares_frames()
     ensures lent { (uses : SlotStates) (m : Machine) (d : Device) (frame : Frame) (id : RequestId) → IsReachable m
         → StateRelation uses m d → m.lent frame ≡ Some id → AreOver uses d id → IsStable (DeviceSparesFrame frame) d }
     ensures unlent { (uses : SlotStates) (m : Machine) (d : Device) (frame : Frame) → IsReachable m
@@ -235,17 +237,17 @@ pub fn law_errors_are_shown()
     ensures fault { (port : ℕ) (old new : Device) → old.hr ≡ false → Steps old new → (new.port port).is 30 ≡ false
         → ((old.port port).is 30 ≡ false) × NoneFails port old new }
     ensures fault_access { (port : Port) (access : Access) (old new : Device) → old.hr ≡ false
-        → SparesRegister (Px port Is) access → Does access old new → (new.port port.0).is 30 ≡ false
+        → DoesNotWrite (Px port Is) access → Does access old new → (new.port port.0).is 30 ≡ false
         → ((old.port port.0).is 30 ≡ false) × NoneFails port.0 old new }
     ensures fatal { (port : ℕ) (old new : Device) → old.hr ≡ false → Steps old new
         → ((place : ℕ) → 27 ≤ place → place ≤ 29 → (new.port port).is place ≡ false)
         → ((place : ℕ) → 27 ≤ place → place ≤ 29 → (old.port port).is place ≡ false) × NoneFatal port old new }
     ensures fatal_access { (port : Port) (access : Access) (old new : Device) → old.hr ≡ false
-        → SparesRegister (Px port Is) access → Does access old new
+        → DoesNotWrite (Px port Is) access → Does access old new
         → ((place : ℕ) → 27 ≤ place → place ≤ 29 → (new.port port.0).is place ≡ false)
         → ((place : ℕ) → 27 ≤ place → place ≤ 29 → (old.port port.0).is place ≡ false) × NoneFatal port.0 old new }
 {
-    law_steps_keep();
+    law_steps_guarantee();
 }
 
 /// From COMRESET or a reset of the adapter on, while the engine stands and the tape tells of no disk of the port that
@@ -257,23 +259,26 @@ pub fn law_link_comes_up()
     ensures comreset { (port : Port) (v : ℕ) (old new : Device) → (old.port port.0).cr ≡ false → v % 16 ≡ 1
         → Writes (Px port Sctl) v old new → IsComingUp (new.port port.0) }
     ensures reset { (v : ℕ) (old new : Device) → old.hr ≡ true → Reads Ghc v old new → bit v 0 ≡ false
-        → (port : ℕ) → NoneComes port old new → IsComingUp (new.port port) }
+        → (port : ℕ) → NoDiskComes port old new → IsComingUp (new.port port) }
     ensures unlinked { (p : DevicePort) → p.cr ≡ false → p.ssts_det ≢ 3 → IsComingUp p }
-    ensures steps { (port : ℕ) (old new : Device) → NoneComes port old new → Steps old new → IsComingUp (old.port port)
+    ensures steps { (port : ℕ) (old new : Device) → NoDiskComes port old new → Steps old new
+        → IsComingUp (old.port port)
         → IsComingUp (new.port port) }
     ensures access { (port : Port) (access : Access) (old new : Device) → SetsNoStart port access → Does access old new
-        → NoneComes port.0 old new → IsComingUp (old.port port.0) → IsComingUp (new.port port.0) }
-    ensures found { (port : Port) (v : ℕ) (old new : Device) → NoneComes port.0 old new → Reads (Px port Ssts) v old new
+        → NoDiskComes port.0 old new → IsComingUp (old.port port.0) → IsComingUp (new.port port.0) }
+    ensures found { (port : Port) (v : ℕ) (old new : Device) → NoDiskComes port.0 old new
+        → Reads (Px port Ssts) v old new
         → v % 16 ≡ 3 → IsComingUp (old.port port.0) → IsUp (new.port port.0) }
-    ensures stays { (port : ℕ) (old new : Device) → old.hr ≡ false → (old.port port).cr ≡ false → PlugsNone port old new
+    ensures stays { (port : ℕ) (old new : Device) → old.hr ≡ false → (old.port port).cr ≡ false
+        → NoPlugEvents port old new
         → Steps old new → IsUp (old.port port) → IsUp (new.port port) }
     ensures stays_access { (port : Port) (access : Access) (old new : Device) → old.hr ≡ false
-        → (old.port port.0).cr ≡ false → SetsNoStart port access → SparesRegister (Px port Sctl) access
-        → PlugsNone port.0 old new → Does access old new → IsUp (old.port port.0) → IsUp (new.port port.0) }
+        → (old.port port.0).cr ≡ false → SetsNoStart port access → DoesNotWrite (Px port Sctl) access
+        → NoPlugEvents port.0 old new → Does access old new → IsUp (old.port port.0) → IsUp (new.port port.0) }
     ensures undisturbed { (port : ℕ) (old new : Device) → old.hr ≡ false → Undisturbed port old new → Steps old new
         → IsUp (old.port port) → IsUp (new.port port) }
     ensures undisturbed_access { (port : Port) (access : Access) (old new : Device) → old.hr ≡ false
-        → SparesRegister (Px port Sctl) access → Undisturbed port.0 old new → Does access old new
+        → DoesNotWrite (Px port Sctl) access → Undisturbed port.0 old new → Does access old new
         → IsUp (old.port port.0) → IsUp (new.port port.0) }
 {
     law_below();
@@ -288,11 +293,11 @@ pub fn law_link_comes_up()
 pub fn law_running_well_is_found()
     ensures starts { (port : Port) (v : ℕ) (old new : Device) → old.hr ≡ false → (old.port port.0).st ≡ false
         → (old.port port.0).cr ≡ false → bit v 0 ≡ true → Writes (Px port Cmd) v old new → IsUp (old.port port.0)
-        → PlugsNone port.0 old new → IsStarted (new.port port.0) }
+        → NoPlugEvents port.0 old new → IsStarted (new.port port.0) }
     ensures steps { (port : ℕ) (old new : Device) → old.hr ≡ false → Undisturbed port old new → Steps old new
         → IsStarted (old.port port) → IsStarted (new.port port) }
     ensures access { (port : Port) (access : Access) (old new : Device) → old.hr ≡ false → ClearsNoStart port access
-        → SparesRegister (Px port Sctl) access → Undisturbed port.0 old new → Does access old new
+        → DoesNotWrite (Px port Sctl) access → Undisturbed port.0 old new → Does access old new
         → IsStarted (old.port port.0) → IsStarted (new.port port.0) }
     ensures well { (p : DevicePort) → IsStarted p → ShowsNoTrouble p → RunsWell p }
     ensures started { (p : DevicePort) → RunsWell p → IsStarted p }
@@ -309,7 +314,7 @@ pub fn law_running_well_is_found()
 /// There is a boot for these laws: COMRESET, the link's coming up, what clears the port's errors, the start, and
 /// readings that tell so; and each write of it is permitted when it is made.
 pub fn law_a_boot_runs_well()
-    ensures { BootIsFound }
+    ensures { BootWitness }
 {
     law_below();
 }
@@ -335,19 +340,19 @@ pub fn law_cleared_stays()
 
 /// What the tape tells nothing of in two parts of a call it tells nothing of in the whole, and the other way round: all
 /// that goes wrong with a port, its disks that go or come, its disks that come, its fatal errors, and its faults.
-pub fn law_what_is_untold_composes()
-    ensures calm { IsOfEachPart Undisturbed }
-    ensures plugs { IsOfEachPart PlugsNone }
-    ensures comes { IsOfEachPart NoneComes }
-    ensures fatal { IsOfEachPart NoneFatal }
-    ensures fails { IsOfEachPart NoneFails }
+pub fn law_tape_absence_composes()
+    ensures calm { IsCompositional Undisturbed }
+    ensures plugs { IsCompositional NoPlugEvents }
+    ensures comes { IsCompositional NoDiskComes }
+    ensures fatal { IsCompositional NoneFatal }
+    ensures fails { IsCompositional NoneFails }
 {}
 
 /// Where nothing goes wrong with a port, the tape tells of no disk that goes or comes, of no fatal error and of no
 /// fault; and where none goes or comes, none comes.
 pub fn law_undisturbed_ports_tell_nothing()
-    ensures plugs { (port : ℕ) (old new : Device) → Undisturbed port old new → PlugsNone port old new }
-    ensures comes { (port : ℕ) (old new : Device) → PlugsNone port old new → NoneComes port old new }
+    ensures plugs { (port : ℕ) (old new : Device) → Undisturbed port old new → NoPlugEvents port old new }
+    ensures comes { (port : ℕ) (old new : Device) → NoPlugEvents port old new → NoDiskComes port old new }
     ensures fatal { (port : ℕ) (old new : Device) → Undisturbed port old new → NoneFatal port old new }
     ensures fails { (port : ℕ) (old new : Device) → Undisturbed port old new → NoneFails port old new }
 {}
@@ -361,7 +366,7 @@ pub fn law_adapter_stays()
     ensures same_more { (old mid new : Device) → SameAdapter old mid → SameAdapter mid new → SameAdapter old new }
     ensures on { (access : Access) (old new : Device) → IsOn old
         → ((v : ℕ) → access ≡ Writing Ghc v → (bit v 31 ≡ true) × (bit v 0 ≡ false)) → Does access old new → IsOn new }
-    ensures on_all { (accesses : List Access) (old new : Device) → IsOn old → All (SparesRegister Ghc) accesses
+    ensures on_all { (accesses : List Access) (old new : Device) → IsOn old → All (DoesNotWrite Ghc) accesses
         → DoesAll accesses old new → IsOn new }
 {}
 
@@ -422,13 +427,13 @@ pub fn law_controls_are_set()
 /// set, too: that is found only where N is read 0 before it is cleared.
 pub fn law_plugging_is_found()
     ensures steps { (port : ℕ) (old new : Device) → old.hr ≡ false → Steps old new → (new.port port).serr_n ≡ false
-        → ((old.port port).serr_n ≡ false) × PlugsNone port old new }
+        → ((old.port port).serr_n ≡ false) × NoPlugEvents port old new }
     ensures access { (port : Port) (access : Access) (old new : Device) → old.hr ≡ false
-        → SparesRegister (Px port Serr) access → Does access old new → (new.port port.0).serr_n ≡ false
-        → ((old.port port.0).serr_n ≡ false) × PlugsNone port.0 old new }
+        → DoesNotWrite (Px port Serr) access → Does access old new → (new.port port.0).serr_n ≡ false
+        → ((old.port port.0).serr_n ≡ false) × NoPlugEvents port.0 old new }
     ensures read { (port : Port) (v : ℕ) (old new : Device) → old.hr ≡ false → Reads (Px port Serr) v old new
         → bit v 16 ≡ false
-        → ((new.port port.0).serr_n ≡ false) × ((old.port port.0).serr_n ≡ false) × PlugsNone port.0 old new }
+        → ((new.port port.0).serr_n ≡ false) × ((old.port port.0).serr_n ≡ false) × NoPlugEvents port.0 old new }
 {
     law_below();
 }
@@ -436,9 +441,9 @@ pub fn law_plugging_is_found()
 /// Where the tape tells of no disk of the port that goes or comes, the same disk is in, or out, whatever else the
 /// device does, also over a reset of the adapter that ends, and over each access.
 pub fn law_disk_stays()
-    ensures steps { (port : ℕ) (old new : Device) → Steps old new → PlugsNone port old new
+    ensures steps { (port : ℕ) (old new : Device) → Steps old new → NoPlugEvents port old new
         → LeavesDisk (old.port port) (new.port port) }
-    ensures access { (port : ℕ) (access : Access) (old new : Device) → Does access old new → PlugsNone port old new
+    ensures access { (port : ℕ) (access : Access) (old new : Device) → Does access old new → NoPlugEvents port old new
         → LeavesDisk (old.port port) (new.port port) }
 {
     law_below();
@@ -447,10 +452,10 @@ pub fn law_disk_stays()
 /// Where the tape tells of no disk of the port that goes or comes, and no reset is pending, the port's link stays as it
 /// was, or one that was due has come up: whatever else the device does, and over each access but a write of PxSCTL.
 pub fn law_link_stays()
-    ensures steps { (port : ℕ) (old new : Device) → old.hr ≡ false → Steps old new → PlugsNone port old new
+    ensures steps { (port : ℕ) (old new : Device) → old.hr ≡ false → Steps old new → NoPlugEvents port old new
         → LeavesLink (old.port port) (new.port port) }
     ensures access { (port : Port) (access : Access) (old new : Device) → old.hr ≡ false
-        → SparesRegister (Px port Sctl) access → Does access old new → PlugsNone port.0 old new
+        → DoesNotWrite (Px port Sctl) access → Does access old new → NoPlugEvents port.0 old new
         → LeavesLink (old.port port.0) (new.port port.0) }
 {
     law_below();
@@ -458,12 +463,12 @@ pub fn law_link_stays()
 
 /// While no reset is pending, a port whose PxSSTS.DET is 3 or that has no disk in goes on so: a disk that comes shows
 /// at once, and so does a link that comes up. Whatever the device does, and over each access but a write of PxSCTL.
-pub fn law_device_or_none_stays()
-    ensures steps { (port : ℕ) (old new : Device) → old.hr ≡ false → Steps old new → HasDeviceOrNone (old.port port)
-        → HasDeviceOrNone (new.port port) }
+pub fn law_disk_in_stays_shown()
+    ensures steps { (port : ℕ) (old new : Device) → old.hr ≡ false → Steps old new → ShowsDiskIfIn (old.port port)
+        → ShowsDiskIfIn (new.port port) }
     ensures access { (port : Port) (access : Access) (old new : Device) → old.hr ≡ false
-        → SparesRegister (Px port Sctl) access → Does access old new → HasDeviceOrNone (old.port port.0)
-        → HasDeviceOrNone (new.port port.0) }
+        → DoesNotWrite (Px port Sctl) access → Does access old new → ShowsDiskIfIn (old.port port.0)
+        → ShowsDiskIfIn (new.port port.0) }
 {
     law_below();
 }
@@ -474,23 +479,23 @@ pub fn law_device_or_none_stays()
 /// it of any access that writes neither PxCMD nor PxSCTL of the port. So it is while ST is 0, on a port that runs, and
 /// on one that has failed.
 pub fn law_faults_are_recorded()
-    ensures steps { (port : ℕ) (old new : Device) → Steps old new → IsRecorded old.tape (old.port port) port
-        → IsRecorded new.tape (new.port port) port }
+    ensures steps { (port : ℕ) (old new : Device) → Steps old new → FaultsOnRecord old.tape (old.port port) port
+        → FaultsOnRecord new.tape (new.port port) port }
     ensures reads { (port : ℕ) (r : Reg) (v : ℕ) (old new : Device) → Reads r v old new
-        → IsRecorded old.tape (old.port port) port → IsRecorded new.tape (new.port port) port }
+        → FaultsOnRecord old.tape (old.port port) port → FaultsOnRecord new.tape (new.port port) port }
     ensures writes { (port : ℕ) (r : Reg) (v : ℕ) (old new : Device) → IsStable (MayWrite r v) old
-        → IsStable (KeepsRecord r v) old → Writes r v old new → IsRecorded old.tape (old.port port) port
-        → IsRecorded new.tape (new.port port) port }
+        → IsStable (KeepsRecord r v) old → Writes r v old new → FaultsOnRecord old.tape (old.port port) port
+        → FaultsOnRecord new.tape (new.port port) port }
     ensures issues { (port : ℕ) (at : Port) (v : ℕ) (old new : Device) → Writes (Px at Ci) v old new
-        → IsRecorded old.tape (old.port port) port → IsRecorded new.tape (new.port port) port }
-    ensures access { (port : Port) (access : Access) (old new : Device) → SparesRegister (Px port Cmd) access
-        → SparesRegister (Px port Sctl) access → Does access old new → IsRecorded old.tape (old.port port.0) port.0
-        → IsRecorded new.tape (new.port port.0) port.0 }
+        → FaultsOnRecord old.tape (old.port port) port → FaultsOnRecord new.tape (new.port port) port }
+    ensures access { (port : Port) (access : Access) (old new : Device) → DoesNotWrite (Px port Cmd) access
+        → DoesNotWrite (Px port Sctl) access → Does access old new → FaultsOnRecord old.tape (old.port port.0) port.0
+        → FaultsOnRecord new.tape (new.port port.0) port.0 }
     ensures asked { (r : Reg) (v : ℕ) (d : Device) → d.hr ≡ false → KeepsRecord r v d → IsStable (KeepsRecord r v) d }
-    ensures idle { (tape : List Entry) (p : DevicePort) (port : ℕ) → p.st ≡ false → IsRecorded tape p port }
-    ensures runs { HasFaults first_read_device.tape (first_read_device.port 0) 0 }
+    ensures idle { (tape : List Entry) (p : DevicePort) (port : ℕ) → p.st ≡ false → FaultsOnRecord tape p port }
+    ensures runs { RecordsFaults first_read_device.tape (first_read_device.port 0) 0 }
     ensures failed { (new : Device) × Steps first_read_device new × ((new.port 0).halt ≡ HaltedPlain)
-        × HasFaults new.tape (new.port 0) 0 }
+        × RecordsFaults new.tape (new.port 0) 0 }
 {}
 
 /// From COMRESET until the link comes up the engine stands, and the task file shows DRQ: COMRESET begins it, and so
@@ -499,20 +504,22 @@ pub fn law_faults_are_recorded()
 /// where no link is due and PxSCTL.DET isn't 1, as on a port that runs.
 pub fn law_link_is_awaited()
     ensures begins { (port : Port) (v : ℕ) (old new : Device) → (old.port port.0).cr ≡ false → v % 16 ≡ 1
-        → Writes (Px port Sctl) v old new → IsAwaited (new.port port.0) }
-    ensures steps { (port : ℕ) (old new : Device) → Steps old new → IsAwaited (old.port port)
-        → IsAwaited (new.port port) }
-    ensures reads { (port : ℕ) (r : Reg) (v : ℕ) (old new : Device) → Reads r v old new → IsAwaited (old.port port)
-        → IsAwaited (new.port port) }
+        → Writes (Px port Sctl) v old new → ShowsDrqTillLink (new.port port.0) }
+    ensures steps { (port : ℕ) (old new : Device) → Steps old new → ShowsDrqTillLink (old.port port)
+        → ShowsDrqTillLink (new.port port) }
+    ensures reads { (port : ℕ) (r : Reg) (v : ℕ) (old new : Device) → Reads r v old new
+        → ShowsDrqTillLink (old.port port)
+        → ShowsDrqTillLink (new.port port) }
     ensures writes { (port : ℕ) (r : Reg) (v : ℕ) (old new : Device) → IsStable (MayWrite r v) old
-        → IsStable (KeepsRecord r v) old → Writes r v old new → IsAwaited (old.port port) → IsAwaited (new.port port) }
-    ensures access { (port : Port) (access : Access) (old new : Device) → SparesRegister (Px port Cmd) access
-        → SparesRegister (Px port Sctl) access → Does access old new → IsAwaited (old.port port.0)
-        → IsAwaited (new.port port.0) }
+        → IsStable (KeepsRecord r v) old → Writes r v old new → ShowsDrqTillLink (old.port port)
+        → ShowsDrqTillLink (new.port port) }
+    ensures access { (port : Port) (access : Access) (old new : Device) → DoesNotWrite (Px port Cmd) access
+        → DoesNotWrite (Px port Sctl) access → Does access old new → ShowsDrqTillLink (old.port port.0)
+        → ShowsDrqTillLink (new.port port.0) }
     ensures reset { (v : ℕ) (old new : Device) → old.hr ≡ true → Reads Ghc v old new → bit v 0 ≡ false
-        → (port : ℕ) → IsAwaited (new.port port) }
-    ensures undue { (p : DevicePort) → p.link_due ≡ false → p.sctl_det ≢ 1 → IsAwaited p }
-    ensures runs { IsAwaited (first_read_device.port 0) }
+        → (port : ℕ) → ShowsDrqTillLink (new.port port) }
+    ensures undue { (p : DevicePort) → p.link_due ≡ false → p.sctl_det ≢ 1 → ShowsDrqTillLink p }
+    ensures runs { ShowsDrqTillLink (first_read_device.port 0) }
 {
     law_below();
 }
@@ -522,21 +529,26 @@ pub fn law_link_is_awaited()
 /// neither set its ST nor send COMRESET on it.
 pub fn law_quiet_is_found()
     ensures cleared { (port : Port) (v : ℕ) (old new : Device) → (old.port port.0).cr ≡ false → bit v 30 ≡ true
-        → Writes (Px port Is) v old new → IsUnflagged (new.port port.0) }
-    ensures steps { (port : ℕ) (old new : Device) → Steps old new → IsUnflagged (old.port port)
-        → IsUnflagged (new.port port) }
-    ensures reads { (port : ℕ) (r : Reg) (v : ℕ) (old new : Device) → Reads r v old new → IsUnflagged (old.port port)
-        → IsUnflagged (new.port port) }
+        → Writes (Px port Is) v old new → StoppedTfesClear (new.port port.0) }
+    ensures steps { (port : ℕ) (old new : Device) → Steps old new → StoppedTfesClear (old.port port)
+        → StoppedTfesClear (new.port port) }
+    ensures reads { (port : ℕ) (r : Reg) (v : ℕ) (old new : Device) → Reads r v old new
+        → StoppedTfesClear (old.port port)
+        → StoppedTfesClear (new.port port) }
     ensures writes { (port : Port) (r : Reg) (v : ℕ) (old new : Device) → (r ≡ Px port Cmd → bit v 0 ≡ false)
-        → Writes r v old new → IsUnflagged (old.port port.0) → IsUnflagged (new.port port.0) }
-    ensures found { (port : Port) (v : ℕ) (old new : Device) → IsAwaited (old.port port.0)
-        → IsUnflagged (old.port port.0) → Reads (Px port Tfd) v old new → bit v 3 ≡ false → IsQuiet (new.port port.0) }
-    ensures stays { (port : ℕ) (old new : Device) → Steps old new → IsQuiet (old.port port) → IsQuiet (new.port port) }
-    ensures stays_read { (port : ℕ) (r : Reg) (v : ℕ) (old new : Device) → Reads r v old new → IsQuiet (old.port port)
-        → IsQuiet (new.port port) }
+        → Writes r v old new → StoppedTfesClear (old.port port.0) → StoppedTfesClear (new.port port.0) }
+    ensures found { (port : Port) (v : ℕ) (old new : Device) → ShowsDrqTillLink (old.port port.0)
+        → StoppedTfesClear (old.port port.0) → Reads (Px port Tfd) v old new → bit v 3 ≡ false
+        → IsCleanToStart (new.port port.0) }
+    ensures stays { (port : ℕ) (old new : Device) → Steps old new → IsCleanToStart (old.port port)
+        → IsCleanToStart (new.port port) }
+    ensures stays_read { (port : ℕ) (r : Reg) (v : ℕ) (old new : Device) → Reads r v old new
+        → IsCleanToStart (old.port port)
+        → IsCleanToStart (new.port port) }
     ensures stays_written { (port : Port) (r : Reg) (v : ℕ) (old new : Device) → (r ≡ Px port Cmd → bit v 0 ≡ false)
-        → (r ≡ Px port Sctl → v % 16 ≢ 1) → Writes r v old new → IsQuiet (old.port port.0) → IsQuiet (new.port port.0) }
-    ensures exists { IsQuiet (first_read_device.port 1) }
+        → (r ≡ Px port Sctl → v % 16 ≢ 1) → Writes r v old new → IsCleanToStart (old.port port.0)
+        → IsCleanToStart (new.port port.0) }
+    ensures exists { IsCleanToStart (first_read_device.port 1) }
 {
     law_below();
 }
@@ -547,19 +559,19 @@ pub fn law_quiet_is_found()
 /// in use, isn't a free one.
 pub fn law_fault_is_found()
     ensures told { (port : Port) (v : ℕ) (old new : Device) → old.hr ≡ false → (old.port port.0).st ≡ true
-        → IsRecorded old.tape (old.port port.0) port.0 → Reads (Px port Is) v old new → bit v 30 ≡ true
+        → FaultsOnRecord old.tape (old.port port.0) port.0 → Reads (Px port Is) v old new → bit v 30 ≡ true
         → IsFaulted (new.port port.0).halt }
     ensures steps { (port : ℕ) (old new : Device) → old.hr ≡ false → (old.port port).st ≡ true
-        → IsRecorded old.tape (old.port port) port → IsFaulted (old.port port).halt → Steps old new
+        → FaultsOnRecord old.tape (old.port port) port → IsFaulted (old.port port).halt → Steps old new
         → IsFaulted (new.port port).halt }
     ensures reads { (port : ℕ) (r : Reg) (v : ℕ) (old new : Device) → old.hr ≡ false → (old.port port).st ≡ true
-        → IsRecorded old.tape (old.port port) port → IsFaulted (old.port port).halt → Reads r v old new
+        → FaultsOnRecord old.tape (old.port port) port → IsFaulted (old.port port).halt → Reads r v old new
         → IsFaulted (new.port port).halt }
     ensures writes { (port : ℕ) (r : Reg) (v : ℕ) (old new : Device) → old.hr ≡ false → (old.port port).st ≡ true
-        → IsRecorded old.tape (old.port port) port → IsFaulted (old.port port).halt → Writes r v old new
+        → FaultsOnRecord old.tape (old.port port) port → IsFaulted (old.port port).halt → Writes r v old new
         → IsFaulted (new.port port).halt }
     ensures shown { (port : Port) (v : ℕ) (old new : Device) → old.hr ≡ false → (old.port port.0).st ≡ true
-        → IsRecorded old.tape (old.port port.0) port.0 → IsFaulted (old.port port.0).halt
+        → FaultsOnRecord old.tape (old.port port.0) port.0 → IsFaulted (old.port port.0).halt
         → Reads (Px port Tfd) v old new
         → (s : ShowsFault (drop (new.port port.0).notes.st_set_at new.tape) (new.port port.0) port.0)
         × (v % 256 ≡ s.fault.status) × (v / 256 % 256 ≡ s.fault.error) }
@@ -576,10 +588,10 @@ pub fn law_errors_are_kept()
     ensures steps { (port : ℕ) (old new : Device) → old.hr ≡ false → Steps old new
         → KeepsErrors (old.port port) (new.port port) }
     ensures causes { (port : Port) (access : Access) (old new : Device) → old.hr ≡ false
-        → SparesRegister (Px port Is) access → Does access old new → (place : ℕ) → (old.port port.0).is place ≡ true
+        → DoesNotWrite (Px port Is) access → Does access old new → (place : ℕ) → (old.port port.0).is place ≡ true
         → (new.port port.0).is place ≡ true }
     ensures errors { (port : Port) (access : Access) (old new : Device) → old.hr ≡ false
-        → SparesRegister (Px port Serr) access → Does access old new
+        → DoesNotWrite (Px port Serr) access → Does access old new
         → ((old.port port.0).serr_n ≡ true → (new.port port.0).serr_n ≡ true)
         × ((old.port port.0).serr_x ≡ true → (new.port port.0).serr_x ≡ true) }
 {
@@ -601,7 +613,7 @@ pub fn law_errors_rise_by_disks()
     ensures due { (port : ℕ) (old new : Device) → old.hr ≡ false → (old.port port).link_due ≡ false → Steps old new
         → (new.port port).link_due ≡ false }
     ensures due_access { (port : Port) (access : Access) (old new : Device) → old.hr ≡ false
-        → (old.port port.0).link_due ≡ false → SparesRegister (Px port Sctl) access → Does access old new
+        → (old.port port.0).link_due ≡ false → DoesNotWrite (Px port Sctl) access → Does access old new
         → (new.port port.0).link_due ≡ false }
 {
     law_below();
@@ -610,15 +622,15 @@ pub fn law_errors_rise_by_disks()
 /// While a port's engine stands, no move, clearing, end, fault or fatal error of the port comes; and where no disk
 /// comes either, the disk holds what it did: whatever the device does, also over a reset of the adapter that ends, and
 /// over each access, also the write of ST itself.
-pub fn law_halted_is_silent()
+pub fn law_stopped_engine_is_silent()
     ensures steps { (port : ℕ) (old new : Device) (gained : List Entry) → (old.port port).cr ≡ false → Steps old new
         → new.tape ≡ old.tape ++ gained → All (λ e. IsWork port e → ⊥) gained }
     ensures access { (port : ℕ) (access : Access) (old new : Device) (gained : List Entry) → (old.port port).cr ≡ false
         → Does access old new → new.tape ≡ old.tape ++ gained → All (λ e. IsWork port e → ⊥) gained }
-    ensures disk { (port : ℕ) (old new : Device) → (old.port port).cr ≡ false → Steps old new → NoneComes port old new
+    ensures disk { (port : ℕ) (old new : Device) → (old.port port).cr ≡ false → Steps old new → NoDiskComes port old new
         → (new.port port).disk ≡ (old.port port).disk }
     ensures disk_access { (port : ℕ) (access : Access) (old new : Device) → (old.port port).cr ≡ false
-        → Does access old new → NoneComes port old new → (new.port port).disk ≡ (old.port port).disk }
+        → Does access old new → NoDiskComes port old new → (new.port port).disk ≡ (old.port port).disk }
 {
     law_below();
 }

@@ -13,38 +13,41 @@ ghost use Rattle.adapter.specs.Rules.{IsOn, MayWrite, IsStable};
 ghost use Rattle.adapter.specs.Steps.{Steps};
 ghost use Rattle.adapter.specs.declared.command.Operation.{Operation};
 ghost use Rattle.adapter.specs.declared.tape.Entry.{Entry};
-ghost use Rattle.refinement.specs.Driven.{AnyAccess, Grows, AnyUse, IsUse, IsRelated, IsDrivenBy, IsControl, IsSimulated, IsSimulatedTo, IsOf, LeavesPort, HasNoCommand, SendsNone};
+ghost use Rattle.refinement.specs.Driven.{AnyAccess, Grows, AnyUse, SameUses, IsRelated, IsDrivenBy, OnPortWriting, IsSimulated, IsSimulatedTo, SparesOtherPorts, LeavesPort, HasNoCommand, GainsNoMove};
 ghost use Rattle.refinement.specs.Driver.{LeavesUses, MayStore};
-ghost use Rattle.refinement.specs.Facts.{IsRecorded};
+ghost use Rattle.refinement.specs.Facts.{FaultsOnRecord};
 ghost use Rattle.refinement.specs.Laws.{TapeLaws};
-ghost use Rattle.refinement.specs.Links.{SameAdapter, SparesRegister};
+ghost use Rattle.refinement.specs.Links.{SameAdapter, DoesNotWrite};
 ghost use Rattle.refinement.specs.Slots.{SlotStates, Free, IsOver, Own, op_of, put};
 
 use super::facts::{
-    law_errors_rise_by_disks, law_undisturbed_ports_tell_nothing, law_what_is_untold_composes,
+    law_errors_rise_by_disks, law_tape_absence_composes, law_undisturbed_ports_tell_nothing,
 };
 use super::lawful::law_below;
 
-/// Accesses that touch no register of another port, nor another port's bit of IS (`IsOf`), leave every other port to
-/// the device, with what readings noted of it, and with the record of its faults; and where they are followed, its disk
-/// sends no page for which its slot 0 has no command. What is left so in two fragments is left in both. They write
-/// neither GHC nor a register of another port, and an adapter that is on stays on. Any accesses leave the adapter what
-/// it is, and the tape only gains.
+/// Accesses that touch no register of another port, nor another port's bit of IS (`SparesOtherPorts`), leave every
+/// other port to the device, with what readings noted of it, and with the record of its faults; and where they are
+/// followed, its disk sends no page for which its slot 0 has no command. What is left so in two fragments is left in
+/// both. They write neither GHC nor a register of another port, and an adapter that is on stays on. Any accesses leave
+/// the adapter what it is, and the tape only gains.
 pub fn law_other_ports_are_left()
-    ensures left { (port : Port) (q : ℕ) (old new : Device) → q ≢ port.0 → IsOn old → IsDrivenBy (IsOf port) old new
+    ensures left { (port : Port) (q : ℕ) (old new : Device) → q ≢ port.0 → IsOn old
+        → IsDrivenBy (SparesOtherPorts port) old new
         → LeavesPort (old.port q) (new.port q) }
-    ensures recorded { (port : Port) (q : ℕ) (old new : Device) → q ≢ port.0 → IsDrivenBy (IsOf port) old new
-        → IsRecorded old.tape (old.port q) q → IsRecorded new.tape (new.port q) q }
+    ensures recorded { (port : Port) (q : ℕ) (old new : Device) → q ≢ port.0
+        → IsDrivenBy (SparesOtherPorts port) old new
+        → FaultsOnRecord old.tape (old.port q) q → FaultsOnRecord new.tape (new.port q) q }
     ensures silent { (port q : Port) (uses : SlotStates) (next : SlotStates → SlotStates) (o : Operation)
         (old new : Device)
-        → q.0 ≢ port.0 → IsSimulatedTo (IsOf port) (IsUse uses) next old new → IsRelated uses old → op_of o ≡ None
-        → (uses q.0 0 ≡ Own o → ⊥) → SendsNone q.0 o old new }
+        → q.0 ≢ port.0 → IsSimulatedTo (SparesOtherPorts port) (SameUses uses) next old new → IsRelated uses old
+        → op_of o ≡ None
+        → (uses q.0 0 ≡ Own o → ⊥) → GainsNoMove q.0 o old new }
     ensures none { (p : DevicePort) → LeavesPort p p }
     ensures more { (old mid new : DevicePort) → LeavesPort old mid → LeavesPort mid new → LeavesPort old new }
-    ensures spares { (port q : Port) (r : PortReg) → q.0 ≢ port.0 → (access : Access) → IsOf port access
-        → SparesRegister (Px q r) access }
-    ensures spares_host { (port : Port) (access : Access) → IsOf port access → SparesRegister Ghc access }
-    ensures on { (port : Port) (old new : Device) → IsOn old → IsDrivenBy (IsOf port) old new → IsOn new }
+    ensures spares { (port q : Port) (r : PortReg) → q.0 ≢ port.0 → (access : Access) → SparesOtherPorts port access
+        → DoesNotWrite (Px q r) access }
+    ensures spares_host { (port : Port) (access : Access) → SparesOtherPorts port access → DoesNotWrite Ghc access }
+    ensures on { (port : Port) (old new : Device) → IsOn old → IsDrivenBy (SparesOtherPorts port) old new → IsOn new }
     ensures adapter { (old new : Device) → IsDrivenBy AnyAccess old new → SameAdapter old new }
     ensures tape { (old new : Device) → IsDrivenBy AnyAccess old new → (gained : List Entry)
         × (new.tape ≡ old.tape ++ gained) }
@@ -57,7 +60,7 @@ pub fn law_other_ports_are_left()
 /// is one that tells, some machine agrees where no slot is used.
 pub fn law_agreeing_goes_on()
     ensures followed { (uses : SlotStates) (old new : Device)
-        → IsSimulated AnyAccess (IsUse uses) old new
+        → IsSimulated AnyAccess (SameUses uses) old new
         → IsRelated uses old → IsRelated uses new }
     ensures released { (uses : SlotStates) (port : ℕ) (o : Operation) (d : Device) → uses port 0 ≡ Free
         → IsOver (d.port port) 0 → IsRelated (put uses port 0 (Own o)) d → IsRelated uses d }
@@ -76,7 +79,7 @@ pub fn law_tapes()
     ensures { TapeLaws }
 {
     law_tapes_grow();
-    law_what_is_untold_composes();
+    law_tape_absence_composes();
     law_undisturbed_ports_tell_nothing();
     law_errors_rise_by_disks();
 }
@@ -107,14 +110,14 @@ pub fn law_causes_stay_clear()
 /// a page, the whole brings none.
 pub fn law_unused_slots_are_silent()
     ensures steps { (port : ℕ) (o : Operation) (old new : Device) → HasNoCommand (old.port port) → Steps old new
-        → SendsNone port o old new }
+        → GainsNoMove port o old new }
     ensures access { (port : ℕ) (o : Operation) (access : Access) (old new : Device) → HasNoCommand (old.port port)
-        → Does access old new → SendsNone port o old new }
+        → Does access old new → GainsNoMove port o old new }
     ensures controls { (port : Port) (o : Operation) (old new : Device)
-        → IsDrivenBy (IsControl (λ r. r ≢ Ci) port) old new → HasNoCommand (old.port port.0)
-        → SendsNone port.0 o old new × HasNoCommand (new.port port.0) }
-    ensures more { (port : ℕ) (o : Operation) (old mid new : Device) → SendsNone port o old mid
-        → SendsNone port o mid new → SendsNone port o old new }
+        → IsDrivenBy (OnPortWriting (λ r. r ≢ Ci) port) old new → HasNoCommand (old.port port.0)
+        → GainsNoMove port.0 o old new × HasNoCommand (new.port port.0) }
+    ensures more { (port : ℕ) (o : Operation) (old mid new : Device) → GainsNoMove port o old mid
+        → GainsNoMove port o mid new → GainsNoMove port o old new }
 {
     law_below();
 }

@@ -9,9 +9,9 @@ ghost use Rattle.block_machine.specs.State.{Pending, Machine};
 ghost use Rattle.block_machine.specs.Steps.{MayStillMove};
 ghost use Rattle.refinement.specs.Relation.{StateRelation, ServeApart};
 ghost use Rattle.refinement.specs.Driver.{DriverState, DriverRelation, AllFree, HasNoSlot};
-ghost use Rattle.refinement.specs.Facts.{IsHalted, ShowsFault};
+ghost use Rattle.refinement.specs.Facts.{IsEngineStopped, ShowsFault};
 ghost use Rattle.refinement.specs.Slots.{SlotStates, Free, Serves, IsOver};
-ghost use Rattle.refinement.specs.GivingUp.{IsPortOver, served_ids, parking_all, IsOutstanding};
+ghost use Rattle.refinement.specs.GivingUp.{AreSlotsOver, served_ids, parking_all, IsOutstanding};
 
 /// Where all slots of a port are over, and none is armed on a running one, as on a port that has halted, the driver
 /// gives them all up at once: what it knows stays known. None of them is used then, other ports' are as they were, and
@@ -19,9 +19,10 @@ ghost use Rattle.refinement.specs.GivingUp.{IsPortOver, served_ids, parking_all,
 /// that none served before.
 pub fn law_slots_are_given_up()
     ensures over { (k : DriverState) (m : Machine) (port : ℕ) → DriverRelation m k
-        → IsPortOver k.uses (k.device.port port) port
+        → AreSlotsOver k.uses (k.device.port port) port
         → DriverRelation m (parking_all k port) }
-    ensures halted { (k : DriverState) (m : Machine) (port : ℕ) → DriverRelation m k → IsHalted (k.device.port port)
+    ensures halted { (k : DriverState) (m : Machine) (port : ℕ) → DriverRelation m k
+        → IsEngineStopped (k.device.port port)
         → DriverRelation m (parking_all k port) }
     ensures free { (k : DriverState) (port : ℕ) → AllFree (parking_all k port).uses port }
     ensures others { (k : DriverState) (port other : ℕ) → other ≢ port

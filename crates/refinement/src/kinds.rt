@@ -13,12 +13,12 @@ ghost use Rattle.adapter.specs.Device.{Device};
 ghost use Rattle.adapter.specs.Rules.{MayWrite, IsStable};
 ghost use Rattle.adapter.specs.declared.command.Operation.{Operation};
 ghost use Rattle.refinement.specs.Acts.{ByDeviceAlone, Performs};
-ghost use Rattle.refinement.specs.Driven.{IsRelated, IsControl, IsSimulated, IsSimulatedTo, IsOf, IsSimulatedAlong, IsSimulatedAlongTo, NoneWrites, SendsNone};
+ghost use Rattle.refinement.specs.Driven.{IsRelated, OnPortWriting, IsSimulated, IsSimulatedTo, SparesOtherPorts, IsSimulatedAlong, IsSimulatedAlongTo, NoneWrites, GainsNoMove};
 ghost use Rattle.refinement.specs.Driver.{AllFree, LeavesUses, IsOwnPrepared, MayStore};
-ghost use Rattle.refinement.specs.Facts.{IsHalted};
+ghost use Rattle.refinement.specs.Facts.{IsEngineStopped};
 ghost use Rattle.refinement.specs.GivingUp.{given_up};
 ghost use Rattle.refinement.specs.Laws.{FragmentLaws};
-ghost use Rattle.refinement.specs.Links.{SparesRegister};
+ghost use Rattle.refinement.specs.Links.{DoesNotWrite};
 ghost use Rattle.refinement.specs.Recovering.{WorksPlainly};
 ghost use Rattle.refinement.specs.Slots.{SlotStates, Free, Own, IsOver, op_of, put};
 
@@ -27,7 +27,7 @@ use adapter::laws::law_accesses_compose;
 use std::marker::Brand;
 
 /// Sets of a port's registers.
-pub trait Registers {
+pub trait RegisterSets {
     /// What names a set.
     ghost Set: { Type 0 };
     /// The registers of a set.
@@ -35,14 +35,14 @@ pub trait Registers {
 }
 
 /// What stands where a caller names no sets: one, of all registers.
-impl Registers for Brand {
+impl RegisterSets for Brand {
     ghost Set = { ⊤ };
 
     ghost has = { λ set r. ⊤ };
 }
 
 /// Kinds of accesses, and the uses of slots with which those of a kind may be made.
-pub trait Kinds {
+pub trait AccessKinds {
     /// What names a kind.
     ghost Kind: { Type 0 };
     /// The accesses of a kind.
@@ -52,7 +52,7 @@ pub trait Kinds {
 }
 
 /// What stands where a caller names no kinds: one, of all accesses, which all uses fit.
-impl Kinds for Brand {
+impl AccessKinds for Brand {
     ghost Kind = { ⊤ };
 
     ghost may = { λ kind access. ⊤ };
@@ -61,21 +61,22 @@ impl Kinds for Brand {
 }
 
 /// Accesses that read a port's registers and write those of a set are the one or the other. They are of that port
-/// (`IsOf`), spare its other registers, and are so of each wider set.
-pub fn law_controls_are_of_a_port<R: Registers>()
-    ensures either { (set : R.Set) (port : Port) (access : Access) → IsControl (R.has set) port access
+/// (`SparesOtherPorts`), spare its other registers, and are so of each wider set.
+pub fn law_controls_are_of_a_port<R: RegisterSets>()
+    ensures either { (set : R.Set) (port : Port) (access : Access) → OnPortWriting (R.has set) port access
         → ((r : PortReg) × (v : ℕ) × (access ≡ Reading (Px port r) v))
         ⊎ ((r : PortReg) × (v : ℕ) × (access ≡ Writing (Px port r) v) × R.has set r) }
-    ensures of { (set : R.Set) (port : Port) (access : Access) → IsControl (R.has set) port access → IsOf port access }
+    ensures of { (set : R.Set) (port : Port) (access : Access) → OnPortWriting (R.has set) port access
+        → SparesOtherPorts port access }
     ensures spares { (set : R.Set) (port : Port) (r : PortReg) → (R.has set r → ⊥) → (access : Access)
-        → IsControl (R.has set) port access → SparesRegister (Px port r) access }
+        → OnPortWriting (R.has set) port access → DoesNotWrite (Px port r) access }
     ensures wider { (set more : R.Set) (port : Port) → ((r : PortReg) → R.has set r → R.has more r) → (access : Access)
-        → IsControl (R.has set) port access → IsControl (R.has more) port access }
+        → OnPortWriting (R.has set) port access → OnPortWriting (R.has more) port access }
 {}
 
 /// What is a fragment that is followed: no access is; and one of its kind is, where it is a reading, a load, a write
 /// that is permitted and leaves each slot to its use, or the issue of a command of the driver's own.
-pub fn law_accesses_are_followed<K: Kinds>()
+pub fn law_accesses_are_followed<K: AccessKinds>()
     ensures none { (kind : K.Kind) (d : Device) → IsSimulatedAlong (λ made. made ≡ []) (K.may kind) (K.fits kind) d d }
     ensures reads { (kind : K.Kind) (r : Reg) (v : ℕ) (old new : Device) → K.may kind (Reading r v) → Reads r v old new
         → IsSimulatedAlong (λ made. made ≡ Reading r v ∷ []) (K.may kind) (K.fits kind) old new }
@@ -93,7 +94,7 @@ pub fn law_accesses_are_followed<K: Kinds>()
 {}
 
 /// So is a store of bytes that the driver may store.
-pub fn law_stores_are_followed<K: Kinds>()
+pub fn law_stores_are_followed<K: AccessKinds>()
     ensures { (kind : K.Kind) (at : ℕ) (bytes : List ℕ) (old new : Device) → K.may kind (Storing at bytes)
         → ((uses : SlotStates) → K.fits kind uses → MayStore uses at (length bytes)) → Stores at bytes old new
         → IsSimulated (K.may kind) (K.fits kind) old new }
@@ -102,7 +103,7 @@ pub fn law_stores_are_followed<K: Kinds>()
 /// Fragments that are followed compose: by one after another, where the second is of the first's kind or a narrower
 /// one, and the uses that the first leads to fit it. One is so with each wider kind whose uses fit it. And a command of
 /// the driver's own that was issued meanwhile and is over leaves its slot.
-pub fn law_fragments_are_followed<K: Kinds>()
+pub fn law_fragments_are_followed<K: AccessKinds>()
     ensures both { (kind then : K.Kind) (first second : SlotStates → SlotStates)
         → ((access : Access) → K.may then access → K.may kind access)
         → ((uses : SlotStates) → K.fits kind uses → K.fits then (first uses)) → (old mid new : Device)
@@ -125,7 +126,7 @@ pub fn law_fragments_are_followed<K: Kinds>()
 /// What a fragment that is followed gives: some machine goes on agreeing, with the uses that it leads to. And a port of
 /// which it writes neither PxCI nor PxSACT is sent no page by a command that isn't in its slot 0. One that works on
 /// plain commands alone goes on so.
-pub fn law_followed_fragments_give<K: Kinds>()
+pub fn law_followed_fragments_give<K: AccessKinds>()
     ensures agreed { (kind : K.Kind) (next : SlotStates → SlotStates) (uses : SlotStates) (old new : Device)
         → K.fits kind uses
         → IsSimulatedTo (K.may kind) (K.fits kind) next old new → IsRelated uses old → IsRelated (next uses) new }
@@ -133,7 +134,7 @@ pub fn law_followed_fragments_give<K: Kinds>()
         (old new : Device)
         → K.fits kind uses → NoneWrites (K.may kind) (Px port Ci) → NoneWrites (K.may kind) (Px port Sact)
         → op_of o ≡ None → (uses port.0 0 ≡ Own o → ⊥) → IsSimulatedTo (K.may kind) (K.fits kind) next old new
-        → IsRelated uses old → SendsNone port.0 o old new }
+        → IsRelated uses old → GainsNoMove port.0 o old new }
     ensures plain { (kind : K.Kind) (next : SlotStates → SlotStates) (uses : SlotStates) (port : Port)
         (old new : Device)
         → K.fits kind uses → NoneWrites (K.may kind) (Px port Sact) → IsSimulatedTo (K.may kind) (K.fits kind) next old
@@ -146,13 +147,13 @@ pub fn law_followed_fragments_give<K: Kinds>()
 /// A fragment that is followed is a part of a call, in which the device alone makes steps. And where a port has halted
 /// after it, the driver may give up all slots of the port, and go on with another fragment, of any kind that a port
 /// without a used slot allows: the two are one part, too.
-pub fn law_fragments_are_parts<K: Kinds>()
+pub fn law_fragments_are_parts<K: AccessKinds>()
     ensures one { (kind : K.Kind) (next : SlotStates → SlotStates) (old new : Device)
         → (a : IsSimulatedTo (K.may kind) (K.fits kind) next old new)
         → Performs a.driven.accesses (λ s m. K.fits kind s.uses) (λ s. record s { uses = next s.uses }) ByDeviceAlone
         old new }
     ensures giving_up { (kind then : K.Kind) (next : SlotStates → SlotStates) (port : ℕ) (old mid new : Device)
-        → (a : IsSimulated (K.may kind) (K.fits kind) old mid) → IsHalted (mid.port port)
+        → (a : IsSimulated (K.may kind) (K.fits kind) old mid) → IsEngineStopped (mid.port port)
         → ((uses : SlotStates) → AllFree uses port → K.fits then uses)
         → (b : IsSimulatedTo (K.may then) (K.fits then) next mid new)
         → Performs (a.driven.accesses ++ b.driven.accesses)
@@ -163,7 +164,7 @@ pub fn law_fragments_are_parts<K: Kinds>()
 }
 
 /// What these laws say of a crate's kinds, for its proofs.
-pub fn law_fragments<K: Kinds>()
+pub fn law_fragments<K: AccessKinds>()
     ensures { FragmentLaws K.Kind K.may K.fits }
 {
     law_accesses_are_followed::<K>();

@@ -2,7 +2,7 @@
 ghost use Rattle.std.specs.List.{list_any};
 ghost use Rattle.std.specs.Prelude.{◌≡◌, ◌+◌, ◌*◌, ◌/◌, ◌%◌, ◌<◌, ◌≤◌, ◌∷◌, ◌++◌, ℕ, Bool, true, false, [], List, length, map, Contains, ◌≢◌, ◌⊎◌, None, Some, All};
 ghost use Rattle.ata_types.specs.declared.Port.{Port};
-ghost use Rattle.ata_types.specs.declared.memory.TheConstants.{FRAME_BYTES, LIST_BYTES, RECEIVED_BYTES};
+ghost use Rattle.ata_types.specs.declared.memory.TheConstants.{FRAME_BYTES, LIST_BYTES, RECEIVED_FIS_BYTES};
 ghost use Rattle.ata_types.specs.declared.request.ClientId.{ClientId};
 ghost use Rattle.ata_types.specs.declared.request.Frame.{Frame};
 ghost use Rattle.ata_types.specs.declared.request.Outcome.{Outcome};
@@ -23,28 +23,28 @@ ghost use Rattle.adapter.specs.Steps.{Steps};
 ghost use Rattle.adapter.specs.declared.command.Operation.{Operation};
 ghost use Rattle.block_machine.specs.Due.{is_plain, issued_count};
 ghost use Rattle.adapter.specs.declared.tape.Entry.{Entry};
-ghost use Rattle.block_machine.specs.Events.{IsByDevice, AllDevices, AllMay, changes_disk};
+ghost use Rattle.block_machine.specs.Events.{IsByDevice, AllByDevice, AllMay, changes_disk};
 ghost use Rattle.block_machine.specs.Histories.{IsReachable, IsSimulatedBySteps};
-ghost use Rattle.block_machine.specs.Left.{IsInitial, after, AllTellSectors};
-ghost use Rattle.block_machine.specs.Refusals.{IsOpen};
+ghost use Rattle.block_machine.specs.Left.{IsInitial, after, AllStepsFaithful};
+ghost use Rattle.block_machine.specs.Refusals.{MayAccessFrame};
 ghost use Rattle.block_machine.specs.State.{Accepted, Pending, Machine, unanswered};
-ghost use Rattle.block_machine.specs.Steps.{Step, Accept, Issue, Age, Again, Answer, Release, Store, Load, May, NoneKept, older, after_step, stays, MayStillMove, Revoke};
+ghost use Rattle.block_machine.specs.Steps.{Step, Accept, Issue, Age, Again, Answer, Release, Store, Load, May, NoneQuarantined, older, after_step, stays, MayStillMove, Revoke};
 ghost use Rattle.block_machine.specs.declared.due.QueueMode.{QueueMode};
 ghost use Rattle.refinement.specs.Relation.{StateRelation, IsDiskOf, SameMemory, SameSectors, HaveSlots, ServeApart, port_at};
-ghost use Rattle.refinement.specs.Returning.{may_return};
-ghost use Rattle.refinement.specs.Driver.{MayStore, LeavesUses, LeavesFree, DriverState, DriverRelation, IsBacked, ByDevice, DriverAdvances, IsPrepared, IsOwnPrepared, EndsWith, HasNoSlot, ForgetsRequest, ForgetsKept, serving, parking, freeing, idle, IsWrittenBack, MissesTable, MissesScratch};
+ghost use Rattle.refinement.specs.Returning.{replug_candidates};
+ghost use Rattle.refinement.specs.Driver.{MayStore, LeavesUses, KeepsTables, DriverState, DriverRelation, IsBacked, ByDevice, DriverAdvances, IsPrepared, IsOwnPrepared, EndsInStep, HasNoSlot, ForgetsAtMost, ForgetsAtMostKept, serving, parking, freeing, idle, KeepsOtherCmdBits, MissesTable, MissesScratch};
 ghost use Rattle.refinement.specs.Follows.{SimulatesSteps};
-ghost use Rattle.refinement.specs.Links.{IsPlugging};
+ghost use Rattle.refinement.specs.Links.{IsPlugEvent};
 ghost use Rattle.refinement.specs.Places.{list_of, scratch_of, received_of};
 ghost use Rattle.refinement.specs.Trimmed.{TrimIsKnown};
-ghost use Rattle.refinement.specs.Witness.{PreparedIsKnown, FirstIsKnown, KeptIsKnown, ParkedIsKnown, EndedIsKnown, OwnIsKnown};
-ghost use Rattle.refinement.specs.Served.{TwoAreKnown};
+ghost use Rattle.refinement.specs.Witness.{PreparedReadWitness, FirstReadWitness, KeptIsKnown, ParkedReadWitness, EndedIsKnown, OwnIsKnown};
+ghost use Rattle.refinement.specs.Served.{TwoReadsWitness};
 ghost use Rattle.refinement.specs.Slots.{SlotState, Free, Armed, Own, Serves, SlotStates, put, serving_count, SlotDecodesTo, HasTrimBlock, IsOver, op_of, IsMove};
 ghost use Rattle.refinement.specs.Spares.{IsFurther, AllFurther, SparesBook, IsOfAnother};
-ghost use Rattle.refinement.specs.Tape.{OneAtMost, TellsAmong};
+ghost use Rattle.refinement.specs.Tape.{OneAtMost, TellsDeviceSteps};
 
 use super::lawful::law_below;
-use block_machine::laws::law_steps_go_on;
+use block_machine::laws::law_step_lists_compose;
 
 /// Whatever the device does by itself, the machine follows: what the tape gains are steps of the machine that may come,
 /// and the two agree again. So it is while a reset of the adapter is pending, too, and after one that is stuck.
@@ -72,7 +72,7 @@ pub fn law_issuing_is_followed()
         (new : Device)
         → IsReachable m → DriverRelation m k → k.device.hr ≡ false
         → IsPrepared k.uses m k.device port.0 slot mode e v → Writes (Px port Ci) v k.device new
-        → EndsWith k m (Issue mode e) (serving k port.0 slot e.request.id new) }
+        → EndsInStep k m (Issue mode e) (serving k port.0 slot e.request.id new) }
 {}
 
 /// The write of PxSACT arms a free slot of a running port, which is no step of the machine. Once ST is cleared, the
@@ -97,7 +97,7 @@ pub fn law_client_store_is_followed()
         (new : Device)
         → IsReachable m → DriverRelation m k → May m (Store client frame offset bytes)
         → Stores (FRAME_BYTES * frame.0 + offset) bytes k.device new
-        → EndsWith k m (Store client frame offset bytes) (record k { device = new }) }
+        → EndsInStep k m (Store client frame offset bytes) (record k { device = new }) }
 {
     law_below();
 }
@@ -106,9 +106,9 @@ pub fn law_client_store_is_followed()
 pub fn law_client_load_is_followed()
     ensures { (k : DriverState) (m : Machine) (client : ClientId) (frame : Frame) (offset : ℕ) (bytes : List ℕ)
         (new : Device)
-        → IsReachable m → DriverRelation m k → IsOpen m.owner m.lent client frame offset (length bytes)
+        → IsReachable m → DriverRelation m k → MayAccessFrame m.owner m.lent client frame offset (length bytes)
         → Loads (FRAME_BYTES * frame.0 + offset) bytes k.device new
-        → EndsWith k m (Load client frame offset bytes) (record k { device = new }) }
+        → EndsInStep k m (Load client frame offset bytes) (record k { device = new }) }
 {
     law_below();
 }
@@ -131,7 +131,7 @@ pub fn law_backing_composes()
 /// another. So it does by a step of its own; by what the device makes alone; by an access that ends with a step of its
 /// own; and by what any access or part of a call adds. And what goes so from each machine that agrees is a part of a
 /// call. The machine that is gone to is reached.
-pub fn law_going_composes()
+pub fn law_advances_compose()
     ensures none { (k : DriverState) (m : Machine) → DriverRelation m k → DriverAdvances k m [] k }
     ensures more { (a b c : DriverState) (m : Machine) (early late : List Step) → DriverAdvances a m early b
         → DriverAdvances b (after m early) late c → DriverAdvances a m (late ++ early) c }
@@ -145,11 +145,12 @@ pub fn law_going_composes()
     ensures follows { (k : DriverState) (m : Machine) (new : Device) → DriverRelation m k
         → (f : SimulatesSteps k.uses m k.device new)
         → DriverAdvances k m f.steps (record k { device = new }) }
-    ensures ends { (k later : DriverState) (m : Machine) (step : Step) → (e : EndsWith k m step later)
+    ensures ends { (k later : DriverState) (m : Machine) (step : Step) → (e : EndsInStep k m step later)
         → DriverAdvances k m (step ∷ e.steps) later }
     ensures access { (k later : DriverState) (m : Machine)
         → IsSimulatedBySteps DriverRelation k later (ByDevice k.device later.device)
-        → IsReachable m → DriverRelation m k → (steps : List Step) × AllDevices steps × DriverAdvances k m steps later }
+        → IsReachable m → DriverRelation m k → (steps : List Step) × AllByDevice steps
+        × DriverAdvances k m steps later }
     ensures part { (k later : DriverState) (m : Machine)
         → IsSimulatedBySteps DriverRelation k later (IsBacked k.device later.device)
         → IsReachable m → DriverRelation m k → (steps : List Step) × DriverAdvances k m steps later }
@@ -213,7 +214,7 @@ pub fn law_answering_agrees()
     ensures { (k : DriverState) (m : Machine) (e : Pending) (outcome : Outcome) (later : ℕ → List RequestId)
         → IsReachable m
         → DriverRelation m k → Contains m.book e → stays e outcome ≡ false → HasNoSlot k.uses e.request.id
-        → ForgetsRequest e.request.id k.parked later
+        → ForgetsAtMost e.request.id k.parked later
         → DriverRelation (after_step m (Answer e outcome)) (record k { parked = later }) }
 {}
 
@@ -228,7 +229,7 @@ pub fn law_keeping_agrees()
 pub fn law_going_again_agrees()
     ensures { (k : DriverState) (m : Machine) (e : Pending) (later : ℕ → List RequestId) → IsReachable m
         → DriverRelation m k
-        → Contains m.book e → HasNoSlot k.uses e.request.id → ForgetsRequest e.request.id k.parked later
+        → Contains m.book e → HasNoSlot k.uses e.request.id → ForgetsAtMost e.request.id k.parked later
         → DriverRelation (after_step m (Again e)) (record k { parked = later }) }
 {}
 
@@ -236,7 +237,7 @@ pub fn law_going_again_agrees()
 /// any more.
 pub fn law_releasing_agrees()
     ensures { (k : DriverState) (m : Machine) (later : ℕ → List RequestId) → IsReachable m → DriverRelation m k
-        → ((e : Pending) → Contains m.kept e → HasNoSlot k.uses e.request.id) → ForgetsKept m k.parked later
+        → ((e : Pending) → Contains m.kept e → HasNoSlot k.uses e.request.id) → ForgetsAtMostKept m k.parked later
         → DriverRelation (after_step m Release) (record k { parked = later }) }
 {}
 
@@ -252,14 +253,14 @@ pub fn law_waiting_has_no_slot()
 pub fn law_slots_are_counted()
     ensures most { (uses : SlotStates) (m : Machine) (d : Device) → IsReachable m → StateRelation uses m d
         → (port : Port)
-        → NoneKept m port → (n : ℕ) → serving_count uses port.0 n ≤ issued_count (map unanswered m.book) port }
+        → NoneQuarantined m port → (n : ℕ) → serving_count uses port.0 n ≤ issued_count (map unanswered m.book) port }
     ensures issued { (uses : SlotStates) (m : Machine) (d : Device) → StateRelation uses m d → (port : Port)
-        → NoneKept m port
+        → NoneQuarantined m port
         → (slot : ℕ) (id : RequestId) → uses port.0 slot ≡ Serves id
         → (e : Pending) × Contains m.book e × (e.issued ≡ true) × (e.request.id ≡ id) × (e.request.port ≡ port) }
     ensures all { (uses : SlotStates) (m : Machine) (d : Device) → IsReachable m → StateRelation uses m d
         → (port : Port)
-        → NoneKept m port → (n : ℕ) → HaveSlots uses m port.0 []
+        → NoneQuarantined m port → (n : ℕ) → HaveSlots uses m port.0 []
         → ((slot : ℕ) (id : RequestId) → uses port.0 slot ≡ Serves id → slot < n)
         → serving_count uses port.0 n ≡ issued_count (map unanswered m.book) port }
 {}
@@ -284,20 +285,20 @@ pub fn law_due_finds_free_slot()
 pub fn law_free_slots_are_left()
     ensures steps { (uses : SlotStates) (m : Machine) (old new : Device) → IsReachable m → StateRelation uses m old
         → old.hr ≡ false
-        → Steps old new → LeavesFree uses old new }
+        → Steps old new → KeepsTables uses old new }
     ensures reads { (uses : SlotStates) (m : Machine) (old new : Device) → IsReachable m → StateRelation uses m old
         → old.hr ≡ false
-        → (r : Reg) (v : ℕ) → Reads r v old new → LeavesFree uses old new }
+        → (r : Reg) (v : ℕ) → Reads r v old new → KeepsTables uses old new }
     ensures loads { (uses : SlotStates) (m : Machine) (old new : Device) → IsReachable m → StateRelation uses m old
         → old.hr ≡ false
-        → (at : ℕ) (bytes : List ℕ) → Loads at bytes old new → LeavesFree uses old new }
+        → (at : ℕ) (bytes : List ℕ) → Loads at bytes old new → KeepsTables uses old new }
     ensures stores { (uses : SlotStates) (m : Machine) (old new : Device) → IsReachable m → StateRelation uses m old
         → old.hr ≡ false
         → (at : ℕ) (bytes : List ℕ) → Stores at bytes old new
-        → LeavesFree uses (record old { memory = patched old.memory at bytes }) new }
+        → KeepsTables uses (record old { memory = patched old.memory at bytes }) new }
     ensures writes { (uses : SlotStates) (m : Machine) (old new : Device) → IsReachable m → StateRelation uses m old
         → old.hr ≡ false
-        → (r : Reg) (v : ℕ) → Writes r v old new → LeavesFree uses old new }
+        → (r : Reg) (v : ℕ) → Writes r v old new → KeepsTables uses old new }
 {}
 
 /// A page comes only where slot 0 of its port has that command of the driver's own, which isn't over; and one at most
@@ -326,23 +327,23 @@ pub fn law_pages_come_when_asked()
 /// So the bytes of a slot that say a command go on saying it, and a trim's block stays where slot 0 has no command of
 /// the driver's own. A store beside them leaves them, too; and one for a free slot is beside what belongs to a slot in
 /// use.
-pub fn law_what_is_told_is_left()
-    ensures told { (uses : SlotStates) (old new : Device) → LeavesFree uses old new → (port slot : ℕ) (c : Meaning)
+pub fn law_stored_commands_stay()
+    ensures told { (uses : SlotStates) (old new : Device) → KeepsTables uses old new → (port slot : ℕ) (c : Meaning)
         (places : List ℕ) → port < 4 → slot < 32 → SlotDecodesTo old.memory (list_of port) port slot c places
         → SlotDecodesTo new.memory (list_of port) port slot c places }
-    ensures block { (uses : SlotStates) (old new : Device) → LeavesFree uses old new → (port : ℕ) (r : Accepted)
+    ensures block { (uses : SlotStates) (old new : Device) → KeepsTables uses old new → (port : ℕ) (r : Accepted)
         → port < 4
         → ((o : Operation) → uses port 0 ≡ Own o → ⊥) → HasTrimBlock r.asked.op old.memory port r
         → HasTrimBlock r.asked.op new.memory port r }
     ensures beside { (uses : SlotStates) (at : ℕ) (bytes : List ℕ) (old new : Device)
-        → LeavesFree uses (record old { memory = patched old.memory at bytes }) new → (port slot : ℕ) (c : Meaning)
+        → KeepsTables uses (record old { memory = patched old.memory at bytes }) new → (port slot : ℕ) (c : Meaning)
         (places : List ℕ) → port < 4 → slot < 32 → MissesTable port slot at (length bytes)
         → SlotDecodesTo old.memory (list_of port) port slot c places
         → SlotDecodesTo new.memory (list_of port) port slot c places }
     ensures misses { (uses : SlotStates) (port slot at n : ℕ) → uses port slot ≢ Free → port < 4 → slot < 32
         → MayStore uses at n → MissesTable port slot at n }
     ensures block_beside { (uses : SlotStates) (at : ℕ) (bytes : List ℕ) (old new : Device)
-        → LeavesFree uses (record old { memory = patched old.memory at bytes }) new → (port : ℕ) (r : Accepted)
+        → KeepsTables uses (record old { memory = patched old.memory at bytes }) new → (port : ℕ) (r : Accepted)
         → port < 4 → ((o : Operation) → uses port 0 ≡ Own o → ⊥) → MissesScratch port at (length bytes)
         → HasTrimBlock r.asked.op old.memory port r → HasTrimBlock r.asked.op new.memory port r }
     ensures misses_scratch { (uses : SlotStates) (port at n : ℕ) → uses port 0 ≢ Free → port < 4 → MayStore uses at n
@@ -351,7 +352,7 @@ pub fn law_what_is_told_is_left()
 
 /// A request that is due stays due, whatever the device does.
 pub fn law_due_stays()
-    ensures { (m : Machine) (steps : List Step) → IsReachable m → AllDevices steps → AllMay m steps
+    ensures { (m : Machine) (steps : List Step) → IsReachable m → AllByDevice steps → AllMay m steps
         → (mode : QueueMode) (e : Pending) → May m (Issue mode e) → May (after m steps) (Issue mode e) }
 {}
 
@@ -360,7 +361,7 @@ pub fn law_due_stays()
 /// isn't lent to a request that the device may move keeps its bytes. And a port of which no request is kept has none
 /// kept after them.
 pub fn law_steps_spare_the_book()
-    ensures spares { (m : Machine) (steps : List Step) → AllDevices steps → SparesBook m (after m steps) }
+    ensures spares { (m : Machine) (steps : List Step) → AllByDevice steps → SparesBook m (after m steps) }
     ensures none { (m : Machine) → SparesBook m m }
     ensures more { (a b c : Machine) → SparesBook a b → SparesBook b c → SparesBook a c }
     ensures due { (old new : List Pending) → AllFurther old new → map unanswered new ≡ map unanswered old }
@@ -368,37 +369,41 @@ pub fn law_steps_spare_the_book()
         → (x : Pending) × Contains new x × IsFurther e x }
     ensures before { (old new : List Pending) (e : Pending) → AllFurther old new → Contains new e
         → (x : Pending) × Contains old x × IsFurther x e }
-    ensures frames { (m : Machine) (steps : List Step) (frame : Frame) → IsReachable m → AllDevices steps
+    ensures frames { (m : Machine) (steps : List Step) (frame : Frame) → IsReachable m → AllByDevice steps
         → AllMay m steps
         → ((e : Pending) → MayStillMove m e → m.lent frame ≡ Some e.request.id → ⊥)
         → (b : ℕ) → (after m steps).memory frame b ≡ m.memory frame b }
-    ensures kept { (m : Machine) (steps : List Step) (port : Port) → AllDevices steps → NoneKept m port
-        → NoneKept (after m steps) port }
+    ensures kept { (m : Machine) (steps : List Step) (port : Port) → AllByDevice steps → NoneQuarantined m port
+        → NoneQuarantined (after m steps) port }
 {}
 
 /// Where entries of the tape tell of the device's steps among these, one of the entries is of a disk of the port that
 /// goes or comes exactly if one of the steps takes the port's disk out or puts one in.
 pub fn law_disks_are_told()
-    ensures steps { (port : Port) (m : Machine) (gained : List Entry) (steps : List Step) → TellsAmong m gained steps
-        → (e : Entry) → Contains gained e → IsPlugging port.0 e → list_any (changes_disk port) steps ≡ true }
-    ensures entry { (port : Port) (m : Machine) (gained : List Entry) (steps : List Step) → TellsAmong m gained steps
-        → list_any (changes_disk port) steps ≡ true → (e : Entry) × Contains gained e × IsPlugging port.0 e }
-    ensures none { (port : Port) (m : Machine) (gained : List Entry) (steps : List Step) → TellsAmong m gained steps
-        → list_any (changes_disk port) steps ≡ false → All (λ e. IsPlugging port.0 e → ⊥) gained }
+    ensures steps { (port : Port) (m : Machine) (gained : List Entry) (steps : List Step)
+        → TellsDeviceSteps m gained steps
+        → (e : Entry) → Contains gained e → IsPlugEvent port.0 e → list_any (changes_disk port) steps ≡ true }
+    ensures entry { (port : Port) (m : Machine) (gained : List Entry) (steps : List Step)
+        → TellsDeviceSteps m gained steps
+        → list_any (changes_disk port) steps ≡ true → (e : Entry) × Contains gained e × IsPlugEvent port.0 e }
+    ensures none { (port : Port) (m : Machine) (gained : List Entry) (steps : List Step)
+        → TellsDeviceSteps m gained steps
+        → list_any (changes_disk port) steps ≡ false → All (λ e. IsPlugEvent port.0 e → ⊥) gained }
 {}
 
 /// A history goes on by steps that may come, and so do fragments of them. Two fragments of the device's steps are one,
 /// too; and so are two whose reads moved what the disks hold.
-pub fn law_histories_go_on()
+pub fn law_histories_compose()
     ensures reached { (m : Machine) (steps : List Step) → IsReachable m → AllMay m steps → IsReachable (after m steps) }
     ensures may { (m : Machine) (late early : List Step) → AllMay m early → AllMay (after m early) late
         → AllMay m (late ++ early) }
     ensures after { (m : Machine) (late early : List Step) → after m (late ++ early) ≡ after (after m early) late }
-    ensures device { (late early : List Step) → AllDevices late → AllDevices early → AllDevices (late ++ early) }
-    ensures told { (m : Machine) (late early : List Step) → AllTellSectors m early → AllTellSectors (after m early) late
-        → AllTellSectors m (late ++ early) }
+    ensures device { (late early : List Step) → AllByDevice late → AllByDevice early → AllByDevice (late ++ early) }
+    ensures told { (m : Machine) (late early : List Step) → AllStepsFaithful m early
+        → AllStepsFaithful (after m early) late
+        → AllStepsFaithful m (late ++ early) }
 {
-    law_steps_go_on();
+    law_step_lists_compose();
 }
 
 /// A bit of PxSACT that is clear stays so whatever the device does, over readings, and over writes but for one of
@@ -430,7 +435,8 @@ pub fn law_client_bytes_are_free()
     ensures { (uses : SlotStates) (m : Machine) (d : Device) → IsReachable m → StateRelation uses m d
         → (client : ClientId)
         (frame : Frame) (offset n : ℕ) → FRAME_BYTES * frame.0 + FRAME_BYTES ≤ d.size
-        → IsOpen m.owner m.lent client frame offset n → IsStable (IsUnowned (FRAME_BYTES * frame.0 + offset) n) d }
+        → MayAccessFrame m.owner m.lent client frame offset n
+        → IsStable (IsUnowned (FRAME_BYTES * frame.0 + offset) n) d }
 {
     law_below();
 }
@@ -461,7 +467,7 @@ pub fn law_placing_is_permitted()
     ensures list_upper { (d : Device) (port : Port) → IsOn d → HasPort d port.0 → (d.port port.0).st ≡ false
         → (d.port port.0).cr ≡ false → IsStable (MayWrite (Px port Clbu) 0) d }
     ensures received { (d : Device) (port : Port) → IsOn d → HasPort d port.0 → (d.port port.0).fre ≡ false
-        → (d.port port.0).fr ≡ false → received_of port.0 + RECEIVED_BYTES ≤ d.size
+        → (d.port port.0).fr ≡ false → received_of port.0 + RECEIVED_FIS_BYTES ≤ d.size
         → IsStable (MayWrite (Px port Fb) (received_of port.0)) d }
     ensures received_upper { (d : Device) (port : Port) → IsOn d → HasPort d port.0 → (d.port port.0).fre ≡ false
         → (d.port port.0).fr ≡ false → IsStable (MayWrite (Px port Fbu) 0) d }
@@ -473,15 +479,15 @@ pub fn law_placing_is_permitted()
 pub fn law_commanding_is_permitted()
     ensures start { (port : Port) (was v : ℕ) (d : Device) → IsOn d → HasPort d port.0 → (d.port port.0).notes.last_cmd
         ≡ was
-        → MayStart (d.port port.0) → IsWrittenBack true true was v → IsStable (MayWrite (Px port Cmd) v) d }
+        → MayStart (d.port port.0) → KeepsOtherCmdBits true true was v → IsStable (MayWrite (Px port Cmd) v) d }
     ensures stop { (port : Port) (was v : ℕ) (d : Device) → IsOn d → HasPort d port.0 → (d.port port.0).notes.last_cmd
         ≡ was
-        → IsWrittenBack false (d.port port.0).fre was v → IsStable (MayWrite (Px port Cmd) v) d }
+        → KeepsOtherCmdBits false (d.port port.0).fre was v → IsStable (MayWrite (Px port Cmd) v) d }
     ensures receive { (port : Port) (was v : ℕ) (d : Device) → IsOn d → HasPort d port.0
         → (d.port port.0).notes.last_cmd ≡ was → MaySetFre (d.port port.0)
-        → IsWrittenBack (d.port port.0).st true was v → IsStable (MayWrite (Px port Cmd) v) d }
+        → KeepsOtherCmdBits (d.port port.0).st true was v → IsStable (MayWrite (Px port Cmd) v) d }
     ensures stop_receiving { (port : Port) (was v : ℕ) (d : Device) → IsOn d → HasPort d port.0
-        → (d.port port.0).notes.last_cmd ≡ was → MayStopReceiving (d.port port.0) → IsWrittenBack false false was v
+        → (d.port port.0).notes.last_cmd ≡ was → MayStopReceiving (d.port port.0) → KeepsOtherCmdBits false false was v
         → IsStable (MayWrite (Px port Cmd) v) d }
 {}
 
@@ -510,13 +516,14 @@ pub fn law_an_idle_device_agrees()
         → SameMemory m d.memory
         → (d.telling ≡ true → (port : ℕ) → SameSectors m (d.port port).disk port)
         → (d.telling ≡ true → (port k : ℕ)
-        → m.aside (port_at port) k ≡ may_return d.tape (d.port port).lasting port k) → DriverRelation m (idle d) }
+        → m.aside (port_at port) k ≡ replug_candidates d.tape (d.port port).lasting port k)
+        → DriverRelation m (idle d) }
 {}
 
 /// There is an adapter whose first read is prepared, and a machine that is reached and agrees with it: the write of
 /// PxCI is permitted, and issues the read.
 pub fn law_a_prepared_read_agrees()
-    ensures { PreparedIsKnown }
+    ensures { PreparedReadWitness }
 {
     law_below();
 }
@@ -524,7 +531,7 @@ pub fn law_a_prepared_read_agrees()
 /// There is an adapter with its first read issued, and a machine that is reached and agrees with what its driver knows:
 /// so none of these laws is empty.
 pub fn law_a_first_read_agrees()
-    ensures { FirstIsKnown }
+    ensures { FirstReadWitness }
 {
     law_below();
 }
@@ -532,7 +539,7 @@ pub fn law_a_first_read_agrees()
 /// There is one whose driver has stopped the port of that read, and has taken it from its slot once the engine stood:
 /// the read may wait again.
 pub fn law_a_parked_read_agrees()
-    ensures { ParkedIsKnown }
+    ensures { ParkedReadWitness }
 {
     law_below();
 }
@@ -555,7 +562,7 @@ pub fn law_an_ended_read_agrees()
 /// There is an adapter with two queued reads, into frames that are apart: both are issued, each by a write that is
 /// permitted, and the device has taken the one while the other waits. A machine agrees with its driver.
 pub fn law_two_queued_reads_agree()
-    ensures { TwoAreKnown }
+    ensures { TwoReadsWitness }
 {
     law_below();
 }

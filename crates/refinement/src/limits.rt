@@ -5,21 +5,21 @@ ghost use Rattle.adapter.specs.Commands.{is_queued};
 ghost use Rattle.adapter.specs.Device.{FetchedCommand, Device};
 ghost use Rattle.adapter.specs.Device.Halt.{NotHalted, HaltedPlain, HaltedQueued};
 ghost use Rattle.adapter.specs.FirstRead.{first_read_device};
-ghost use Rattle.adapter.specs.Steps.{Steps, restarted};
+ghost use Rattle.adapter.specs.Steps.{Steps, halt_after_start};
 ghost use Rattle.block_machine.specs.Histories.{IsReachable};
 ghost use Rattle.block_machine.specs.State.{Machine};
 ghost use Rattle.refinement.specs.Relation.{StateRelation};
 ghost use Rattle.refinement.specs.Slots.{SlotStates};
 ghost use Rattle.refinement.specs.Recovering.{WorksPlainly};
 ghost use Rattle.refinement.specs.Logged.{LogIsEnded};
-ghost use Rattle.refinement.specs.Recovered.{FaultIsSeen, RecoveryIsFound};
+ghost use Rattle.refinement.specs.Recovered.{FaultIsSeen, RecoveredWitness};
 ghost use Rattle.refinement.specs.Served.{two_issued};
 
 use super::lawful::law_below;
 
 /// There is a port that fails and is stopped, cleared and started again without COMRESET: it runs well.
 pub fn law_a_fault_is_recovered()
-    ensures { RecoveryIsFound }
+    ensures { RecoveredWitness }
 {
     law_below();
 }
@@ -45,15 +45,16 @@ pub fn law_a_log_ends_a_halt()
 pub fn law_plain_work_needs_all()
     ensures unarmed { ((uses : SlotStates) (m : Machine) (port : ℕ) (old new : Device) → IsReachable m
         → StateRelation uses m old
-        → Steps old new → restarted (old.port port).halt ≡ NotHalted
+        → Steps old new → halt_after_start (old.port port).halt ≡ NotHalted
         → ((slot : ℕ) (t : FetchedCommand) → (old.port port).taken slot ≡ Some t
         → is_queued t.meaning.operation ≡ false)
         → (slot : ℕ) (t : FetchedCommand) → (new.port port).taken slot ≡ Some t
         → is_queued t.meaning.operation ≡ false) → ⊥ }
     ensures plain { ((uses : SlotStates) (m : Machine) (port : ℕ) (old new : Device) → IsReachable m
         → StateRelation uses m old
-        → Steps old new → restarted (old.port port).halt ≡ NotHalted → ((slot : ℕ) → (old.port port).sact slot ≡ false)
-        → restarted (new.port port).halt ≡ NotHalted) → ⊥ }
+        → Steps old new → halt_after_start (old.port port).halt ≡ NotHalted
+        → ((slot : ℕ) → (old.port port).sact slot ≡ false)
+        → halt_after_start (new.port port).halt ≡ NotHalted) → ⊥ }
     ensures agreed { ((port : ℕ) (old new : Device) → Steps old new → WorksPlainly (old.port port)
         → WorksPlainly (new.port port)) → ⊥ }
 {

@@ -18,7 +18,7 @@ ghost use Rattle.block_machine.specs.declared.due.QueueMode.{QueueMode};
 ghost use Rattle.refinement.specs.Acts.{Act, AreActsDone, accesses_of};
 ghost use Rattle.refinement.specs.Relation.{StateRelation};
 ghost use Rattle.refinement.specs.Driver.{IsPrepared, DriverState, DriverRelation, MissesTable, LeavesUses};
-ghost use Rattle.refinement.specs.Links.{SparesRegister};
+ghost use Rattle.refinement.specs.Links.{DoesNotWrite};
 ghost use Rattle.refinement.specs.Slots.{Free, Armed, SlotStates, put, Means, HasTrimBlock};
 ghost use Rattle.refinement.specs.Started.{ClearsNoStart};
 ghost use Rattle.refinement.specs.Readying.{IsStored, IsReadied, LeavesStored};
@@ -36,7 +36,7 @@ pub fn law_readied_stays()
     ensures access { (uses : SlotStates) (m : Machine) (port : Port) (slot : ℕ) (c : Meaning) (places : List ℕ)
         (access : Access)
         (old new : Device) → IsReachable m → StateRelation uses m old → old.hr ≡ false → ClearsNoStart port access
-        → SparesRegister (Px port Clb) access
+        → DoesNotWrite (Px port Clb) access
         → ((at : ℕ) (bytes : List ℕ) → access ≡ Storing at bytes → MissesTable port.0 slot at (length bytes))
         → Does access old new → IsStored old port.0 slot c places → IsStored new port.0 slot c places }
     ensures arms { (uses : SlotStates) (m : Machine) (port : Port) (slot : ℕ) (c : Meaning) (places : List ℕ) (v : ℕ)

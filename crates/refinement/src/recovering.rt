@@ -16,12 +16,12 @@ ghost use Rattle.refinement.specs.Relation.{StateRelation};
 ghost use Rattle.refinement.specs.Acts.{Act, AreActsDone, accesses_of};
 ghost use Rattle.refinement.specs.Driver.{IsOwnPrepared, DriverState, DriverRelation};
 ghost use Rattle.refinement.specs.Errors.{NoneFatal};
-ghost use Rattle.refinement.specs.Facts.{RunsWell, TellsNoTrouble, IsQuiet};
-ghost use Rattle.refinement.specs.Links.{SparesRegister, PlugsNone};
+ghost use Rattle.refinement.specs.Facts.{RunsWell, TellsNoTrouble, IsCleanToStart};
+ghost use Rattle.refinement.specs.Links.{DoesNotWrite, NoPlugEvents};
 ghost use Rattle.refinement.specs.Slots.{SlotState, SlotStates, Free, Own, put};
 ghost use Rattle.refinement.specs.Started.{IsUp, IsStarted, ClearsNoStart};
-ghost use Rattle.refinement.specs.Halting.{HaltsAsTaken, IsHaltedAsTaken};
-ghost use Rattle.refinement.specs.Recovering.{IsLinked, WorksPlainly, RunsLinked, EndsHalt, FailsOpenly};
+ghost use Rattle.refinement.specs.Halting.{HaltIsOfTaken, HaltOfTakenIfSt};
+ghost use Rattle.refinement.specs.Recovering.{IsLinked, WorksPlainly, RunsLinked, EndsHalt, FaultLeavesIssued};
 
 use super::lawful::law_below;
 
@@ -29,10 +29,10 @@ use super::lawful::law_below;
 /// else the device does, faults and fatal errors among it, and over each access but a write of PxSCTL. So it is of a
 /// port that was started, and of one whose link came up.
 pub fn law_link_is_kept()
-    ensures steps { (port : ℕ) (old new : Device) → old.hr ≡ false → PlugsNone port old new → Steps old new
+    ensures steps { (port : ℕ) (old new : Device) → old.hr ≡ false → NoPlugEvents port old new → Steps old new
         → IsLinked (old.port port) → IsLinked (new.port port) }
     ensures access { (port : Port) (access : Access) (old new : Device) → old.hr ≡ false
-        → SparesRegister (Px port Sctl) access → PlugsNone port.0 old new → Does access old new
+        → DoesNotWrite (Px port Sctl) access → NoPlugEvents port.0 old new → Does access old new
         → IsLinked (old.port port.0) → IsLinked (new.port port.0) }
     ensures started { (p : DevicePort) → IsStarted p → p.sctl_det ≢ 1 → IsLinked p }
     ensures up { (p : DevicePort) → IsUp p → IsLinked p }
@@ -44,13 +44,13 @@ pub fn law_link_is_kept()
 /// does, also over a reset that ends, and over each access but a write of PxSACT: faults halt it in a way that ends
 /// once ST is set. A port that runs without a halt does so exactly if no bit of PxSACT is set. And then the link is up
 /// for a start.
-pub fn law_faults_are_plain()
+pub fn law_plain_work_stays()
     ensures steps { (uses : SlotStates) (m : Machine) (port : ℕ) (old new : Device) → IsReachable m
         → StateRelation uses m old
         → Steps old new → WorksPlainly (old.port port) → WorksPlainly (new.port port) }
     ensures access { (uses : SlotStates) (m : Machine) (port : Port) (access : Access) (old new : Device)
         → IsReachable m
-        → StateRelation uses m old → SparesRegister (Px port Sact) access → Does access old new
+        → StateRelation uses m old → DoesNotWrite (Px port Sact) access → Does access old new
         → WorksPlainly (old.port port.0) → WorksPlainly (new.port port.0) }
     ensures runs { (uses : SlotStates) (m : Machine) (port : ℕ) (d : Device) → StateRelation uses m d
         → (d.port port).st ≡ true
@@ -70,17 +70,17 @@ pub fn law_faults_are_plain()
 pub fn law_halts_are_of_taken_commands()
     ensures steps { (uses : SlotStates) (m : Machine) (port : ℕ) (old new : Device) → IsReachable m
         → StateRelation uses m old
-        → Steps old new → IsHaltedAsTaken (old.port port) → IsHaltedAsTaken (new.port port) }
+        → Steps old new → HaltOfTakenIfSt (old.port port) → HaltOfTakenIfSt (new.port port) }
     ensures access { (uses : SlotStates) (m : Machine) (port : Port) (access : Access) (old new : Device)
         → IsReachable m
-        → StateRelation uses m old → SparesRegister (Px port Cmd) access → Does access old new
-        → IsHaltedAsTaken (old.port port.0) → IsHaltedAsTaken (new.port port.0) }
+        → StateRelation uses m old → DoesNotWrite (Px port Cmd) access → Does access old new
+        → HaltOfTakenIfSt (old.port port.0) → HaltOfTakenIfSt (new.port port.0) }
     ensures acts { (port : Port) (acts : List Act) (k later : DriverState) (m : Machine) → IsReachable m
         → DriverRelation m k
-        → AreActsDone acts k m later → All (SparesRegister (Px port Cmd)) (accesses_of acts)
-        → IsHaltedAsTaken (k.device.port port.0) → IsHaltedAsTaken (later.device.port port.0) }
-    ensures calm { (p : DevicePort) → p.halt ≡ NotHalted → HaltsAsTaken p }
-    ensures plain { (p : DevicePort) → WorksPlainly p → HaltsAsTaken p }
+        → AreActsDone acts k m later → All (DoesNotWrite (Px port Cmd)) (accesses_of acts)
+        → HaltOfTakenIfSt (k.device.port port.0) → HaltOfTakenIfSt (later.device.port port.0) }
+    ensures calm { (p : DevicePort) → p.halt ≡ NotHalted → HaltIsOfTaken p }
+    ensures plain { (p : DevicePort) → WorksPlainly p → HaltIsOfTaken p }
 {
     law_below();
 }
@@ -90,12 +90,12 @@ pub fn law_halts_are_of_taken_commands()
 /// device does, and over each access that neither clears ST nor writes PxSCTL. It is started where no fault halts it.
 pub fn law_running_goes_on()
     ensures starts { (port : Port) (v : ℕ) (old new : Device) → old.hr ≡ false → (old.port port.0).st ≡ false
-        → (old.port port.0).cr ≡ false → bit v 0 ≡ true → PlugsNone port.0 old new → Writes (Px port Cmd) v old new
+        → (old.port port.0).cr ≡ false → bit v 0 ≡ true → NoPlugEvents port.0 old new → Writes (Px port Cmd) v old new
         → IsLinked (old.port port.0) → RunsLinked (new.port port.0) }
-    ensures steps { (port : ℕ) (old new : Device) → old.hr ≡ false → PlugsNone port old new → NoneFatal port old new
+    ensures steps { (port : ℕ) (old new : Device) → old.hr ≡ false → NoPlugEvents port old new → NoneFatal port old new
         → Steps old new → RunsLinked (old.port port) → RunsLinked (new.port port) }
     ensures access { (port : Port) (access : Access) (old new : Device) → old.hr ≡ false → ClearsNoStart port access
-        → SparesRegister (Px port Sctl) access → PlugsNone port.0 old new → NoneFatal port.0 old new
+        → DoesNotWrite (Px port Sctl) access → NoPlugEvents port.0 old new → NoneFatal port.0 old new
         → Does access old new → RunsLinked (old.port port.0) → RunsLinked (new.port port.0) }
     ensures started { (p : DevicePort) → RunsLinked p → p.halt ≡ NotHalted → IsStarted p }
 {
@@ -117,7 +117,7 @@ pub fn law_halt_is_ended()
         → Steps old new → EndsHalt uses port old → EndsHalt uses port new }
     ensures access { (uses : SlotStates) (m : Machine) (port : Port) (access : Access) (old new : Device)
         → IsReachable m
-        → StateRelation uses m old → ClearsNoStart port access → SparesRegister (Px port Sact) access → new.hr ≡ false
+        → StateRelation uses m old → ClearsNoStart port access → DoesNotWrite (Px port Sact) access → new.hr ≡ false
         → Does access old new → EndsHalt uses port.0 old → EndsHalt uses port.0 new }
     ensures read { (uses : SlotStates) (m : Machine) (port : Port) (v : ℕ) (old new : Device) → IsReachable m
         → StateRelation uses m old → EndsHalt uses port.0 old → Reads (Px port Ci) v old new → bit v 0 ≡ false
@@ -138,20 +138,21 @@ pub fn law_halt_is_ended()
 /// runs well, where no other bit tells of trouble.
 pub fn law_faults_show_before_the_end()
     ensures starts { (uses : SlotStates) (port : Port) (v : ℕ) (old new : Device) → old.hr ≡ false → bit v 0 ≡ true
-        → ((slot : ℕ) → uses port.0 slot ≡ Free) → (old.port port.0).sact 0 ≡ false → IsQuiet (old.port port.0)
-        → (old.port port.0).st ≡ false → Writes (Px port Cmd) v old new → FailsOpenly uses port.0 new }
-    ensures used { (uses : SlotStates) (port : ℕ) (u : SlotState) (d : Device) → FailsOpenly uses port d
-        → FailsOpenly (put uses port 0 u) port d }
+        → ((slot : ℕ) → uses port.0 slot ≡ Free) → (old.port port.0).sact 0 ≡ false → IsCleanToStart (old.port port.0)
+        → (old.port port.0).st ≡ false → Writes (Px port Cmd) v old new → FaultLeavesIssued uses port.0 new }
+    ensures used { (uses : SlotStates) (port : ℕ) (u : SlotState) (d : Device) → FaultLeavesIssued uses port d
+        → FaultLeavesIssued (put uses port 0 u) port d }
     ensures steps { (uses : SlotStates) (m : Machine) (port : ℕ) (old new : Device) → IsReachable m
         → StateRelation uses m old
-        → Steps old new → FailsOpenly uses port old → FailsOpenly uses port new }
+        → Steps old new → FaultLeavesIssued uses port old → FaultLeavesIssued uses port new }
     ensures access { (uses : SlotStates) (m : Machine) (port : Port) (access : Access) (old new : Device)
         → IsReachable m
-        → StateRelation uses m old → ClearsNoStart port access → SparesRegister (Px port Sact) access
-        → SparesRegister (Px port Sctl) access → new.hr ≡ false → Does access old new → FailsOpenly uses port.0 old
-        → FailsOpenly uses port.0 new }
+        → StateRelation uses m old → ClearsNoStart port access → DoesNotWrite (Px port Sact) access
+        → DoesNotWrite (Px port Sctl) access → new.hr ≡ false → Does access old new
+        → FaultLeavesIssued uses port.0 old
+        → FaultLeavesIssued uses port.0 new }
     ensures read { (uses : SlotStates) (m : Machine) (port : Port) (v : ℕ) (old new : Device) → IsReachable m
-        → StateRelation uses m old → FailsOpenly uses port.0 old → Reads (Px port Ci) v old new → bit v 0 ≡ false
+        → StateRelation uses m old → FaultLeavesIssued uses port.0 old → Reads (Px port Ci) v old new → bit v 0 ≡ false
         → (new.port port.0).is 30 ≡ false }
     ensures well { (p : DevicePort) → RunsLinked p → p.halt ≡ NotHalted → p.is 30 ≡ false → p.serr_n ≡ false
         → p.serr_x ≡ false → ((place : ℕ) → 27 ≤ place → place ≤ 29 → p.is place ≡ false) → RunsWell p }

@@ -6,7 +6,7 @@ use Rattle.std.proofs.lemmas.Bool.{and_from, and_parts, cases_eq}
 use Rattle.std.proofs.lemmas.List.{take_more, take_all}
 use Rattle.std.proofs.lemmas.List.Folds.{list_any-append}
 use Rattle.ata_types.specs.declared.Port.{Port}
-use Rattle.request_queue.specs.Entries.{Held, IsAnyOverdue, older_entry}
+use Rattle.request_queue.specs.Entries.{BookEntry, IsAnyOverdue, older_entry}
 use Rattle.request_queue.specs.declared.PendingRequest.{PendingRequest}
 use Rattle.block_machine.specs.declared.due.Unanswered.{Unanswered}
 use Rattle.request_queue.proofs.Changing.{ChangedSoFar, all_are_changed, older_spares}
@@ -24,7 +24,7 @@ pub not_old : (ports : Port → Bool) (r : PendingRequest) → r.issued ≡ fals
 not_old ports r waits = ap is_old (waits_on ports r waits) ∙ ap (λ (b : Bool). b && nat_le 3 r.age) waits
 
 -- and is passed over
-pub none_changed : (f : PendingRequest → PendingRequest) (old now : List Held) (place : ℕ) → ChangedSoFar f old now place → ((d : Held) → f (get_or old place d).entry ≡ (get_or old place d).entry)
+pub none_changed : (f : PendingRequest → PendingRequest) (old now : List BookEntry) (place : ℕ) → ChangedSoFar f old now place → ((d : BookEntry) → f (get_or old place d).entry ≡ (get_or old place d).entry)
     → ChangedSoFar f old now (place + 1)
 none_changed f old now place so_far same = record {
   done = λ k d lt short. ⊎_elim
@@ -42,49 +42,49 @@ or_none true = refl
 or_none false = refl
 
 -- what is noted of one more
-pub one_noted : (q : Held → Bool) (es : List Held) (i : ℕ) (d : Held) → i < length es → list_any q (take (i + 1) es) ≡ (list_any q (take i es) || q (get_or es i d))
+pub one_noted : (q : BookEntry → Bool) (es : List BookEntry) (i : ℕ) (d : BookEntry) → i < length es → list_any q (take (i + 1) es) ≡ (list_any q (take i es) || q (get_or es i d))
 one_noted q es i d lt =
     ap (list_any q) (take_more es i d lt)
     ∙ (list_any-append q (take i es) (get_or es i d ∷ []) ∙ ap (λ (b : Bool). list_any q (take i es) || b) (or_none (q (get_or es i d))))
 
 -- what is noted of all tells whether one is overdue
-pub all_noted : (f : PendingRequest → PendingRequest) (es : List Held) (place : ℕ) → length es ≤ place
-    → list_any (λ e. is_old (f e.entry)) (take place es) ≡ list_any (λ (e : Held). is_old e.entry) (map (λ (e : Held). record e { entry = f e.entry }) es)
+pub all_noted : (f : PendingRequest → PendingRequest) (es : List BookEntry) (place : ℕ) → length es ≤ place
+    → list_any (λ e. is_old (f e.entry)) (take place es) ≡ list_any (λ (e : BookEntry). is_old e.entry) (map (λ (e : BookEntry). record e { entry = f e.entry }) es)
 all_noted f es place all = ap (list_any (λ e. is_old (f e.entry))) (take_all place es all) ∙ go es
   where
-    go : (es : List Held) → list_any (λ e. is_old (f e.entry)) es ≡ list_any (λ (e : Held). is_old e.entry) (map (λ (e : Held). record e { entry = f e.entry }) es)
+    go : (es : List BookEntry) → list_any (λ e. is_old (f e.entry)) es ≡ list_any (λ (e : BookEntry). is_old e.entry) (map (λ (e : BookEntry). record e { entry = f e.entry }) es)
     go [] = refl
     go (e ∷ es) = ap (λ (b : Bool). is_old (f e.entry) || b) (go es)
 
-pub tells : (es : List Held) → IsTrue (list_any (λ (e : Held). is_old e.entry) es) ↔ IsAnyOverdue es
+pub tells : (es : List BookEntry) → IsTrue (list_any (λ (e : BookEntry). is_old e.entry) es) ↔ IsAnyOverdue es
 tells es = (
   (λ is.
-      let one = one_found (λ (e : Held). is_old e.entry) es is in
+      let one = one_found (λ (e : BookEntry). is_old e.entry) es is in
       let parts = and_parts one.0.entry.issued _ one.2 in
       (one.0.entry.port, (one.0, one.1, (refl, parts.0, leb-true 3 one.0.entry.age parts.1)))),
-  (λ overdue. let its = overdue.1 in found (λ (e : Held). is_old e.entry) es its.0 its.1 (and_from _ _ its.2.1 (le-leb 3 its.0.entry.age its.2.2))),
+  (λ overdue. let its = overdue.1 in found (λ (e : BookEntry). is_old e.entry) es its.0 its.1 (and_from _ _ its.2.1 (le-leb 3 its.0.entry.age its.2.2))),
 )
 
 -- ---- at a place of the loop
 
-module _ (ports : Port → Bool) (old now : List Held) (place : ℕ) (noted : Bool) (small : place < length old)
+module _ (ports : Port → Bool) (old now : List BookEntry) (place : ℕ) (noted : Bool) (small : place < length old)
     (so_far : ChangedSoFar (older_entry ports) old now place) (is : noted ≡ list_any (λ e. is_old (older_entry ports e.entry)) (take place old)) where
-  abbrev q : Held → Bool
+  abbrev q : BookEntry → Bool
   q e = is_old (older_entry ports e.entry)
 
   -- one that is noted as what it is
-  noted_more : (d : Held) (b : Bool) → b ≡ q (get_or old place d) → (noted || b) ≡ list_any q (take (place + 1) old)
+  noted_more : (d : BookEntry) (b : Bool) → b ≡ q (get_or old place d) → (noted || b) ≡ list_any q (take (place + 1) old)
   noted_more d b its = ap (λ (x : Bool). x || b) is ∙ (ap (λ (x : Bool). list_any q (take place old) || x) its ∙ sym (one_noted q old place d small))
 
   -- one that is issued
-  pub issued_more : (d : Held) (r x : PendingRequest) → (get_or old place d).entry ≡ r → r.issued ≡ true → x ≡ older_entry ports r → (noted || nat_le 3 x.age) ≡ list_any q (take (place + 1) old)
+  pub issued_more : (d : BookEntry) (r x : PendingRequest) → (get_or old place d).entry ≡ r → r.issued ≡ true → x ≡ older_entry ports r → (noted || nat_le 3 x.age) ≡ list_any q (take (place + 1) old)
   issued_more d r x its issued grown =
       let still : x.issued ≡ true = ap (λ (y : PendingRequest). y.issued) grown ∙ (ap (λ (u : Unanswered). u.issued) (older_spares ports r).asked ∙ issued) in
       noted_more d (nat_le 3 x.age) (ap (λ (b : Bool). b && nat_le 3 x.age) (sym still) ∙ ap is_old (grown ∙ ap (older_entry ports) (sym its)))
 
   -- one that waits
-  pub waiting_more : (d : Held) → (get_or old place d).entry.issued ≡ false
-      → ((d : Held) → (get_or old place d).entry.issued ≡ false) → ChangedSoFar (older_entry ports) old now (place + 1) × (noted ≡ list_any q (take (place + 1) old))
+  pub waiting_more : (d : BookEntry) → (get_or old place d).entry.issued ≡ false
+      → ((d : BookEntry) → (get_or old place d).entry.issued ≡ false) → ChangedSoFar (older_entry ports) old now (place + 1) × (noted ≡ list_any q (take (place + 1) old))
   waiting_more d waits all = (
     none_changed (older_entry ports) old now place so_far (λ x. waits_on ports (get_or old place x).entry (all x)),
     sym (or_none noted) ∙ noted_more d false (sym (not_old ports (get_or old place d).entry waits)),
@@ -92,8 +92,8 @@ module _ (ports : Port → Bool) (old now : List Held) (place : ℕ) (noted : Bo
 
 -- ---- and at its end
 
-pub all_aged : (ports : Port → Bool) (old now : List Held) (place : ℕ) (noted : Bool) → length old ≤ place → ChangedSoFar (older_entry ports) old now place
+pub all_aged : (ports : Port → Bool) (old now : List BookEntry) (place : ℕ) (noted : Bool) → length old ≤ place → ChangedSoFar (older_entry ports) old now place
     → noted ≡ list_any (λ e. is_old (older_entry ports e.entry)) (take place old) → IsTrue noted ↔ IsAnyOverdue now
 all_aged ports old now place noted all so_far is =
-    let same = is ∙ (all_noted (older_entry ports) old place all ∙ ap (list_any (λ (e : Held). is_old e.entry)) (sym (all_are_changed (older_entry ports) old now place all so_far))) in
+    let same = is ∙ (all_noted (older_entry ports) old place all ∙ ap (list_any (λ (e : BookEntry). is_old e.entry)) (sym (all_are_changed (older_entry ports) old now place all so_far))) in
     subst (λ (b : Bool). IsTrue b ↔ IsAnyOverdue now) (sym same) (tells now)

@@ -3,9 +3,9 @@ use Rattle.std.proofs.Common.{ℕ, ◌≡◌, ◌∙◌, List, Option, sym, ap, 
 use Rattle.ata_types.specs.declared.request.ClientId.{ClientId}
 use Rattle.ata_types.specs.declared.request.RequestId.{RequestId}
 use Rattle.block_machine.specs.declared.due.Unanswered.{Unanswered}
-use Rattle.request_queue.specs.declared.ranges.Item.{Item}
+use Rattle.request_queue.specs.declared.ranges.BookRange.{BookRange}
 use Rattle.request_queue.specs.Counts.{AreCounts}
-use Rattle.request_queue.specs.Entries.{Held, BookIsInOrder, asks_of}
+use Rattle.request_queue.specs.Entries.{BookEntry, BookIsInOrder, asks_of}
 use Rattle.request_queue.specs.Flushes.{flushes_of}
 use Rattle.request_queue.specs.Holders.{AreHolders}
 use Rattle.request_queue.specs.Sectors.{AreIndexed}
@@ -14,12 +14,12 @@ use Rattle.request_queue.specs.declared.flushes.Flush.{Flush}
 use Rattle.request_queue.proofs.Changing.{Spares, all_asked, all_changed, all_in_order}
 use Rattle.request_queue.proofs.Counts.{counts_changed}
 
-pub parts_stay : {A B : Type 0} (f : PendingRequest → PendingRequest) → ((r : PendingRequest) → Spares r (f r)) → (es now : List Held) → now ≡ all_changed f es
-    → (sectors : List (List Item)) (holders : List (Option RequestId)) (counts : List ℕ) (flushes : List Flush)
+pub parts_stay : {A B : Type 0} (f : PendingRequest → PendingRequest) → ((r : PendingRequest) → Spares r (f r)) → (es now : List BookEntry) → now ≡ all_changed f es
+    → (sectors : List (List BookRange)) (holders : List (Option RequestId)) (counts : List ℕ) (flushes : List Flush)
     → BookIsInOrder es × AreIndexed (asks_of es) sectors × AreHolders (asks_of es) holders × A × AreCounts es counts × (flushes ≡ flushes_of (asks_of es)) × B
     → BookIsInOrder now × AreIndexed (asks_of now) sectors × AreHolders (asks_of now) holders × A × AreCounts now counts × (flushes ≡ flushes_of (asks_of now)) × B
 parts_stay {A} {B} f spares es now is sectors holders counts flushes all =
-    subst (λ (book : List Held). BookIsInOrder book × AreIndexed (asks_of book) sectors × AreHolders (asks_of book) holders × A × AreCounts book counts × (flushes ≡ flushes_of (asks_of book)) × B) (sym is) (
+    subst (λ (book : List BookEntry). BookIsInOrder book × AreIndexed (asks_of book) sectors × AreHolders (asks_of book) holders × A × AreCounts book counts × (flushes ≡ flushes_of (asks_of book)) × B) (sym is) (
       all_in_order f spares es all.0,
       subst (λ (book : List Unanswered). AreIndexed book sectors) same all.1,
       subst (λ (book : List Unanswered). AreHolders book holders) same all.2,

@@ -10,8 +10,8 @@ use Rattle.ata_types.specs.declared.request.Outcome.{Outcome}
 use Rattle.ata_types.specs.declared.request.Reply.{Reply}
 use Rattle.ata_types.specs.declared.request.RequestId.{RequestId}
 use Rattle.dma_frames.specs.Table.{LendsOnly, Table, lent_to}
-use Rattle.request_queue.specs.Entries.{GivesBack, Held, IsAccepted, IsEarlier, BookIsInOrder, HasItsFrames, has_id, without_entry}
-use Rattle.request_queue.specs.Dispositions.{AnswersAlike, KeepsOrEndsLoan, Holdings, AreResolved, keeps_loan, reply_to}
+use Rattle.request_queue.specs.Entries.{GivesBack, BookEntry, IsAccepted, IsEarlier, BookIsInOrder, HasItsFrames, has_id, without_entry}
+use Rattle.request_queue.specs.Dispositions.{CompletesAllWith, KeepsOrEndsLoan, Holdings, AreResolved, keeps_loan, reply_to}
 use Rattle.request_queue.specs.declared.PendingRequest.{PendingRequest}
 use Rattle.request_queue.specs.declared.disposition.Disposition.TheVariants.{Complete}
 use Rattle.request_queue.proofs.Ending.{more_given, none_given, ordered_rest, stand_still}
@@ -20,71 +20,71 @@ use Rattle.request_queue.proofs.Members.{contains_cases, contains_here, contains
 -- ---- the book
 
 -- the requests but for these
-abbrev withouts : List Held → List Held → List Held
+abbrev withouts : List BookEntry → List BookEntry → List BookEntry
 withouts [] book = book
 withouts (e ∷ es) book = withouts es (without_entry e.entry.id book)
 
 -- one that is none of these stays first
-stays_first : (es : List Held) (x : Held) (xs : List Held) → ((e : Held) → Contains es e → x.entry.id.0 ≢ e.entry.id.0) → withouts es (x ∷ xs) ≡ x ∷ withouts es xs
+stays_first : (es : List BookEntry) (x : BookEntry) (xs : List BookEntry) → ((e : BookEntry) → Contains es e → x.entry.id.0 ≢ e.entry.id.0) → withouts es (x ∷ xs) ≡ x ∷ withouts es xs
 stays_first [] x xs other = refl
 stays_first (e ∷ es) x xs other =
     ap (withouts es) (cond-true (not (has_id e.entry.id x)) (x ∷ without_entry e.entry.id xs) (without_entry e.entry.id xs) (ap not (ne_eqb x.entry.id.0 e.entry.id.0 (other e (contains_here e es e refl)))))
     ∙ stays_first es x (without_entry e.entry.id xs) (λ y there. other y (contains_there e es y there))
 
 -- none has the id
-none_without : (id : RequestId) (xs : List Held) → ((x : Held) → Contains xs x → x.entry.id.0 ≢ id.0) → without_entry id xs ≡ xs
+none_without : (id : RequestId) (xs : List BookEntry) → ((x : BookEntry) → Contains xs x → x.entry.id.0 ≢ id.0) → without_entry id xs ≡ xs
 none_without id [] other = refl
 none_without id (x ∷ xs) other =
     cond-true (not (has_id id x)) (x ∷ without_entry id xs) (without_entry id xs) (ap not (ne_eqb x.entry.id.0 id.0 (other x (contains_here x xs x refl))))
-    ∙ ap (λ (ys : List Held). x ∷ ys) (none_without id xs (λ y there. other y (contains_there x xs y there)))
+    ∙ ap (λ (ys : List BookEntry). x ∷ ys) (none_without id xs (λ y there. other y (contains_there x xs y there)))
 
-first_goes : (x : Held) (xs : List Held) → ((y : Held) → Contains xs y → y.entry.id.0 ≢ x.entry.id.0) → without_entry x.entry.id (x ∷ xs) ≡ xs
+first_goes : (x : BookEntry) (xs : List BookEntry) → ((y : BookEntry) → Contains xs y → y.entry.id.0 ≢ x.entry.id.0) → without_entry x.entry.id (x ∷ xs) ≡ xs
 first_goes x xs other =
     cond-false (not (has_id x.entry.id x)) (x ∷ without_entry x.entry.id xs) (without_entry x.entry.id xs) (ap not (eq-eqb x.entry.id.0 x.entry.id.0 refl))
     ∙ none_without x.entry.id xs other
 
 module _ (passes : PendingRequest → Bool) where
-  abbrev those : List Held → List Held
-  those book = filter (λ (e : Held). passes e.entry) book
+  abbrev those : List BookEntry → List BookEntry
+  those book = filter (λ (e : BookEntry). passes e.entry) book
 
-  abbrev others : List Held → List Held
-  others book = filter (λ (e : Held). not (passes e.entry)) book
+  abbrev others : List BookEntry → List BookEntry
+  others book = filter (λ (e : BookEntry). not (passes e.entry)) book
 
-  those_in : (book : List Held) (e : Held) → Contains (those book) e → Contains book e
-  those_in book e there = All-contains (Contains book) (those book) e (All-filter (λ (x : Held). passes x.entry) (Contains book) book (All-contains_itself book)) there
+  those_in : (book : List BookEntry) (e : BookEntry) → Contains (those book) e → Contains book e
+  those_in book e there = All-contains (Contains book) (those book) e (All-filter (λ (x : BookEntry). passes x.entry) (Contains book) book (All-contains_itself book)) there
 
-  later_differs : (x : Held) (xs : List Held) → AllPairs IsEarlier (x ∷ xs) → (y : Held) → Contains xs y → x.entry.id.0 < y.entry.id.0
+  later_differs : (x : BookEntry) (xs : List BookEntry) → AllPairs IsEarlier (x ∷ xs) → (y : BookEntry) → Contains xs y → x.entry.id.0 < y.entry.id.0
   later_differs x xs ordered y there = All-contains (IsEarlier x) xs y (λ i d small. ordered 0 (suc i) d (omega arith) (omega (arith, small))) there
 
   -- but for those that pass, the others are left
-  left_over : (book : List Held) → AllPairs IsEarlier book → withouts (those book) book ≡ others book
+  left_over : (book : List BookEntry) → AllPairs IsEarlier book → withouts (those book) book ≡ others book
   left_over [] ordered = refl
   left_over (x ∷ xs) ordered = by (passes x.entry) refl (left_over xs (ordered_rest x xs ordered))
     where
       by : (b : Bool) → passes x.entry ≡ b → withouts (those xs) xs ≡ others xs → withouts (those (x ∷ xs)) (x ∷ xs) ≡ others (x ∷ xs)
       by true is rest =
-          ap (λ (es : List Held). withouts es (x ∷ xs)) (cond-true (passes x.entry) (x ∷ those xs) (those xs) is)
+          ap (λ (es : List BookEntry). withouts es (x ∷ xs)) (cond-true (passes x.entry) (x ∷ those xs) (those xs) is)
           ∙ (ap (withouts (those xs)) (first_goes x xs (λ y there. let late = later_differs x xs ordered y there in λ same. omega (arith, late, same)))
           ∙ (rest ∙ sym (cond-false (not (passes x.entry)) (x ∷ others xs) (others xs) (ap not is))))
       by false is rest =
-          ap (λ (es : List Held). withouts es (x ∷ xs)) (cond-false (passes x.entry) (x ∷ those xs) (those xs) is)
+          ap (λ (es : List BookEntry). withouts es (x ∷ xs)) (cond-false (passes x.entry) (x ∷ those xs) (those xs) is)
           ∙ (stays_first (those xs) x xs (λ y there. let late = later_differs x xs ordered y (those_in xs y there) in λ same. omega (arith, late, same))
-          ∙ (ap (λ (ys : List Held). x ∷ ys) rest ∙ sym (cond-true (not (passes x.entry)) (x ∷ others xs) (others xs) (ap not is))))
+          ∙ (ap (λ (ys : List BookEntry). x ∷ ys) rest ∙ sym (cond-true (not (passes x.entry)) (x ∷ others xs) (others xs) (ap not is))))
 
 -- ---- what came of it
 
 module _ (o : Outcome) (back : (e : PendingRequest) → keeps_loan o e ≡ false) where
-  abbrev replies_to : List Held → List Reply
-  replies_to es = map (λ (e : Held). reply_to e o) es
+  abbrev replies_to : List BookEntry → List Reply
+  replies_to es = map (λ (e : BookEntry). reply_to e o) es
 
   -- what comes of these, one after another
-  record AllMet (es : List Held) (replies : List Reply) (old new : Holdings) : Type 0 where
+  record AllMet (es : List BookEntry) (replies : List Reply) (old new : Holdings) : Type 0 where
     told : replies ≡ replies_to es
     left : new.book ≡ withouts es old.book
     given : GivesBack old.table new.table es
     kept : new.kept ≡ old.kept
 
-  all_met : (es : List Held) (replies : List Reply) (old new : Holdings) → AllPairs IsEarlier es → All (HasItsFrames old.table) es → AreResolved (λ e. Complete o) es replies old new → AllMet es replies old new
+  all_met : (es : List BookEntry) (replies : List Reply) (old new : Holdings) → AllPairs IsEarlier es → All (HasItsFrames old.table) es → AreResolved (λ e. Complete o) es replies old new → AllMet es replies old new
   all_met [] replies old new ordered stands (none, same) = record {
     told = none;
     left = ap (λ (h : Holdings). h.book) same;
@@ -146,7 +146,7 @@ module _ (o : Outcome) (back : (e : PendingRequest) → keeps_loan o e ≡ false
   gives : (fs : List Frame) (t : Table) → LendsOnly t (give fs t) fs None
   gives fs t = record { owners = owners_left fs t; these = all_given fs t; others = others_left fs t }
 
-  may_come : (es : List Held) (old : Holdings) → (new : Holdings) × AreResolved (λ e. Complete o) es (replies_to es) old new
+  may_come : (es : List BookEntry) (old : Holdings) → (new : Holdings) × AreResolved (λ e. Complete o) es (replies_to es) old new
   may_come [] old = (old, (refl, refl))
   may_come (e ∷ es) old =
       let mid : Holdings = record { book = without_entry e.entry.id old.book; table = give e.frames old.table; kept = old.kept } in
@@ -166,47 +166,47 @@ has_it f (g ∷ fs) = ⊎_elim
     (has_it f fs))
     (cases_eq f.0 g.0)
 
-have_it : (f : Frame) (es : List Held) → ((e : Held) × Contains es e × Contains e.frames f) ⊎ ((e : Held) → Contains es e → Contains e.frames f → ⊥)
+have_it : (f : Frame) (es : List BookEntry) → ((e : BookEntry) × Contains es e × Contains e.frames f) ⊎ ((e : BookEntry) → Contains es e → Contains e.frames f → ⊥)
 have_it f [] = inr (λ e here. absurd (contains_none e here))
 have_it f (x ∷ es) = ⊎_elim
     (λ its. inl (x, contains_here x es x refl, its))
     (λ (none : Contains x.frames f → ⊥). ⊎_elim
-    (λ (r : (e : Held) × Contains es e × Contains e.frames f). inl (r.0, contains_there x es r.0 r.1, r.2))
-    (λ (rest : (e : Held) → Contains es e → Contains e.frames f → ⊥). inr (λ e here its. ⊎_elim
-    (λ (same : e ≡ x). none (subst (λ (y : Held). Contains y.frames f) same its))
+    (λ (r : (e : BookEntry) × Contains es e × Contains e.frames f). inl (r.0, contains_there x es r.0 r.1, r.2))
+    (λ (rest : (e : BookEntry) → Contains es e → Contains e.frames f → ⊥). inr (λ e here its. ⊎_elim
+    (λ (same : e ≡ x). none (subst (λ (y : BookEntry). Contains y.frames f) same its))
     (λ (later : Contains es e). rest e later its)
     (contains_cases x es e here)))
     (have_it f es))
     (has_it f x.frames)
 
-same_given : (old one other : Table) (es : List Held) → GivesBack old one es → GivesBack old other es → LendsOnly one other [] None
+same_given : (old one other : Table) (es : List BookEntry) → GivesBack old one es → GivesBack old other es → LendsOnly one other [] None
 same_given old one other es a b = record {
   owners = b.owners ∙ sym a.owners;
   these = All-nil (λ (f : Frame). lent_to other f ≡ None);
   others = λ f _. ⊎_elim
-      (λ (r : (e : Held) × Contains es e × Contains e.frames f). b.none r.0 f r.1 r.2 ∙ sym (a.none r.0 f r.1 r.2))
-      (λ (apart : (e : Held) → Contains es e → Contains e.frames f → ⊥). b.others f apart ∙ sym (a.others f apart))
+      (λ (r : (e : BookEntry) × Contains es e × Contains e.frames f). b.none r.0 f r.1 r.2 ∙ sym (a.none r.0 f r.1 r.2))
+      (λ (apart : (e : BookEntry) → Contains es e → Contains e.frames f → ⊥). b.others f apart ∙ sym (a.others f apart))
       (have_it f es);
 }
 
 -- ---- both ways
 
 module _ (passes : PendingRequest → Bool) (o : Outcome) (back : (e : PendingRequest) → keeps_loan o e ≡ false) (old : Holdings) (order : BookIsInOrder old.book) (accepted : All (IsAccepted old.table) old.book) where
-  abbrev es : List Held
-  es = filter (λ (e : Held). passes e.entry) old.book
+  abbrev es : List BookEntry
+  es = filter (λ (e : BookEntry). passes e.entry) old.book
 
   ordered : AllPairs IsEarlier es
-  ordered = AllPairs-filter IsEarlier (λ (e : Held). passes e.entry) old.book order.ordered
+  ordered = AllPairs-filter IsEarlier (λ (e : BookEntry). passes e.entry) old.book order.ordered
 
   stand : All (HasItsFrames old.table) es
-  stand = All-filter (λ (e : Held). passes e.entry) (HasItsFrames old.table) old.book (λ i d small. (accepted i d small).lent)
+  stand = All-filter (λ (e : BookEntry). passes e.entry) (HasItsFrames old.table) old.book (λ i d small. (accepted i d small).lent)
 
-  pub at_once : (replies : List Reply) (new : Holdings) → AreResolved (λ e. Complete o) es replies old new → AnswersAlike passes o replies old new
+  pub at_once : (replies : List Reply) (new : Holdings) → AreResolved (λ e. Complete o) es replies old new → CompletesAllWith passes o replies old new
   at_once replies new meets =
       let m = all_met o back es replies old new ordered stand meets in
       record { told = m.told; left = m.left ∙ left_over passes old.book order.ordered; given = m.given; kept = m.kept }
 
-  pub one_by_one : (replies : List Reply) (new : Holdings) → AnswersAlike passes o replies old new
+  pub one_by_one : (replies : List Reply) (new : Holdings) → CompletesAllWith passes o replies old new
       → (now : Holdings) × AreResolved (λ e. Complete o) es replies old now × (now.book ≡ new.book) × (now.kept ≡ new.kept) × LendsOnly now.table new.table [] None
   one_by_one replies new answers =
       let r = may_come o back es old in

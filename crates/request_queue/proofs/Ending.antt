@@ -6,20 +6,20 @@ use Rattle.std.proofs.lemmas.Option.{same_Some}
 use Rattle.ata_types.specs.declared.request.Frame.{Frame}
 use Rattle.ata_types.specs.declared.request.RequestId.{RequestId}
 use Rattle.dma_frames.specs.Table.{Table, lent_to, LendsOnly}
-use Rattle.request_queue.specs.Entries.{Held, IsEarlier, HasItsFrames, GivesBack}
+use Rattle.request_queue.specs.Entries.{BookEntry, IsEarlier, HasItsFrames, GivesBack}
 use Rattle.request_queue.proofs.Members.{contains_none, contains_here, contains_there, contains_cases}
 
-pub first_and_rest : (es rest : List Held) (e : Held) → slice_get es 0 ≡ Some e → rest ≡ remove es 0 → es ≡ e ∷ rest
-first_and_rest [] rest e is left = let no : ◌≡◌ {A = Option Held} None (Some e) = is in cc
-first_and_rest (x ∷ xs) rest e is left = ap (λ (y : Held). y ∷ xs) (same_Some x e is) ∙ ap (λ (ys : List Held). e ∷ ys) (sym left)
+pub first_and_rest : (es rest : List BookEntry) (e : BookEntry) → slice_get es 0 ≡ Some e → rest ≡ remove es 0 → es ≡ e ∷ rest
+first_and_rest [] rest e is left = let no : ◌≡◌ {A = Option BookEntry} None (Some e) = is in cc
+first_and_rest (x ∷ xs) rest e is left = ap (λ (y : BookEntry). y ∷ xs) (same_Some x e is) ∙ ap (λ (ys : List BookEntry). e ∷ ys) (sym left)
 
-pub ordered_rest : (e : Held) (rest : List Held) → AllPairs IsEarlier (e ∷ rest) → AllPairs IsEarlier rest
+pub ordered_rest : (e : BookEntry) (rest : List BookEntry) → AllPairs IsEarlier (e ∷ rest) → AllPairs IsEarlier rest
 ordered_rest e rest ordered i j d lt small = ordered (suc i) (suc j) d (omega arith) (omega arith)
 
 -- the frames of the first are given back: those of the others stay lent
-pub stand_still : (old new : Table) (e : Held) (rest : List Held) → LendsOnly old new e.frames None → All (HasItsFrames old) (e ∷ rest) → AllPairs IsEarlier (e ∷ rest) → All (HasItsFrames new) rest
+pub stand_still : (old new : Table) (e : BookEntry) (rest : List BookEntry) → LendsOnly old new e.frames None → All (HasItsFrames old) (e ∷ rest) → AllPairs IsEarlier (e ∷ rest) → All (HasItsFrames new) rest
 stand_still old new e rest lends all ordered k d small i f inside =
-    let x : Held = get_or rest k d in
+    let x : BookEntry = get_or rest k d in
     let lent : lent_to old (get_or x.frames i f) ≡ Some x.entry.id = All-tail (HasItsFrames old) e rest all k d small i f inside in
     let later : e.entry.id.0 < x.entry.id.0 = ordered 0 (suc k) d (omega arith) (omega arith) in
     lends.others (get_or x.frames i f) (λ own.
@@ -29,19 +29,19 @@ stand_still old new e rest lends all ordered k d small i f inside =
     ∙ lent
 
 -- the frames of the first are given back, and then those of the others
-pub more_given : (old mid new : Table) (e : Held) (rest : List Held) → LendsOnly old mid e.frames None → All (HasItsFrames mid) rest → GivesBack mid new rest → GivesBack old new (e ∷ rest)
+pub more_given : (old mid new : Table) (e : BookEntry) (rest : List BookEntry) → LendsOnly old mid e.frames None → All (HasItsFrames mid) rest → GivesBack mid new rest → GivesBack old new (e ∷ rest)
 more_given old mid new e rest lends stands given = record {
   owners = given.owners ∙ lends.owners;
   none = λ x f here there. ⊎_elim
       (λ (same : x ≡ e).
-      let free : lent_to mid f ≡ None = All-contains (λ (y : Frame). lent_to mid y ≡ None) e.frames f lends.these (subst (λ (z : Held). Contains z.frames f) same there) in
+      let free : lent_to mid f ≡ None = All-contains (λ (y : Frame). lent_to mid y ≡ None) e.frames f lends.these (subst (λ (z : BookEntry). Contains z.frames f) same there) in
       given.others f (λ y member has. taken y f member has free) ∙ free)
       (λ (later : Contains rest x). given.none x f later there)
       (contains_cases e rest x here);
   others = λ f apart. given.others f (λ y member has. apart y (contains_there e rest y member) has) ∙ lends.others f (λ there. apart e (contains_here e rest e refl) there);
 }
   where
-    taken : (y : Held) (f : Frame) → Contains rest y → Contains y.frames f → lent_to mid f ≡ None → ⊥
+    taken : (y : BookEntry) (f : Frame) → Contains rest y → Contains y.frames f → lent_to mid f ≡ None → ⊥
     taken y f member has free =
         let a : HasItsFrames mid y = All-contains (HasItsFrames mid) rest y stands member in
         let both : Some y.entry.id ≡ None = sym (All-contains (λ (z : Frame). lent_to mid z ≡ Some y.entry.id) y.frames f a has) ∙ free in

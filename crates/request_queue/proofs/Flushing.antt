@@ -8,7 +8,7 @@ use Rattle.ata_types.specs.declared.request.RequestId.{RequestId}
 use Rattle.block_machine.specs.declared.due.Unanswered.{Unanswered}
 use Rattle.block_machine.specs.Due.{is_flush, mark_issued, mark_waiting, without_request}
 use Rattle.request_queue.specs.declared.flushes.Flush.{Flush}
-use Rattle.request_queue.specs.Entries.{Held, asks, asks_of, at_entry, issue, requeued_entry, without_entry}
+use Rattle.request_queue.specs.Entries.{BookEntry, asks, asks_of, update_if_id, issue, requeued_entry, without_entry}
 use Rattle.request_queue.specs.Flushes.{listed_flush, flushes_of}
 use Rattle.request_queue.proofs.Indexing.{asks_more}
 use Rattle.request_queue.proofs.Members.{into_map, map_in}
@@ -89,19 +89,19 @@ left_listed id (r ∷ book) = go (is_flush r.op) (not (r.id.0 == id.0)) refl ref
 
 -- ---- of the book's own requests
 
-pub issued_flushes : (es : List Held) (id : RequestId) (fs : List Flush) → fs ≡ flushes_of (asks_of es) → fs ≡ flushes_of (asks_of (map (at_entry id issue) es))
+pub issued_flushes : (es : List BookEntry) (id : RequestId) (fs : List Flush) → fs ≡ flushes_of (asks_of es) → fs ≡ flushes_of (asks_of (map (update_if_id id issue) es))
 issued_flushes es id fs is = is ∙ sym (ap flushes_of (after_issue es id)
     ∙ same_flushes (mark_issued id) (λ r. (same_marked (r.id.0 == id.0) r true).0) (λ r. (same_marked (r.id.0 == id.0) r true).1) (asks_of es))
 
-pub requeued_flushes : (es : List Held) (id : RequestId) (fs : List Flush) → fs ≡ flushes_of (asks_of es) → fs ≡ flushes_of (asks_of (map (at_entry id requeued_entry) es))
+pub requeued_flushes : (es : List BookEntry) (id : RequestId) (fs : List Flush) → fs ≡ flushes_of (asks_of es) → fs ≡ flushes_of (asks_of (map (update_if_id id requeued_entry) es))
 requeued_flushes es id fs is = is ∙ sym (ap flushes_of (after_requeue es id)
     ∙ same_flushes (mark_waiting id) (λ r. (same_marked (r.id.0 == id.0) r false).0) (λ r. (same_marked (r.id.0 == id.0) r false).1) (asks_of es))
 
-pub fewer_flushes : (es : List Held) (id : RequestId) (fs left : List Flush) → fs ≡ flushes_of (asks_of es) → left ≡ filter (λ (f : Flush). not (f.id.0 == id.0)) fs
+pub fewer_flushes : (es : List BookEntry) (id : RequestId) (fs left : List Flush) → fs ≡ flushes_of (asks_of es) → left ≡ filter (λ (f : Flush). not (f.id.0 == id.0)) fs
     → left ≡ flushes_of (asks_of (without_entry id es))
 fewer_flushes es id fs left is are = are ∙ (ap (filter (λ (f : Flush). not (f.id.0 == id.0))) is ∙ (left_listed id (asks_of es) ∙ ap flushes_of (sym (after_answer es id))))
 
-pub more_flushes : (es : List Held) (e : Held) (r : Unanswered) (fs more : List Flush) → r ≡ asks e.entry → fs ≡ flushes_of (asks_of es) → more ≡ fs ++ flushes_of (r ∷ [])
+pub more_flushes : (es : List BookEntry) (e : BookEntry) (r : Unanswered) (fs more : List Flush) → r ≡ asks e.entry → fs ≡ flushes_of (asks_of es) → more ≡ fs ++ flushes_of (r ∷ [])
     → more ≡ flushes_of (asks_of (es ++ e ∷ []))
 more_flushes es e r fs more same is are = are
     ∙ (ap (λ (gs : List Flush). gs ++ flushes_of (r ∷ [])) is

@@ -11,9 +11,9 @@ use Rattle.std.proofs.lemmas.Option.{slice_get_within, slice_get-map, get_or_fro
 use Rattle.ata_types.specs.declared.request.RequestId.{RequestId}
 use Rattle.block_machine.specs.declared.due.Unanswered.{Unanswered}
 use Rattle.block_machine.specs.Due.{IsInOrder, conflict, is_earlier_on_port, is_flush, changes_sectors, overlap}
-use Rattle.request_queue.specs.declared.ranges.Item.{Item}
+use Rattle.request_queue.specs.declared.ranges.BookRange.{BookRange}
 use Rattle.request_queue.specs.Items.{is_earlier_conflict}
-use Rattle.request_queue.specs.Entries.{Held, asks, asks_of, issue, requeued_entry}
+use Rattle.request_queue.specs.Entries.{BookEntry, asks, asks_of, issue, requeued_entry}
 use Rattle.request_queue.specs.Flushes.{listed_flush, flushes_of, is_earlier_flush}
 use Rattle.request_queue.specs.declared.flushes.Flush.{Flush}
 use Rattle.request_queue.specs.Holders.{AreHolders, AreHoldersBut, IsHolderOf, has_holder, is_held_by, may_have_holder, may_hold}
@@ -25,9 +25,9 @@ use Rattle.request_queue.proofs.Unheld.{found, one_found, no_flush}
 
 -- ---- found by its sectors, or among the flushes
 
-module _ (book : List Unanswered) (lists : List (List Item)) (is : AreIndexed book lists) (flushes : List Flush) (are_flushes : flushes ≡ flushes_of book) (r : Unanswered)
+module _ (book : List Unanswered) (lists : List (List BookRange)) (is : AreIndexed book lists) (flushes : List Flush) (are_flushes : flushes ≡ flushes_of book) (r : Unanswered)
     (may : may_have_holder r ≡ true) where
-  abbrev items : List Item
+  abbrev items : List BookRange
   items = get_or lists (index_of_port r.port) []
 
   sectors : AreSectorsOf (index_of_port r.port) book items
@@ -62,7 +62,7 @@ module _ (book : List Unanswered) (lists : List (List Item)) (is : AreIndexed bo
           both_ways _ none (found (is_earlier_conflict (item_of r)) items (item_of o) ((sectors (item_of o)).1 (o, there, list, other, refl))
           (and_from _ _ early.0 (and_from _ _ early.1 (by_sectors o other both.1))))
 
-  pub one_holds : (x : Item) → Contains items x → is_earlier_conflict (item_of r) x ≡ true → IsHolderOf book r (Some x.id)
+  pub one_holds : (x : BookRange) → Contains items x → is_earlier_conflict (item_of r) x ≡ true → IsHolderOf book r (Some x.id)
   one_holds x there meets =
       let h = (sectors x).0 there in
       let o = h.0 in
@@ -70,7 +70,7 @@ module _ (book : List Unanswered) (lists : List (List Item)) (is : AreIndexed bo
       let one = and_parts (o.port.0 == r.port.0) _ holds_it in
       let two = and_parts (nat_lt o.id.0 r.id.0) _ one.1 in (
         may,
-        (o, h.1, ap (λ (i : Item). i.id) h.4, and_from _ _ (and_from _ _ one.0 two.0) (and_from _ _ one.0 (or_right (is_flush o.op || is_flush r.op) _ two.1))),
+        (o, h.1, ap (λ (i : BookRange). i.id) h.4, and_from _ _ (and_from _ _ one.0 two.0) (and_from _ _ one.0 (or_right (is_flush o.op || is_flush r.op) _ two.1))),
       )
 
   flush_holds : (f : Flush) → Contains flushes f → is_earlier_flush r f ≡ true → IsHolderOf book r (Some f.id)
@@ -304,28 +304,28 @@ module _ (book : List Unanswered) (r : Unanswered) where
 
 -- ---- of the book's own requests
 
-asks_there : (es : List Held) (i : ℕ) (e : Held) → slice_get es i ≡ Some e → slice_get (asks_of es) i ≡ Some (asks e.entry)
-asks_there es i e at = slice_get-map (λ (x : Held). asks x.entry) es i ∙ ap (option_map (λ (x : Held). asks x.entry)) at
+asks_there : (es : List BookEntry) (i : ℕ) (e : BookEntry) → slice_get es i ≡ Some e → slice_get (asks_of es) i ≡ Some (asks e.entry)
+asks_there es i e at = slice_get-map (λ (x : BookEntry). asks x.entry) es i ∙ ap (option_map (λ (x : BookEntry). asks x.entry)) at
 
-asks_set : (es : List Held) (i : ℕ) (e : Held) → asks_of (set es i e) ≡ set (asks_of es) i (asks e.entry)
-asks_set es i e = map-set (λ (x : Held). asks x.entry) es i e
+asks_set : (es : List BookEntry) (i : ℕ) (e : BookEntry) → asks_of (set es i e) ≡ set (asks_of es) i (asks e.entry)
+asks_set es i e = map-set (λ (x : BookEntry). asks x.entry) es i e
 
 pub no_holders : AreHolders [] []
 no_holders = record { number = refl; each = λ k d lt. absurd (omega (arith, lt)) }
 
-pub longer_holders : (es : List Held) (e : Held) (holders : List (Option RequestId)) (r : Unanswered) (h : Option RequestId) → r ≡ asks e.entry → AreHolders (asks_of es) holders
+pub longer_holders : (es : List BookEntry) (e : BookEntry) (holders : List (Option RequestId)) (r : Unanswered) (h : Option RequestId) → r ≡ asks e.entry → AreHolders (asks_of es) holders
     → All (λ x. x.entry.id.0 < e.entry.id.0) es → IsHolderOf (asks_of es) r h → AreHolders (asks_of (es ++ e ∷ [])) (holders ++ h ∷ [])
 longer_holders es e holders r h same are newest its =
     subst (λ (book : List Unanswered). AreHolders book (holders ++ h ∷ [])) (sym (asks_more es e))
     (accepted_holders (asks_of es) holders (asks e.entry) h are (asks_newest es e.entry.id.0 newest) (subst (λ (x : Unanswered). IsHolderOf (asks_of es) x h) same its))
 
-pub issued_holders : (es : List Held) (holders : List (Option RequestId)) (i : ℕ) (e : Held) → AreHolders (asks_of es) holders → slice_get es i ≡ Some e
+pub issued_holders : (es : List BookEntry) (holders : List (Option RequestId)) (i : ℕ) (e : BookEntry) → AreHolders (asks_of es) holders → slice_get es i ≡ Some e
     → AreHolders (asks_of (set es i (record e { entry = issue e.entry }))) (set holders i None)
 issued_holders es holders i e are at =
     subst (λ (book : List Unanswered). AreHolders book (set holders i None)) (sym (asks_set es i (record e { entry = issue e.entry })))
     (marked_holders (asks_of es) holders i (asks e.entry) true None are (asks_there es i e at) refl)
 
-pub requeued_holders : (es : List Held) (holders : List (Option RequestId)) (i : ℕ) (e : Held) (r : Unanswered) (h : Option RequestId) → AreHolders (asks_of es) holders → slice_get es i ≡ Some e
+pub requeued_holders : (es : List BookEntry) (holders : List (Option RequestId)) (i : ℕ) (e : BookEntry) (r : Unanswered) (h : Option RequestId) → AreHolders (asks_of es) holders → slice_get es i ≡ Some e
     → slice_get (asks_of (set es i (record e { entry = requeued_entry e.entry }))) i ≡ Some r → IsHolderOf (asks_of (set es i (record e { entry = requeued_entry e.entry }))) r h
     → AreHolders (asks_of (set es i (record e { entry = requeued_entry e.entry }))) (set holders i h)
 requeued_holders es holders i e r h are at its is =
@@ -339,7 +339,7 @@ requeued_holders es holders i e r h are at its is =
     (marked_holders (asks_of es) holders i (asks e.entry) false h are there
     (subst (λ (book : List Unanswered). IsHolderOf book waiting h) new (subst (λ (x : Unanswered). IsHolderOf (asks_of (set es i (record e { entry = requeued_entry e.entry }))) x h) same is)))
 
-pub fewer_holders : (es : List Held) (holders : List (Option RequestId)) (i : ℕ) (e : Held) (id : RequestId) → AreHolders (asks_of es) holders → IsInOrder (asks_of es)
+pub fewer_holders : (es : List BookEntry) (holders : List (Option RequestId)) (i : ℕ) (e : BookEntry) (id : RequestId) → AreHolders (asks_of es) holders → IsInOrder (asks_of es)
     → slice_get es i ≡ Some e → e.entry.id ≡ id → AreHoldersBut id i (remove (asks_of es) i) (remove holders i)
 fewer_holders es holders i e id are ordered at named =
     subst (λ (n : RequestId). AreHoldersBut n i (remove (asks_of es) i) (remove holders i)) named

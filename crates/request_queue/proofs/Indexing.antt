@@ -16,9 +16,9 @@ use Rattle.ata_types.specs.declared.request.RequestId.{RequestId}
 use Rattle.ata_types.specs.declared.limits.TheConstants.{MOST_UNANSWERED}
 use Rattle.block_machine.specs.declared.due.Unanswered.{Unanswered}
 use Rattle.block_machine.specs.Due.{IsInOrder, is_flush}
-use Rattle.request_queue.specs.declared.ranges.Item.{Item}
+use Rattle.request_queue.specs.declared.ranges.BookRange.{BookRange}
 use Rattle.block_machine.specs.Due.{mark_issued, mark_waiting}
-use Rattle.request_queue.specs.Entries.{Held, asks, asks_of, at_entry, issue, requeued_entry}
+use Rattle.request_queue.specs.Entries.{BookEntry, asks, asks_of, update_if_id, issue, requeued_entry}
 use Rattle.request_queue.proofs.Working.{after_issue, after_requeue}
 use Rattle.request_queue.proofs.PermutedPairs.{permuted_pairs}
 use Rattle.request_queue.specs.Sectors.{AreIndexed, IsListOf, is_in_list, item_of, index_of_port}
@@ -44,9 +44,9 @@ module _ {X : Type 0} (id : X → RequestId) where
       permuted_pairs (λ a b. id a ≢ id b) apart_back (y ∷ xs) (insert xs place y) (IsPermutation-insert xs place y)
       (AllPairs-cons (λ a b. id a ≢ id b) y xs (λ k d lt e. fresh k d lt (sym e)) distinct)
 
-  module _ (xs : List X) (place : ℕ) (x : X) (at_entry : slice_get xs place ≡ Some x) (distinct : AreDistinct xs) where
+  module _ (xs : List X) (place : ℕ) (x : X) (update_if_id : slice_get xs place ≡ Some x) (distinct : AreDistinct xs) where
     moved : IsPermutation xs (x ∷ remove xs place)
-    moved = IsPermutation-remove xs place x (slice_get_within xs place x at_entry) (sym (get_or_from_slice_get xs place x x at_entry))
+    moved = IsPermutation-remove xs place x (slice_get_within xs place x update_if_id) (sym (get_or_from_slice_get xs place x x update_if_id))
 
     all_apart : AreDistinct (x ∷ remove xs place)
     all_apart = permuted_pairs (λ a b. id a ≢ id b) apart_back xs (x ∷ remove xs place) moved distinct
@@ -65,12 +65,12 @@ pub ids_apart : (book : List Unanswered) → IsInOrder book → AreDistinct (λ 
 ids_apart book ordered i j d less lt e = let up = ordered i j d less lt in let same = ap (λ (x : RequestId). x.0) e in omega (arith, up, same)
 
 count_removed : (p : Unanswered → Bool) (xs : List Unanswered) (i : ℕ) (x : Unanswered) → slice_get xs i ≡ Some x → count_by p xs ≡ count_by p (remove xs i) + cond (p x) 1 0
-count_removed p xs i x at_entry =
+count_removed p xs i x update_if_id =
     let whole = ap (count_by p) (sym (take-append-drop i xs)) in
     let front = count_append p (take i xs) (drop i xs) in
-    let here = ap (count_by p) (drop-cons xs i x (slice_get_within xs i x at_entry)) in
+    let here = ap (count_by p) (drop-cons xs i x (slice_get_within xs i x update_if_id)) in
     let head = count_cons p (get_or xs i x) (drop (suc i) xs) in
-    let same : ◌≡◌ {A = ℕ} (cond (p (get_or xs i x)) 1 0) (cond (p x) 1 0) = ap (λ (y : Unanswered). cond {A = ℕ} (p y) 1 0) (get_or_from_slice_get xs i x x at_entry) in
+    let same : ◌≡◌ {A = ℕ} (cond (p (get_or xs i x)) 1 0) (cond (p x) 1 0) = ap (λ (y : Unanswered). cond {A = ℕ} (p y) 1 0) (get_or_from_slice_get xs i x x update_if_id) in
     let rest = count_append p (take i xs) (drop (suc i) xs) in
     omega (arith, whole, front, here, head, same, rest)
 
@@ -83,7 +83,7 @@ out_of_list list r other = false_from_ne_true (is_in_list list r) (λ is. other 
 flush_in_none : (list : ℕ) (r : Unanswered) → is_flush r.op ≡ true → is_in_list list r ≡ false
 flush_in_none list r flush = false_from_ne_true (is_in_list list r) (λ is. both_ways _ (not-true (is_flush r.op) (and_parts (index_of_port r.port == list) (not (is_flush r.op)) is).1) flush)
 
-set_indexed : (book : List Unanswered) (lists : List (List Item)) (i : ℕ) (items : List Item) → i < 4 → length lists ≡ 4 → IsListOf i book items
+set_indexed : (book : List Unanswered) (lists : List (List BookRange)) (i : ℕ) (items : List BookRange) → i < 4 → length lists ≡ 4 → IsListOf i book items
     → ((list : ℕ) → list < 4 → (list ≡ i → ⊥) → IsListOf list book (get_or lists list [])) → AreIndexed book (set lists i items)
 set_indexed book lists i items lt four own others = record {
   four = length-set lists i items ∙ four;
@@ -95,7 +95,7 @@ set_indexed book lists i items lt four own others = record {
 
 -- ---- accepted: a list that the request isn't in, and its own
 
-module _ (list : ℕ) (book : List Unanswered) (items : List Item) (is : IsListOf list book items) (r : Unanswered) where
+module _ (list : ℕ) (book : List Unanswered) (items : List BookRange) (is : IsListOf list book items) (r : Unanswered) where
   pub other_accepted : is_in_list list r ≡ false → IsListOf list (book ++ r ∷ []) items
   other_accepted out = record {
     sectors = λ x. (
@@ -108,10 +108,10 @@ module _ (list : ℕ) (book : List Unanswered) (items : List Item) (is : IsListO
   }
     where
       here : (o : Unanswered) → Contains (book ++ r ∷ []) o → index_of_port o.port ≡ list → is_flush o.op ≡ false → Contains book o
-      here o there at_entry has = elim (Contains-append_cases book (r ∷ []) o there) [
+      here o there update_if_id has = elim (Contains-append_cases book (r ∷ []) o there) [
         | inl h ↦ h
         | inr h ↦ elim (contains_cases r [] o h) [
-          | inl e ↦ absurd (both_ways _ out (ap (is_in_list list) (sym e) ∙ in_list list o at_entry has))
+          | inl e ↦ absurd (both_ways _ out (ap (is_in_list list) (sym e) ∙ in_list list o update_if_id has))
           | inr none ↦ absurd (contains_none o none)
         ]
       ]
@@ -121,19 +121,19 @@ module _ (list : ℕ) (book : List Unanswered) (items : List Item) (is : IsListO
       let x = get_or items k d in
       let h = (is.sectors x).0 (k, lt, get_or_default items k x d lt) in
       let less = subst (λ (o : Unanswered). o.id.0 < r.id.0) h.1.2 (newest h.1.0 h.0 h.1.1) in
-      let same = ap (λ (i : Item). i.id.0) h.4 in
+      let same = ap (λ (i : BookRange). i.id.0) h.4 in
       let equal = ap (λ (i : RequestId). i.0) e in
       omega (arith, less, same, equal)
 
   pub own_accepted : index_of_port r.port ≡ list → is_flush r.op ≡ false → All (λ o. o.id.0 < r.id.0) book → (place : ℕ) → place ≤ length items
       → IsListOf list (book ++ r ∷ []) (insert items place (item_of r))
-  own_accepted at_entry has newest place within = record {
+  own_accepted update_if_id has newest place within = record {
     sectors = λ x. (
-      λ there. elim ((in_insert (λ (i : Item). i.id) items place (item_of r) x).0 there) [
-        | inl e ↦ (r, Contains-append_right book (r ∷ []) r (contains_here r [] r refl), at_entry, has, sym e)
+      λ there. elim ((in_insert (λ (i : BookRange). i.id) items place (item_of r) x).0 there) [
+        | inl e ↦ (r, Contains-append_right book (r ∷ []) r (contains_here r [] r refl), update_if_id, has, sym e)
         | inr old ↦ let h = (is.sectors x).0 old in (h.0, Contains-append_left book (r ∷ []) h.0 h.1, h.2, h.3, h.4)
       ],
-      λ h. (in_insert (λ (i : Item). i.id) items place (item_of r) x).1 (elim (Contains-append_cases book (r ∷ []) h.0 h.1) [
+      λ h. (in_insert (λ (i : BookRange). i.id) items place (item_of r) x).1 (elim (Contains-append_cases book (r ∷ []) h.0 h.1) [
         | inl old ↦ inr ((is.sectors x).1 (h.0, old, h.2, h.3, h.4))
         | inr new ↦ elim (contains_cases r [] h.0 new) [
           | inl e ↦ inl (sym h.4 ∙ ap item_of e)
@@ -142,23 +142,23 @@ module _ (list : ℕ) (book : List Unanswered) (items : List Item) (is : IsListO
       ]),
     );
     number = let n = is.number in let c = count_append (is_in_list list) book (r ∷ []) in let one = count_cons (is_in_list list) r [] in
-        let some : ◌≡◌ {A = ℕ} (cond (is_in_list list r) 1 0) 1 = cond-true (is_in_list list r) 1 0 (in_list list r at_entry has) in let l = length-insert items place (item_of r) within in
+        let some : ◌≡◌ {A = ℕ} (cond (is_in_list list r) 1 0) 1 = cond-true (is_in_list list r) 1 0 (in_list list r update_if_id has) in let l = length-insert items place (item_of r) within in
         omega (arith, n, c, one, some, l);
-    distinct = distinct_insert (λ (i : Item). i.id) items place (item_of r) is.distinct (fresh_item newest);
+    distinct = distinct_insert (λ (i : BookRange). i.id) items place (item_of r) is.distinct (fresh_item newest);
   }
 
 -- ---- answered
 
-module _ (list : ℕ) (book : List Unanswered) (items : List Item) (is : IsListOf list book items) (ordered : IsInOrder book) (i : ℕ) (r : Unanswered) (at_entry : slice_get book i ≡ Some r) where
+module _ (list : ℕ) (book : List Unanswered) (items : List BookRange) (is : IsListOf list book items) (ordered : IsInOrder book) (i : ℕ) (r : Unanswered) (update_if_id : slice_get book i ≡ Some r) where
   left : (o : Unanswered) → Contains (remove book i) o ↔ (Contains book o × (o.id ≢ r.id))
-  left o = in_remove (λ (u : Unanswered). u.id) book i r at_entry (ids_apart book ordered) o
+  left o = in_remove (λ (u : Unanswered). u.id) book i r update_if_id (ids_apart book ordered) o
 
   same_request : (o : Unanswered) → Contains book o → o.id ≡ r.id → o ≡ r
   same_request o there e = elim (cases_eq there.0 i) [
-    | inl same ↦ sym there.2 ∙ (ap (λ (k : ℕ). get_or book k o) same ∙ get_or_from_slice_get book i r o at_entry)
+    | inl same ↦ sym there.2 ∙ (ap (λ (k : ℕ). get_or book k o) same ∙ get_or_from_slice_get book i r o update_if_id)
     | inr not ↦ absurd (elim (cases_lt there.0 i) [
-      | inl low ↦ ids_apart book ordered there.0 i o low (slice_get_within book i r at_entry) (ap (λ (u : Unanswered). u.id) there.2 ∙ (e ∙ ap (λ (u : Unanswered). u.id) (sym (get_or_from_slice_get book i r o at_entry))))
-      | inr high ↦ ids_apart book ordered i there.0 o (omega arith) there.1 (ap (λ (u : Unanswered). u.id) (get_or_from_slice_get book i r o at_entry) ∙ (sym e ∙ ap (λ (u : Unanswered). u.id) (sym there.2)))
+      | inl low ↦ ids_apart book ordered there.0 i o low (slice_get_within book i r update_if_id) (ap (λ (u : Unanswered). u.id) there.2 ∙ (e ∙ ap (λ (u : Unanswered). u.id) (sym (get_or_from_slice_get book i r o update_if_id))))
+      | inr high ↦ ids_apart book ordered i there.0 o (omega arith) there.1 (ap (λ (u : Unanswered). u.id) (get_or_from_slice_get book i r o update_if_id) ∙ (sym e ∙ ap (λ (u : Unanswered). u.id) (sym there.2)))
     ])
   ]
 
@@ -169,7 +169,7 @@ module _ (list : ℕ) (book : List Unanswered) (items : List Item) (is : IsListO
           (h.0, (left h.0).1 (h.1, λ e. both_ways _ out (ap (is_in_list list) (sym (same_request h.0 h.1 e)) ∙ in_list list h.0 h.2 h.3)), h.2, h.3, h.4),
       λ h. (is.sectors x).1 (h.0, ((left h.0).0 h.1).0, h.2, h.3, h.4),
     );
-    number = let n = is.number in let c = count_removed (is_in_list list) book i r at_entry in
+    number = let n = is.number in let c = count_removed (is_in_list list) book i r update_if_id in
         let none : ◌≡◌ {A = ℕ} (cond (is_in_list list r) 1 0) 0 = cond-false (is_in_list list r) 1 0 out in omega (arith, n, c, none);
     distinct = is.distinct;
   }
@@ -177,25 +177,25 @@ module _ (list : ℕ) (book : List Unanswered) (items : List Item) (is : IsListO
   pub own_answered : index_of_port r.port ≡ list → is_flush r.op ≡ false → (place : ℕ) → slice_get items place ≡ Some (item_of r) → IsListOf list (remove book i) (remove items place)
   own_answered here has place found = record {
     sectors = λ x. (
-      λ there. let two = (in_remove (λ (y : Item). y.id) items place (item_of r) found is.distinct x).0 there in
+      λ there. let two = (in_remove (λ (y : BookRange). y.id) items place (item_of r) found is.distinct x).0 there in
           let h = (is.sectors x).0 two.0 in
-          (h.0, (left h.0).1 (h.1, λ e. two.1 (ap (λ (y : Item). y.id) (sym h.4) ∙ e)), h.2, h.3, h.4),
+          (h.0, (left h.0).1 (h.1, λ e. two.1 (ap (λ (y : BookRange). y.id) (sym h.4) ∙ e)), h.2, h.3, h.4),
       λ h. let two = (left h.0).0 h.1 in
-          (in_remove (λ (y : Item). y.id) items place (item_of r) found is.distinct x).1
-          ((is.sectors x).1 (h.0, two.0, h.2, h.3, h.4), λ e. two.1 (ap (λ (y : Item). y.id) h.4 ∙ e)),
+          (in_remove (λ (y : BookRange). y.id) items place (item_of r) found is.distinct x).1
+          ((is.sectors x).1 (h.0, two.0, h.2, h.3, h.4), λ e. two.1 (ap (λ (y : BookRange). y.id) h.4 ∙ e)),
     );
-    number = let n = is.number in let c = count_removed (is_in_list list) book i r at_entry in
+    number = let n = is.number in let c = count_removed (is_in_list list) book i r update_if_id in
         let some : ◌≡◌ {A = ℕ} (cond (is_in_list list r) 1 0) 1 = cond-true (is_in_list list r) 1 0 (in_list list r here has) in
         let l = length-remove items place (slice_get_within items place (item_of r) found) in omega (arith, n, c, some, l);
     distinct = distinct_remove;
   }
     where
-      distinct_remove : AllPairs (λ (a : Item) (b : Item). a.id ≢ b.id) (remove items place)
-      distinct_remove = all_pairs_remove (λ (a : Item) (b : Item). a.id ≢ b.id) items place (slice_get_within items place (item_of r) found) is.distinct
+      distinct_remove : AllPairs (λ (a : BookRange) (b : BookRange). a.id ≢ b.id) (remove items place)
+      distinct_remove = all_pairs_remove (λ (a : BookRange) (b : BookRange). a.id ≢ b.id) items place (slice_get_within items place (item_of r) found) is.distinct
 
 -- ---- changed, but neither sectors nor port nor operation
 
-pub changed_list : (list : ℕ) (book : List Unanswered) (items : List Item) (g : Unanswered → Unanswered) → ((r : Unanswered) → item_of (g r) ≡ item_of r) → ((r : Unanswered) → (g r).op ≡ r.op)
+pub changed_list : (list : ℕ) (book : List Unanswered) (items : List BookRange) (g : Unanswered → Unanswered) → ((r : Unanswered) → item_of (g r) ≡ item_of r) → ((r : Unanswered) → (g r).op ≡ r.op)
     → ((r : Unanswered) → (g r).port ≡ r.port) → IsListOf list book items → IsListOf list (map g book) items
 changed_list list book items g same_item same_op same_port is = record {
   sectors = λ x. (
@@ -213,7 +213,7 @@ changed_list list book items g same_item same_op same_port is = record {
 pub in_four : (port : Port) → index_of_port port < 4
 in_four port = omega arith
 
-module _ (book : List Unanswered) (lists : List (List Item)) (is : AreIndexed book lists) (r : Unanswered) where
+module _ (book : List Unanswered) (lists : List (List BookRange)) (is : AreIndexed book lists) (r : Unanswered) where
   own_list : IsListOf (index_of_port r.port) book (get_or lists (index_of_port r.port) [])
   own_list = is.each (index_of_port r.port) (in_four r.port)
 
@@ -241,21 +241,21 @@ module _ (book : List Unanswered) (lists : List (List Item)) (is : AreIndexed bo
   pub items_fresh : All (λ o. o.id.0 < r.id.0) book → All (λ x. x.id ≢ (item_of r).id) (get_or lists (index_of_port r.port) [])
   items_fresh newest = fresh_item (index_of_port r.port) book (get_or lists (index_of_port r.port) []) own_list r newest
 
-  module _ (ordered : IsInOrder book) (i : ℕ) (at_entry : slice_get book i ≡ Some r) where
+  module _ (ordered : IsInOrder book) (i : ℕ) (update_if_id : slice_get book i ≡ Some r) where
     pub flush_answered : is_flush r.op ≡ true → AreIndexed (remove book i) lists
-    flush_answered flush = record { four = is.four; each = λ list lt. other_answered list book (get_or lists list []) (is.each list lt) ordered i r at_entry (flush_in_none list r flush) }
+    flush_answered flush = record { four = is.four; each = λ list lt. other_answered list book (get_or lists list []) (is.each list lt) ordered i r update_if_id (flush_in_none list r flush) }
 
     pub answered : is_flush r.op ≡ false → (place : ℕ) → slice_get (get_or lists (index_of_port r.port) []) place ≡ Some (item_of r)
         → AreIndexed (remove book i) (set lists (index_of_port r.port) (remove (get_or lists (index_of_port r.port) []) place))
     answered has place found =
         set_indexed (remove book i) lists (index_of_port r.port) (remove (get_or lists (index_of_port r.port) []) place) (in_four r.port) is.four
-        (own_answered (index_of_port r.port) book (get_or lists (index_of_port r.port) []) own_list ordered i r at_entry refl has place found)
-        (λ list lt other. other_answered list book (get_or lists list []) (is.each list lt) ordered i r at_entry (out_of_list list r other))
+        (own_answered (index_of_port r.port) book (get_or lists (index_of_port r.port) []) own_list ordered i r update_if_id refl has place found)
+        (λ list lt other. other_answered list book (get_or lists list []) (is.each list lt) ordered i r update_if_id (out_of_list list r other))
 
     pub its_item : is_flush r.op ≡ false → Contains (get_or lists (index_of_port r.port) []) (item_of r)
-    its_item has = (own_list.sectors (item_of r)).1 (r, (i, slice_get_within book i r at_entry, get_or_from_slice_get book i r r at_entry), refl, has, refl)
+    its_item has = (own_list.sectors (item_of r)).1 (r, (i, slice_get_within book i r update_if_id, get_or_from_slice_get book i r r update_if_id), refl, has, refl)
 
-pub changed_indexed : (book : List Unanswered) (lists : List (List Item)) (g : Unanswered → Unanswered) → ((r : Unanswered) → item_of (g r) ≡ item_of r) → ((r : Unanswered) → (g r).op ≡ r.op)
+pub changed_indexed : (book : List Unanswered) (lists : List (List BookRange)) (g : Unanswered → Unanswered) → ((r : Unanswered) → item_of (g r) ≡ item_of r) → ((r : Unanswered) → (g r).op ≡ r.op)
     → ((r : Unanswered) → (g r).port ≡ r.port) → AreIndexed book lists → AreIndexed (map g book) lists
 changed_indexed book lists g same_item same_op same_port is = record {
   four = is.four;
@@ -263,35 +263,35 @@ changed_indexed book lists g same_item same_op same_port is = record {
 }
 
 -- the same place and list, by other words
-pub put_back : (book : List Unanswered) (lists : List (List Item)) (i j : ℕ) (x y : List Item) → i ≡ j → x ≡ y → AreIndexed book (set lists j y) → AreIndexed book (set lists i x)
-put_back book lists i j x y ei ex is = subst (λ (n : ℕ). AreIndexed book (set lists n x)) (sym ei) (subst (λ (z : List Item). AreIndexed book (set lists j z)) (sym ex) is)
+pub put_back : (book : List Unanswered) (lists : List (List BookRange)) (i j : ℕ) (x y : List BookRange) → i ≡ j → x ≡ y → AreIndexed book (set lists j y) → AreIndexed book (set lists i x)
+put_back book lists i j x y ei ex is = subst (λ (n : ℕ). AreIndexed book (set lists n x)) (sym ei) (subst (λ (z : List BookRange). AreIndexed book (set lists j z)) (sym ex) is)
 
-pub by_default : (lists : List (List Item)) (i j : ℕ) (d : List Item) → i ≡ j → j < length lists → get_or lists i d ≡ get_or lists j []
+pub by_default : (lists : List (List BookRange)) (i j : ℕ) (d : List BookRange) → i ≡ j → j < length lists → get_or lists i d ≡ get_or lists j []
 by_default lists i j d e lt = ap (λ (n : ℕ). get_or lists n d) e ∙ get_or_default lists j d [] lt
 
 -- ---- of the book's own requests
 
-pub asks_more : (es : List Held) (e : Held) → asks_of (es ++ e ∷ []) ≡ asks_of es ++ asks e.entry ∷ []
-asks_more es e = map-append (λ (x : Held). asks x.entry) es (e ∷ [])
+pub asks_more : (es : List BookEntry) (e : BookEntry) → asks_of (es ++ e ∷ []) ≡ asks_of es ++ asks e.entry ∷ []
+asks_more es e = map-append (λ (x : BookEntry). asks x.entry) es (e ∷ [])
 
-pub asks_less : (es : List Held) (i : ℕ) → asks_of (remove es i) ≡ remove (asks_of es) i
+pub asks_less : (es : List BookEntry) (i : ℕ) → asks_of (remove es i) ≡ remove (asks_of es) i
 asks_less es i =
-    map-append (λ (x : Held). asks x.entry) (take i es) (drop (suc i) es)
-    ∙ (ap (λ (xs : List Unanswered). xs ++ asks_of (drop (suc i) es)) (sym (take-map (λ (x : Held). asks x.entry) i es))
-    ∙ ap (λ (xs : List Unanswered). take i (asks_of es) ++ xs) (sym (drop-map (λ (x : Held). asks x.entry) (suc i) es)))
+    map-append (λ (x : BookEntry). asks x.entry) (take i es) (drop (suc i) es)
+    ∙ (ap (λ (xs : List Unanswered). xs ++ asks_of (drop (suc i) es)) (sym (take-map (λ (x : BookEntry). asks x.entry) i es))
+    ∙ ap (λ (xs : List Unanswered). take i (asks_of es) ++ xs) (sym (drop-map (λ (x : BookEntry). asks x.entry) (suc i) es)))
 
 same_marked : (b : Bool) (r : Unanswered) (issued : Bool) → (item_of (cond b (record r { issued = issued }) r) ≡ item_of r)
     × ((cond b (record r { issued = issued }) r).op ≡ r.op) × ((cond b (record r { issued = issued }) r).port ≡ r.port)
 same_marked true r issued = (refl, refl, refl)
 same_marked false r issued = (refl, refl, refl)
 
-pub issued_indexed : (es : List Held) (id : RequestId) (lists : List (List Item)) → AreIndexed (asks_of es) lists → AreIndexed (asks_of (map (at_entry id issue) es)) lists
+pub issued_indexed : (es : List BookEntry) (id : RequestId) (lists : List (List BookRange)) → AreIndexed (asks_of es) lists → AreIndexed (asks_of (map (update_if_id id issue) es)) lists
 issued_indexed es id lists is = subst (λ (book : List Unanswered). AreIndexed book lists) (sym (after_issue es id))
     (changed_indexed (asks_of es) lists (mark_issued id) (λ r. (same_marked (r.id.0 == id.0) r true).0) (λ r. (same_marked (r.id.0 == id.0) r true).1) (λ r. (same_marked (r.id.0 == id.0) r true).2) is)
 
-pub requeued_indexed : (es : List Held) (id : RequestId) (lists : List (List Item)) → AreIndexed (asks_of es) lists → AreIndexed (asks_of (map (at_entry id requeued_entry) es)) lists
+pub requeued_indexed : (es : List BookEntry) (id : RequestId) (lists : List (List BookRange)) → AreIndexed (asks_of es) lists → AreIndexed (asks_of (map (update_if_id id requeued_entry) es)) lists
 requeued_indexed es id lists is = subst (λ (book : List Unanswered). AreIndexed book lists) (sym (after_requeue es id))
     (changed_indexed (asks_of es) lists (mark_waiting id) (λ r. (same_marked (r.id.0 == id.0) r false).0) (λ r. (same_marked (r.id.0 == id.0) r false).1) (λ r. (same_marked (r.id.0 == id.0) r false).2) is)
 
-pub asks_newest : (es : List Held) (n : ℕ) → All (λ e. e.entry.id.0 < n) es → All (λ r. r.id.0 < n) (asks_of es)
-asks_newest es n newest = All-map (λ (r : Unanswered). r.id.0 < n) (λ (e : Held). asks e.entry) es newest
+pub asks_newest : (es : List BookEntry) (n : ℕ) → All (λ e. e.entry.id.0 < n) es → All (λ r. r.id.0 < n) (asks_of es)
+asks_newest es n newest = All-map (λ (r : Unanswered). r.id.0 < n) (λ (e : BookEntry). asks e.entry) es newest

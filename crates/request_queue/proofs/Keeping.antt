@@ -18,8 +18,8 @@ use Rattle.slab.proofs.SlabLemmas.{ContainsKey-within, Updates-with_value}
 use Rattle.slab.specs.Slab.{Slab, get, slab_len, Updates, with_value}
 use Rattle.dma_frames.specs.Loan.{Lending}
 use Rattle.request_queue.specs.declared.PendingRequest.{PendingRequest}
-use Rattle.request_queue.specs.Entries.{Held}
-use Rattle.request_queue.specs.Store.{blank_entry, frames_of, held_at, entries, KeyHasLoan, SlabIsSound}
+use Rattle.request_queue.specs.Entries.{BookEntry}
+use Rattle.request_queue.specs.Store.{blank_entry, frames_of, entry_at_key, entries, KeyHasLoan, SlabIsSound}
 
 none-some : {A : Type 0} {o : Option A} (x : A) → o ≡ None → o ≡ Some x → ⊥
 none-some x p q = let r = sym p ∙ q in cc
@@ -31,7 +31,7 @@ same_entries : (s s' : Slab PendingRequest) (loans loans' : List (Option Lending
 same_entries s s' loans loans' key others beside [] ne = refl
 same_entries s s' loans loans' key others beside (k ∷ ks) ne =
     let apart = All-head (λ (k : ℕ). k ≢ key) k ks ne in
-    rw (others k apart, beside k apart) (ap (λ es. held_at s loans k ∷ es)
+    rw (others k apart, beside k apart) (ap (λ es. entry_at_key s loans k ∷ es)
     (same_entries s s' loans loans' key others beside ks (All-tail (λ (k : ℕ). k ≢ key) k ks ne)))
 
 set_beside : (loans : List (Option Lending)) (key : ℕ) (slot : Option Lending) (k : ℕ) → k ≢ key → get_or (set loans key slot) k None ≡ get_or loans k None
@@ -55,7 +55,7 @@ module _ (s s' : Slab PendingRequest) (loans : List (Option Lending)) (order : L
 
   module _ (r : PendingRequest) (loan : Lending) (vacant : get s key ≡ None) (updates : Updates s s' key (Some r)) (within : key < length loans) (id : loan.request ≡ r.id) where
     pub entries_more : entries s' (set loans key (Some loan)) (order ++ key ∷ []) ≡ entries s loans order ++ record { entry = r; frames = loan.frames } ∷ []
-    entries_more = map-append (held_at s' (set loans key (Some loan))) order (key ∷ [])
+    entries_more = map-append (entry_at_key s' (set loans key (Some loan))) order (key ∷ [])
         ∙ rw (same_entries s s' loans (set loans key (Some loan)) key updates.others (set_beside loans key (Some loan)) order (fresh vacant), updates.changed, get_or-set_same loans key (Some loan) None within) refl
 
     pub sound_more : slab_len s' ≡ slab_len s + 1 → s'.capacity ≡ s.capacity → SlabIsSound s' (set loans key (Some loan)) (order ++ key ∷ [])
@@ -95,10 +95,10 @@ module _ (s s' : Slab PendingRequest) (loans : List (Option Lending)) (order : L
 
     pub entries_less : entries s' (set loans key None) (remove order place) ≡ remove (entries s loans order) place
     entries_less = same_entries s s' loans (set loans key None) key updates.others (set_beside loans key None) (remove order place) once
-        ∙ (map-append (held_at s loans) (take place order) (drop (suc place) order) ∙ rw (take-map, drop-map) refl)
+        ∙ (map-append (entry_at_key s loans) (take place order) (drop (suc place) order) ∙ rw (take-map, drop-map) refl)
 
     pub entry_there : (r : PendingRequest) (loan : Lending) → get s key ≡ Some r → get_or loans key None ≡ Some loan → slice_get (entries s loans order) place ≡ Some (record { entry = r; frames = loan.frames })
-    entry_there r loan has_request has_loan = slice_get-map (held_at s loans) order place
+    entry_there r loan has_request has_loan = slice_get-map (entry_at_key s loans) order place
         ∙ rw (slice_get-get_or order place key within, is_key key, has_request, has_loan) refl
 
     pub sound_less : slab_len s' + 1 ≡ slab_len s → s'.capacity ≡ s.capacity → SlabIsSound s' (set loans key None) (remove order place)
@@ -134,14 +134,15 @@ map-map g f [] = refl
 map-map g f (x ∷ xs) = ap (λ ys. g (f x) ∷ ys) (map-map g f xs)
 
 module _ (s : Slab PendingRequest) (loans : List (Option Lending)) (order : List ℕ) (key place : ℕ) (within : place < length order) (is_key : (d : ℕ) → get_or order place d ≡ key) where
-  pub stands_at : slice_get (entries s loans order) place ≡ Some (held_at s loans key)
-  stands_at = slice_get-map (held_at s loans) order place ∙ rw (slice_get-get_or order place key within, is_key key) refl
+  pub stands_at : slice_get (entries s loans order) place ≡ Some (entry_at_key s loans key)
+  stands_at = slice_get-map (entry_at_key s loans) order place ∙ rw (slice_get-get_or order place key within, is_key key) refl
 
-  pub request_there : (r : PendingRequest) → get s key ≡ Some r → slice_get (map (λ (e : Held). e.entry) (entries s loans order)) place ≡ Some r
-  request_there r there = slice_get-map (λ (e : Held). e.entry) (entries s loans order) place ∙ rw (stands_at, there) refl
+  pub request_there : (r : PendingRequest) → get s key ≡ Some r → slice_get (map (λ (e : BookEntry). e.entry) (entries s loans order)) place ≡ Some r
+  request_there r there = slice_get-map (λ (e : BookEntry). e.entry) (entries s loans order) place ∙ rw (stands_at, there) refl
 
-  pub frames_there : (loan : Lending) → get_or loans key None ≡ Some loan → slice_get (map (λ (e : Held). e.frames) (entries s loans order)) place ≡ Some loan.frames
-  frames_there loan there = slice_get-map (λ (e : Held). e.frames) (entries s loans order) place ∙ rw (stands_at, there) refl
+  pub both_there : (r : PendingRequest) → get s key ≡ Some r → (loan : Lending) → get_or loans key None ≡ Some loan
+      → slice_get (entries s loans order) place ≡ Some (record { entry = r; frames = loan.frames })
+  both_there r here loan there = stands_at ∙ rw (here, there) refl
 
   kept_there : SlabIsSound s loans order → KeyHasLoan s loans key
   kept_there sound = subst (KeyHasLoan s loans) (is_key 0) (sound.held place 0 within)
@@ -150,11 +151,10 @@ module _ (s : Slab PendingRequest) (loans : List (Option Lending)) (order : List
   key_there sound = (kept_there sound).in_place
 
   -- the loan beside a request is that request's
-  pub lent_there : SlabIsSound s loans order → (loan : Lending) → get_or loans key None ≡ Some loan → slice_get (map (λ (e : Held). e.entry.id) (entries s loans order)) place ≡ Some loan.request
-  lent_there sound loan there =
+  pub same_there : SlabIsSound s loans order → (r : PendingRequest) → get s key ≡ Some r → (loan : Lending) → get_or loans key None ≡ Some loan → loan.request ≡ r.id
+  same_there sound r here loan there =
       let k = kept_there sound in
-      slice_get-map (λ (e : Held). e.entry.id) (entries s loans order) place
-      ∙ (rw (stands_at, k.has_request) refl ∙ ap Some (sym k.same_id ∙ ap (λ (l : Lending). l.request) (same_Some k.loan loan (sym k.has_loan ∙ there))))
+      ap (λ (l : Lending). l.request) (same_Some loan k.loan (sym there ∙ k.has_loan)) ∙ (k.same_id ∙ ap (λ (x : PendingRequest). x.id) (same_Some k.request r (sym k.has_request ∙ here)))
 
 -- ---- another state of one request
 
@@ -208,23 +208,23 @@ module _ (s : Slab PendingRequest) (loans : List (Option Lending)) (order : List
         }
       ]
 
-  abbrev changed : Held
+  abbrev changed : BookEntry
   changed = record { entry = new; frames = frames_of (get_or loans key None) }
 
   pub entries_replaced : entries after loans order ≡ set (entries s loans order) place changed
-  entries_replaced = same_lists (map (held_at after loans) order) (set (map (held_at s loans) order) place changed)
-      (length-map order (held_at after loans) ∙ sym (length-set (map (held_at s loans) order) place changed ∙ length-map order (held_at s loans)))
+  entries_replaced = same_lists (map (entry_at_key after loans) order) (set (map (entry_at_key s loans) order) place changed)
+      (length-map order (entry_at_key after loans) ∙ sym (length-set (map (entry_at_key s loans) order) place changed ∙ length-map order (entry_at_key s loans)))
       each
     where
-      each : (k : ℕ) (d : Held) → k < length (map (held_at after loans) order) → get_or (map (held_at after loans) order) k d ≡ get_or (set (map (held_at s loans) order) place changed) k d
+      each : (k : ℕ) (d : BookEntry) → k < length (map (entry_at_key after loans) order) → get_or (map (entry_at_key after loans) order) k d ≡ get_or (set (map (entry_at_key s loans) order) place changed) k d
       each k d lt =
-          let short : k < length order = omega (arith, lt, length-map order (held_at after loans)) in
+          let short : k < length order = omega (arith, lt, length-map order (entry_at_key after loans)) in
           elim (cases_eq k place) [
-            | inl e ↦ rw e (get_or-map (held_at after loans) order place key d within
-                ∙ (rw (is_key key, updates.changed) refl ∙ sym (get_or-set_same (map (held_at s loans) order) place changed d (omega (arith, within, length-map order (held_at s loans))))))
-            | inr ne ↦ get_or-map (held_at after loans) order k key d short
+            | inl e ↦ rw e (get_or-map (entry_at_key after loans) order place key d within
+                ∙ (rw (is_key key, updates.changed) refl ∙ sym (get_or-set_same (map (entry_at_key s loans) order) place changed d (omega (arith, within, length-map order (entry_at_key s loans))))))
+            | inr ne ↦ get_or-map (entry_at_key after loans) order k key d short
                 ∙ (ap (λ (o : Option PendingRequest). record { entry = unwrap_or o blank_entry; frames = frames_of (get_or loans (get_or order k key) None) }) (updates.others (get_or order k key) (apart k ne short))
-                ∙ (sym (get_or-map (held_at s loans) order k key d short) ∙ sym (get_or-set_other (map (held_at s loans) order) place k changed d ne)))
+                ∙ (sym (get_or-map (entry_at_key s loans) order k key d short) ∙ sym (get_or-set_other (map (entry_at_key s loans) order) place k changed d ne)))
           ]
         where
           apart : (k : ℕ) → k ≢ place → k < length order → get_or order k key ≢ key

@@ -9,7 +9,7 @@ use Rattle.block_machine.specs.declared.due.Unanswered.{Unanswered}
 use Rattle.std.specs.List.{list_any}
 use Rattle.std.specs.Prelude.{nat_lt}
 use Rattle.block_machine.specs.Due.{ahead, free_slots, is_plain, waits_for}
-use Rattle.request_queue.specs.Entries.{Held, asks_of}
+use Rattle.request_queue.specs.Entries.{BookEntry, asks_of}
 use Rattle.request_queue.specs.Store.{asks_at}
 use Rattle.request_queue.specs.Walk.{AreIssuedAhead}
 use Rattle.request_queue.proofs.Own.{asked_more}
@@ -46,7 +46,7 @@ module _ (mode : QueueMode) (requests : List Unanswered) (r : Unanswered) where
       rw more (one_ahead n is (eqb-true n (length requests) all.0) its.0 (not-true (is_plain mode r.op) its.1))
   ahead_with n next is false leads more = rw more (stay_ahead n is)
 
-pub leads_more : (mode : QueueMode) (es : List Held) (places : List ℕ) (i : ℕ) (r : Unanswered) → slice_get (asks_of es) i ≡ Some r → (n next : ℕ) → AreIssuedAhead mode (asks_at es places) n
+pub leads_more : (mode : QueueMode) (es : List BookEntry) (places : List ℕ) (i : ℕ) (r : Unanswered) → slice_get (asks_of es) i ≡ Some r → (n next : ℕ) → AreIssuedAhead mode (asks_at es places) n
     → next ≡ cond (n == length (asks_at es places) && (r.issued && not (is_plain mode r.op))) (suc n) n → AreIssuedAhead mode (asks_at es (places ++ i ∷ [])) next
 leads_more mode es places i r at n next is more =
     subst (λ (xs : List Unanswered). AreIssuedAhead mode xs next) (sym (asked_more es places i r at (λ (u : Unanswered). u.issued))) (ahead_with mode (asks_at es places) r n next is _ refl more)

@@ -6,6 +6,7 @@ pub mod Own
 pub mod Stepping
 pub mod Counts
 pub mod Changing
+pub mod Alone
 pub mod AllChanged
 pub mod Beside
 pub mod Ending

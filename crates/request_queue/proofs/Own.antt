@@ -13,7 +13,7 @@ use Rattle.ata_types.specs.declared.request.RequestId.{RequestId}
 use Rattle.block_machine.specs.declared.due.QueueMode.{QueueMode}
 use Rattle.block_machine.specs.declared.due.Unanswered.{Unanswered}
 use Rattle.block_machine.specs.Due.{IsInOrder, is_plain, issued_count, free_slots, due_of}
-use Rattle.request_queue.specs.Entries.{Held, asks, asks_of, due_ids}
+use Rattle.request_queue.specs.Entries.{BookEntry, asks, asks_of, due_ids}
 use Rattle.request_queue.specs.Holders.{has_holder, may_have_holder, may_hold, unheld}
 use Rattle.request_queue.specs.Walk.{IsReachedInWalk}
 use Rattle.request_queue.specs.Store.{asks_at, blank_entry}
@@ -83,11 +83,11 @@ module _ (port : Port) (all book : List Unanswered) (is : book ≡ unheld port a
   own_due mode due so_far = so_far ∙ ap (λ (rs : List Unanswered). map (λ (r : Unanswered). r.id) rs) (ap (due_of mode port) is ∙ due_without mode port all)
 
 -- as many as there are places
-pub as_long : (es : List Held) (places : List ℕ) → length (asks_at es places) ≡ length places
+pub as_long : (es : List BookEntry) (places : List ℕ) → length (asks_at es places) ≡ length places
 as_long es places = length-map places (λ (place : ℕ). get_or (asks_of es) place (asks blank_entry))
 
 -- the request at the place with a number
-pub at_number : (es : List Held) (places read : List ℕ) (n : ℕ) (r : Unanswered) → n < length places → read ≡ places → slice_get (asks_of es) (get_or read n 0) ≡ Some r
+pub at_number : (es : List BookEntry) (places read : List ℕ) (n : ℕ) (r : Unanswered) → n < length places → read ≡ places → slice_get (asks_of es) (get_or read n 0) ≡ Some r
     → slice_get (asks_at es places) n ≡ Some r
 at_number es places read n r lt same is =
     slice_get-map (λ (place : ℕ). get_or (asks_of es) place (asks blank_entry)) places n
@@ -95,7 +95,7 @@ at_number es places read n r lt same is =
     ∙ ap Some (ap (λ (xs : List ℕ). get_or (asks_of es) (get_or xs n 0) (asks blank_entry)) (sym same) ∙ get_or_from_slice_get (asks_of es) (get_or read n 0) r (asks blank_entry) is))
 
 -- one place more
-module _ (p : Unanswered → Bool) (es : List Held) (places : List ℕ) (i : ℕ) (r : Unanswered) (is : slice_get (asks_of es) i ≡ Some r)
+module _ (p : Unanswered → Bool) (es : List BookEntry) (places : List ℕ) (i : ℕ) (r : Unanswered) (is : slice_get (asks_of es) i ≡ Some r)
     (so_far : asks_at es places ≡ filter p (take i (asks_of es))) where
   more : filter p (take (i + 1) (asks_of es)) ≡ filter p (take i (asks_of es)) ++ filter p (r ∷ [])
   more = ap (filter p) (taken_more (asks_of es) i r is) ∙ filter-append p (take i (asks_of es)) (r ∷ [])
@@ -112,7 +112,7 @@ module _ (p : Unanswered → Bool) (es : List Held) (places : List ℕ) (i : ℕ
       so_far ∙ sym (more ∙ (ap (λ (xs : List Unanswered). filter p (take i (asks_of es)) ++ xs) (cond-false (p r) (r ∷ []) [] fails) ∙ append-nil (filter p (take i (asks_of es)))))
 
 -- and what is counted of those at the places
-module _ (es : List Held) (places : List ℕ) (i : ℕ) (r : Unanswered) (is : slice_get (asks_of es) i ≡ Some r) (p : Unanswered → Bool) where
+module _ (es : List BookEntry) (places : List ℕ) (i : ℕ) (r : Unanswered) (is : slice_get (asks_of es) i ≡ Some r) (p : Unanswered → Bool) where
   pub asked_more : asks_at es (places ++ i ∷ []) ≡ asks_at es places ++ r ∷ []
   asked_more =
       map-append (λ (place : ℕ). get_or (asks_of es) place (asks blank_entry)) places (i ∷ [])

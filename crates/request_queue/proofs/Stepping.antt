@@ -11,8 +11,8 @@ use Rattle.block_machine.specs.Due.{IsDue, due_of}
 use Rattle.block_machine.specs.State.{unanswered, waiting}
 use Rattle.block_machine.specs.State as machine
 use Rattle.block_machine.specs.Steps as steps
-use Rattle.request_queue.specs.Entries.{Held, asks, asks_of, has_id, at_entry, without_entry, issue, requeued_entry, older_entry, aged, marked_under, all_marked_under, unanswered_entries, due_ids}
-use Rattle.request_queue.specs.Machine.{IsEntry, IsBook}
+use Rattle.request_queue.specs.Entries.{BookEntry, asks, asks_of, has_id, update_if_id, without_entry, issue, requeued_entry, older_entry, aged, marked_under, all_marked_under, unanswered_entries, due_ids}
+use Rattle.request_queue.specs.Machine.{EntryRelation, BookRelation}
 use Rattle.request_queue.specs.declared.PendingRequest.{PendingRequest}
 use Rattle.request_queue.proofs.Members.{contains_none, contains_here, contains_there, contains_cases, count_cons, map_in, into_map}
 use Rattle.request_queue.proofs.Changing.{either_way}
@@ -79,95 +79,95 @@ like_left R (a ∷ xs) (b ∷ ys) all y here = ⊎_elim
 same_asks : (a b : Unanswered) → a.id ≡ b.id → a.port ≡ b.port → a.op ≡ b.op → a.range ≡ b.range → a.issued ≡ b.issued → a ≡ b
 same_asks a b p q r s t = λ i. record { id = p i; port = q i; op = r i; range = s i; issued = t i }
 
-pub asked_alike : (e : Held) (p : machine.Pending) → IsEntry e p → unanswered p ≡ asks e.entry
+pub asked_alike : (e : BookEntry) (p : machine.Pending) → EntryRelation e p → unanswered p ≡ asks e.entry
 asked_alike e p s = same_asks (unanswered p) (asks e.entry) s.id s.port s.op s.range s.issued
 
 -- the machine's due requests are the book's
-pub same_book : (es : List Held) (ps : List machine.Pending) → IsBook es ps → map unanswered ps ≡ asks_of es
+pub same_book : (es : List BookEntry) (ps : List machine.Pending) → BookRelation es ps → map unanswered ps ≡ asks_of es
 same_book [] [] all = refl
 same_book [] (p ∷ ps) all = absurd all
 same_book (e ∷ es) [] all = absurd all
 same_book (e ∷ es) (p ∷ ps) all = ap (λ (u : Unanswered). u ∷ map unanswered ps) (asked_alike e p all.0) ∙ ap (λ (us : List Unanswered). asks e.entry ∷ us) (same_book es ps all.1)
 
-at_both : (id : RequestId) (f : PendingRequest → PendingRequest) (g : machine.Pending → machine.Pending) → ((e : Held) (p : machine.Pending) → IsEntry e p → IsEntry (record e { entry = f e.entry }) (g p))
-    → (e : Held) (p : machine.Pending) → IsEntry e p → IsEntry (at_entry id f e) (steps.at id g p)
+at_both : (id : RequestId) (f : PendingRequest → PendingRequest) (g : machine.Pending → machine.Pending) → ((e : BookEntry) (p : machine.Pending) → EntryRelation e p → EntryRelation (record e { entry = f e.entry }) (g p))
+    → (e : BookEntry) (p : machine.Pending) → EntryRelation e p → EntryRelation (update_if_id id f e) (steps.at id g p)
 at_both id f g step e p s = go (has_id id e) refl
   where
     same : (p.request.id.0 == id.0) ≡ has_id id e
     same = ap (λ (i : RequestId). i.0 == id.0) s.id
 
-    go : (b : Bool) → has_id id e ≡ b → IsEntry (at_entry id f e) (steps.at id g p)
+    go : (b : Bool) → has_id id e ≡ b → EntryRelation (update_if_id id f e) (steps.at id g p)
     go true here =
-        subst (λ (x : Held). IsEntry x (steps.at id g p)) (sym (cond-true (has_id id e) (record e { entry = f e.entry }) e here))
-        (subst (λ (y : machine.Pending). IsEntry (record e { entry = f e.entry }) y) (sym (cond-true (p.request.id.0 == id.0) (g p) p (same ∙ here))) (step e p s))
+        subst (λ (x : BookEntry). EntryRelation x (steps.at id g p)) (sym (cond-true (has_id id e) (record e { entry = f e.entry }) e here))
+        (subst (λ (y : machine.Pending). EntryRelation (record e { entry = f e.entry }) y) (sym (cond-true (p.request.id.0 == id.0) (g p) p (same ∙ here))) (step e p s))
     go false here =
-        subst (λ (x : Held). IsEntry x (steps.at id g p)) (sym (cond-false (has_id id e) (record e { entry = f e.entry }) e here))
-        (subst (λ (y : machine.Pending). IsEntry e y) (sym (cond-false (p.request.id.0 == id.0) (g p) p (same ∙ here))) s)
+        subst (λ (x : BookEntry). EntryRelation x (steps.at id g p)) (sym (cond-false (has_id id e) (record e { entry = f e.entry }) e here))
+        (subst (λ (y : machine.Pending). EntryRelation e y) (sym (cond-false (p.request.id.0 == id.0) (g p) p (same ∙ here))) s)
 
-one_issued : (e : Held) (p : machine.Pending) → IsEntry e p → IsEntry (record e { entry = issue e.entry }) (steps.newly_issued p)
+one_issued : (e : BookEntry) (p : machine.Pending) → EntryRelation e p → EntryRelation (record e { entry = issue e.entry }) (steps.newly_issued p)
 one_issued e p s = record { id = s.id; client = s.client; grant = s.grant; port = s.port; op = s.op; range = s.range; frames = s.frames; issued = refl; issues = ap suc s.issues; age = refl }
 
-one_waits : (e : Held) (p : machine.Pending) → IsEntry e p → IsEntry (record e { entry = requeued_entry e.entry }) (steps.requeued p)
+one_waits : (e : BookEntry) (p : machine.Pending) → EntryRelation e p → EntryRelation (record e { entry = requeued_entry e.entry }) (steps.requeued p)
 one_waits e p s = record { id = s.id; client = s.client; grant = s.grant; port = s.port; op = s.op; range = s.range; frames = s.frames; issued = refl; issues = s.issues; age = s.age }
 
-one_touched : (i : ℕ) (e : Held) (p : machine.Pending) → IsEntry e p → IsEntry e (steps.touch i p)
+one_touched : (i : ℕ) (e : BookEntry) (p : machine.Pending) → EntryRelation e p → EntryRelation e (steps.touch i p)
 one_touched i e p s = record { id = s.id; client = s.client; grant = s.grant; port = s.port; op = s.op; range = s.range; frames = s.frames; issued = s.issued; issues = s.issues; age = s.age }
 
-one_ended : (e : Held) (p : machine.Pending) → IsEntry e p → IsEntry e (steps.mark_ended p)
+one_ended : (e : BookEntry) (p : machine.Pending) → EntryRelation e p → EntryRelation e (steps.mark_ended p)
 one_ended e p s = record { id = s.id; client = s.client; grant = s.grant; port = s.port; op = s.op; range = s.range; frames = s.frames; issued = s.issued; issues = s.issues; age = s.age }
 
-at_right : (id : RequestId) (g : machine.Pending → machine.Pending) → ((e : Held) (p : machine.Pending) → IsEntry e p → IsEntry e (g p))
-    → (e : Held) (p : machine.Pending) → IsEntry e p → IsEntry e (steps.at id g p)
+at_right : (id : RequestId) (g : machine.Pending → machine.Pending) → ((e : BookEntry) (p : machine.Pending) → EntryRelation e p → EntryRelation e (g p))
+    → (e : BookEntry) (p : machine.Pending) → EntryRelation e p → EntryRelation e (steps.at id g p)
 at_right id g step e p s = go (p.request.id.0 == id.0) refl
   where
-    go : (b : Bool) → (p.request.id.0 == id.0) ≡ b → IsEntry e (steps.at id g p)
-    go true here = subst (λ (y : machine.Pending). IsEntry e y) (sym (cond-true (p.request.id.0 == id.0) (g p) p here)) (step e p s)
-    go false here = subst (λ (y : machine.Pending). IsEntry e y) (sym (cond-false (p.request.id.0 == id.0) (g p) p here)) s
+    go : (b : Bool) → (p.request.id.0 == id.0) ≡ b → EntryRelation e (steps.at id g p)
+    go true here = subst (λ (y : machine.Pending). EntryRelation e y) (sym (cond-true (p.request.id.0 == id.0) (g p) p here)) (step e p s)
+    go false here = subst (λ (y : machine.Pending). EntryRelation e y) (sym (cond-false (p.request.id.0 == id.0) (g p) p here)) s
 
-one_revoked : (client : ClientId) (grant : ℕ) (e : Held) (p : machine.Pending) → IsEntry e p → IsEntry (record e { entry = marked_under client grant e.entry }) p
-one_revoked client grant e p s = either_way (λ (r : PendingRequest). IsEntry (record e { entry = r }) p) (is_under client grant e.entry.client e.entry.grant) (record (e.entry) { revoked = true }) e.entry
+one_revoked : (client : ClientId) (grant : ℕ) (e : BookEntry) (p : machine.Pending) → EntryRelation e p → EntryRelation (record e { entry = marked_under client grant e.entry }) p
+one_revoked client grant e p s = either_way (λ (r : PendingRequest). EntryRelation (record e { entry = r }) p) (is_under client grant e.entry.client e.entry.grant) (record (e.entry) { revoked = true }) e.entry
     (record { id = s.id; client = s.client; grant = s.grant; port = s.port; op = s.op; range = s.range; frames = s.frames; issued = s.issued; issues = s.issues; age = s.age }) s
 
-one_older : (ports : Port → Bool) (e : Held) (p : machine.Pending) → IsEntry e p → IsEntry (record e { entry = older_entry ports e.entry }) (steps.older ports p)
+one_older : (ports : Port → Bool) (e : BookEntry) (p : machine.Pending) → EntryRelation e p → EntryRelation (record e { entry = older_entry ports e.entry }) (steps.older ports p)
 one_older ports e p s = go (e.entry.issued && ports e.entry.port) refl
   where
     same : (p.issued && ports p.request.port) ≡ (e.entry.issued && ports e.entry.port)
     same = ap (λ (b : Bool). b && ports p.request.port) s.issued ∙ ap (λ (q : Port). e.entry.issued && ports q) s.port
 
-    go : (b : Bool) → (e.entry.issued && ports e.entry.port) ≡ b → IsEntry (record e { entry = older_entry ports e.entry }) (steps.older ports p)
+    go : (b : Bool) → (e.entry.issued && ports e.entry.port) ≡ b → EntryRelation (record e { entry = older_entry ports e.entry }) (steps.older ports p)
     go true here =
-        subst (λ (r : PendingRequest). IsEntry (record e { entry = r }) (steps.older ports p)) (sym (cond-true (e.entry.issued && ports e.entry.port) (record (e.entry) { age = min (suc e.entry.age) 3 }) e.entry here))
-        (subst (λ (y : machine.Pending). IsEntry (record e { entry = record (e.entry) { age = min (suc e.entry.age) 3 } }) y) (sym (cond-true (p.issued && ports p.request.port) (record p { age = suc p.age }) p (same ∙ here)))
+        subst (λ (r : PendingRequest). EntryRelation (record e { entry = r }) (steps.older ports p)) (sym (cond-true (e.entry.issued && ports e.entry.port) (record (e.entry) { age = min (suc e.entry.age) 3 }) e.entry here))
+        (subst (λ (y : machine.Pending). EntryRelation (record e { entry = record (e.entry) { age = min (suc e.entry.age) 3 } }) y) (sym (cond-true (p.issued && ports p.request.port) (record p { age = suc p.age }) p (same ∙ here)))
         (record { id = s.id; client = s.client; grant = s.grant; port = s.port; op = s.op; range = s.range; frames = s.frames; issued = s.issued; issues = s.issues; age = (let a = s.age in omega (arith, a)) }))
     go false here =
-        subst (λ (r : PendingRequest). IsEntry (record e { entry = r }) (steps.older ports p)) (sym (cond-false (e.entry.issued && ports e.entry.port) (record (e.entry) { age = min (suc e.entry.age) 3 }) e.entry here))
-        (subst (λ (y : machine.Pending). IsEntry e y) (sym (cond-false (p.issued && ports p.request.port) (record p { age = suc p.age }) p (same ∙ here))) s)
+        subst (λ (r : PendingRequest). EntryRelation (record e { entry = r }) (steps.older ports p)) (sym (cond-false (e.entry.issued && ports e.entry.port) (record (e.entry) { age = min (suc e.entry.age) 3 }) e.entry here))
+        (subst (λ (y : machine.Pending). EntryRelation e y) (sym (cond-false (p.issued && ports p.request.port) (record p { age = suc p.age }) p (same ∙ here))) s)
 
 -- ---- a step of each
 
-pub goes_last : (es : List Held) (ps : List machine.Pending) (e : Held) (p : machine.Pending) → IsBook es ps → IsEntry e p → IsBook (es ++ e ∷ []) (ps ++ p ∷ [])
-goes_last es ps e p is last = zip_push IsEntry es ps e p is last
+pub goes_last : (es : List BookEntry) (ps : List machine.Pending) (e : BookEntry) (p : machine.Pending) → BookRelation es ps → EntryRelation e p → BookRelation (es ++ e ∷ []) (ps ++ p ∷ [])
+goes_last es ps e p is last = zip_push EntryRelation es ps e p is last
 
-pub is_issued : (es : List Held) (ps : List machine.Pending) (id : RequestId) → IsBook es ps → IsBook (map (at_entry id issue) es) (map (steps.at id steps.newly_issued) ps)
-is_issued es ps id is = zip_both IsEntry (at_entry id issue) (steps.at id steps.newly_issued) (at_both id issue steps.newly_issued one_issued) es ps is
+pub is_issued : (es : List BookEntry) (ps : List machine.Pending) (id : RequestId) → BookRelation es ps → BookRelation (map (update_if_id id issue) es) (map (steps.at id steps.newly_issued) ps)
+is_issued es ps id is = zip_both EntryRelation (update_if_id id issue) (steps.at id steps.newly_issued) (at_both id issue steps.newly_issued one_issued) es ps is
 
-pub waits_again : (es : List Held) (ps : List machine.Pending) (id : RequestId) → IsBook es ps → IsBook (map (at_entry id requeued_entry) es) (map (steps.at id steps.requeued) ps)
-waits_again es ps id is = zip_both IsEntry (at_entry id requeued_entry) (steps.at id steps.requeued) (at_both id requeued_entry steps.requeued one_waits) es ps is
+pub waits_again : (es : List BookEntry) (ps : List machine.Pending) (id : RequestId) → BookRelation es ps → BookRelation (map (update_if_id id requeued_entry) es) (map (steps.at id steps.requeued) ps)
+waits_again es ps id is = zip_both EntryRelation (update_if_id id requeued_entry) (steps.at id steps.requeued) (at_both id requeued_entry steps.requeued one_waits) es ps is
 
-pub is_answered : (es : List Held) (ps : List machine.Pending) (id : RequestId) → IsBook es ps → IsBook (without_entry id es) (steps.without id ps)
-is_answered es ps id is = zip_filter IsEntry (λ e. not (has_id id e)) (λ p. not (p.request.id.0 == id.0)) (λ e p s. ap (λ (i : RequestId). not (i.0 == id.0)) (sym s.id)) es ps is
+pub is_answered : (es : List BookEntry) (ps : List machine.Pending) (id : RequestId) → BookRelation es ps → BookRelation (without_entry id es) (steps.without id ps)
+is_answered es ps id is = zip_filter EntryRelation (λ e. not (has_id id e)) (λ p. not (p.request.id.0 == id.0)) (λ e p s. ap (λ (i : RequestId). not (i.0 == id.0)) (sym s.id)) es ps is
 
-pub is_older : (es : List Held) (ps : List machine.Pending) (ports : Port → Bool) → IsBook es ps → IsBook (aged ports es) (map (steps.older ports) ps)
-is_older es ps ports is = zip_both IsEntry (λ (e : Held). record e { entry = older_entry ports e.entry }) (steps.older ports) (one_older ports) es ps is
+pub is_older : (es : List BookEntry) (ps : List machine.Pending) (ports : Port → Bool) → BookRelation es ps → BookRelation (aged ports es) (map (steps.older ports) ps)
+is_older es ps ports is = zip_both EntryRelation (λ (e : BookEntry). record e { entry = older_entry ports e.entry }) (steps.older ports) (one_older ports) es ps is
 
-pub is_revoked : (es : List Held) (ps : List machine.Pending) (client : ClientId) (grant : ℕ) → IsBook es ps → IsBook (all_marked_under client grant es) ps
-is_revoked es ps client grant is = zip_left IsEntry (λ (e : Held). record e { entry = marked_under client grant e.entry }) (one_revoked client grant) es ps is
+pub is_revoked : (es : List BookEntry) (ps : List machine.Pending) (client : ClientId) (grant : ℕ) → BookRelation es ps → BookRelation (all_marked_under client grant es) ps
+is_revoked es ps client grant is = zip_left EntryRelation (λ (e : BookEntry). record e { entry = marked_under client grant e.entry }) (one_revoked client grant) es ps is
 
-pub is_touched : (es : List Held) (ps : List machine.Pending) (id : RequestId) (i : ℕ) → IsBook es ps → IsBook es (map (steps.at id (steps.touch i)) ps)
-is_touched es ps id i is = zip_right IsEntry (steps.at id (steps.touch i)) (at_right id (steps.touch i) (one_touched i)) es ps is
+pub is_touched : (es : List BookEntry) (ps : List machine.Pending) (id : RequestId) (i : ℕ) → BookRelation es ps → BookRelation es (map (steps.at id (steps.touch i)) ps)
+is_touched es ps id i is = zip_right EntryRelation (steps.at id (steps.touch i)) (at_right id (steps.touch i) (one_touched i)) es ps is
 
-pub is_ended : (es : List Held) (ps : List machine.Pending) (id : RequestId) → IsBook es ps → IsBook es (map (steps.at id steps.mark_ended) ps)
-is_ended es ps id is = zip_right IsEntry (steps.at id steps.mark_ended) (at_right id steps.mark_ended one_ended) es ps is
+pub is_ended : (es : List BookEntry) (ps : List machine.Pending) (id : RequestId) → BookRelation es ps → BookRelation es (map (steps.at id steps.mark_ended) ps)
+is_ended es ps id is = zip_right EntryRelation (steps.at id steps.mark_ended) (at_right id steps.mark_ended one_ended) es ps is
 
 -- ---- what is due is the machine's
 
@@ -179,7 +179,7 @@ abbrev pub DueIsOwn : Type 0
 DueIsOwn = (mode : QueueMode) (port : Port) (book : List Unanswered) (r : Unanswered) → Contains (due_of mode port book) r → r.port ≡ port
 
 -- an id of the due list is a due request of the machine's book
-pub due_there : DueIsExact → DueIsOwn → (mode : QueueMode) (port : Port) (es : List Held) (ps : List machine.Pending) (id : RequestId) → IsBook es ps → Contains (due_ids mode port (asks_of es)) id
+pub due_there : DueIsExact → DueIsOwn → (mode : QueueMode) (port : Port) (es : List BookEntry) (ps : List machine.Pending) (id : RequestId) → BookRelation es ps → Contains (due_ids mode port (asks_of es)) id
     → (p : machine.Pending) × Contains ps p × (p.request.id ≡ id) × (p.request.port ≡ port) × IsDue mode (map unanswered ps) (unanswered p)
 due_there exact of_port mode port es ps id is h =
     let e = same_book es ps is in
@@ -199,7 +199,7 @@ due_there exact of_port mode port es ps id is h =
     ids_in us k = map_in (λ (x : Unanswered). x.id) us id k
 
 -- and each due request of the machine's book on the port is in the list
-pub due_listed : DueIsExact → (mode : QueueMode) (port : Port) (es : List Held) (ps : List machine.Pending) (p : machine.Pending) → IsBook es ps → p.request.port ≡ port
+pub due_listed : DueIsExact → (mode : QueueMode) (port : Port) (es : List BookEntry) (ps : List machine.Pending) (p : machine.Pending) → BookRelation es ps → p.request.port ≡ port
     → IsDue mode (map unanswered ps) (unanswered p) → Contains (due_ids mode port (asks_of es)) p.request.id
 due_listed exact mode port es ps p is own due =
     let d = subst (λ (b : List Unanswered). IsDue mode b (unanswered p)) (same_book es ps is) due in
@@ -207,11 +207,11 @@ due_listed exact mode port es ps p is own due =
 
 -- ---- as many of each client
 
-pub as_many : (es : List Held) (ps : List machine.Pending) (client : ClientId) → IsBook es ps → steps.unanswered_of ps client ≡ unanswered_entries es client.0
+pub as_many : (es : List BookEntry) (ps : List machine.Pending) (client : ClientId) → BookRelation es ps → steps.unanswered_count ps client ≡ unanswered_entries es client.0
 as_many [] [] client all = refl
 as_many [] (p ∷ ps) client all = absurd all
 as_many (e ∷ es) [] client all = absurd all
 as_many (e ∷ es) (p ∷ ps) client all =
     let rest = as_many es ps client all.1 in
     let first : ◌≡◌ {A = ℕ} (cond (p.request.asked.client.0 == client.0) 1 0) (cond (e.entry.client.0 == client.0) 1 0) = ap (λ (c : ClientId). cond {A = ℕ} (c.0 == client.0) 1 0) all.0.client in
-    omega (arith, rest, first, count_cons (λ (x : machine.Pending). x.request.asked.client.0 == client.0) p ps, count_cons (λ (x : Held). x.entry.client.0 == client.0) e es)
+    omega (arith, rest, first, count_cons (λ (x : machine.Pending). x.request.asked.client.0 == client.0) p ps, count_cons (λ (x : BookEntry). x.entry.client.0 == client.0) e es)

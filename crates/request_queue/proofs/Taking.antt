@@ -7,24 +7,24 @@ use Rattle.slab.specs.Slab.{Slab, get, slab_len, Updates}
 use Rattle.ata_types.specs.declared.request.RequestId.{RequestId}
 use Rattle.dma_frames.specs.Loan.{Lending}
 use Rattle.dma_frames.specs.Table.{Table, lent_to}
-use Rattle.request_queue.specs.Entries.{Held, HasItsFrames}
-use Rattle.request_queue.specs.Store.{entries, held_at, KeyHasLoan, SlabIsSound}
+use Rattle.request_queue.specs.Entries.{BookEntry, HasItsFrames}
+use Rattle.request_queue.specs.Store.{entries, entry_at_key, KeyHasLoan, SlabIsSound}
 use Rattle.request_queue.specs.declared.PendingRequest.{PendingRequest}
 use Rattle.request_queue.proofs.Changing.{there}
 use Rattle.request_queue.proofs.Keeping.{entries_less, sound_less, entry_there, loan_of_request, key_in_place}
 
-module _ (s s' : Slab PendingRequest) (loans : List (Option Lending)) (order : List ℕ) (es : List Held) (view : entries s loans order ≡ es) (sound : SlabIsSound s loans order)
+module _ (s s' : Slab PendingRequest) (loans : List (Option Lending)) (order : List ℕ) (es : List BookEntry) (view : entries s loans order ≡ es) (sound : SlabIsSound s loans order)
     (place key : ℕ) (inside : place < length es) (its : key ≡ get_or order place key) (updates : Updates s s' key None) where
   within : place < length order
   within =
-      let same = sym (length-map order (held_at s loans)) ∙ ap length view in
+      let same = sym (length-map order (entry_at_key s loans)) ∙ ap length view in
       omega (arith, same, inside)
 
   is_key : (d : ℕ) → get_or order place d ≡ key
   is_key d = get_or_default order place d key within ∙ sym its
 
   pub rest_is : entries s' (set loans key None) (remove order place) ≡ remove es place
-  rest_is = entries_less s s' loans order key sound place within is_key updates ∙ ap (λ (xs : List Held). remove xs place) view
+  rest_is = entries_less s s' loans order key sound place within is_key updates ∙ ap (λ (xs : List BookEntry). remove xs place) view
 
   pub still_sound : slab_len s' + 1 ≡ slab_len s → s'.capacity ≡ s.capacity → SlabIsSound s' (set loans key None) (remove order place)
   still_sound = sound_less s s' loans order key sound place within is_key updates
@@ -40,7 +40,7 @@ module _ (s s' : Slab PendingRequest) (loans : List (Option Lending)) (order : L
     has_loan = get_or_default loans key None slot (key_in_place s s' loans order key sound place within is_key updates) ∙ (sym at ∙ is)
 
     pub taken_is : slice_get es place ≡ Some (record { entry = request; frames = loan.frames })
-    taken_is = subst (λ (xs : List Held). slice_get xs place ≡ Some (record { entry = request; frames = loan.frames })) view
+    taken_is = subst (λ (xs : List BookEntry). slice_get xs place ≡ Some (record { entry = request; frames = loan.frames })) view
         (entry_there s s' loans order key sound place within is_key updates request loan has_request has_loan)
 
     pub its_loan : loan.request ≡ request.id
@@ -49,6 +49,6 @@ module _ (s s' : Slab PendingRequest) (loans : List (Option Lending)) (order : L
     -- what was lent to it may be given back
     pub may_go_back : (table : Table) → All (HasItsFrames table) es → All (λ f. lent_to table f ≡ Some loan.request) loan.frames
     may_go_back table stands =
-        let e : Held = record { entry = request; frames = loan.frames } in
+        let e : BookEntry = record { entry = request; frames = loan.frames } in
         subst (λ (id : RequestId). All (λ f. lent_to table f ≡ Some id) loan.frames) (sym its_loan)
         (All-contains (HasItsFrames table) es e stands (there es place e taken_is))

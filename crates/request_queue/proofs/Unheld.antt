@@ -168,8 +168,8 @@ module _ (mode : QueueMode) (port : Port) (book : List Unanswered) where
       own : (o.port.0 == port.0) ≡ true
       own = ap (λ (n : ℕ). o.port.0 == n) (sym (eqb-true x.port.0 port.0 mine.0)) ∙ parts.0
 
-      held_of : p o ≡ false → has_holder book o ≡ true
-      held_of out = by (has_holder book o) refl
+      entry_with_id : p o ≡ false → has_holder book o ≡ true
+      entry_with_id out = by (has_holder book o) refl
         where
           by : (b : Bool) → has_holder book o ≡ b → has_holder book o ≡ true
           by true is = is
@@ -210,7 +210,7 @@ module _ (mode : QueueMode) (port : Port) (book : List Unanswered) where
 
       go : (b : Bool) → p o ≡ b → list_any (waits_for mode x) (unheld port book) ≡ true
       go true in_it = found (waits_for mode x) (unheld port book) o (in_filter p book o any.1 in_it) any.2
-      go false out = out_of (held_of out) (is_plain mode x.op) refl
+      go false out = out_of (entry_with_id out) (is_plain mode x.op) refl
 
   -- so it is clear among them where it is clear
   same_clear : (x : Unanswered) → p x ≡ true → is_unblocked mode (unheld port book) x ≡ is_unblocked mode book x

@@ -5,7 +5,7 @@ use Rattle.ata_types.specs.declared.request.Outcome.TheVariants.{Aborted, Device
 use Rattle.ata_types.specs.declared.request.Reply.{Reply}
 use Rattle.dma_frames.specs.Loan.{Lending}
 use Rattle.dma_frames.specs.Table.{Table, LendsOnly}
-use Rattle.request_queue.specs.Entries.{Held, GivesBack, at_entry, requeued_entry, without_entry}
+use Rattle.request_queue.specs.Entries.{BookEntry, GivesBack, update_if_id, requeued_entry, without_entry}
 use Rattle.request_queue.specs.declared.PendingRequest.{PendingRequest}
 use Rattle.request_queue.specs.declared.disposition.FailedRequest.{FailedRequest}
 use Rattle.request_queue.specs.declared.disposition.Disposition.{Disposition}
@@ -17,19 +17,19 @@ use Rattle.request_queue.specs.declared.disposition.Revalidation.TheVariants.{Sa
 
 -- One that didn't fail goes again on the disk that it had, if it is issued, unless its grant was revoked, or it was
 -- issued four times; if it isn't, it waits. Else it is told what its port is.
-abbrev pub disposition_on : Revalidation → PendingRequest → Disposition
-disposition_on SameDisk e =
+abbrev pub disposition_of_unfailed : Revalidation → PendingRequest → Disposition
+disposition_of_unfailed SameDisk e =
     if e.issued then (if e.revoked then Complete Revoked else (if e.issues == 4 then Complete Aborted else Requeue))
     else Wait
-disposition_on DiskLost e = Complete Unplugged
-disposition_on Dead e = Complete PortDead
+disposition_of_unfailed DiskLost e = Complete Unplugged
+disposition_of_unfailed Dead e = Complete PortDead
 
 -- and the one that failed is told so
 abbrev pub disposition_of : Option FailedRequest → Revalidation → PendingRequest → Disposition
-disposition_of None revalidation e = disposition_on revalidation e
+disposition_of None revalidation e = disposition_of_unfailed revalidation e
 disposition_of (Some failed) revalidation e = if failed.id.0 == e.id.0
     then Complete (DeviceError failed.status failed.error)
-    else disposition_on revalidation e
+    else disposition_of_unfailed revalidation e
 
 -- its frames stay lent: it was issued, and its port is dead
 abbrev pub keeps_loan : Outcome → PendingRequest → Bool
@@ -40,32 +40,32 @@ keeps_loan _ e = false
 
 -- the unanswered requests of all ports, what is lent, and the loans that are kept of one port
 pub record Holdings : Type 0 where
-  pub book : List Held
+  pub book : List BookEntry
   pub table : Table
   pub kept : List Lending
 
 -- how the client is told
-abbrev pub reply_to : Held → Outcome → Reply
+abbrev pub reply_to : BookEntry → Outcome → Reply
 reply_to request outcome = record { id = request.entry.id; client = request.entry.client; outcome = outcome }
 
 -- its loan is kept, or its frames are given back, and no other changed hands
-abbrev pub KeepsOrEndsLoan : Bool → Held → Holdings → Holdings → Type 0
+abbrev pub KeepsOrEndsLoan : Bool → BookEntry → Holdings → Holdings → Type 0
 KeepsOrEndsLoan true request old new =
     (new.kept ≡ old.kept ++ record { frames = request.frames; request = request.entry.id } ∷ [])
     × (new.table ≡ old.table)
 KeepsOrEndsLoan false request old new = (new.kept ≡ old.kept) × LendsOnly old.table new.table request.frames None
 
 -- The request was resolved: it waits as it did, it waits again, or it was answered and has left the book.
-abbrev pub IsResolved : Held → Disposition → List Reply → Holdings → Holdings → Type 0
+abbrev pub IsResolved : BookEntry → Disposition → List Reply → Holdings → Holdings → Type 0
 IsResolved request Wait replies old new = (replies ≡ []) × (new ≡ old)
 IsResolved request Requeue replies old new = (replies ≡ [])
-    × (new ≡ record old { book = map (at_entry request.entry.id requeued_entry) old.book })
+    × (new ≡ record old { book = map (update_if_id request.entry.id requeued_entry) old.book })
 IsResolved request (Complete outcome) replies old new =
     (replies ≡ reply_to request outcome ∷ []) × (new.book ≡ without_entry request.entry.id old.book)
     × KeepsOrEndsLoan (keeps_loan outcome request.entry) request old new
 
 -- so were these requests, one after another
-abbrev pub AreResolved : (PendingRequest → Disposition) → List Held → List Reply → Holdings → Holdings → Type 0
+abbrev pub AreResolved : (PendingRequest → Disposition) → List BookEntry → List Reply → Holdings → Holdings → Type 0
 AreResolved disposition [] replies old new = (replies ≡ []) × (new ≡ old)
 AreResolved disposition (request ∷ requests) replies old new =
     (mid : Holdings) × (its later : List Reply) × (replies ≡ its ++ later)
@@ -73,7 +73,7 @@ AreResolved disposition (request ∷ requests) replies old new =
 
 -- The requests of the book that pass were answered, all with this outcome: the replies tell them so, oldest first, the
 -- others are left, and what was lent to those is given back.
-pub record AnswersAlike (passes : PendingRequest → Bool) (outcome : Outcome) (replies : List Reply)
+pub record CompletesAllWith (passes : PendingRequest → Bool) (outcome : Outcome) (replies : List Reply)
     (old new : Holdings) : Type 0 where
   pub told : replies ≡ map (λ e. reply_to e outcome) (filter (λ e. passes e.entry) old.book)
   pub left : new.book ≡ filter (λ e. not (passes e.entry)) old.book

@@ -1,5 +1,5 @@
 -- Unanswered requests of all ports, in order of acceptance (this project's own).
-use Rattle.std.specs.Prelude.{ℕ, suc, min, ◌≡◌, ◌≢◌, ◌+◌, ◌^◌, ◌<◌, ◌≤◌, ◌==◌, Bool, true, false, not, ◌&&◌, if◌then◌else◌, List, map, filter, count_by, Option, Some, None, All, AllPairs, Contains, slice_index_or, length}
+use Rattle.std.specs.Prelude.{ℕ, suc, min, [], ◌∷◌, ◌≡◌, ◌≢◌, ◌+◌, ◌^◌, ◌<◌, ◌≤◌, ◌==◌, Bool, true, false, not, ◌&&◌, if◌then◌else◌, List, map, filter, count_by, Option, Some, None, All, AllPairs, Contains, slice_index_or, length}
 use Rattle.std.specs.List.{find}
 use Rattle.ata_types.specs.declared.Port.{Port}
 use Rattle.ata_types.specs.declared.memory.TheConstants.{DRIVER_FRAMES}
@@ -9,13 +9,13 @@ use Rattle.ata_types.specs.declared.request.Op.TheVariants.{Flush}
 use Rattle.ata_types.specs.declared.request.RequestId.{RequestId}
 use Rattle.block_machine.specs.declared.due.QueueMode.{QueueMode}
 use Rattle.block_machine.specs.declared.due.Unanswered.{Unanswered}
-use Rattle.block_machine.specs.Due.{due_of}
-use Rattle.block_machine.specs.Rules.{IsAllowedCount, frames_for, is_under}
+use Rattle.block_machine.specs.Due.{due_of, is_due}
+use Rattle.block_machine.specs.Rules.{IsAllowedCount, frame_count_for, is_under}
 use Rattle.dma_frames.specs.Table.{Table, owner_of, lent_to}
 use Rattle.request_queue.specs.declared.PendingRequest.{PendingRequest}
 
 -- an unanswered request, and the frames that are lent to it
-pub record Held : Type 0 where
+pub record BookEntry : Type 0 where
   pub entry : PendingRequest
   pub frames : List Frame
 
@@ -24,27 +24,33 @@ abbrev pub asks : PendingRequest → Unanswered
 asks r = record { id = r.id; port = r.port; op = r.op; range = r.range; issued = r.issued }
 
 -- and the same of each request of a book
-abbrev pub asks_of : List Held → List Unanswered
+abbrev pub asks_of : List BookEntry → List Unanswered
 asks_of entries = map (λ e. asks e.entry) entries
 
 -- the ids of the port's due requests, in order of acceptance
 abbrev pub due_ids : QueueMode → Port → List Unanswered → List RequestId
 due_ids mode port book = map (λ r. r.id) (due_of mode port book)
 
+-- the id of the only request of the book, where it is due on the port
+abbrev pub lone_due : QueueMode → Port → List Unanswered → Option RequestId
+lone_due mode port [] = None
+lone_due mode port (r ∷ []) = if r.port.0 == port.0 && is_due mode (r ∷ []) r then Some r.id else None
+lone_due mode port (r ∷ _ ∷ _) = None
+
 -- the request has this id
-abbrev pub has_id : RequestId → Held → Bool
+abbrev pub has_id : RequestId → BookEntry → Bool
 has_id id e = e.entry.id.0 == id.0
 
 -- the request with this id, if it is unanswered
-abbrev pub held_of : RequestId → List Held → Option Held
-held_of id entries = find (has_id id) entries
+abbrev pub entry_with_id : RequestId → List BookEntry → Option BookEntry
+entry_with_id id entries = find (has_id id) entries
 
 -- a change of the request with this id alone
-abbrev pub at_entry : RequestId → (PendingRequest → PendingRequest) → Held → Held
-at_entry id change e = if has_id id e then record e { entry = change e.entry } else e
+abbrev pub update_if_id : RequestId → (PendingRequest → PendingRequest) → BookEntry → BookEntry
+update_if_id id change e = if has_id id e then record e { entry = change e.entry } else e
 
 -- the requests but for the one with this id
-abbrev pub without_entry : RequestId → List Held → List Held
+abbrev pub without_entry : RequestId → List BookEntry → List BookEntry
 without_entry id entries = filter (λ e. not (has_id id e)) entries
 
 -- the request issued once more, of age 0
@@ -61,20 +67,20 @@ abbrev pub older_entry : (Port → Bool) → PendingRequest → PendingRequest
 older_entry ports r = if r.issued && ports r.port then record r { age = min (suc r.age) 3 } else r
 
 -- each request a tick older that is issued on one of these ports
-abbrev pub aged : (Port → Bool) → List Held → List Held
-aged ports entries = map (λ (e : Held). record e { entry = older_entry ports e.entry }) entries
+abbrev pub aged : (Port → Bool) → List BookEntry → List BookEntry
+aged ports entries = map (λ (e : BookEntry). record e { entry = older_entry ports e.entry }) entries
 
 -- the request is marked, if it was accepted under this grant of the client: the grant is revoked
 abbrev pub marked_under : ClientId → ℕ → PendingRequest → PendingRequest
 marked_under client grant r = if is_under client grant r.client r.grant then record r { revoked = true } else r
 
 -- each request marked that was accepted under this grant of the client
-abbrev pub all_marked_under : ClientId → ℕ → List Held → List Held
+abbrev pub all_marked_under : ClientId → ℕ → List BookEntry → List BookEntry
 all_marked_under client grant entries =
-    map (λ (e : Held). record e { entry = marked_under client grant e.entry }) entries
+    map (λ (e : BookEntry). record e { entry = marked_under client grant e.entry }) entries
 
 -- the ids of the requests that pass, in order of acceptance
-abbrev pub ids_where : (PendingRequest → Bool) → List Held → List RequestId
+abbrev pub ids_where : (PendingRequest → Bool) → List BookEntry → List RequestId
 ids_where passes entries = map (λ e. e.entry.id) (filter (λ e. passes e.entry) entries)
 
 -- the request is of this port
@@ -86,29 +92,29 @@ abbrev pub waits_under : ClientId → ℕ → PendingRequest → Bool
 waits_under client grant r = not r.issued && is_under client grant r.client r.grant
 
 -- how many of the requests are a client's
-abbrev pub unanswered_entries : List Held → ℕ → ℕ
+abbrev pub unanswered_entries : List BookEntry → ℕ → ℕ
 unanswered_entries entries client = count_by (λ e. e.entry.client.0 == client) entries
 
 -- the request was accepted before the other
-abbrev pub IsEarlier : Held → Held → Type 0
+abbrev pub IsEarlier : BookEntry → BookEntry → Type 0
 IsEarlier a b = a.entry.id.0 < b.entry.id.0
 
 -- a request with this id is unanswered
-abbrev pub IsUnanswered : RequestId → List Held → Type 0
-IsUnanswered id entries = (e : Held) × Contains entries e × (e.entry.id ≡ id)
+abbrev pub IsUnanswered : RequestId → List BookEntry → Type 0
+IsUnanswered id entries = (e : BookEntry) × Contains entries e × (e.entry.id ≡ id)
 
 -- and it waits
-abbrev pub IsWaiting : RequestId → List Held → Type 0
-IsWaiting id entries = (e : Held) × Contains entries e × (e.entry.id ≡ id) × (e.entry.issued ≡ false)
+abbrev pub IsWaiting : RequestId → List BookEntry → Type 0
+IsWaiting id entries = (e : BookEntry) × Contains entries e × (e.entry.id ≡ id) × (e.entry.issued ≡ false)
 
 -- and it may go again: it is issued, and was fewer than four times
-abbrev pub MayGoAgain : RequestId → List Held → Type 0
-MayGoAgain id entries = (e : Held) × Contains entries e × (e.entry.id ≡ id) × (e.entry.issued ≡ true)
+abbrev pub MayGoAgain : RequestId → List BookEntry → Type 0
+MayGoAgain id entries = (e : BookEntry) × Contains entries e × (e.entry.id ≡ id) × (e.entry.issued ≡ true)
     × (e.entry.issues < 4)
 
 -- it was just accepted
-abbrev pub IsFresh : PendingRequest → Type 0
-IsFresh r = (r.issued ≡ false) × (r.issues ≡ 0) × (r.age ≡ 0) × (r.revoked ≡ false)
+abbrev pub IsNewlyAccepted : PendingRequest → Type 0
+IsNewlyAccepted r = (r.issued ≡ false) × (r.issues ≡ 0) × (r.age ≡ 0) × (r.revoked ≡ false)
 
 -- the port is one of these
 abbrev pub is_among : List Bool → Port → Bool
@@ -119,11 +125,11 @@ abbrev pub IsOverdueOn : Port → PendingRequest → Type 0
 IsOverdueOn port r = (r.port ≡ port) × (r.issued ≡ true) × (3 ≤ r.age)
 
 -- an issued request of the port is three ticks old
-abbrev pub IsOverdue : Port → List Held → Type 0
-IsOverdue port entries = (e : Held) × Contains entries e × IsOverdueOn port e.entry
+abbrev pub IsOverdue : Port → List BookEntry → Type 0
+IsOverdue port entries = (e : BookEntry) × Contains entries e × IsOverdueOn port e.entry
 
 -- an issued request of some port is three ticks old
-abbrev pub IsAnyOverdue : List Held → Type 0
+abbrev pub IsAnyOverdue : List BookEntry → Type 0
 IsAnyOverdue entries = (port : Port) × IsOverdue port entries
 
 -- A request was issued four times at most; and fewer times where it waits, so that it may be issued.
@@ -132,7 +138,7 @@ HasFewIssues r = (r.issues ≤ 4) × (r.issued ≡ false → r.issues < 4)
 
 -- Requests as a book holds them: their ids rise, each is of a client 1 to 8, no client has more than 16, and each has
 -- few issues. So there are 128 at most.
-pub record BookIsInOrder (entries : List Held) : Type 0 where
+pub record BookIsInOrder (entries : List BookEntry) : Type 0 where
   pub ordered : AllPairs IsEarlier entries
   pub clients : All (λ e. (1 ≤ e.entry.client.0) × (e.entry.client.0 ≤ 8)) entries
   pub few : (client : ℕ) → unanswered_entries entries client ≤ 16
@@ -140,23 +146,24 @@ pub record BookIsInOrder (entries : List Held) : Type 0 where
 
 -- An accepted request: of a client 1 to 8, of as many sectors as its operation may have, all of them below 2^48 (a
 -- flush has none), with as many frames as it needs, each another one, all of them the client's own and lent to it.
-pub record IsAccepted (table : Table) (held : Held) : Type 0 where
+pub record IsAccepted (table : Table) (held : BookEntry) : Type 0 where
   pub client_from : 1 ≤ held.entry.client.0
   pub client_to : held.entry.client.0 ≤ 8
   pub sectors : IsAllowedCount held.entry.op held.entry.range.count
   pub below : held.entry.op ≢ Flush → held.entry.range.first.0 + held.entry.range.count ≤ 2 ^ 48
-  pub frames : length held.frames ≡ frames_for held.entry.op held.entry.range.count
+  pub frames : length held.frames ≡ frame_count_for held.entry.op held.entry.range.count
   pub clients : All (λ frame. DRIVER_FRAMES ≤ frame.0) held.frames
   pub own : All (λ frame. owner_of table frame ≡ Some held.entry.client) held.frames
   pub apart : AllPairs (λ a b. a ≢ b) held.frames
   pub lent : All (λ frame. lent_to table frame ≡ Some held.entry.id) held.frames
 
 -- each of the entry's frames is lent to its request
-abbrev pub HasItsFrames : Table → Held → Type 0
+abbrev pub HasItsFrames : Table → BookEntry → Type 0
 HasItsFrames table e = All (λ f. lent_to table f ≡ Some e.entry.id) e.frames
 
 -- what is lent to these requests is given back: their frames are lent to none, and nothing else changed
-pub record GivesBack (old new : Table) (entries : List Held) : Type 0 where
+pub record GivesBack (old new : Table) (entries : List BookEntry) : Type 0 where
   pub owners : new.owners ≡ old.owners
-  pub none : (e : Held) (f : Frame) → Contains entries e → Contains e.frames f → lent_to new f ≡ None
-  pub others : (f : Frame) → ((e : Held) → Contains entries e → Contains e.frames f → ⊥) → lent_to new f ≡ lent_to old f
+  pub none : (e : BookEntry) (f : Frame) → Contains entries e → Contains e.frames f → lent_to new f ≡ None
+  pub others : (f : Frame) → ((e : BookEntry) → Contains entries e → Contains e.frames f → ⊥)
+      → lent_to new f ≡ lent_to old f

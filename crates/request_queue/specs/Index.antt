@@ -1,11 +1,11 @@
 -- How items are kept: in order, each with the greatest end so far (this project's own).
 use Rattle.std.specs.Prelude.{ℕ, ◌+◌, ◌<◌, List, map, length, slice_index_or}
 use Rattle.request_queue.specs.declared.ranges.IndexEntry.{IndexEntry}
-use Rattle.request_queue.specs.declared.ranges.Item.{Item}
+use Rattle.request_queue.specs.declared.ranges.BookRange.{BookRange}
 use Rattle.request_queue.specs.Items.{AreSorted, IsGreatestEnd}
 
 -- the items of entries: what contracts see of the ranges
-abbrev pub items_of : List IndexEntry → List Item
+abbrev pub items_of : List IndexEntry → List BookRange
 items_of entries = map (λ (e : IndexEntry). e.item) entries
 
 -- The items are sorted, and each entry has the greatest end of its item and of all before it.

@@ -2,33 +2,33 @@
 use Rattle.std.specs.Prelude.{ℕ, ◌≡◌, ◌<◌, ◌≤◌, ◌⊎◌, Bool, ◌&&◌, ◌||◌, ◌==◌, nat_lt, List, slice_index_or, AllPairs}
 use Rattle.ata_types.specs.Range.{range_end}
 use Rattle.block_machine.specs.Due.{overlap}
-use Rattle.request_queue.specs.declared.ranges.Item.{Item}
+use Rattle.request_queue.specs.declared.ranges.BookRange.{BookRange}
 
 -- the item's first sector
-abbrev pub item_first : Item → ℕ
+abbrev pub item_first : BookRange → ℕ
 item_first x = x.range.first.0
 
 -- the number after its last sector
-abbrev pub item_end : Item → ℕ
+abbrev pub item_end : BookRange → ℕ
 item_end x = range_end x.range
 
 -- The other item is of the same port, was accepted before this one, and conflicts with it: they have a sector in
 -- common, and one of the two writes.
-abbrev pub is_earlier_conflict : Item → Item → Bool
+abbrev pub is_earlier_conflict : BookRange → BookRange → Bool
 is_earlier_conflict x other = other.port.0 == x.port.0
     && (nat_lt other.id.0 x.id.0 && ((other.writes || x.writes) && overlap other.range x.range))
 
 -- the item stands before this first sector and id
-abbrev pub StandsBefore : Item → ℕ → ℕ → Type 0
+abbrev pub StandsBefore : BookRange → ℕ → ℕ → Type 0
 StandsBefore x first id = (item_first x < first) ⊎ ((item_first x ≡ first) × (x.id.0 < id))
 
 -- the items rise by first sector, and by id where these are the same
-abbrev pub AreSorted : List Item → Type 0
+abbrev pub AreSorted : List BookRange → Type 0
 AreSorted items = AllPairs (λ a b. StandsBefore a (item_first b) b.id.0) items
 
 -- It is the greatest end of the items up to a place of the list: at least each of their ends, and one of them.
-pub record IsGreatestEnd (items : List Item) (place greatest : ℕ) : Type 0 where
-  pub covers : (j : ℕ) (d : Item) → j ≤ place → item_end (slice_index_or items j d) ≤ greatest
+pub record IsGreatestEnd (items : List BookRange) (place greatest : ℕ) : Type 0 where
+  pub covers : (j : ℕ) (d : BookRange) → j ≤ place → item_end (slice_index_or items j d) ≤ greatest
   pub at : ℕ
   pub before : at ≤ place
-  pub met : (d : Item) → item_end (slice_index_or items at d) ≡ greatest
+  pub met : (d : BookRange) → item_end (slice_index_or items at d) ≡ greatest

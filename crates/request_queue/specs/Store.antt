@@ -6,7 +6,7 @@ use Rattle.ata_types.specs.declared.request.Op.TheVariants.{Read}
 use Rattle.ata_types.specs.declared.limits.TheConstants.{MOST_UNANSWERED}
 use Rattle.dma_frames.specs.Loan.{Lending}
 use Rattle.block_machine.specs.declared.due.Unanswered.{Unanswered}
-use Rattle.request_queue.specs.Entries.{Held, asks, asks_of}
+use Rattle.request_queue.specs.Entries.{BookEntry, asks, asks_of}
 use Rattle.request_queue.specs.declared.PendingRequest.{PendingRequest}
 
 -- what an empty key would show; `SlabIsSound` says that none is shown
@@ -30,15 +30,15 @@ frames_of None = []
 frames_of (Some loan) = loan.frames
 
 -- what stands at a key
-abbrev pub held_at : Slab PendingRequest → List (Option Lending) → ℕ → Held
-held_at requests loans key = record {
+abbrev pub entry_at_key : Slab PendingRequest → List (Option Lending) → ℕ → BookEntry
+entry_at_key requests loans key = record {
   entry = unwrap_or (get requests key) blank_entry;
   frames = frames_of (slice_index_or loans key None);
 }
 
 -- the requests in order of acceptance: what contracts see of a store
-abbrev pub entries : Slab PendingRequest → List (Option Lending) → List ℕ → List Held
-entries requests loans order = map (held_at requests loans) order
+abbrev pub entries : Slab PendingRequest → List (Option Lending) → List ℕ → List BookEntry
+entries requests loans order = map (entry_at_key requests loans) order
 
 -- the key has a request, and beside it the loan of that request
 pub record KeyHasLoan (requests : Slab PendingRequest) (loans : List (Option Lending)) (key : ℕ) : Type 0 where
@@ -59,5 +59,5 @@ pub record SlabIsSound (requests : Slab PendingRequest) (loans : List (Option Le
   pub vacant : (key : ℕ) → (Contains order key → ⊥) → (get requests key ≡ None) × (slice_index_or loans key None ≡ None)
 
 -- what of the requests at these places says whether they are due
-abbrev pub asks_at : List Held → List ℕ → List Unanswered
+abbrev pub asks_at : List BookEntry → List ℕ → List Unanswered
 asks_at held places = map (λ place. slice_index_or (asks_of held) place (asks blank_entry)) places

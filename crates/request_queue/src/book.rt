@@ -1,23 +1,24 @@
 // The book.
-ghost use Rattle.std.specs.Prelude.{◌≡◌, ◌↔◌, ◌<◌, ◌≤◌, ◌++◌, ◌∷◌, [], length, map, remove, All, AllPairs, Contains, IfOk, IsTrue, Some, slice_get, vec_capacity};
-ghost use Rattle.block_machine.specs.Rules.{is_under};
-ghost use Rattle.dma_frames.specs.Table.{LendsOnly};
-ghost use Rattle.request_queue.specs.Beside.{AreBeside};
+ghost use Rattle.std.specs.Prelude.{◌≡◌, ◌&&◌, ◌==◌, ◌↔◌, ◌<◌, ◌≤◌, ◌++◌, ◌∷◌, [], length, map, remove, All, AllPairs, Contains, IfOk, IfSome, IsTrue, Some, slice_get, vec_capacity};
+ghost use Rattle.block_machine.specs.Due.{is_due};
+ghost use Rattle.block_machine.specs.Rules.{HasNoFault, is_under};
+ghost use Rattle.dma_frames.specs.Table.{LendsOnly, lent_to, owner_of};
+ghost use Rattle.request_queue.specs.Beside.{IndexesMatch};
 ghost use Rattle.request_queue.specs.Holders.{AreHolders};
 ghost use Rattle.request_queue.specs.Entries.{due_ids};
-ghost use Rattle.request_queue.specs.Entries.{Held, GivesBack, IsEarlier, IsFresh, BookIsInOrder, IsUnanswered, IsWaiting, MayGoAgain, HasItsFrames, IsAnyOverdue, IsOverdue, IsOverdueOn, aged, asks_of, at_entry, ids_where, is_among, is_of, issue, older_entry, requeued_entry, all_marked_under, marked_under, unanswered_entries, waits_under, without_entry};
+ghost use Rattle.request_queue.specs.Entries.{BookEntry, GivesBack, IsEarlier, IsNewlyAccepted, BookIsInOrder, IsUnanswered, IsWaiting, MayGoAgain, HasItsFrames, IsAnyOverdue, IsOverdue, IsOverdueOn, aged, asks_of, update_if_id, ids_where, is_among, is_of, issue, lone_due, older_entry, requeued_entry, all_marked_under, marked_under, unanswered_entries, waits_under, without_entry};
 
 use crate::PendingRequest;
 use crate::due::{DueIds, list_due};
 use crate::flushes::{Flush, add_flush, no_flushes, take_flush};
 use crate::holder::Holder;
-use crate::holders::{holder_of, no_holders, search_anew};
+use crate::holders::{holder_of, no_holders, refind_holders};
 use crate::ranges::Ranges;
 use crate::sectors::{add_sectors, no_sectors, take_sectors};
 use crate::store::{RequestSlab, asks_of};
 use arrayvec::ArrayVec;
-use ata_types::{ClientId, MOST_UNANSWERED, PORTS, Port, RequestId};
-use block_machine::QueueMode;
+use ata_types::{ClientId, Frame, MOST_REQUEST_FRAMES, MOST_UNANSWERED, PORTS, Port, RequestId};
+use block_machine::{QueueMode, Unanswered, is_plain};
 use dma_frames::{FrameTable, Loan};
 use std::alloc::Global;
 use std::marker::Model;
@@ -50,13 +51,13 @@ impl Model for Book {
     ghost use Rattle.std.specs.Prelude.{List, ◌≡◌, ◌≤◌, vec_capacity};
     ghost use Rattle.ata_types.specs.declared.limits.TheConstants.{MOST_UNANSWERED};
     ghost use Rattle.request_queue.specs.Counts.{AreCounts};
-    ghost use Rattle.request_queue.specs.Entries.{Held, BookIsInOrder, asks_of};
+    ghost use Rattle.request_queue.specs.Entries.{BookEntry, BookIsInOrder, asks_of};
     ghost use Rattle.request_queue.specs.Flushes.{flushes_of};
-    ghost use Rattle.request_queue.specs.Beside.{AreBeside};
+    ghost use Rattle.request_queue.specs.Beside.{IndexesMatch};
     ghost use Rattle.request_queue.specs.Holders.{AreHolders};
     ghost use Rattle.request_queue.specs.Sectors.{AreIndexed};
 
-    ghost Value = { List Held };
+    ghost Value = { List BookEntry };
 
     ghost view = { λ b. b.store };
 
@@ -93,6 +94,13 @@ impl Book {
         }
     }
 
+    /// Whether there is no request.
+    pub fn is_empty(&self) -> bool
+        ensures { IsTrue result ↔ (self.now ≡ []) }
+    {
+        self.store.len() == 0
+    }
+
     /// How many of the requests are the client's.
     pub fn unanswered(&self, client: ClientId) -> usize
         ensures { result ≡ unanswered_entries self.now client.0 }
@@ -103,16 +111,16 @@ impl Book {
         }
     }
 
-    /// Puts a request last, with its loan. It stands in its caller's code: a loan has room for the frames of the
-    /// longest request, and is copied once less there.
-    #[inline(always)]
-    pub fn accept(&mut self, request: PendingRequest, loan: Loan)
+    /// Puts a request last, and lends it these frames of the table.
+    pub fn accept(&mut self, request: PendingRequest, frames: &[Frame], table: &mut FrameTable)
         requires newest { All (λ e. e.entry.id.0 < request.id.0) self.old }
-        requires fresh { IsFresh request }
+        requires fresh { IsNewlyAccepted request }
         requires client { (1 ≤ request.client.0) × (request.client.0 ≤ 8) }
         requires few { unanswered_entries self.old request.client.0 < 16 }
-        requires id { loan.request ≡ request.id }
-        ensures { self.new ≡ self.old ++ record { entry = request; frames = loan.frames } ∷ [] }
+        requires frames { HasNoFault (owner_of table.old) (lent_to table.old) request.client frames.now
+            × (length frames.now ≤ MOST_REQUEST_FRAMES) }
+        ensures last { self.new ≡ self.old ++ record { entry = request; frames = frames.now } ∷ [] }
+        ensures lent { LendsOnly table.old table.new frames.now (Some request.id) }
     {
         self.counts[usize::from(request.client.0)] += 1;
         let asks = asks_of(request);
@@ -120,7 +128,7 @@ impl Book {
         self.holders.push_reserved(holder);
         add_sectors(&mut self.sectors, &self.store, &asks);
         add_flush(&mut self.flushes, &asks);
-        self.store.push(request, loan);
+        self.store.push(request, frames, table);
     }
 
     /// Makes the caller's list that of the due requests of a port that takes commands in this mode, in order of
@@ -134,21 +142,37 @@ impl Book {
         list_due(&self.store, self.holders.as_slice(), mode, port, due);
     }
 
+    /// The id of the only request of the book, where it is due on the port. Where there are others, `issuable` tells.
+    pub fn lone_due(&self, mode: QueueMode, port: Port) -> Option<RequestId>
+        ensures value { result ≡ lone_due mode port (asks_of self.now) }
+        ensures due { IfSome result (λ id. due_ids mode port (asks_of self.now) ≡ id ∷ []) }
+    {
+        if self.store.len() != 1 {
+            return None;
+        }
+        let asks = self.store.asks(0);
+        if is_due_alone(mode, port, &asks) {
+            Some(asks.id)
+        } else {
+            None
+        }
+    }
+
     /// An unanswered request, and how far it is.
     pub fn request(&self, id: RequestId) -> PendingRequest
         requires { IsUnanswered id self.now }
-        ensures { (e : Held) × Contains self.now e × (e.entry ≡ result) × (result.id ≡ id) }
+        ensures { (e : BookEntry) × Contains self.now e × (e.entry ≡ result) × (result.id ≡ id) }
     {
         self.store.request(place_of(&self.store, id))
     }
 
-    /// What is lent to an unanswered request.
-    pub fn loan(&self, id: RequestId) -> &Loan
+    /// An unanswered request, how far it is, and what is lent to it.
+    pub fn entry(&self, id: RequestId) -> (&PendingRequest, &Loan)
         requires { IsUnanswered id self.now }
-        ensures held { (e : Held) × Contains self.now e × (e.entry.id ≡ id) × (e.frames ≡ result.now.frames) }
-        ensures id { result.now.request ≡ id }
+        ensures held { Contains self.now (record { entry = result.0.now; frames = result.1.now.frames }) }
+        ensures id { (result.0.now.id ≡ id) × (result.1.now.request ≡ id) }
     {
-        self.store.loan(place_of(&self.store, id))
+        self.store.entry(place_of(&self.store, id))
     }
 
     /// The ids of a port's requests, in order of acceptance.
@@ -169,7 +193,7 @@ impl Book {
     /// Notes that a waiting request is issued.
     pub fn issue(&mut self, id: RequestId)
         requires { IsWaiting id self.old }
-        ensures { self.new ≡ map (at_entry id issue) self.old }
+        ensures { self.new ≡ map (update_if_id id issue) self.old }
     {
         let place = place_of(&self.store, id);
         let old = self.store.request(place);
@@ -188,7 +212,7 @@ impl Book {
     /// Notes that a request which was issued fewer than four times waits again, in its old place and with its loan.
     pub fn requeue(&mut self, id: RequestId)
         requires { MayGoAgain id self.old }
-        ensures { self.new ≡ map (at_entry id requeued_entry) self.old }
+        ensures { self.new ≡ map (update_if_id id requeued_entry) self.old }
     {
         let place = place_of(&self.store, id);
         let old = self.store.request(place);
@@ -235,7 +259,8 @@ impl Book {
         false
     }
 
-    /// Takes a request out; the others stay in their order. It stands in its callers' code, as `accept` does.
+    /// Takes a request out; the others stay in their order. It stands in its callers' code: a loan has
+    /// room for the frames of the longest request, and is copied once less there.
     #[inline(always)]
     pub fn answer(&mut self, id: RequestId) -> (PendingRequest, Loan)
         requires { IsUnanswered id self.old }
@@ -259,7 +284,7 @@ impl Book {
     pub fn release(&mut self, id: RequestId, table: &mut FrameTable) -> PendingRequest
         requires unanswered { IsUnanswered id self.old }
         requires stands { All (HasItsFrames table.old) self.old }
-        ensures entry { (e : Held) × Contains self.old e × (e.entry ≡ result) × (result.id ≡ id)
+        ensures entry { (e : BookEntry) × Contains self.old e × (e.entry ≡ result) × (result.id ≡ id)
             × LendsOnly table.old table.new e.frames None }
         ensures rest { self.new ≡ without_entry id self.old }
     {
@@ -291,12 +316,19 @@ impl Book {
     }
 }
 
+/// Whether a request is due on the port, where no other is in the book: it waits, and goes alone or has a slot.
+fn is_due_alone(mode: QueueMode, port: Port, asks: &Unanswered) -> bool
+    ensures { result ≡ (asks.now.port.0 == port.0 && is_due mode (asks.now ∷ []) asks.now) }
+{
+    asks.port.0 == port.0 && !asks.issued && (is_plain(mode, asks.op) || 0 < mode.usable)
+}
+
 /// The place of a request. The last one is looked at first, as it was just accepted mostly. Ids rise from place to
 /// place, so half of those that are left fall away at a time.
 fn place_of(store: &RequestSlab, id: RequestId) -> usize
     requires ordered { AllPairs IsEarlier store.now }
     requires unanswered { IsUnanswered id store.now }
-    ensures { (e : Held) × (slice_get store.now result ≡ Some e) × (e.entry.id ≡ id) }
+    ensures { (e : BookEntry) × (slice_get store.now result ≡ Some e) × (e.entry.id ≡ id) }
 {
     let last = store.len() - 1;
     if store.request(last).id.0 <= id.0 {
@@ -326,8 +358,8 @@ fn take_beside(
 )
     requires place { place < length store.now }
     requires ordered { BookIsInOrder store.now }
-    requires beside { AreBeside store.now sectors.old flushes.old.items holders.old.items counts.old }
-    ensures beside { AreBeside (remove store.now place) sectors.new flushes.new.items holders.new.items counts.new }
+    requires beside { IndexesMatch store.now sectors.old flushes.old.items holders.old.items counts.old }
+    ensures beside { IndexesMatch (remove store.now place) sectors.new flushes.new.items holders.new.items counts.new }
     ensures flushes { vec_capacity flushes.new ≡ vec_capacity flushes.old }
     ensures holders { vec_capacity holders.new ≡ vec_capacity holders.old }
 {
@@ -335,7 +367,7 @@ fn take_beside(
     take_sectors(sectors, store, place);
     take_flush(flushes, request.id);
     holders.remove(place);
-    search_anew(
+    refind_holders(
         holders,
         sectors,
         flushes.as_slice(),
@@ -476,5 +508,5 @@ fn give_back(store: RequestSlab, table: &mut FrameTable)
         let (_, loan) = store.remove(0);
         table.give_back(loan);
     }
-    store.end();
+    store.destroy();
 }

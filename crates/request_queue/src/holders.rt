@@ -41,7 +41,7 @@ pub fn holder_of(sectors: &[Ranges; PORTS], flushes: &[Flush], request: &Unanswe
 
 /// Searches anew for the holders of those that a request held which is answered. It stands at this place of the store
 /// still, and its sectors, its own holder, and itself as a flush were taken out.
-pub fn search_anew(
+pub fn refind_holders(
     holders: &mut Vec<Holder>,
     sectors: &[Ranges; PORTS],
     flushes: &[Flush],

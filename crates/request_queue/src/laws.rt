@@ -13,9 +13,9 @@ ghost use Rattle.block_machine.specs.Steps as steps;
 ghost use Rattle.block_machine.specs.declared.due.QueueMode.{QueueMode};
 ghost use Rattle.block_machine.specs.declared.due.Unanswered.{Unanswered};
 ghost use Rattle.dma_frames.specs.Table.{Table, LendsOnly, lent_to};
-ghost use Rattle.request_queue.specs.Entries.{Held, IsAccepted, IsEarlier, IsFresh, BookIsInOrder, IsUnanswered, IsWaiting, MayGoAgain, HasItsFrames, aged, asks_of, at_entry, due_ids, held_of, issue, requeued_entry, all_marked_under, unanswered_entries, without_entry};
-ghost use Rattle.request_queue.specs.Dispositions.{AnswersAlike, Holdings, AreResolved, keeps_loan};
-ghost use Rattle.request_queue.specs.Machine.{IsBook, IsEntry};
+ghost use Rattle.request_queue.specs.Entries.{BookEntry, IsAccepted, IsEarlier, IsNewlyAccepted, BookIsInOrder, IsUnanswered, IsWaiting, MayGoAgain, HasItsFrames, aged, asks_of, update_if_id, due_ids, entry_with_id, issue, requeued_entry, all_marked_under, unanswered_entries, without_entry};
+ghost use Rattle.request_queue.specs.Dispositions.{CompletesAllWith, Holdings, AreResolved, keeps_loan};
+ghost use Rattle.request_queue.specs.Machine.{BookRelation, EntryRelation};
 ghost use Rattle.request_queue.specs.declared.PendingRequest.{PendingRequest};
 ghost use Rattle.request_queue.specs.declared.disposition.Disposition.TheVariants.{Complete};
 
@@ -23,17 +23,17 @@ use ata_types::MOST_UNANSWERED;
 use block_machine::laws::{law_due_in_turn, law_due_is_exact};
 
 /// Where the machine's book is the book, the machine's due requests are the book's.
-pub fn law_the_machines_due()
-    ensures book { (entries : List Held) (pending : List machine.Pending) → IsBook entries pending
+pub fn law_book_dues_agree()
+    ensures book { (entries : List BookEntry) (pending : List machine.Pending) → BookRelation entries pending
         → map unanswered pending ≡ asks_of entries }
-    ensures sound { (mode : QueueMode) (port : Port) (entries : List Held) (pending : List machine.Pending)
+    ensures sound { (mode : QueueMode) (port : Port) (entries : List BookEntry) (pending : List machine.Pending)
         (id : RequestId)
-        → IsBook entries pending → Contains (due_ids mode port (asks_of entries)) id
+        → BookRelation entries pending → Contains (due_ids mode port (asks_of entries)) id
         → (p : machine.Pending) × Contains pending p × (p.request.id ≡ id) × (p.request.port ≡ port)
         × IsDue mode (map unanswered pending) (unanswered p) }
-    ensures complete { (mode : QueueMode) (port : Port) (entries : List Held) (pending : List machine.Pending)
+    ensures complete { (mode : QueueMode) (port : Port) (entries : List BookEntry) (pending : List machine.Pending)
         (p : machine.Pending)
-        → IsBook entries pending → p.request.port ≡ port → IsDue mode (map unanswered pending) (unanswered p)
+        → BookRelation entries pending → p.request.port ≡ port → IsDue mode (map unanswered pending) (unanswered p)
         → Contains (due_ids mode port (asks_of entries)) p.request.id }
 {
     law_due_is_exact();
@@ -41,138 +41,152 @@ pub fn law_the_machines_due()
 
 /// Each step of the machine on requests is a change of the book, or leaves it.
 pub fn law_steps_change_the_book()
-    ensures accept { (entries : List Held) (m : Machine) (e : Held) (r : machine.Accepted) → IsBook entries m.book
-        → IsEntry e (steps.newly_accepted r)
-        → IsBook (entries ++ e ∷ []) (steps.after_step m (steps.Accept r)).book }
-    ensures issue { (entries : List Held) (m : Machine) (mode : QueueMode) (p : machine.Pending) → IsBook entries m.book
-        → IsBook (map (at_entry p.request.id issue) entries) (steps.after_step m (steps.Issue mode p)).book }
-    ensures again { (entries : List Held) (m : Machine) (p : machine.Pending) → IsBook entries m.book
-        → IsBook (map (at_entry p.request.id requeued_entry) entries) (steps.after_step m (steps.Again p)).book }
-    ensures answer { (entries : List Held) (m : Machine) (p : machine.Pending) (outcome : Outcome)
-        → IsBook entries m.book
-        → IsBook (without_entry p.request.id entries) (steps.after_step m (steps.Answer p outcome)).book }
-    ensures age { (entries : List Held) (m : Machine) (ports : Port → Bool) → IsBook entries m.book
-        → IsBook (aged ports entries) (steps.after_step m (steps.Age ports)).book }
-    ensures revoke { (entries : List Held) (m : Machine) (client : ClientId) (grant : ℕ) → IsBook entries m.book
-        → IsBook (all_marked_under client grant entries) (steps.after_step m (steps.Revoke client grant)).book }
-    ensures touch { (entries : List Held) (m : Machine) (p : machine.Pending) (i : ℕ) (block : machine.Block)
-        → IsBook entries m.book → IsBook entries (steps.after_step m (steps.Touch p i block)).book }
-    ensures end { (entries : List Held) (m : Machine) (p : machine.Pending) → IsBook entries m.book
-        → IsBook entries (steps.after_step m (steps.End p)).book }
+    ensures accept { (entries : List BookEntry) (m : Machine) (e : BookEntry) (r : machine.Accepted)
+        → BookRelation entries m.book
+        → EntryRelation e (steps.newly_accepted r)
+        → BookRelation (entries ++ e ∷ []) (steps.after_step m (steps.Accept r)).book }
+    ensures issue { (entries : List BookEntry) (m : Machine) (mode : QueueMode) (p : machine.Pending)
+        → BookRelation entries m.book
+        → BookRelation (map (update_if_id p.request.id issue) entries) (steps.after_step m (steps.Issue mode p)).book }
+    ensures again { (entries : List BookEntry) (m : Machine) (p : machine.Pending) → BookRelation entries m.book
+        → BookRelation (map (update_if_id p.request.id requeued_entry) entries)
+        (steps.after_step m (steps.Again p)).book }
+    ensures answer { (entries : List BookEntry) (m : Machine) (p : machine.Pending) (outcome : Outcome)
+        → BookRelation entries m.book
+        → BookRelation (without_entry p.request.id entries) (steps.after_step m (steps.Answer p outcome)).book }
+    ensures age { (entries : List BookEntry) (m : Machine) (ports : Port → Bool) → BookRelation entries m.book
+        → BookRelation (aged ports entries) (steps.after_step m (steps.Age ports)).book }
+    ensures revoke { (entries : List BookEntry) (m : Machine) (client : ClientId) (grant : ℕ)
+        → BookRelation entries m.book
+        → BookRelation (all_marked_under client grant entries) (steps.after_step m (steps.Revoke client grant)).book }
+    ensures touch { (entries : List BookEntry) (m : Machine) (p : machine.Pending) (i : ℕ) (block : machine.Block)
+        → BookRelation entries m.book → BookRelation entries (steps.after_step m (steps.Touch p i block)).book }
+    ensures end { (entries : List BookEntry) (m : Machine) (p : machine.Pending) → BookRelation entries m.book
+        → BookRelation entries (steps.after_step m (steps.End p)).book }
 {}
 
 /// A client has as many requests in the machine's book.
-pub fn law_clients_have_as_many()
-    ensures { (entries : List Held) (pending : List machine.Pending) (client : ClientId) → IsBook entries pending
-        → steps.unanswered_of pending client ≡ unanswered_entries entries client.0 }
+pub fn law_client_counts_agree()
+    ensures { (entries : List BookEntry) (pending : List machine.Pending) (client : ClientId)
+        → BookRelation entries pending
+        → steps.unanswered_count pending client ≡ unanswered_entries entries client.0 }
 {}
 
 /// A due request of the book waits, so that it may be issued; and what the book's operations leave of what says which
 /// are due.
 pub fn law_operations_change_what_is_due()
-    ensures waits { (mode : QueueMode) (entries : List Held) (r : Unanswered) → IsDue mode (asks_of entries) r
+    ensures waits { (mode : QueueMode) (entries : List BookEntry) (r : Unanswered) → IsDue mode (asks_of entries) r
         → IsWaiting r.id entries }
-    ensures issue { (entries : List Held) (id : RequestId) → asks_of (map (at_entry id issue) entries)
+    ensures issue { (entries : List BookEntry) (id : RequestId) → asks_of (map (update_if_id id issue) entries)
         ≡ with_issued id (asks_of entries) }
-    ensures requeue { (entries : List Held) (id : RequestId)
-        → asks_of (map (at_entry id requeued_entry) entries) ≡ with_waiting id
+    ensures requeue { (entries : List BookEntry) (id : RequestId)
+        → asks_of (map (update_if_id id requeued_entry) entries) ≡ with_waiting id
         (asks_of entries) }
-    ensures answer { (entries : List Held) (id : RequestId)
+    ensures answer { (entries : List BookEntry) (id : RequestId)
         → asks_of (without_entry id entries) ≡ without_request id (asks_of entries) }
-    ensures tick { (entries : List Held) (ports : Port → Bool) → asks_of (aged ports entries) ≡ asks_of entries }
-    ensures revoked { (entries : List Held) (client : ClientId) (grant : ℕ)
+    ensures tick { (entries : List BookEntry) (ports : Port → Bool) → asks_of (aged ports entries) ≡ asks_of entries }
+    ensures revoked { (entries : List BookEntry) (client : ClientId) (grant : ℕ)
         → asks_of (all_marked_under client grant entries) ≡ asks_of entries }
 {}
 
 /// The due requests of a port may be issued one after the other: each of them waits when its turn comes; and then none
 /// is due.
 pub fn law_due_requests_go_in_turn()
-    ensures first { (mode : QueueMode) (port : Port) (entries : List Held) → BookIsInOrder entries
+    ensures first { (mode : QueueMode) (port : Port) (entries : List BookEntry) → BookIsInOrder entries
         → AreAllDueInOrder mode port (due_ids mode port (asks_of entries)) (asks_of entries) }
-    ensures next { (mode : QueueMode) (port : Port) (id : RequestId) (ids : List RequestId) (entries : List Held)
+    ensures next { (mode : QueueMode) (port : Port) (id : RequestId) (ids : List RequestId) (entries : List BookEntry)
         → AreAllDueInOrder mode port (id ∷ ids) (asks_of entries)
-        → IsWaiting id entries × AreAllDueInOrder mode port ids (asks_of (map (at_entry id issue) entries)) }
+        → IsWaiting id entries × AreAllDueInOrder mode port ids (asks_of (map (update_if_id id issue) entries)) }
 {
     law_due_in_turn();
 }
 
 /// Each request of the one book stands in the other.
 pub fn law_books_have_the_same_requests()
-    ensures held { (entries : List Held) (pending : List machine.Pending) (e : Held) → IsBook entries pending
-        → Contains entries e → (p : machine.Pending) × Contains pending p × IsEntry e p }
-    ensures pending { (entries : List Held) (pending : List machine.Pending) (p : machine.Pending)
-        → IsBook entries pending → Contains pending p → (e : Held) × Contains entries e × IsEntry e p }
+    ensures held { (entries : List BookEntry) (pending : List machine.Pending) (e : BookEntry)
+        → BookRelation entries pending
+        → Contains entries e → (p : machine.Pending) × Contains pending p × EntryRelation e p }
+    ensures pending { (entries : List BookEntry) (pending : List machine.Pending) (p : machine.Pending)
+        → BookRelation entries pending → Contains pending p → (e : BookEntry) × Contains entries e × EntryRelation e p }
 {}
 
 /// In a book in order an id is one request's, and the request is found by it.
 pub fn law_an_id_is_one_request()
-    ensures one { (entries : List Held) (a b : Held) → BookIsInOrder entries → Contains entries a → Contains entries b
+    ensures one { (entries : List BookEntry) (a b : BookEntry) → BookIsInOrder entries → Contains entries a
+        → Contains entries b
         → a.entry.id ≡ b.entry.id → a ≡ b }
-    ensures found { (entries : List Held) (e : Held) → BookIsInOrder entries → Contains entries e
-        → held_of e.entry.id entries ≡ Some e }
-    ensures some { (entries : List Held) (id : RequestId) (e : Held) → held_of id entries ≡ Some e
+    ensures found { (entries : List BookEntry) (e : BookEntry) → BookIsInOrder entries → Contains entries e
+        → entry_with_id e.entry.id entries ≡ Some e }
+    ensures some { (entries : List BookEntry) (id : RequestId) (e : BookEntry) → entry_with_id id entries ≡ Some e
         → Contains entries e × (e.entry.id ≡ id) }
-    ensures none { (entries : List Held) (id : RequestId) → held_of id entries ≡ None → IsUnanswered id entries → ⊥ }
+    ensures none { (entries : List BookEntry) (id : RequestId) → entry_with_id id entries ≡ None
+        → IsUnanswered id entries
+        → ⊥ }
 {}
 
 /// What a change of the request with an id leaves of the requests, and what its answer does.
 pub fn law_operations_change_one_request()
-    ensures changed { (entries : List Held) (id : RequestId) (change : PendingRequest → PendingRequest) (e : Held)
+    ensures changed { (entries : List BookEntry) (id : RequestId) (change : PendingRequest → PendingRequest)
+        (e : BookEntry)
         → Contains entries e
-        → e.entry.id ≡ id → Contains (map (at_entry id change) entries) (record e { entry = change e.entry }) }
-    ensures others { (entries : List Held) (id : RequestId) (change : PendingRequest → PendingRequest) (e : Held)
+        → e.entry.id ≡ id → Contains (map (update_if_id id change) entries) (record e { entry = change e.entry }) }
+    ensures others { (entries : List BookEntry) (id : RequestId) (change : PendingRequest → PendingRequest)
+        (e : BookEntry)
         → Contains entries e
-        → e.entry.id ≢ id → Contains (map (at_entry id change) entries) e }
-    ensures only { (entries : List Held) (id : RequestId) (change : PendingRequest → PendingRequest) (e : Held)
-        → Contains (map (at_entry id change) entries) e → (old : Held) × Contains entries old
-        × (e ≡ at_entry id change old) }
-    ensures answered { (entries : List Held) (id : RequestId) (e : Held)
+        → e.entry.id ≢ id → Contains (map (update_if_id id change) entries) e }
+    ensures only { (entries : List BookEntry) (id : RequestId) (change : PendingRequest → PendingRequest)
+        (e : BookEntry)
+        → Contains (map (update_if_id id change) entries) e → (old : BookEntry) × Contains entries old
+        × (e ≡ update_if_id id change old) }
+    ensures answered { (entries : List BookEntry) (id : RequestId) (e : BookEntry)
         → Contains (without_entry id entries) e ↔ (Contains entries e × (e.entry.id ≢ id)) }
 {}
 
 /// A book stays in order as requests are accepted, issued, wait again, get older and are answered. It has 128 at most.
 pub fn law_the_book_stays_in_order()
-    ensures accepted { (entries : List Held) (e : Held) → BookIsInOrder entries → All (λ x. IsEarlier x e) entries
-        → IsFresh e.entry → 1 ≤ e.entry.client.0 → e.entry.client.0 ≤ 8
+    ensures accepted { (entries : List BookEntry) (e : BookEntry) → BookIsInOrder entries
+        → All (λ x. IsEarlier x e) entries
+        → IsNewlyAccepted e.entry → 1 ≤ e.entry.client.0 → e.entry.client.0 ≤ 8
         → unanswered_entries entries e.entry.client.0 < 16
         → BookIsInOrder (entries ++ e ∷ []) }
-    ensures issued { (entries : List Held) (id : RequestId) → BookIsInOrder entries → IsWaiting id entries
-        → BookIsInOrder (map (at_entry id issue) entries) }
-    ensures requeued { (entries : List Held) (id : RequestId) → BookIsInOrder entries → MayGoAgain id entries
-        → BookIsInOrder (map (at_entry id requeued_entry) entries) }
-    ensures older_entry { (entries : List Held) (ports : Port → Bool) → BookIsInOrder entries
+    ensures issued { (entries : List BookEntry) (id : RequestId) → BookIsInOrder entries → IsWaiting id entries
+        → BookIsInOrder (map (update_if_id id issue) entries) }
+    ensures requeued { (entries : List BookEntry) (id : RequestId) → BookIsInOrder entries → MayGoAgain id entries
+        → BookIsInOrder (map (update_if_id id requeued_entry) entries) }
+    ensures older_entry { (entries : List BookEntry) (ports : Port → Bool) → BookIsInOrder entries
         → BookIsInOrder (aged ports entries) }
-    ensures revoked { (entries : List Held) (client : ClientId) (grant : ℕ) → BookIsInOrder entries
+    ensures revoked { (entries : List BookEntry) (client : ClientId) (grant : ℕ) → BookIsInOrder entries
         → BookIsInOrder (all_marked_under client grant entries) }
-    ensures answered { (entries : List Held) (id : RequestId) → BookIsInOrder entries
+    ensures answered { (entries : List BookEntry) (id : RequestId) → BookIsInOrder entries
         → BookIsInOrder (without_entry id entries) }
-    ensures all { (entries : List Held) → BookIsInOrder entries → length entries ≤ MOST_UNANSWERED }
-    ensures asks { (entries : List Held) → BookIsInOrder entries → IsInOrder (asks_of entries) }
+    ensures all { (entries : List BookEntry) → BookIsInOrder entries → length entries ≤ MOST_UNANSWERED }
+    ensures asks { (entries : List BookEntry) → BookIsInOrder entries → IsInOrder (asks_of entries) }
 {}
 
 /// Accepted requests stay so while frames of none of their own change hands: as another request's frames are lent to it
 /// or given back. No frame is lent to two of them.
-pub fn law_accepted_requests_stay()
-    ensures apart { (table : Table) (a b : Held) → a.entry.id ≢ b.entry.id → IsAccepted table a → IsAccepted table b
+pub fn law_accepted_is_preserved()
+    ensures apart { (table : Table) (a b : BookEntry) → a.entry.id ≢ b.entry.id → IsAccepted table a
+        → IsAccepted table b
         → (f : Frame) → Contains a.frames f → Contains b.frames f → ⊥ }
-    ensures one { (old new : Table) (frames : List Frame) (to : Option RequestId) (e : Held)
+    ensures one { (old new : Table) (frames : List Frame) (to : Option RequestId) (e : BookEntry)
         → LendsOnly old new frames to → IsAccepted old e → ((f : Frame) → Contains e.frames f → Contains frames f → ⊥)
         → IsAccepted new e }
-    ensures lent { (old new : Table) (entries : List Held) (frames : List Frame) (to : Option RequestId)
+    ensures lent { (old new : Table) (entries : List BookEntry) (frames : List Frame) (to : Option RequestId)
         → LendsOnly old new frames to → All (λ f. lent_to old f ≡ None) frames → All (IsAccepted old) entries
         → All (IsAccepted new) entries }
-    ensures answered { (old new : Table) (entries : List Held) (e : Held) → Contains entries e
+    ensures answered { (old new : Table) (entries : List BookEntry) (e : BookEntry) → Contains entries e
         → LendsOnly old new e.frames None → All (IsAccepted old) entries
         → All (IsAccepted new) (without_entry e.entry.id entries) }
-    ensures issued { (table : Table) (entries : List Held) (id : RequestId)
-        → All (IsAccepted table) entries → All (IsAccepted table) (map (at_entry id issue) entries) }
-    ensures requeued { (table : Table) (entries : List Held) (id : RequestId)
-        → All (IsAccepted table) entries → All (IsAccepted table) (map (at_entry id requeued_entry) entries) }
-    ensures older_entry { (table : Table) (entries : List Held) (ports : Port → Bool)
+    ensures issued { (table : Table) (entries : List BookEntry) (id : RequestId)
+        → All (IsAccepted table) entries → All (IsAccepted table) (map (update_if_id id issue) entries) }
+    ensures requeued { (table : Table) (entries : List BookEntry) (id : RequestId)
+        → All (IsAccepted table) entries → All (IsAccepted table) (map (update_if_id id requeued_entry) entries) }
+    ensures older_entry { (table : Table) (entries : List BookEntry) (ports : Port → Bool)
         → All (IsAccepted table) entries → All (IsAccepted table) (aged ports entries) }
-    ensures revoked { (table : Table) (entries : List Held) (client : ClientId) (grant : ℕ)
+    ensures revoked { (table : Table) (entries : List BookEntry) (client : ClientId) (grant : ℕ)
         → All (IsAccepted table) entries → All (IsAccepted table) (all_marked_under client grant entries) }
-    ensures stand { (table : Table) (entries : List Held) → All (IsAccepted table) entries
+    ensures stand { (table : Table) (entries : List BookEntry) → All (IsAccepted table) entries
         → All (HasItsFrames table) entries }
 {}
 
@@ -184,11 +198,11 @@ pub fn law_answers_of_one_outcome_are_one_change()
         → ((e : PendingRequest) → keeps_loan outcome e ≡ false)
         → (old : Holdings) → BookIsInOrder old.book → All (IsAccepted old.table) old.book → (replies : List Reply)
         (new : Holdings) → AreResolved (λ e. Complete outcome) (filter (λ e. passes e.entry) old.book) replies old new
-        → AnswersAlike passes outcome replies old new }
+        → CompletesAllWith passes outcome replies old new }
     ensures one_by_one { (passes : PendingRequest → Bool) (outcome : Outcome)
         → ((e : PendingRequest) → keeps_loan outcome e ≡ false)
         → (old : Holdings) → BookIsInOrder old.book → All (IsAccepted old.table) old.book → (replies : List Reply)
-        (new : Holdings) → AnswersAlike passes outcome replies old new
+        (new : Holdings) → CompletesAllWith passes outcome replies old new
         → (now : Holdings) × AreResolved (λ e. Complete outcome) (filter (λ e. passes e.entry) old.book) replies old now
         × (now.book ≡ new.book) × (now.kept ≡ new.kept) × LendsOnly now.table new.table [] None }
 {}

@@ -9,7 +9,7 @@ ghost use Rattle.ata_types.specs.Range.{range_end};
 ghost use Rattle.block_machine.specs.Due as machine;
 ghost use Rattle.request_queue.specs.Items.{AreSorted, StandsBefore, IsGreatestEnd, is_earlier_conflict};
 ghost use Rattle.request_queue.specs.declared.ranges.IndexEntry.{IndexEntry};
-ghost use Rattle.request_queue.specs.declared.ranges.Item.{Item};
+ghost use Rattle.request_queue.specs.declared.ranges.BookRange.{BookRange};
 ghost use Rattle.request_queue.specs.Index.{EndFollows, IsIndex, items_of};
 
 use ata_types::{MOST_UNANSWERED, Port, Range, RequestId};
@@ -18,7 +18,7 @@ use std::marker::Model;
 
 /// The sectors of a request on its port's disk, and whether it writes or trims them.
 #[derive(Clone, Copy, Debug, PartialEq, Eq)]
-pub struct Item {
+pub struct BookRange {
     pub id: RequestId,
     pub range: Range,
     pub port: Port,
@@ -28,7 +28,7 @@ pub struct Item {
 /// An item, and the greatest end of it and of all before it.
 #[derive(Clone, Copy, Debug)]
 struct IndexEntry {
-    item: Item,
+    item: BookRange,
     /// Ends don't fit `u64`, since a range may reach past 2^64.
     greatest_end: u128,
 }
@@ -42,7 +42,7 @@ pub struct Ranges {
 impl Model for Ranges {
     ghost use Rattle.std.specs.Prelude.{List, ◌≤◌, vec_capacity};
     ghost use Rattle.ata_types.specs.declared.limits.TheConstants.{MOST_UNANSWERED};
-    ghost use Rattle.request_queue.specs.declared.ranges.Item.{Item as One};
+    ghost use Rattle.request_queue.specs.declared.ranges.BookRange.{BookRange as One};
     ghost use Rattle.request_queue.specs.Index.{IsIndex, items_of};
 
     ghost Value = { List One };
@@ -62,7 +62,7 @@ impl Ranges {
     }
 
     /// Puts an item in its place.
-    pub fn insert(&mut self, item: Item)
+    pub fn insert(&mut self, item: BookRange)
         requires room { length self.old < MOST_UNANSWERED }
         requires fresh { All (λ x. x.id ≢ item.id) self.old }
         ensures { (place : ℕ) × (place ≤ length self.old) × (self.new ≡ insert self.old place item) }
@@ -81,7 +81,7 @@ impl Ranges {
     }
 
     /// Takes an item out.
-    pub fn remove(&mut self, item: &Item)
+    pub fn remove(&mut self, item: &BookRange)
         requires { Contains self.old item.now }
         ensures { (place : ℕ) × (slice_get self.old place ≡ Some item.now) × (self.new ≡ remove self.old place) }
     {
@@ -92,7 +92,7 @@ impl Ranges {
     }
 
     /// An item that was accepted before this one and conflicts with it, if there is one.
-    pub fn earlier_conflict(&self, item: &Item) -> Option<Item>
+    pub fn earlier_conflict(&self, item: &BookRange) -> Option<BookRange>
         ensures none { IfNone result (list_any (is_earlier_conflict item.now) self.now ≡ false) }
         ensures found { IfSome result (λ x. Contains self.now x × (is_earlier_conflict item.now x ≡ true)) }
     {
@@ -101,7 +101,7 @@ impl Ranges {
 }
 
 /// Whether the other item is of the same port, was accepted before this one, and conflicts with it.
-pub fn is_earlier_conflict(item: &Item, other: &Item) -> bool
+pub fn is_earlier_conflict(item: &BookRange, other: &BookRange) -> bool
     ensures { result ≡ is_earlier_conflict item.now other.now }
 {
     other.port.0 == item.port.0
@@ -128,7 +128,7 @@ fn end_of(range: &Range) -> u128
 }
 
 /// Whether the item stands before this first sector and id.
-fn is_before(item: &Item, first: u128, id: u64) -> bool
+fn is_before(item: &BookRange, first: u128, id: u64) -> bool
     ensures { IsTrue result ↔ StandsBefore item.now first id }
 {
     let own = u128::from(item.range.first.0);
@@ -139,9 +139,10 @@ fn is_before(item: &Item, first: u128, id: u64) -> bool
 fn count_before(entries: &[IndexEntry], first: u128, id: u64) -> usize
     requires { AreSorted (items_of entries.now) }
     ensures within { result ≤ length entries.now }
-    ensures before { (k : ℕ) (d : Item) → k < result → StandsBefore (slice_index_or (items_of entries.now) k d) first
+    ensures before { (k : ℕ) (d : BookRange) → k < result
+        → StandsBefore (slice_index_or (items_of entries.now) k d) first
         id }
-    ensures behind { (k : ℕ) (d : Item) → result ≤ k → k < length entries.now
+    ensures behind { (k : ℕ) (d : BookRange) → result ≤ k → k < length entries.now
         → StandsBefore (slice_index_or (items_of entries.now) k d) first id → ⊥ }
 {
     let mut low = 0;
@@ -159,7 +160,7 @@ fn count_before(entries: &[IndexEntry], first: u128, id: u64) -> usize
 
 /// Searches down from the last item that begins before this one ends. It stops at an entry whose greatest end is at or
 /// below this one's first sector: no range up to that entry reaches it.
-fn earlier_conflict(entries: &[IndexEntry], item: &Item) -> Option<Item>
+fn earlier_conflict(entries: &[IndexEntry], item: &BookRange) -> Option<BookRange>
     requires { IsIndex entries.now }
     ensures none { IfNone result (list_any (is_earlier_conflict item.now) (items_of entries.now) ≡ false) }
     ensures found { IfSome result (λ x. Contains (items_of entries.now) x

@@ -4,7 +4,7 @@ ghost use Rattle.block_machine.specs.Due as machine;
 ghost use Rattle.request_queue.specs.Entries.{asks_of};
 ghost use Rattle.request_queue.specs.Sectors.{AreIndexed, item_of, index_of_port};
 
-use crate::ranges::{Item, Ranges};
+use crate::ranges::{BookRange, Ranges};
 use crate::store::RequestSlab;
 use ata_types::{MOST_UNANSWERED, Op, PORTS, Port};
 use block_machine::{Unanswered, changes_sectors};
@@ -59,10 +59,10 @@ pub fn index_of_port(port: Port) -> usize
 }
 
 /// The request as it is indexed.
-pub fn item_of(request: &Unanswered) -> Item
+pub fn item_of(request: &Unanswered) -> BookRange
     ensures { result ≡ item_of request.now }
 {
-    Item {
+    BookRange {
         id: request.id,
         port: request.port,
         range: request.range,

@@ -1,10 +1,11 @@
 // Where the requests stand: in a slab, their loans beside it at their keys, and the keys in order of acceptance.
 ghost use Rattle.std.specs.Prelude.{◌≡◌, ◌<◌, ◌≤◌, ◌++◌, ◌∷◌, [], length, map, replicate, remove, slice_get, slice_set, All, IfOk, IfSome, None, Some};
-ghost use Rattle.dma_frames.specs.Table.{LendsOnly};
-ghost use Rattle.request_queue.specs.Entries.{Held, HasItsFrames, asks, asks_of};
+ghost use Rattle.block_machine.specs.Rules.{HasNoFault};
+ghost use Rattle.dma_frames.specs.Table.{LendsOnly, lent_to, owner_of};
+ghost use Rattle.request_queue.specs.Entries.{BookEntry, HasItsFrames, asks, asks_of};
 
 use crate::PendingRequest;
-use ata_types::MOST_UNANSWERED;
+use ata_types::{Frame, MOST_REQUEST_FRAMES, MOST_UNANSWERED};
 use block_machine::Unanswered;
 use dma_frames::{FrameTable, Loan, LoanPlace};
 use slab::Slab;
@@ -21,10 +22,10 @@ pub struct RequestSlab {
 impl Model for RequestSlab {
     ghost use Rattle.std.specs.Prelude.{List, ◌≤◌, length, vec_capacity};
     ghost use Rattle.ata_types.specs.declared.limits.TheConstants.{MOST_UNANSWERED};
-    ghost use Rattle.request_queue.specs.Entries.{Held};
+    ghost use Rattle.request_queue.specs.Entries.{BookEntry};
     ghost use Rattle.request_queue.specs.Store.{entries, SlabIsSound};
 
-    ghost Value = { List Held };
+    ghost Value = { List BookEntry };
 
     ghost view = { λ s. entries s.requests s.loans.items s.order.items };
 
@@ -62,28 +63,31 @@ impl RequestSlab {
         self.requests[self.order[place]]
     }
 
-    /// What is lent to the request at this place.
-    pub fn loan(&self, place: usize) -> &Loan
+    /// The request at this place, and what is lent to it.
+    pub fn entry(&self, place: usize) -> (&PendingRequest, &Loan)
         requires { place < length self.now }
-        ensures frames { slice_get (map (λ e. e.frames) self.now) place ≡ Some result.now.frames }
-        ensures id { slice_get (map (λ e. e.entry.id) self.now) place ≡ Some result.now.request }
+        ensures entry { slice_get self.now place
+            ≡ Some (record { entry = result.0.now; frames = result.1.now.frames }) }
+        ensures id { result.1.now.request ≡ result.0.now.id }
     {
-        self.loans[self.order[place]].loan()
+        let key = self.order[place];
+        (&self.requests[key], self.loans[key].loan())
     }
 
-    /// Puts a request last, with its loan. It stands in its caller's code, as `Book::accept` does.
-    #[inline(always)]
-    pub fn push(&mut self, request: PendingRequest, loan: Loan)
+    /// Puts a request last, and lends it these frames of the table. The loan begins in its place, so it isn't moved.
+    pub fn push(&mut self, request: PendingRequest, frames: &[Frame], table: &mut FrameTable)
         requires room { length self.old < MOST_UNANSWERED }
-        requires id { loan.request ≡ request.id }
-        ensures { self.new ≡ self.old ++ record { entry = request; frames = loan.frames } ∷ [] }
+        requires frames { HasNoFault (owner_of table.old) (lent_to table.old) request.client frames.now
+            × (length frames.now ≤ MOST_REQUEST_FRAMES) }
+        ensures last { self.new ≡ self.old ++ record { entry = request; frames = frames.now } ∷ [] }
+        ensures lent { LendsOnly table.old table.new frames.now (Some request.id) }
     {
         let key = self.requests.insert_reserved(request);
-        self.loans[key].put(loan);
+        table.lend_at(request.client, frames, request.id, &mut self.loans[key]);
         self.order.push_reserved(key);
     }
 
-    /// Takes out the request at this place, with its loan. It stands in its callers' code, as `Book::accept` does.
+    /// Takes out the request at this place, with its loan. It stands in its callers' code, as `Book::answer` does.
     #[inline(always)]
     pub fn remove(&mut self, place: usize) -> (PendingRequest, Loan)
         requires { place < length self.old }
@@ -100,7 +104,7 @@ impl RequestSlab {
     pub fn release(&mut self, place: usize, table: &mut FrameTable) -> PendingRequest
         requires within { place < length self.old }
         requires stands { All (HasItsFrames table.old) self.old }
-        ensures entry { (e : Held) × (slice_get self.old place ≡ Some e) × (e.entry ≡ result)
+        ensures entry { (e : BookEntry) × (slice_get self.old place ≡ Some e) × (e.entry ≡ result)
             × LendsOnly table.old table.new e.frames None }
         ensures rest { self.new ≡ remove self.old place }
     {
@@ -114,7 +118,7 @@ impl RequestSlab {
     pub fn replace(&mut self, place: usize, request: PendingRequest)
         requires within { place < length self.old }
         requires same_id { IfSome (slice_get self.old place) (λ old. request.id ≡ old.entry.id) }
-        ensures { (e : Held) × (slice_get self.old place ≡ Some e)
+        ensures { (e : BookEntry) × (slice_get self.old place ≡ Some e)
             × (self.new ≡ slice_set self.old place (record e { entry = request })) }
     {
         let key = self.order[place];
@@ -130,7 +134,7 @@ impl RequestSlab {
     }
 
     /// Ends the store, once it has no requests.
-    pub fn end(self)
+    pub fn destroy(self)
         requires { self ≡ [] }
     {
         let RequestSlab {
@@ -140,7 +144,7 @@ impl RequestSlab {
         } = self;
         let mut loans = loans;
         while let Some(slot) = loans.pop() {
-            slot.end();
+            slot.destroy();
         }
         loans.destroy_empty();
     }

@@ -22,7 +22,7 @@ use Rattle.adapter.specs.declared.access.FatalError.TheVariants.{Interface, Host
 use Rattle.ata_types.specs.declared.call.Call.{Call}
 use Rattle.ata_types.specs.declared.call.Call.TheVariants.{Submit, ClientStore, ClientLoad, Service, Tick, Reset, Revoke, State, Device}
 use Rattle.script.specs.Fields.{Word, fatal_word, frames_word}
-use Rattle.script.specs.Line.{IsLine, IsPlace, IsRequest, IsStep, line_text, line_words, op_word, page_word, place_words, request_words, step_words}
+use Rattle.script.specs.Line.{HasLine, IsPlace, IsRequest, StepInRange, line_text, line_words, op_word, page_word, place_words, request_words, step_words}
 use Rattle.script.proofs.FrameLemmas.{IsFrame, decimals}
 use Rattle.script.proofs.FrameLemmas as frame
 use Rattle.script.proofs.WordLemmas.{Lacks-below, Within, Within-decimal, Within-hex, Within-join, Within-literal, Within-weaker, IsUtf8-from_Within, slice_split-join}
@@ -85,7 +85,7 @@ place_are port slot h = more (number port.0 (omega (arith, h.0))) (more (number 
 port_are : (w : Word) (port : Port) → IsWord w → port.0 < 4 → AreWords (w ∷ decimal port.0 ∷ [])
 port_are w port first small = more first (more (number port.0 (omega (arith, small))) none)
 
-step_are : (s : DeviceStep) → IsStep s → AreWords (step_words s)
+step_are : (s : DeviceStep) → StepInRange s → AreWords (step_words s)
 step_are (step.Fetch port slot) h = more (fixed (codes "fetch") refl) (place_are port slot h)
 step_are (step.Move port slot) h = more (fixed (codes "move") refl) (place_are port slot h)
 step_are (step.Clear port slot count) h =
@@ -115,7 +115,7 @@ step_are (step.Unplug port) h = port_are (codes "unplug") port (fixed (codes "un
 step_are (step.Plug port disk) h =
     more (fixed (codes "plug") refl) (more (number port.0 (omega (arith, h.0))) (more (number disk.0 (omega (arith, h.1))) none))
 
-line_are : (line : Call DeviceStep) → IsLine line → AreWords (line_words line)
+line_are : (line : Call DeviceStep) → HasLine line → AreWords (line_words line)
 line_are (Submit r) h = more (op_is r.op) (request_are r.op r h.1)
 line_are (ClientStore client frame offset bytes) h =
     more (fixed (codes "store") refl) (more (number client.0 (omega (arith, h.0))) (more (number frame.0 (omega (arith, h.1)))
@@ -188,11 +188,11 @@ parted (w ∷ words) l h = slice_split-join 32 w words
     (λ k d l. Lacks-below 33 128 32 (get_or (w ∷ words) k d) (omega arith) (all_within (w ∷ words) h k d l))
 
 -- parting a line's text gives its words back
-pub parted_line : (line : Call DeviceStep) (text : List ℕ) → IsLine line → line_text line ≡ text → slice_split (λ b. b == 32) text ≡ line_words line
+pub parted_line : (line : Call DeviceStep) (text : List ℕ) → HasLine line → line_text line ≡ text → slice_split (λ b. b == 32) text ≡ line_words line
 parted_line line text h e = ap (slice_split (λ b. b == 32)) (sym e) ∙ parted (line_words line) (some_words line) (line_are line h)
 
 -- a line's words are UTF-8
-pub word_is_utf8 : (line : Call DeviceStep) (k : ℕ) → IsLine line → k < length (line_words line) → IsUtf8 (get_or (line_words line) k [])
+pub word_is_utf8 : (line : Call DeviceStep) (k : ℕ) → HasLine line → k < length (line_words line) → IsUtf8 (get_or (line_words line) k [])
 word_is_utf8 line k h below = IsUtf8-from_Within 33 (get_or (line_words line) k []) (all_within (line_words line) (line_are line h) k [] below)
 
 pub fatal_is_utf8 : (error : FatalError) → IsUtf8 (fatal_word error)
@@ -203,6 +203,6 @@ page_is_utf8 page = IsUtf8-from_Within 33 (page_word page) (page_is page).within
 
 -- what spells the words spells the text that they make
 pub spelled : (found : Option (Unit {0})) (line : Call DeviceStep) (words : List Word) (text : List ℕ) → join_with_byte 32 words ≡ text
-    → OnSome found (IsLine line × (line_words line ≡ words)) → OnSome found (IsLine line × (line_text line ≡ text))
+    → OnSome found (HasLine line × (line_words line ≡ words)) → OnSome found (HasLine line × (line_text line ≡ text))
 spelled None line words text e h = h
 spelled (Some x) line words text e h = (h.0, ap (join_with_byte 32) h.1 ∙ e)

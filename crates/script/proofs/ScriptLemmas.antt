@@ -7,14 +7,9 @@ use Rattle.std.specs.List.{position, position_or_len}
 use borrow.Author.Tests.{ltb-true, ltb-false}
 use Rattle.std.proofs.lemmas.List.Splits.{slice_split_first, slice_split_none}
 use Rattle.std.proofs.lemmas.List.Sums.{fails_before_first}
-use Rattle.script.specs.Script.{Asks, AskInTurn, IsFirstLine, done, nothing, one, IsBad, lines_after, lines_of}
+use Rattle.script.specs.Script.{Asks, AskInTurn, IsFirstLine, SplitsAt, asked_lines, done, nothing, one, IsBad, lines_after, lines_of}
 use Rattle.adapter.specs.declared.access.DeviceStep.{DeviceStep}
 use Rattle.ata_types.specs.declared.call.Call.{Call}
-
--- what one text asks, as a list
-abbrev pub asked_lines : Option (Call DeviceStep) → List (Call DeviceStep)
-asked_lines None = []
-asked_lines (Some line) = line ∷ []
 
 -- lines after lines
 pub ask_more : (texts more : List (List ℕ)) (lines rest : List (Call DeviceStep)) → AskInTurn texts lines → AskInTurn more rest → AskInTurn (texts ++ more) (lines ++ rest)
@@ -28,19 +23,25 @@ pub ask_one : (text : List ℕ) (asked : Option (Call DeviceStep)) → Asks text
 ask_one text None asks = nothing asks done
 ask_one text (Some line) asks = one asks done
 
--- what a text that stands among others asks, and what those after it do
-pub record AskFrom (text : List ℕ) (after : List (List ℕ)) : Type 0 where
-  pub asked : Option (Call DeviceStep)
-  pub asks : Asks text asked
-  pub rest : List (Call DeviceStep)
-  pub others : AskInTurn after rest
-
+-- a text that stands among others
 pub ask_from : (before : List (List ℕ)) (text : List ℕ) (after : List (List ℕ)) (lines : List (Call DeviceStep)) → AskInTurn (before ++ text ∷ after) lines
-    → AskFrom text after
-ask_from [] text after lines (nothing asks others) = record { asked = None; asks = asks; rest = lines; others = others }
-ask_from [] text after (line ∷ lines) (one asks others) = record { asked = Some line; asks = asks; rest = lines; others = others }
-ask_from (t ∷ before) text after lines (nothing asks others) = ask_from before text after lines others
-ask_from (t ∷ before) text after (line ∷ lines) (one asks others) = ask_from before text after lines others
+    → SplitsAt before text after lines
+ask_from [] text after lines (nothing asks others) = record { earlier = []; first = done; asked = None; asks = asks; rest = lines; others = others; lines_are = refl }
+ask_from [] text after (line ∷ lines) (one asks others) = record { earlier = []; first = done; asked = Some line; asks = asks; rest = lines; others = others; lines_are = refl }
+ask_from (t ∷ before) text after lines (nothing asks others) =
+    let s = ask_from before text after lines others in
+    record { earlier = s.earlier; first = nothing asks s.first; asked = s.asked; asks = s.asks; rest = s.rest; others = s.others; lines_are = s.lines_are }
+ask_from (t ∷ before) text after (line ∷ lines) (one asks others) =
+    let s = ask_from before text after lines others in
+    record {
+      earlier = line ∷ s.earlier;
+      first = one asks s.first;
+      asked = s.asked;
+      asks = s.asks;
+      rest = s.rest;
+      others = s.others;
+      lines_are = ap (λ (more : List (Call DeviceStep)). line ∷ more) s.lines_are;
+    }
 
 -- a text that asks something or nothing isn't bad
 pub not_bad : (text : List ℕ) (asked : Option (Call DeviceStep)) → Asks text asked → IsBad text → ⊥

@@ -16,7 +16,7 @@ use Rattle.ata_types.specs.declared.request.Op.{Op}
 use Rattle.ata_types.specs.declared.request.Op.TheVariants.{Read, Write, Trim, Flush}
 use Rattle.ata_types.specs.declared.call.Call.{Call}
 use Rattle.ata_types.specs.declared.call.Call.TheVariants.{Submit, ClientStore, ClientLoad, Service, Tick, Reset, Revoke, State, Device}
-use Rattle.script.specs.Line.{IsLine, IsStep, line_words, op_word, page_word, step_words}
+use Rattle.script.specs.Line.{HasLine, StepInRange, line_words, op_word, page_word, step_words}
 use Rattle.script.specs.Fields.{Word}
 
 pub record IsLie (s : DeviceStep) (port page offset bits : Word) : Type 0 where
@@ -34,7 +34,7 @@ pub record IsLie (s : DeviceStep) (port page offset bits : Word) : Type 0 where
   pub step_is : s ≡ step.Lie on of at turned
 
 -- what follows `lie` is its fields; the first letters part it from the other steps
-pub as_lie : (s : DeviceStep) (port page offset bits : Word) → IsStep s
+pub as_lie : (s : DeviceStep) (port page offset bits : Word) → StepInRange s
     → step_words s ≡ codes "lie" ∷ port ∷ page ∷ offset ∷ bits ∷ [] → IsLie s port page offset bits
 as_lie (step.Lie p q o b) port page offset bits h e = record {
   on = p;
@@ -97,7 +97,7 @@ pub record IsStore (line : Call DeviceStep) (client frame offset bytes : Word) :
   pub line_is : line ≡ ClientStore by in_frame at put
 
 -- what follows `store` is its fields; the number of words or the first word parts it from the other lines
-pub as_store : (line : Call DeviceStep) (client frame offset bytes : Word) → IsLine line
+pub as_store : (line : Call DeviceStep) (client frame offset bytes : Word) → HasLine line
     → line_words line ≡ codes "store" ∷ client ∷ frame ∷ offset ∷ bytes ∷ [] → IsStore line client frame offset bytes
 as_store (ClientStore c f o b) client frame offset bytes h e = record {
   by = c;
@@ -142,7 +142,7 @@ pub record IsLoad (line : Call DeviceStep) (client frame offset count : Word) : 
   pub line_is : line ≡ ClientLoad by in_frame at many
 
 -- and so for `load`
-pub as_load : (line : Call DeviceStep) (client frame offset count : Word) → IsLine line
+pub as_load : (line : Call DeviceStep) (client frame offset count : Word) → HasLine line
     → line_words line ≡ codes "load" ∷ client ∷ frame ∷ offset ∷ count ∷ [] → IsLoad line client frame offset count
 as_load (ClientLoad c f o n) client frame offset count h e = record {
   by = c;

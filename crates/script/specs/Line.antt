@@ -84,11 +84,11 @@ line_text call = join_with_byte 32 (line_words call)
 
 -- the request asks for nothing that a line of its operation has no word for: of a trim there are no frames, and of a
 -- flush no sectors either
-abbrev pub IsSpelled : Op → Request → Type 0
-IsSpelled Read r = Unit {0}
-IsSpelled Write r = Unit {0}
-IsSpelled Trim r = r.frames.items ≡ []
-IsSpelled Flush r = (r.first.0 ≡ 0) × (r.count ≡ 0) × (r.frames.items ≡ [])
+abbrev pub IsSpellable : Op → Request → Type 0
+IsSpellable Read r = Unit {0}
+IsSpellable Write r = Unit {0}
+IsSpellable Trim r = r.frames.items ≡ []
+IsSpellable Flush r = (r.first.0 ≡ 0) × (r.count ≡ 0) × (r.frames.items ≡ [])
 
 -- the request's numbers are in their ranges
 pub record IsRequest (r : Request) : Type 0 where
@@ -104,53 +104,53 @@ abbrev pub IsPlace : Port → Slot → Type 0
 IsPlace port slot = (port.0 < 4) × (slot.0 < 32)
 
 -- the step's numbers are in their ranges
-abbrev pub IsStep : DeviceStep → Type 0
-IsStep (step.Fetch port slot) = IsPlace port slot
-IsStep (step.Move port slot) = IsPlace port slot
-IsStep (step.Clear port slot count) = (port.0 < 4) × (slot.0 < 32) × (count < 2 ^ 32)
-IsStep (step.Done port slot) = IsPlace port slot
-IsStep (step.Finish port slot) = IsPlace port slot
-IsStep (step.Fault port slot error) = (port.0 < 4) × (slot.0 < 32) × (error < 256)
-IsStep (step.FaultBusy port slot error) = (port.0 < 4) × (slot.0 < 32) × (error < 256)
-IsStep (step.Fatal port error) = port.0 < 4
-IsStep (step.Scribble port byte) = (port.0 < 4) × (byte < 256)
-IsStep (step.Lie port page offset bits) = (port.0 < 4) × (offset < 512) × (bits < 256)
-IsStep (step.Truth port) = port.0 < 4
-IsStep (step.Hold port) = port.0 < 4
-IsStep (step.Release port) = port.0 < 4
-IsStep (step.Unplug port) = port.0 < 4
-IsStep (step.Plug port disk) = (port.0 < 4) × (disk.0 < 2)
-IsStep (step.LosePlug port) = port.0 < 4
+abbrev pub StepInRange : DeviceStep → Type 0
+StepInRange (step.Fetch port slot) = IsPlace port slot
+StepInRange (step.Move port slot) = IsPlace port slot
+StepInRange (step.Clear port slot count) = (port.0 < 4) × (slot.0 < 32) × (count < 2 ^ 32)
+StepInRange (step.Done port slot) = IsPlace port slot
+StepInRange (step.Finish port slot) = IsPlace port slot
+StepInRange (step.Fault port slot error) = (port.0 < 4) × (slot.0 < 32) × (error < 256)
+StepInRange (step.FaultBusy port slot error) = (port.0 < 4) × (slot.0 < 32) × (error < 256)
+StepInRange (step.Fatal port error) = port.0 < 4
+StepInRange (step.Scribble port byte) = (port.0 < 4) × (byte < 256)
+StepInRange (step.Lie port page offset bits) = (port.0 < 4) × (offset < 512) × (bits < 256)
+StepInRange (step.Truth port) = port.0 < 4
+StepInRange (step.Hold port) = port.0 < 4
+StepInRange (step.Release port) = port.0 < 4
+StepInRange (step.Unplug port) = port.0 < 4
+StepInRange (step.Plug port disk) = (port.0 < 4) × (disk.0 < 2)
+StepInRange (step.LosePlug port) = port.0 < 4
 
 -- the value has a line
-abbrev pub IsLine : Call DeviceStep → Type 0
-IsLine (Submit request) = IsSpelled request.op request × IsRequest request
-IsLine (ClientStore client frame offset bytes) = (client.0 < 256) × (frame.0 < 65536) × (offset < 2 ^ 32)
+abbrev pub HasLine : Call DeviceStep → Type 0
+HasLine (Submit request) = IsSpellable request.op request × IsRequest request
+HasLine (ClientStore client frame offset bytes) = (client.0 < 256) × (frame.0 < 65536) × (offset < 2 ^ 32)
     × All (λ b. b < 256) bytes.items × (1 ≤ length bytes.items) × (length bytes.items ≤ MOST_CALL_BYTES)
-IsLine (ClientLoad client frame offset count) = (client.0 < 256) × (frame.0 < 65536) × (offset < 2 ^ 32) × (1 ≤ count)
+HasLine (ClientLoad client frame offset count) = (client.0 < 256) × (frame.0 < 65536) × (offset < 2 ^ 32) × (1 ≤ count)
     × (count ≤ MOST_CALL_BYTES)
-IsLine Service = Unit {0}
-IsLine Tick = Unit {0}
-IsLine Reset = Unit {0}
-IsLine (Revoke client grant) = (client.0 < 256) × (grant < 256)
-IsLine (State port) = port.0 < 4
-IsLine (Device asked) = IsStep asked
+HasLine Service = Unit {0}
+HasLine Tick = Unit {0}
+HasLine Reset = Unit {0}
+HasLine (Revoke client grant) = (client.0 < 256) × (grant < 256)
+HasLine (State port) = port.0 < 4
+HasLine (Device asked) = StepInRange asked
 
 -- ---- what is read from words
 
 -- if a step is found, these are its words
 abbrev pub ReadsAsStep : List Word → Option DeviceStep → Type 0
-ReadsAsStep words found = IfSome found (λ s. IsStep s × (step_words s ≡ words))
+ReadsAsStep words found = IfSome found (λ s. StepInRange s × (step_words s ≡ words))
 
 -- the step whose words these are is found
 abbrev pub ReadsEachStep : List Word → Option DeviceStep → Type 0
-ReadsEachStep words found = (s : DeviceStep) → IsStep s → step_words s ≡ words → found ≡ Some s
+ReadsEachStep words found = (s : DeviceStep) → StepInRange s → step_words s ≡ words → found ≡ Some s
 
 -- if a call is found, which then stands in the place, these are its line's words
 abbrev pub ReadsAsLine : List Word → Option ⊤ → Call DeviceStep → Type 0
-ReadsAsLine words found call = OnSome found (IsLine call × (line_words call ≡ words))
+ReadsAsLine words found call = OnSome found (HasLine call × (line_words call ≡ words))
 
 -- the call whose line has these words is found
 abbrev pub ReadsEachLine : List Word → Option ⊤ → Call DeviceStep → Type 0
-ReadsEachLine words found call = (c : Call DeviceStep) → IsLine c → line_words c ≡ words
+ReadsEachLine words found call = (c : Call DeviceStep) → HasLine c → line_words c ≡ words
     → (found ≡ Some tt) × (call ≡ c)

@@ -4,7 +4,7 @@ use Rattle.std.specs.Borrow.{Bor}
 use Rattle.std.specs.List.{slice_split}
 use Rattle.adapter.specs.declared.access.DeviceStep.{DeviceStep}
 use Rattle.ata_types.specs.declared.call.Call.{Call}
-use Rattle.script.specs.Line.{IsLine, line_text}
+use Rattle.script.specs.Line.{HasLine, line_text}
 
 -- what stands between line feeds; bytes after the last one are a line too
 abbrev pub lines_of : List ℕ → List (List ℕ)
@@ -27,7 +27,7 @@ AsksNothing (b ∷ rest) = b ≡ 35
 -- the line's text asks this, or nothing
 abbrev pub Asks : List ℕ → Option (Call DeviceStep) → Type 0
 Asks text None = AsksNothing text
-Asks text (Some line) = IsLine line × (line_text line ≡ text)
+Asks text (Some line) = HasLine line × (line_text line ≡ text)
 
 -- the line that is asked, if one is
 abbrev pub asked_of : Bool → Call DeviceStep → Option (Call DeviceStep)
@@ -47,7 +47,34 @@ IsScript text lines = AskInTurn (lines_of text) lines
 
 -- the text of a line that neither asks nothing nor is spelled as a line
 abbrev pub IsBad : List ℕ → Type 0
-IsBad text = (AsksNothing text → ⊥) × ((l : Call DeviceStep) → IsLine l → line_text l ≡ text → ⊥)
+IsBad text = (AsksNothing text → ⊥) × ((l : Call DeviceStep) → HasLine l → line_text l ≡ text → ⊥)
+
+-- what one text asks, as a list
+abbrev pub asked_lines : Option (Call DeviceStep) → List (Call DeviceStep)
+asked_lines None = []
+asked_lines (Some line) = line ∷ []
+
+-- A text stands among others: the lines are what those before it ask, what it asks itself, and what those after it do.
+pub record SplitsAt (before : List (List ℕ)) (text : List ℕ) (after : List (List ℕ)) (lines : List (Call DeviceStep))
+    : Type 0 where
+  pub earlier : List (Call DeviceStep)
+  pub first : AskInTurn before earlier
+  pub asked : Option (Call DeviceStep)
+  pub asks : Asks text asked
+  pub rest : List (Call DeviceStep)
+  pub others : AskInTurn after rest
+  pub lines_are : lines ≡ earlier ++ (asked_lines asked ++ rest)
+
+-- What laws say of a script's lines: lines after lines, one line, a line among others; and one that asks something or
+-- nothing isn't bad.
+pub record LineLaws : Type 0 where
+  pub joined : (texts more : List (List ℕ)) (lines rest : List (Call DeviceStep)) → AskInTurn texts lines
+      → AskInTurn more rest → AskInTurn (texts ++ more) (lines ++ rest)
+  pub single : (text : List ℕ) (asked : Option (Call DeviceStep)) → Asks text asked
+      → AskInTurn (text ∷ []) (asked_lines asked)
+  pub parted : (before : List (List ℕ)) (text : List ℕ) (after : List (List ℕ)) (lines : List (Call DeviceStep))
+      → AskInTurn (before ++ text ∷ after) lines → SplitsAt before text after lines
+  pub good : (text : List ℕ) (asked : Option (Call DeviceStep)) → Asks text asked → IsBad text → ⊥
 
 -- the line with this number, of which the first is 1, is bad, and the lines before it ask something or nothing
 pub record IsFirstBad (text : List ℕ) (number : ℕ) : Type 0 where

@@ -285,7 +285,16 @@ impl Answer<'_> {
             Answer::Quiet => out.write_all(b"quiet\n"),
             Answer::Stepped(true) => out.write_all(b"did\n"),
             Answer::State(PortState::Ready) => out.write_all(b"state Ready\n"),
-            _ => writeln!(out, "{self}"),
+            _ => self.print_formatted(out),
         }
+    }
+
+    /// Prints any line so by a formatter. It is entered for the others alone, since its frame has room for what they
+    /// write, which is cleared at each entry.
+    #[inline(never)]
+    fn print_formatted<W: io::Write>(&self, out: &mut W) -> io::Result<()>
+        ensures { OnOk result (Appends (W.contents out.old) (W.contents out.new) (answer_line self.now)) }
+    {
+        writeln!(out, "{self}")
     }
 }

@@ -7,10 +7,11 @@
 mod answer;
 mod call_buffer;
 mod fields;
+pub mod laws;
 mod line;
 mod script;
 
 pub use answer::Answer;
 pub use call_buffer::CallBuffer;
 pub use line::parse_line;
-pub use script::{BadLine, Misspelled, check_script, first_line, read_asked};
+pub use script::{BadLine, Misspelled, check_script, first_line, parse_script_line};

@@ -1,7 +1,7 @@
 // One line of a script: the call that it asks for.
 ghost use Rattle.std.specs.Prelude.{◌≡◌, ◌<◌, ◌≤◌, ◌==◌, ◌↔◌, IsTrue, ◌++◌, ◌∷◌, [], codes, Some, None, IfSome, OnSome, length, map};
 ghost use Rattle.std.specs.List.{slice_split};
-ghost use Rattle.script.specs.Line.{IsLine, IsRequest, IsSpelled, ReadsAsLine, ReadsAsStep, ReadsEachLine, ReadsEachStep, line_text, op_word, request_words, transfer_words};
+ghost use Rattle.script.specs.Line.{HasLine, IsRequest, IsSpellable, ReadsAsLine, ReadsAsStep, ReadsEachLine, ReadsEachStep, line_text, op_word, request_words, transfer_words};
 ghost use Rattle.ata_types.specs.declared.call.Call.{Call};
 ghost use Rattle.ata_types.specs.declared.call.Call.TheVariants.{Device, Submit};
 ghost use Rattle.ata_types.specs.declared.request.Op.{Op};
@@ -353,14 +353,16 @@ fn of_device(words: &[&[u8]], call: &mut Call<DeviceStep>) -> Option<()>
     Some(())
 }
 
-/// A line that is one word.
+/// A line that is one word. Where the call is a service already, none is written over it.
 #[inline(never)]
 fn of_word(name: &[u8], call: &mut Call<DeviceStep>) -> Option<()>
     ensures found { ReadsAsLine (name.now ∷ []) result call.new }
     ensures only { ReadsEachLine (name.now ∷ []) result call.new }
 {
     if is(name, "service") {
-        *call = Call::Service;
+        if !matches!(call, Call::Service) {
+            *call = Call::Service;
+        }
         return Some(());
     }
     if is(name, "tick") {
@@ -392,7 +394,7 @@ fn make_request(call: &mut Call<DeviceStep>)
 /// A read or a write, from the words after its own. A request that is in the place already keeps its room for frames.
 #[inline(never)]
 fn of_transfer(op: Op, words: &[&[u8]], call: &mut Call<DeviceStep>) -> Option<()>
-    requires { (r : Request) → IsSpelled op r × (request_words op r ≡ transfer_words r) }
+    requires { (r : Request) → IsSpellable op r × (request_words op r ≡ transfer_words r) }
     ensures found { ReadsAsLine (op_word op ∷ map (λ w. w.now) words.now) result call.new }
     ensures only { ReadsEachLine (op_word op ∷ map (λ w. w.now) words.now) result call.new }
 {
@@ -480,17 +482,14 @@ fn of_state(words: &[&[u8]], call: &mut Call<DeviceStep>) -> Option<()>
     }
 }
 
-/// Reads what the first word of a line of more words asks, and those after it, in place of a call. It is no read and no
-/// write.
+/// Reads what the first word of a line of more words asks, and those after it, in place of a call. It is no read, no
+/// write and no step of the device.
 fn asked_else(name: &[u8], words: &[&[u8]], call: &mut Call<DeviceStep>) -> Option<()>
-    requires name { (name.now ≡ codes "read" → ⊥) × (name.now ≡ codes "write" → ⊥) }
+    requires name { (name.now ≡ codes "read" → ⊥) × (name.now ≡ codes "write" → ⊥) × (name.now ≡ codes "dev" → ⊥) }
     requires more { 1 ≤ length words.now }
     ensures found { ReadsAsLine (name.now ∷ map (λ w. w.now) words.now) result call.new }
     ensures only { ReadsEachLine (name.now ∷ map (λ w. w.now) words.now) result call.new }
 {
-    if is(name, "dev") {
-        return of_device(words, call);
-    }
     if is(name, "trim") {
         return of_trim(words, call);
     }
@@ -519,6 +518,7 @@ fn asked(name: &[u8], words: &[&[u8]], call: &mut CallBuffer) -> Option<()>
     ensures only { ReadsEachLine (name.now ∷ map (λ w. w.now) words.now) result call.new }
 {
     call.is_transfer = false;
+    call.is_step = false;
     if words.is_empty() {
         return of_word(name, &mut call.other);
     }
@@ -530,6 +530,10 @@ fn asked(name: &[u8], words: &[&[u8]], call: &mut CallBuffer) -> Option<()>
         call.is_transfer = true;
         return of_transfer(Op::Write, words, &mut call.transfer);
     }
+    if is(name, "dev") {
+        call.is_step = true;
+        return of_device(words, &mut call.step);
+    }
     asked_else(name, words, &mut call.other)
 }
 
@@ -537,8 +541,8 @@ fn asked(name: &[u8], words: &[&[u8]], call: &mut CallBuffer) -> Option<()>
 /// the place then is any call.
 #[inline(never)]
 pub fn parse_line_into(text: &[u8], call: &mut CallBuffer) -> Option<()>
-    ensures found { OnSome result (IsLine call.new × (line_text call.new ≡ text.now)) }
-    ensures only { (c : Call DeviceStep) → IsLine c → line_text c ≡ text.now → (result ≡ Some tt) × (call.new ≡ c) }
+    ensures found { OnSome result (HasLine call.new × (line_text call.new ≡ text.now)) }
+    ensures only { (c : Call DeviceStep) → HasLine c → line_text c ≡ text.now → (result ≡ Some tt) × (call.new ≡ c) }
 {
     let mut words = ArrayVec::new();
     part(text, &mut words)?;
@@ -548,8 +552,8 @@ pub fn parse_line_into(text: &[u8], call: &mut CallBuffer) -> Option<()>
 
 /// Reads the call that a line asks for, without its line feed. `None` says that no line is spelled so.
 pub fn parse_line(text: &[u8]) -> Option<Call<DeviceStep>>
-    ensures found { IfSome result (λ call. IsLine call × (line_text call ≡ text.now)) }
-    ensures only { (c : Call DeviceStep) → IsLine c → line_text c ≡ text.now → result ≡ Some c }
+    ensures found { IfSome result (λ call. HasLine call × (line_text call ≡ text.now)) }
+    ensures only { (c : Call DeviceStep) → HasLine c → line_text c ≡ text.now → result ≡ Some c }
 {
     let mut call = CallBuffer::new();
     parse_line_into(text, &mut call)?;

@@ -29,7 +29,7 @@ fn asks_nothing(text: &[u8]) -> bool
 /// Reads the call that a line of a script asks for, without its line feed, and says whether it asks for any: an empty
 /// line does not, nor one that begins with `#`. What stands in the place is any call then, and so it is where the line
 /// is bad.
-pub fn read_asked(text: &[u8], call: &mut CallBuffer) -> Result<bool, Misspelled>
+pub fn parse_script_line(text: &[u8], call: &mut CallBuffer) -> Result<bool, Misspelled>
     ensures ok { IfOk result (λ some. Asks text.now (asked_of some call.new)) }
     ensures bad { OnErr result (IsBad text.now) }
 {
@@ -44,7 +44,7 @@ pub fn read_asked(text: &[u8], call: &mut CallBuffer) -> Result<bool, Misspelled
 
 /// Looks at the lines of a script: what stands between its line feeds, and what stands after the last one. The fault
 /// tells the first bad line; lines that ask nothing are counted, too. It takes no memory, and keeps no line:
-/// `read_asked` reads each again.
+/// `parse_script_line` reads each again.
 pub fn check_script(text: &[u8]) -> Result<(), BadLine>
     ensures ok { OnOk result ((calls : List (Call DeviceStep)) × IsScript text.now calls) }
     ensures bad { IfErr result (λ bad. IsFirstBad text.now bad.0) }
@@ -55,7 +55,7 @@ pub fn check_script(text: &[u8]) -> Result<(), BadLine>
     while let Some(left) = rest {
         let (line, after) = first_line(left);
         number += 1;
-        match read_asked(line, &mut asked) {
+        match parse_script_line(line, &mut asked) {
             Ok(_some) => {}
             Err(_misspelled) => return Err(BadLine(number)),
         }

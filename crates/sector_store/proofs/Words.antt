@@ -3,7 +3,7 @@ use Rattle.std.proofs.Common.{ℕ, ◌≡◌, ◌≢◌, ◌<◌, ◌≤◌, inl
 use Rattle.std.proofs.lemmas.List.{get_or-replicate, length-set}
 use Rattle.std.proofs.lemmas.List.Sums.{sum_by-set}
 use Rattle.std.specs.Prelude.{slice_set}
-use Rattle.sector_store.specs.Pages.{IsLogPage, IsPage, IsWord, error_logged, status_logged, tag_logged, word_text}
+use Rattle.sector_store.specs.Pages.{IsLogPage, IsIdentifyPage, IsWord, error_logged, status_logged, tag_logged, identify_word}
 use Rattle.sector_store.specs.declared.pages.Abilities.{Abilities}
 use Rattle.sector_store.specs.declared.pages.LoggedError.{LoggedError}
 
@@ -11,7 +11,7 @@ use Rattle.sector_store.specs.declared.pages.LoggedError.{LoggedError}
 abbrev pub with_word : List ℕ → ℕ → ℕ → List ℕ
 with_word page n w = slice_set (slice_set page (2 * n) (w % 256)) (2 * n + 1) (w / 256)
 
-pub word_written : (page : List ℕ) (n w : ℕ) → 2 * n + 1 < length page → word_text (with_word page n w) n ≡ w
+pub word_written : (page : List ℕ) (n w : ℕ) → 2 * n + 1 < length page → identify_word (with_word page n w) n ≡ w
 word_written page n w small =
     let low = get_or-set_other (slice_set page (2 * n) (w % 256)) (2 * n + 1) (2 * n) (w / 256) 0 (λ e. absurd (omega (arith, e))) in
     let first = get_or-set_same page (2 * n) (w % 256) 0 (omega (arith, small)) in
@@ -24,7 +24,7 @@ byte_stays : (page : List ℕ) (n w k : ℕ) → k ≢ 2 * n → k ≢ 2 * n + 1
 byte_stays page n w k low high =
     get_or-set_other (slice_set page (2 * n) (w % 256)) (2 * n + 1) k (w / 256) 0 high ∙ get_or-set_other page (2 * n) k (w % 256) 0 low
 
-pub word_stays : (page : List ℕ) (n w k : ℕ) → k < n → word_text (with_word page n w) k ≡ word_text page k
+pub word_stays : (page : List ℕ) (n w k : ℕ) → k < n → identify_word (with_word page n w) k ≡ identify_word page k
 word_stays page n w k less =
     let low = byte_stays page n w (2 * k) (λ e. absurd (omega (arith, e, less))) (λ e. absurd (omega (arith, e, less))) in
     let high = byte_stays page n w (2 * k + 1) (λ e. absurd (omega (arith, e, less))) (λ e. absurd (omega (arith, e, less))) in
@@ -59,7 +59,7 @@ sum_set : (xs : List ℕ) (p v : ℕ) → p < length xs → sum (slice_set xs p 
 sum_set xs p v small = sum_by-set (λ (n : ℕ). n) xs p v 0 small
 
 module _ (serial : List ℕ) (sectors : ℕ) (a : Abilities) (page : List ℕ) (size : length page ≡ 512) (last : slice_index page 511 ≡ 0)
-    (words : (number : ℕ) → number < 255 → IsWord serial sectors a number (word_text page number)) where
+    (words : (number : ℕ) → number < 255 → IsWord serial sectors a number (identify_word page number)) where
   abbrev signed_page : List ℕ
   signed_page = slice_set page 510 0xa5
 
@@ -67,7 +67,7 @@ module _ (serial : List ℕ) (sectors : ℕ) (a : Abilities) (page : List ℕ) (
   at_sign k other = get_or-set_other page 510 k 0xa5 0 other
 
   -- the page is done with a last byte that makes its sum 0
-  pub page_is : (byte : ℕ) → (byte + sum signed_page) % 256 ≡ 0 → IsPage serial sectors a (slice_set signed_page 511 byte)
+  pub page_is : (byte : ℕ) → (byte + sum signed_page) % 256 ≡ 0 → IsIdentifyPage serial sectors a (slice_set signed_page 511 byte)
   page_is byte zero_sum =
       let kept : length signed_page ≡ 512 = length-set page 510 0xa5 ∙ size in
       let same : (k : ℕ) → k < 510 → slice_index (slice_set signed_page 511 byte) k ≡ slice_index page k =
@@ -78,7 +78,7 @@ module _ (serial : List ℕ) (sectors : ℕ) (a : Abilities) (page : List ℕ) (
         words = λ number less.
             let low = same (2 * number) (omega (arith, less)) in
             let high = same (2 * number + 1) (omega (arith, less)) in
-            let is : word_text page number ≡ word_text (slice_set signed_page 511 byte) number = omega (arith, low, high) in
+            let is : identify_word page number ≡ identify_word (slice_set signed_page 511 byte) number = omega (arith, low, high) in
             subst (λ w. IsWord serial sectors a number w) is (words number less);
         signed = get_or-set_other signed_page 511 510 byte 0 (λ e. absurd (omega (arith, e))) ∙ get_or-set_same page 510 0xa5 0 (omega (arith, size));
         checked =

@@ -10,9 +10,9 @@ sector_count_of (File file) = file.sectors
 sector_count_of (Memory memory) = length memory.sectors.items
 
 -- the sectors in memory; a file tells none
-abbrev pub told_of : DiskStore → Option (ℕ → List ℕ)
-told_of (File file) = None
-told_of (Memory memory) = Some (λ sector. slice_index_or memory.sectors.items sector [])
+abbrev pub contents_of : DiskStore → Option (ℕ → List ℕ)
+contents_of (File file) = None
+contents_of (Memory memory) = Some (λ sector. slice_index_or memory.sectors.items sector [])
 
 -- how many calls failed on sectors that are there, and the last of these; in memory none does
 abbrev pub failures_of : DiskStore → Option Failures

@@ -6,8 +6,8 @@ use Rattle.sector_store.specs.declared.pages.LoggedError.{LoggedError}
 use Rattle.sector_store.specs.declared.pages.Trim.{Trim}
 use Rattle.sector_store.specs.declared.pages.Trim.TheVariants.{Full, Weak, Without}
 
-abbrev pub word_text : List ℕ → ℕ → ℕ
-word_text page number = slice_index page (2 * number) + 2 ^ 8 * slice_index page (2 * number + 1)
+abbrev pub identify_word : List ℕ → ℕ → ℕ
+identify_word page number = slice_index page (2 * number) + 2 ^ 8 * slice_index page (2 * number + 1)
 
 -- a character of a text that is filled with spaces
 abbrev pub character : List ℕ → ℕ → ℕ
@@ -43,9 +43,9 @@ pub record IsWord (serial : List ℕ) (sectors : ℕ) (a : Abilities) (number w 
 
 -- The page of a disk with this serial number, so many sectors and these abilities. The low byte of word 255 is A5h, and
 -- all bytes sum to 0 modulo 256.
-pub record IsPage (serial : List ℕ) (sectors : ℕ) (a : Abilities) (page : List ℕ) : Type 0 where
+pub record IsIdentifyPage (serial : List ℕ) (sectors : ℕ) (a : Abilities) (page : List ℕ) : Type 0 where
   pub size : length page ≡ 512
-  pub words : (number : ℕ) → number < 255 → IsWord serial sectors a number (word_text page number)
+  pub words : (number : ℕ) → number < 255 → IsWord serial sectors a number (identify_word page number)
   pub signed : slice_index page 510 ≡ 0xa5
   pub checked : sum page % 2 ^ 8 ≡ 0
 

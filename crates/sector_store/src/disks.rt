@@ -1,7 +1,7 @@
 // A disk over a file or in memory.
 ghost use Rattle.std.specs.Prelude.{◌≡◌};
 ghost use Rattle.sector_store.specs.declared.disks.DiskStore.TheVariants.{File, Memory};
-ghost use Rattle.sector_store.specs.Disks.{failures_of, sector_count_of, told_of};
+ghost use Rattle.sector_store.specs.Disks.{failures_of, sector_count_of, contents_of};
 
 use crate::{FileStore, MemStore, SectorStore};
 
@@ -15,7 +15,7 @@ pub enum DiskStore {
 impl SectorStore for DiskStore {
     ghost size = { sector_count_of };
 
-    ghost told = { told_of };
+    ghost told = { contents_of };
 
     ghost failures = { failures_of };
 
@@ -37,6 +37,7 @@ impl SectorStore for DiskStore {
         }
     }
 
+    #[inline(always)]
     fn read_ahead(&mut self, sector: u64, ahead: u32, out: &mut [u8; 512]) -> bool {
         match self {
             DiskStore::File(file) => file.read_ahead(sector, ahead, out),

@@ -117,6 +117,7 @@ impl SectorStore for FileStore {
 
     /// Where it isn't the next one of those that were fetched, it and those behind it are fetched by one call of the
     /// system.
+    #[inline(always)]
     fn read_ahead(&mut self, sector: u64, ahead: u32, out: &mut [u8; 512]) -> bool {
         if self.file.take(sector, out) {
             return true;

@@ -1,6 +1,6 @@
 // The pages by which a disk says what it is, and which queued command failed.
 ghost use Rattle.std.specs.Prelude.{◌≡◌, ◌<◌, ◌≤◌, ◌%◌, All, length, sum};
-ghost use Rattle.sector_store.specs.Pages.{IsLogPage, IsPage, IsWord, character, error_logged, status_logged, tag_logged, trim_function, trim_support};
+ghost use Rattle.sector_store.specs.Pages.{IsLogPage, IsIdentifyPage, IsWord, character, error_logged, status_logged, tag_logged, trim_function, trim_support};
 ghost use Rattle.sector_store.specs.Stores.{IsStoredSector};
 
 /// What a disk says of DATA SET MANAGEMENT with TRIM.
@@ -117,7 +117,7 @@ fn sum_of(page: &[u8]) -> u8
 /// (ACS-3, 7.12.7; which words it fills is this project's own). The serial number is filled with spaces.
 pub fn identify_page(serial: &[u8], sectors: u64, abilities: Abilities) -> [u8; 512]
     requires { length serial.now ≤ 20 }
-    ensures page { IsPage serial.now sectors abilities result }
+    ensures page { IsIdentifyPage serial.now sectors abilities result }
     ensures bytes { IsStoredSector result }
 {
     let mut page = [0; 512];

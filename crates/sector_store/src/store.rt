@@ -3,6 +3,7 @@ ghost use Rattle.std.specs.Prelude.{◌≡◌, ◌<◌, ◌^◌, ℕ, List, Opti
 ghost use Rattle.sector_store.specs.Stores.{AreSectors, FailsOn, HoldSectors, ReadsSector, WritesSector};
 ghost use Rattle.sector_store.specs.declared.store.Failures.{Failures};
 
+use crate::sector_file::copy;
 use std::alloc::{AllocError, Global};
 
 /// What a store tells of its calls that failed on sectors that are there.
@@ -96,7 +97,7 @@ impl SectorStore for MemStore {
         if sector >= self.sectors.len() as u64 {
             return false;
         }
-        *out = self.sectors[sector as usize];
+        copy(&self.sectors[sector as usize], out);
         true
     }
 

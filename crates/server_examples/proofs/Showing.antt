@@ -25,7 +25,7 @@ use Rattle.adapter.specs.Memory.{changed}
 use Rattle.adapter.specs.declared.access.DeviceStep.{DeviceStep}
 use Rattle.adapter.specs.declared.access.DeviceStep.TheVariants.{Hold, Fatal}
 use Rattle.adapter.specs.declared.access.FatalError.TheVariants.{Interface, HostBus}
-use Rattle.block_machine.specs.Events.{CallRecord, Ask, AbstractState, Submit as AskSubmit, StoreAt, Service as AskService, Reset as AskReset, State as AskState, Device as AskDevice, Submitted, Stored, Served, WasReset, Shown, Stepped, AllDevices, EveryReadHolds, IsAnswered, IsIssuedIn, IsRun, IsStillStuck, StaysStuck, answers_of, issues_it, reply_of, abstract_after, abstract_after_all, replies_of, steps_of}
+use Rattle.block_machine.specs.Events.{CallRecord, AbstractCall, AbstractState, Submit as AskSubmit, StoreAt, Service as AskService, Reset as AskReset, State as AskState, Device as AskDevice, Submitted, Stored, Served, WasReset, Shown, Stepped, AllByDevice, EveryReadHolds, IsAnswered, IsIssuedIn, IsRun, IsStillStuck, StaysStuck, answers_of, issues_it, reply_of, abstract_after, abstract_after_all, replies_of, steps_of}
 use Rattle.block_machine.specs.Events as machine
 use Rattle.block_machine.specs.Histories.{Happening, JointState, events_of}
 use Rattle.block_machine.specs.Left.{after}
@@ -35,7 +35,7 @@ use Rattle.driver_history.specs.Evidence.{ShowsFailure}
 use Rattle.driver_history.specs.Histories.{ExplainsAccesses, IsDriverHistory}
 use Rattle.identify.specs.declared.wanted.Wanted.{Wanted}
 use Rattle.machine_runs.specs.Told.{AsksFor, CameFrom, WasAsked, waits_again}
-use Rattle.server_history.specs.Histories.{HasBegun, LeadsToServer}
+use Rattle.server_history.specs.Histories.{StartsHistory, LeadsToServer}
 use Rattle.server_history.specs.Server.{ServerState}
 use Rattle.block_server.specs.Promise.{RunsAsPromised}
 use Rattle.block_server.specs.Running.{ask_of, machine_result_of}
@@ -48,7 +48,7 @@ use Rattle.ata_types.specs.declared.call.CallResult.TheVariants as said
 use Rattle.server_examples.specs.Shown.{HasRun, ReleasesFrame, ShownRunLaws, ServesRead, ServesReadAnew}
 
 pub has_run : {A : Type 0} (device : A → Device) (old new : ServerView A) (events : List (Call DeviceStep)) (before after : List (CallResult (ArrayVec Reply))) → RunsAsPromised device old new events before after → before ≡ []
-    → HasBegun (server_of device old) → (device old.adapter).telling ≡ true → HasRun device old new events after
+    → StartsHistory (server_of device old) → (device old.adapter).telling ≡ true → HasRun device old new events after
 has_run device old new events before after promised empty begun telling =
     let kept = promised.keeps begun.0 [] begun.1 in
     let whole = append-nil kept.added in
@@ -66,12 +66,12 @@ has_run device old new events before after promised empty begun telling =
     })
 
 -- what calls asked and said
-abbrev asks_of : List (Call DeviceStep) → List (CallResult (ArrayVec Reply)) → List (Ask DeviceStep × machine.CallResult)
+abbrev asks_of : List (Call DeviceStep) → List (CallResult (ArrayVec Reply)) → List (AbstractCall DeviceStep × machine.CallResult)
 asks_of (event ∷ events) (one ∷ more) = (ask_of event, machine_result_of one) ∷ asks_of events more
 asks_of _ _ = []
 
 -- a history has grown by calls that asked and said this
-abbrev Grows : List (Happening Device DeviceStep) → List (Ask DeviceStep × machine.CallResult) → List (Happening Device DeviceStep) → Type 0
+abbrev Grows : List (Happening Device DeviceStep) → List (AbstractCall DeviceStep × machine.CallResult) → List (Happening Device DeviceStep) → Type 0
 Grows past [] later = later ≡ past
 Grows past (one ∷ more) later = (h : Happening Device DeviceStep) × (h.event.ask ≡ one.0) × (h.event.said ≡ one.1) × Grows (h ∷ past) more later
 
@@ -108,16 +108,16 @@ device_asks_none : (r : Accepted) (event : CallRecord DeviceStep) (step : Device
 device_asks_none r event step is asks = let e : AskDevice step ≡ AskSubmit r.asked = sym is ∙ asks.0 in cc
 
 state_asks_none : (r : Accepted) (event : CallRecord DeviceStep) (port : Port) → event.ask ≡ AskState port → AsksFor r event → ⊥
-state_asks_none r event port is asks = let e : ◌≡◌ {A = Ask DeviceStep} (AskState port) (AskSubmit r.asked) = sym is ∙ asks.0 in cc
+state_asks_none r event port is asks = let e : ◌≡◌ {A = AbstractCall DeviceStep} (AskState port) (AskSubmit r.asked) = sym is ∙ asks.0 in cc
 
 service_asks_none : (r : Accepted) (event : CallRecord DeviceStep) → event.ask ≡ AskService → AsksFor r event → ⊥
-service_asks_none r event is asks = let e : ◌≡◌ {A = Ask DeviceStep} AskService (AskSubmit r.asked) = sym is ∙ asks.0 in cc
+service_asks_none r event is asks = let e : ◌≡◌ {A = AbstractCall DeviceStep} AskService (AskSubmit r.asked) = sym is ∙ asks.0 in cc
 
 store_asks_none : (r : Accepted) (event : CallRecord DeviceStep) (client : ClientId) (frame : Frame) (offset : ℕ) (bytes : List ℕ) → event.ask ≡ StoreAt client frame offset bytes → AsksFor r event → ⊥
-store_asks_none r event client frame offset bytes is asks = let e : ◌≡◌ {A = Ask DeviceStep} (StoreAt client frame offset bytes) (AskSubmit r.asked) = sym is ∙ asks.0 in cc
+store_asks_none r event client frame offset bytes is asks = let e : ◌≡◌ {A = AbstractCall DeviceStep} (StoreAt client frame offset bytes) (AskSubmit r.asked) = sym is ∙ asks.0 in cc
 
 submit_asks : (r : Accepted) (event : CallRecord DeviceStep) (asked : Request) → event.ask ≡ AskSubmit asked → AsksFor r event → r.asked ≡ asked
-submit_asks r event asked is asks = let e : ◌≡◌ {A = Ask DeviceStep} (AskSubmit asked) (AskSubmit r.asked) = sym is ∙ asks.0 in cc
+submit_asks r event asked is asks = let e : ◌≡◌ {A = AbstractCall DeviceStep} (AskSubmit asked) (AskSubmit r.asked) = sym is ∙ asks.0 in cc
 
 -- ---- a read that is answered Ok
 
@@ -167,7 +167,7 @@ shows_a_read device old new read step id did replies reply laws r only ok reads 
 -- ---- a read that goes again
 
 -- what the device does issues nothing
-devices_issue_none : (id : RequestId) (steps : List Step) → AllDevices steps → IsIssuedIn id steps → ⊥
+devices_issue_none : (id : RequestId) (steps : List Step) → AllByDevice steps → IsIssuedIn id steps → ⊥
 devices_issue_none id [] d i = false≢true i
 devices_issue_none id (Touch e k block ∷ before) d i = devices_issue_none id before d.0 i
 devices_issue_none id (End e ∷ before) d i = devices_issue_none id before d.0 i
@@ -203,12 +203,12 @@ state_lets_be first past event port shown r is says =
     let old = abstract_after_all first past in
     let new = abstract_after_all first (event ∷ past) in
     let said_so = subst (λ (s : machine.CallResult). IsAnswered event.ask s old event.evidence event.steps new) says r.1.answered in
-    let a = subst (λ (q : Ask DeviceStep). IsAnswered q (Shown shown) old event.evidence event.steps new) is said_so in (
+    let a = subst (λ (q : AbstractCall DeviceStep). IsAnswered q (Shown shown) old event.evidence event.steps new) is said_so in (
       record {
         issues = λ id i. let P : List Step → Type 0 = IsIssuedIn id in false≢true (subst P a.1 i);
         asks = λ q asks. state_asks_none q event port is asks;
         ports = λ q. (a.2 q).1;
-        calm = λ earlier w. subst (λ (q : Ask DeviceStep). StaysStuck q event.said (IsStillStuck earlier)) is w;
+        calm = λ earlier w. subst (λ (q : AbstractCall DeviceStep). StaysStuck q event.said (IsStillStuck earlier)) is w;
       },
       a.0,
     )
@@ -219,12 +219,12 @@ device_lets_be first past event step r is says =
     let old = abstract_after_all first past in
     let new = abstract_after_all first (event ∷ past) in
     let said_so = subst (λ (s : machine.CallResult). IsAnswered event.ask s old event.evidence event.steps new) says r.1.answered in
-    let a = subst (λ (q : Ask DeviceStep). IsAnswered q (Stepped true) old event.evidence event.steps new) is said_so in
+    let a = subst (λ (q : AbstractCall DeviceStep). IsAnswered q (Stepped true) old event.evidence event.steps new) is said_so in
     record {
       issues = λ id i. devices_issue_none id event.steps a.0 i;
       asks = λ q asks. device_asks_none q event step is asks;
       ports = λ q. (a.1 q).1;
-      calm = λ earlier w. subst (λ (q : Ask DeviceStep). StaysStuck q event.said (IsStillStuck earlier)) is w;
+      calm = λ earlier w. subst (λ (q : AbstractCall DeviceStep). StaysStuck q event.said (IsStillStuck earlier)) is w;
     }
 
 -- an unanswered request, and what it was before
@@ -278,7 +278,7 @@ shows_failure : (past : AbstractState) (event : CallRecord DeviceStep) (old new 
 unfolding changed
 shows_failure past event old new accesses is says came =
     let said_so = subst (λ (s : machine.CallResult). ExplainsAccesses past event.ask s accesses old new) says came in
-    let done = subst (λ (q : Ask DeviceStep). ExplainsAccesses past q (Stepped true) accesses old new) is said_so in
+    let done = subst (λ (q : AbstractCall DeviceStep). ExplainsAccesses past q (Stepped true) accesses old new) is said_so in
     ⊎_elim
     (λ fatal. inl (record { place = 27; from = omega arith; to = omega arith; set = ap (λ (d : Device). (d.port 0).is 27) fatal.effect }))
     (λ no. absurd no)
@@ -309,7 +309,7 @@ lone_of laws wanted first asked id submit one two three fatal service finish c e
     let w2 = was_then laws first.abstract (events_of (one ∷ submit ∷ [])) two.event w3.before r3 l3.0 w3.here in
     let w1 = was_then laws first.abstract (events_of (submit ∷ [])) one.event w2.before r2 l2.0 w2.here in
     let state : Port → PortState = fatal.event.ports.state in
-    let calm : IsStillStuck (events_of (submit ∷ [])) → ⊥ = λ stuck. subst (λ (q : Ask DeviceStep). StaysStuck q submit.event.said ⊥) c.submits.0 stuck in
+    let calm : IsStillStuck (events_of (submit ∷ [])) → ⊥ = λ stuck. subst (λ (q : AbstractCall DeviceStep). StaysStuck q submit.event.said ⊥) c.submits.0 stuck in
     let ready : state e.request.port ≡ Ready = ⊎_elim (λ is. is) (λ dead. absurd (calm (l2.0.calm (events_of (submit ∷ [])) (l3.0.calm (events_of (one ∷ submit ∷ [])) (l4.0.calm (events_of (two ∷ one ∷ submit ∷ [])) (l5.calm (events_of (three ∷ two ∷ one ∷ submit ∷ [])) dead.1))))))
     (laws.ready first.abstract (events_of (fatal ∷ three ∷ two ∷ one ∷ submit ∷ [])) e r5 here) in
     let fit = r5.1.fit in
@@ -342,7 +342,7 @@ issued_first laws first asked id submit e r is says here =
     (λ asks. let e : ◌≡◌ {A = machine.CallResult} (Submitted (Ok x.request.id)) (Submitted (Ok id)) = sym asks.1 ∙ says in cc)
     (laws.came first.abstract [] submit.event x r h) in
     let ready = ⊎_elim (λ is. is) (λ (dead : ((abstract_after_all first.abstract run).ports.state e.request.port ≡ Dead) × IsStillStuck run).
-    let no : ⊥ = subst (λ (q : Ask DeviceStep). StaysStuck q submit.event.said ⊥) is dead.1 in absurd no) (laws.ready first.abstract run e r here) in
+    let no : ⊥ = subst (λ (q : AbstractCall DeviceStep). StaysStuck q submit.event.said ⊥) is dead.1 in absurd no) (laws.ready first.abstract run e r here) in
     let issued = laws.alone first.abstract run e r here ready (λ x h. its x h ∙ sym (its e here)) in
     let counted = (laws.counted first.abstract.machine (steps_of run) e legal.0 legal.1 (subst (λ (m : Machine). Contains m.book e) legal.2 here)).1 in
     let one : ◌≡◌ {A = ℕ} (cond e.issued 1 0) 1 = ap (λ (b : Bool). cond {A = ℕ} b 1 0) issued in
@@ -456,7 +456,7 @@ store_refused : (old : AbstractState) (event : CallRecord DeviceStep) (client : 
     → IsAnswered event.ask event.said old event.evidence event.steps (abstract_after old event) → IsSome ((abstract_after old event).machine.lent frame)
 store_refused old event client frame offset bytes is says answered =
     let said_so = subst (λ (s : machine.CallResult). IsAnswered event.ask s old event.evidence event.steps (abstract_after old event)) says answered in
-    let a = subst (λ (q : Ask DeviceStep). IsAnswered q (Stored (Some FrameLent)) old event.evidence event.steps (abstract_after old event)) is said_so in
+    let a = subst (λ (q : AbstractCall DeviceStep). IsAnswered q (Stored (Some FrameLent)) old event.evidence event.steps (abstract_after old event)) is said_so in
     subst (λ (xs : List Step). IsSome ((after old.machine xs).lent frame)) (sym a.2) a.1.0
 
 some_of : {X : Type 0} (o : Option X) → IsSome o → (x : X) × (o ≡ Some x)
@@ -472,7 +472,7 @@ store_done : (old : AbstractState) (event : CallRecord DeviceStep) (client : Cli
     → IsAnswered event.ask event.said old event.evidence event.steps (abstract_after old event) → old.machine.lent frame ≡ None
 store_done old event client frame offset bytes is says answered =
     let said_so = subst (λ (s : machine.CallResult). IsAnswered event.ask s old event.evidence event.steps (abstract_after old event)) says answered in
-    let a = subst (λ (q : Ask DeviceStep). IsAnswered q (Stored None) old event.evidence event.steps (abstract_after old event)) is said_so in
+    let a = subst (λ (q : AbstractCall DeviceStep). IsAnswered q (Stored None) old event.evidence event.steps (abstract_after old event)) is said_so in
     none_of (old.machine.lent frame) (λ lent. a.1 FrameLent lent)
 
 -- a reset that ends, and answers nothing
@@ -480,7 +480,7 @@ reset_releases : (old : AbstractState) (event : CallRecord DeviceStep) → event
     → IsAnswered event.ask event.said old event.evidence event.steps (abstract_after old event) → Contains event.steps Release × (answers_of event.steps ≡ [])
 reset_releases old event is says answered =
     let said_so = subst (λ (s : machine.CallResult). IsAnswered event.ask s old event.evidence event.steps (abstract_after old event)) says answered in
-    let a = subst (λ (q : Ask DeviceStep). IsAnswered q (WasReset (Some [])) old event.evidence event.steps (abstract_after old event)) is said_so in
+    let a = subst (λ (q : AbstractCall DeviceStep). IsAnswered q (WasReset (Some [])) old event.evidence event.steps (abstract_after old event)) is said_so in
     let few : length a.tells.answers ≡ 0 = sym (length-map a.tells.answers reply_of) ∙ sym (ap length a.tells.told) in (
       subst (λ (xs : List Step). Contains xs Release) (sym a.releases.split) (in_middle a.releases.later Release a.releases.earlier),
       nil_from_length (answers_of event.steps) (length_permutation a.tells.answers (answers_of event.steps) a.tells.same ∙ few),

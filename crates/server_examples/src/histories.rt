@@ -5,7 +5,7 @@ ghost use Rattle.std.specs.Prelude.{◌≡◌, IfSome, IsTrue, List, [], ◌∷�
 ghost use Rattle.ata_types.specs.declared.request.Reply.{Reply};
 ghost use Rattle.server_examples.specs.Shown.{HasRun, IsReleased, IsServedAnew, IsServedAtOnce};
 ghost use Rattle.server_examples.specs.Shown.{ReleasesFrame, ShownRunLaws, ServesRead, ServesReadAnew};
-ghost use Rattle.server_history.specs.Histories.{HasBegun};
+ghost use Rattle.server_history.specs.Histories.{StartsHistory};
 ghost use Rattle.block_server.specs.View.{server_of};
 
 use adapter::{DeviceStep, FatalError, Stepped};
@@ -15,7 +15,7 @@ use ata_types::{
     Slot,
 };
 use block_machine::laws::{law_lent_was_accepted, law_runs_are_legal};
-use block_server::{Sayings, Server};
+use block_server::{CallResults, Server};
 use driver_history::troubles::law_shown_faults_are_heeded;
 use machine_runs::laws::{
     law_a_lone_request_is_issued, law_accepted_was_asked, law_answers_are_lawful,
@@ -47,11 +47,11 @@ fn calls<A: Stepped>(
     server: &mut Server<A>,
     asked: &[Call<DeviceStep>],
 ) -> Option<Vec<CallResult>>
-    requires begun { HasBegun (server_of A.device server.old) }
+    requires begun { StartsHistory (server_of A.device server.old) }
     requires telling { (A.device server.old.adapter).telling ≡ true }
     ensures { IfSome result (λ said. HasRun A.device server.old server.new asked.now said.items) }
 {
-    let mut said = Sayings::new(alloc);
+    let mut said = CallResults::new(alloc);
     match server.run(asked, &mut said) {
         Ok(()) => said.into_list().ok(),
         Err(_) => None,
@@ -126,7 +126,7 @@ fn is_reset(said: &CallResult) -> bool
 
 /// A read is accepted, its device does all of it, and a service answers it Ok.
 pub fn serves_a_read<A: Stepped>(alloc: Global, server: &mut Server<A>, read: Request) -> bool
-    requires begun { HasBegun (server_of A.device server.old) }
+    requires begun { StartsHistory (server_of A.device server.old) }
     requires telling { (A.device server.old.adapter).telling ≡ true }
     ensures { IsTrue result → ServesRead (server_of A.device server.old) (server_of A.device server.new) read }
 {
@@ -158,7 +158,7 @@ fn is_served_at_once(said: &[CallResult]) -> bool
 /// A read is accepted, its port meets a fatal error of the interface, and a service boots the port anew. Then the
 /// device does all of the read, which the next service answers Ok. (No other port is there.)
 pub fn serves_a_read_anew<A: Stepped>(alloc: Global, server: &mut Server<A>, read: Request) -> bool
-    requires begun { HasBegun (server_of A.device server.old) }
+    requires begun { StartsHistory (server_of A.device server.old) }
     requires telling { (A.device server.old.adapter).telling ≡ true }
     ensures { IsTrue result → ServesReadAnew (server_of A.device server.old) (server_of A.device server.new) read }
 {
@@ -221,7 +221,7 @@ pub fn releases_a_frame<A: Stepped>(
     client: ClientId,
     frame: Frame,
 ) -> bool
-    requires begun { HasBegun (server_of A.device server.old) }
+    requires begun { StartsHistory (server_of A.device server.old) }
     requires telling { (A.device server.old.adapter).telling ≡ true }
     ensures { IsTrue result → ReleasesFrame (server_of A.device server.old) (server_of A.device server.new) request
         frame }

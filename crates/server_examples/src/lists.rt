@@ -3,7 +3,7 @@ use crate::servers::{QUEUED, config, request};
 use adapter::DeviceStep;
 use arrayvec::ArrayVec;
 use ata_types::{Call, CallResult, ClientId, Frame, Op, Outcome, Port, Reply, RequestId, Slot};
-use block_server::{Sayings, Server};
+use block_server::{CallResults, Server};
 use device_model::Model;
 use play::new_model;
 use sector_store::{MemStore, SectorStore};
@@ -80,7 +80,7 @@ fn is_of_a_read(said: &[CallResult]) -> bool {
 #[test]
 fn a_list_of_calls_says_one_thing_each(rt: HostRuntime) -> Result<(), Fail> {
     let mut server = server_of_numbers(rt.alloc())?;
-    let mut said = Sayings::new(rt.alloc());
+    let mut said = CallResults::new(rt.alloc());
     let mut ran = server.run(&first_calls(), &mut said);
     if ran.is_ok() {
         ran = server.run(&last_calls(), &mut said);
@@ -95,7 +95,7 @@ fn a_list_of_calls_says_one_thing_each(rt: HostRuntime) -> Result<(), Fail> {
 // No more room is asked for than two calls need.
 #[test]
 fn two_calls_need_room_for_two(rt: HostRuntime) -> Result<(), Fail> {
-    let mut said = Sayings::new(rt.alloc());
+    let mut said = CallResults::new(rt.alloc());
     said.reserve(2)?;
     let mut server = server_of_numbers(rt.alloc())?;
     let ran = server.run(&first_calls(), &mut said);

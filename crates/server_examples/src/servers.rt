@@ -1,7 +1,7 @@
 // What a server does to its adapter, seen through one that watches, and calls that no line of a script spells.
 ghost use Rattle.std.specs.Prelude.{◌≡◌, IfOk, true};
 ghost use Rattle.block_server.specs.Made.{IsReadyFor};
-ghost use Rattle.configuration.specs.Rules.{MeetsAll};
+ghost use Rattle.configuration.specs.Rules.{LacksEveryFault};
 
 use crate::boots::UNSIGNED;
 use crate::watched::{Access, Lie, NO_LIE, Watched, lie};
@@ -76,7 +76,7 @@ pub const CACHED: &str = text_with!(
 
 /// The values of the text.
 pub fn config(alloc: Global, text: &str) -> Result<Config, Fail>
-    ensures { IfOk result MeetsAll }
+    ensures { IfOk result LacksEveryFault }
 {
     Ok(
         Config::parse(alloc, text.as_bytes())
@@ -87,7 +87,7 @@ pub fn config(alloc: Global, text: &str) -> Result<Config, Fail>
 
 /// The model that the configuration asks for, with a disk of so many sectors in port 0.
 pub fn model_of(alloc: Global, config: &Config, sectors: u32) -> Result<Model<MemStore>, Fail>
-    requires { MeetsAll config.now }
+    requires { LacksEveryFault config.now }
     ensures ready { IfOk result (λ m. IsReadyFor config.now (⟦<Model<MemStore> as Adapter>⟧.device m)) }
     ensures telling { IfOk result (λ m. (⟦<Model<MemStore> as Adapter>⟧.device m).telling ≡ true) }
 {

@@ -1,7 +1,7 @@
 // New servers over the model of which histories are shown to exist.
 ghost use Rattle.std.specs.Prelude.{◌≡◌, IfOk, true};
 ghost use Rattle.block_server.specs.View.{server_of};
-ghost use Rattle.server_history.specs.Histories.{HasBegun};
+ghost use Rattle.server_history.specs.Histories.{StartsHistory};
 
 use crate::histories::{releases_a_frame, serves_a_read, serves_a_read_anew};
 use crate::servers::{QUEUED, config, model_of, request};
@@ -15,7 +15,7 @@ use std::test::Fail;
 
 /// A server of which nothing was asked, over a model with a disk in memory.
 fn new_server(alloc: Global) -> Result<Server<Model<MemStore>>, Fail>
-    ensures begun { IfOk result (λ s. HasBegun (server_of ⟦<Model<MemStore> as Adapter>⟧.device s)) }
+    ensures begun { IfOk result (λ s. StartsHistory (server_of ⟦<Model<MemStore> as Adapter>⟧.device s)) }
     ensures telling { IfOk result (λ s. (⟦<Model<MemStore> as Adapter>⟧.device s.adapter).telling ≡ true) }
 {
     let config = config(alloc, QUEUED)?;

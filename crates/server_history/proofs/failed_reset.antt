@@ -1,7 +1,7 @@
 -- A reset that gets stuck, and the calls of a server whose adapter is off since.
 pub mod ServerBook
-pub mod StalledInstant
+pub mod StuckInstant
 pub mod DeadPortSteps
 pub mod StuckReset
-pub mod StalledCalls
-pub mod StalledService
+pub mod StuckCalls
+pub mod StuckService

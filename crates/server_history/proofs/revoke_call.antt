@@ -5,4 +5,4 @@ pub mod RevokedBook
 pub mod RevokedMachine
 pub mod RevokedServer
 pub mod Revocation
-pub mod StalledRevocation
+pub mod StuckRevocation

@@ -14,31 +14,31 @@ use Rattle.adapter.specs.Rules.{IsOn}
 use Rattle.adapter.specs.declared.command.Operation.TheVariants.{Identify}
 use Rattle.refinement.specs.Acts.{Act, AreActsDone, accesses_of}
 use Rattle.refinement.specs.Relation.{StateRelation, HaveSlots}
-use Rattle.refinement.specs.Driven.{IsDrivenBy, IsOf, SendsNone}
+use Rattle.refinement.specs.Driven.{IsDrivenBy, SparesOtherPorts, GainsNoMove}
 use Rattle.refinement.specs.Driver.{DriverAdvances, DriverState, DriverRelation}
 use Rattle.refinement.specs.Errors.{NoneFatal}
-use Rattle.refinement.specs.Facts.{IsRecorded, Undisturbed}
-use Rattle.refinement.specs.Halting.{HaltsAsTaken, IsHaltedAsTaken}
-use Rattle.refinement.specs.Links.{HasDeviceOrNone, LeavesDisk, PlugsNone, SameAdapter, SparesRegister}
+use Rattle.refinement.specs.Facts.{FaultsOnRecord, Undisturbed}
+use Rattle.refinement.specs.Halting.{HaltIsOfTaken, HaltOfTakenIfSt}
+use Rattle.refinement.specs.Links.{ShowsDiskIfIn, LeavesDisk, NoPlugEvents, SameAdapter, DoesNotWrite}
 use Rattle.refinement.specs.Recovering.{WorksPlainly}
 use Rattle.refinement.specs.Slots.{Serves, SlotState, SlotStates, put, serving_count}
 use Rattle.block_machine.specs.Due.{issued_count}
 use Rattle.block_machine.specs.Histories.{IsReachable}
 use Rattle.block_machine.specs.Left.{after}
 use Rattle.block_machine.specs.State.{Machine, unanswered}
-use Rattle.block_machine.specs.Steps.{NoneKept, Step}
+use Rattle.block_machine.specs.Steps.{NoneQuarantined, Step}
 use Rattle.host_boot.specs.Again.{RebootsPort, RebootsIfPresent, IsSurveyOrBoot}
 use Rattle.host_boot.specs.Taken.{FoundBadDisk, IsServed, LeavesFound, StandsBehind, StillStandsBehind}
 use Rattle.host_boot.specs.declared.Booted.{Booted}
 use Rattle.host_boot.specs.declared.ProbeResult.{ProbeResult}
 use Rattle.host_boot.specs.declared.ProbeResult.TheVariants.{Unready}
 use Rattle.identify.specs.declared.wanted.Wanted.{Wanted}
-use Rattle.port_boot.specs.States.{ShowsOwnDisk}
+use Rattle.port_boot.specs.States.{HasDiskIfShown}
 
 pub record RecoveryLaws : Type 0 where
   -- where each issued request of a port has a slot, as many slots serve one
   pub counted : (uses : SlotStates) (m : Machine) (d : Device) → IsReachable m → StateRelation uses m d → (port : Port)
-      → NoneKept m port → (n : ℕ) → HaveSlots uses m port.0 []
+      → NoneQuarantined m port → (n : ℕ) → HaveSlots uses m port.0 []
       → ((slot : ℕ) (id : RequestId) → uses port.0 slot ≡ Serves id → slot < n)
       → serving_count uses port.0 n ≡ issued_count (map unanswered m.book) port
   -- acts lead to a machine that is reached
@@ -50,61 +50,62 @@ pub record RecoveryLaws : Type 0 where
       other_slot
   -- what accesses leave
   pub own_on : (port : ℕ) (accesses : List Access) (old new : Device) → DoesAll accesses old new
-      → ShowsOwnDisk (old.port port) → ShowsOwnDisk (new.port port)
-  pub of_recorded : (port : Port) (q : ℕ) (old new : Device) → q ≢ port.0 → IsDrivenBy (IsOf port) old new
-      → IsRecorded old.tape (old.port q) q → IsRecorded new.tape (new.port q) q
-  pub of_shown : (port other : Port) (old new : Device) → port.0 ≢ other.0 → IsOn old → IsDrivenBy (IsOf other) old new
-      → HasDeviceOrNone (old.port port.0) → HasDeviceOrNone (new.port port.0)
+      → HasDiskIfShown (old.port port) → HasDiskIfShown (new.port port)
+  pub of_recorded : (port : Port) (q : ℕ) (old new : Device) → q ≢ port.0 → IsDrivenBy (SparesOtherPorts port) old new
+      → FaultsOnRecord old.tape (old.port q) q → FaultsOnRecord new.tape (new.port q) q
+  pub of_shown : (port other : Port) (old new : Device) → port.0 ≢ other.0 → IsOn old
+      → IsDrivenBy (SparesOtherPorts other) old new
+      → ShowsDiskIfIn (old.port port.0) → ShowsDiskIfIn (new.port port.0)
   -- a port that was booted again
   pub again_driven : (wanted : Wanted) (port : Port) (booted : Booted) (old new : Device)
-      → RebootsPort wanted port booted old new → IsDrivenBy (IsOf port) old new
+      → RebootsPort wanted port booted old new → IsDrivenBy (SparesOtherPorts port) old new
   pub again_stands : (wanted : Wanted) (port : Port) (booted : Booted) (old new : Device)
       → RebootsPort wanted port booted old new → IsServed wanted port.0 old
       → StandsBehind wanted booted.found port.0 new
   pub again_shown : (wanted : Wanted) (port : Port) (booted : Booted) (state : PortState) (old new : Device) → IsOn old
       → RebootsPort wanted port booted old new → FoundBadDisk state → booted.found ≡ Unready state
-      → HasDeviceOrNone (new.port port.0)
+      → ShowsDiskIfIn (new.port port.0)
   -- what stands behind a port still does
   pub stands_begin : (wanted : Wanted) (found : ProbeResult) (port : ℕ) (d : Device) → StandsBehind wanted found port d
       → StillStandsBehind wanted found port d
   pub stands_on : (wanted : Wanted) (found : ProbeResult) (port : ℕ) (old new : Device) → SameAdapter old new
-      → LeavesFound found (old.port port) (new.port port) → (found ≢ Unready Dead → SendsNone port Identify old new)
+      → LeavesFound found (old.port port) (new.port port) → (found ≢ Unready Dead → GainsNoMove port Identify old new)
       → StillStandsBehind wanted found port old → StillStandsBehind wanted found port new
   -- and one that was booted where a device showed
-  pub start_of : (port : Port) (access : Access) → IsSurveyOrBoot port access → IsOf port access
+  pub start_of : (port : Port) (access : Access) → IsSurveyOrBoot port access → SparesOtherPorts port access
   pub there_driven : (wanted : Wanted) (port : Port) (booted : Booted) (old new : Device)
-      → RebootsIfPresent wanted port booted old new → IsDrivenBy (IsOf port) old new
+      → RebootsIfPresent wanted port booted old new → IsDrivenBy (SparesOtherPorts port) old new
   pub there_stands : (wanted : Wanted) (port : Port) (booted : Booted) (old new : Device)
       → RebootsIfPresent wanted port booted old new → IsServed wanted port.0 old
       → StandsBehind wanted booted.found port.0 new
   pub there_shown : (wanted : Wanted) (port : Port) (booted : Booted) (state : PortState) (old new : Device) → IsOn old
       → RebootsIfPresent wanted port booted old new → FoundBadDisk state → booted.found ≡ Unready state
-      → HasDeviceOrNone (new.port port.0)
+      → ShowsDiskIfIn (new.port port.0)
 
 -- What of a port's trouble is shown.
 pub record PortErrorLaws : Type 0 where
   -- each error, and each disk that goes or comes, is shown until it is cleared
   pub shows_fatal : (port : Port) (access : Access) (old new : Device) → old.hr ≡ false
-      → SparesRegister (Px port Is) access → Does access old new
+      → DoesNotWrite (Px port Is) access → Does access old new
       → ((place : ℕ) → 27 ≤ place → place ≤ 29 → (new.port port.0).is place ≡ false)
       → ((place : ℕ) → 27 ≤ place → place ≤ 29 → (old.port port.0).is place ≡ false) × NoneFatal port.0 old new
   pub shows_disk : (port : Port) (access : Access) (old new : Device) → old.hr ≡ false
-      → SparesRegister (Px port Serr) access → Does access old new → (new.port port.0).serr_n ≡ false
-      → ((old.port port.0).serr_n ≡ false) × PlugsNone port.0 old new
+      → DoesNotWrite (Px port Serr) access → Does access old new → (new.port port.0).serr_n ≡ false
+      → ((old.port port.0).serr_n ≡ false) × NoPlugEvents port.0 old new
   -- where nothing disturbs a port
   pub calm_fatal : (port : ℕ) (old new : Device) → Undisturbed port old new → NoneFatal port old new
-  pub calm_plugs : (port : ℕ) (old new : Device) → Undisturbed port old new → PlugsNone port old new
+  pub calm_plugs : (port : ℕ) (old new : Device) → Undisturbed port old new → NoPlugEvents port old new
   -- its disk, and its link, stay
-  pub disk_left : (port : ℕ) (access : Access) (old new : Device) → Does access old new → PlugsNone port old new
+  pub disk_left : (port : ℕ) (access : Access) (old new : Device) → Does access old new → NoPlugEvents port old new
       → LeavesDisk (old.port port) (new.port port)
   -- and a queued command that has halted it is taken still
   pub halts_acts : (port : Port) (acts : List Act) (k later : DriverState) (m : Machine) → IsReachable m
       → DriverRelation m k
-      → AreActsDone acts k m later → All (SparesRegister (Px port Cmd)) (accesses_of acts)
-      → IsHaltedAsTaken (k.device.port port.0) → IsHaltedAsTaken (later.device.port port.0)
+      → AreActsDone acts k m later → All (DoesNotWrite (Px port Cmd)) (accesses_of acts)
+      → HaltOfTakenIfSt (k.device.port port.0) → HaltOfTakenIfSt (later.device.port port.0)
   pub halts_access : (uses : SlotStates) (m : Machine) (port : Port) (access : Access) (old new : Device)
       → IsReachable m
-      → StateRelation uses m old → SparesRegister (Px port Cmd) access → Does access old new
-      → IsHaltedAsTaken (old.port port.0) → IsHaltedAsTaken (new.port port.0)
-  pub halts_calm : (p : DevicePort) → p.halt ≡ NotHalted → HaltsAsTaken p
-  pub halts_plain : (p : DevicePort) → WorksPlainly p → HaltsAsTaken p
+      → StateRelation uses m old → DoesNotWrite (Px port Cmd) access → Does access old new
+      → HaltOfTakenIfSt (old.port port.0) → HaltOfTakenIfSt (new.port port.0)
+  pub halts_calm : (p : DevicePort) → p.halt ≡ NotHalted → HaltIsOfTaken p
+  pub halts_plain : (p : DevicePort) → WorksPlainly p → HaltIsOfTaken p

@@ -21,9 +21,9 @@ use Rattle.refinement.specs.Readying.{IsStored, LeavesStored}
 use Rattle.adapter.specs.Access.{Access, Does, DoesAll}
 use Rattle.adapter.specs.Access.Access.{Storing, Writing}
 use Rattle.adapter.specs.Decoding.{DecodesTo}
-use Rattle.refinement.specs.Driven.{SendsNone}
-use Rattle.refinement.specs.Driver.{AllFree, ByDevice, MissesTable, ForgetsRequest, DriverAdvances, HasNoSlot, DriverState, DriverRelation, parking}
-use Rattle.refinement.specs.Links.{SparesRegister}
+use Rattle.refinement.specs.Driven.{GainsNoMove}
+use Rattle.refinement.specs.Driver.{AllFree, ByDevice, MissesTable, ForgetsAtMost, DriverAdvances, HasNoSlot, DriverState, DriverRelation, parking}
+use Rattle.refinement.specs.Links.{DoesNotWrite}
 use Rattle.refinement.specs.Started.{ClearsNoStart}
 use Rattle.hba_regs.specs.Bits.{bit}
 use Rattle.hba_regs.specs.declared.reg.PortReg.TheVariants.{Ci, Clb}
@@ -31,19 +31,19 @@ use Rattle.hba_regs.specs.declared.reg.Reg.TheVariants.{Px}
 use Rattle.refinement.specs.GivingUp.{parking_all, served_ids}
 use Rattle.refinement.specs.Slots.{Armed, Free, IsMove, IsOver, Own, Serves, SlotState, SlotStates, op_of, put}
 use Rattle.block_machine.specs.Due.{is_plain}
-use Rattle.block_machine.specs.Ports.{AreFit, Ports}
+use Rattle.block_machine.specs.Ports.{PortsWellFormed, Ports}
 use Rattle.block_machine.specs.Rules.{Names}
 use Rattle.block_machine.specs.State.{Accepted, Machine, Pending}
-use Rattle.block_machine.specs.Steps.{Step, Accept, Age, Again, Issue, Answer, IsLiving, MayAccept, May, MayStillMove, after_step, stays, Revoke}
+use Rattle.block_machine.specs.Steps.{Step, Accept, Age, Again, Issue, Answer, HoldsFrames, MayAccept, May, MayStillMove, after_step, stays, Revoke}
 use Rattle.block_machine.specs.declared.due.QueueMode.{QueueMode}
 use Rattle.refinement.specs.Facts.{EndedIn, IsSlotClear, ShowsFault}
 use Rattle.dma_frames.specs.Table.{Table}
-use Rattle.request_queue.specs.Entries.{Held, IsAccepted, BookIsInOrder, aged, asks_of}
-use Rattle.request_queue.specs.Machine.{IsBook}
+use Rattle.request_queue.specs.Entries.{BookEntry, IsAccepted, BookIsInOrder, aged, asks_of}
+use Rattle.request_queue.specs.Machine.{BookRelation}
 use Rattle.block_machine.specs.Confined.{HasFrame, IsGranted, WasAccepted, WithinLimits}
 use Rattle.block_machine.specs.Left.{IsLegal, IsInitial, after}
 use Rattle.block_machine.specs.Histories.{JointState, IsReachable, IsSimulatedBySteps, Happening, now}
-use Rattle.block_machine.specs.Events.{AllDevices, AllMay}
+use Rattle.block_machine.specs.Events.{AllByDevice, AllMay}
 use Rattle.refinement.specs.Spares.{AllFurther, IsFurther, SparesBook}
 use Rattle.driver_history.specs.Histories.{IsDriverHistory}
 use Rattle.identify.specs.declared.wanted.Wanted.{Wanted}
@@ -63,15 +63,15 @@ pub record BasicLaws : Type 0 where
       → IsDriverHistory wanted first past → IsReachable (now first past).abstract.machine
   -- the ports
   pub fit : (wanted : List Wanted) (first : JointState Device) (past : List (Happening Device DeviceStep))
-      → IsDriverHistory wanted first past → AreFit (now first past).abstract.ports
-  pub ready_served : (ports : Ports) (port : Port) → AreFit ports → ports.state port ≡ Ready
+      → IsDriverHistory wanted first past → PortsWellFormed (now first past).abstract.ports
+  pub ready_served : (ports : Ports) (port : Port) → PortsWellFormed ports → ports.state port ≡ Ready
       → (ports.served port ≡ true) × (port.0 < 4)
   -- the book
   pub one : (m : Machine) → IsReachable m → (a b : Pending) → Contains m.book a → Contains m.book b
       → a.request.id.0 ≡ b.request.id.0 → a ≡ b
   pub ended_issued : (m : Machine) (e : Pending) → IsReachable m → Contains m.book e → e.ended ≡ true → e.issued ≡ true
   -- what the device's own steps leave of it
-  pub spares : (m : Machine) (steps : List Step) → AllDevices steps → SparesBook m (after m steps)
+  pub spares : (m : Machine) (steps : List Step) → AllByDevice steps → SparesBook m (after m steps)
   pub found_later : (old new : List Pending) (e : Pending) → AllFurther old new → Contains old e → (x : Pending)
       × Contains new x × IsFurther e x
   pub found_before : (old new : List Pending) (e : Pending) → AllFurther old new → Contains new e → (x : Pending)
@@ -101,11 +101,11 @@ pub record SlotLaws : Type 0 where
   -- what becomes of requests that no slot serves
   pub answered_agrees : (k : DriverState) (m : Machine) (e : Pending) (outcome : Outcome) (later : ℕ → List RequestId)
       → IsReachable m → DriverRelation m k → Contains m.book e → stays e outcome ≡ false → HasNoSlot k.uses e.request.id
-      → ForgetsRequest e.request.id k.parked later
+      → ForgetsAtMost e.request.id k.parked later
       → DriverRelation (after_step m (Answer e outcome)) (record k { parked = later })
   pub again_agrees : (k : DriverState) (m : Machine) (e : Pending) (later : ℕ → List RequestId) → IsReachable m
       → DriverRelation m k
-      → Contains m.book e → HasNoSlot k.uses e.request.id → ForgetsRequest e.request.id k.parked later
+      → Contains m.book e → HasNoSlot k.uses e.request.id → ForgetsAtMost e.request.id k.parked later
       → DriverRelation (after_step m (Again e)) (record k { parked = later })
   -- and of one that is kept, in its slot or without one
   pub kept_agrees : (k : DriverState) (m : Machine) (e : Pending) (outcome : Outcome) → IsReachable m
@@ -118,7 +118,7 @@ pub record SlotLaws : Type 0 where
   pub acts_silent : (acts : List Act) (k later : DriverState) (m : Machine) (port : ℕ) (o : Operation) → op_of o ≡ None
       → IsReachable m → DriverRelation m k → (k.uses port 0 ≡ Own o → ⊥)
       → All (λ act. act.later.uses port 0 ≡ Own o → ⊥) acts
-      → AreActsDone acts k m later → SendsNone port o k.device later.device
+      → AreActsDone acts k m later → GainsNoMove port o k.device later.device
   -- no page comes for a command of the driver's own that slot 0 hasn't
   pub page_asked : (uses : SlotStates) (m : Machine) (access : Access) (old new : Device) (port : ℕ) (o : Operation)
       (gained : List TapeEntry) → IsReachable m → StateRelation uses m old → Does access old new
@@ -167,7 +167,7 @@ pub record SlotLaws : Type 0 where
   -- and over an access that leaves it
   pub stored_access : (uses : SlotStates) (m : Machine) (port : Port) (slot : ℕ) (c : Meaning) (places : List ℕ)
       (access : Access) (old new : Device) → IsReachable m → StateRelation uses m old → old.hr ≡ false
-      → ClearsNoStart port access → SparesRegister (Px port Clb) access
+      → ClearsNoStart port access → DoesNotWrite (Px port Clb) access
       → ((at : ℕ) (bytes : List ℕ) → access ≡ Storing at bytes → MissesTable port.0 slot at (length bytes))
       → Does access old new → IsStored old port.0 slot c places → IsStored new port.0 slot c places
   -- a fault that is shown is of the slot that alone is used
@@ -180,19 +180,20 @@ pub record SlotLaws : Type 0 where
 pub record AgeLaws : Type 0 where
   pub agrees : (k : DriverState) (m : Machine) (ready : Port → Bool) → DriverRelation m k
       → DriverRelation (after_step m (Age ready)) k
-  pub book : (entries : List Held) (m : Machine) (ready : Port → Bool) → IsBook entries m.book
-      → IsBook (aged ready entries) (after_step m (Age ready)).book
-  pub ordered : (entries : List Held) (ready : Port → Bool) → BookIsInOrder entries → BookIsInOrder (aged ready entries)
-  pub accepted : (table : Table) (entries : List Held) (ready : Port → Bool) → All (IsAccepted table) entries
+  pub book : (entries : List BookEntry) (m : Machine) (ready : Port → Bool) → BookRelation entries m.book
+      → BookRelation (aged ready entries) (after_step m (Age ready)).book
+  pub ordered : (entries : List BookEntry) (ready : Port → Bool) → BookIsInOrder entries
+      → BookIsInOrder (aged ready entries)
+  pub accepted : (table : Table) (entries : List BookEntry) (ready : Port → Bool) → All (IsAccepted table) entries
       → All (IsAccepted table) (aged ready entries)
-  pub asks : (entries : List Held) (ready : Port → Bool) → asks_of (aged ready entries) ≡ asks_of entries
+  pub asks : (entries : List BookEntry) (ready : Port → Bool) → asks_of (aged ready entries) ≡ asks_of entries
 
 -- requests that are unanswered or kept
-pub record LivingLaws : Type 0 where
+pub record FrameHolderLaws : Type 0 where
   pub limits : (start : Machine) (history : List Step) → IsInitial start → IsLegal start history
       → WithinLimits (after start history)
   pub lived : (start : Machine) (history : List Step) (e : Pending) → IsInitial start → IsLegal start history
-      → IsLiving (after start history) e → WasAccepted start history e.request
+      → HoldsFrames (after start history) e → WasAccepted start history e.request
   pub granted : (m : Machine) (r : Accepted) → MayAccept m r → IsGranted m.rows r
   pub shrunk : (start : Machine) (history : List Step)
       → ((row : GrantRow) → Contains (after start history).rows row → Contains start.rows row)
@@ -201,7 +202,7 @@ pub record LivingLaws : Type 0 where
       → WasAccepted start history other → one.id ≡ other.id → one ≡ other
   pub one_row : (m : Machine) (client : ClientId) (number : ℕ) (a b : GrantRow) → IsReachable m → Contains m.rows a
       → Names client number a → Contains m.rows b → Names client number b → a ≡ b
-  pub own_frame : (m : Machine) (frame : Frame) (e : Pending) → IsReachable m → IsLiving m e
+  pub own_frame : (m : Machine) (frame : Frame) (e : Pending) → IsReachable m → HoldsFrames m e
       → m.lent frame ≡ Some e.request.id → HasFrame e.request frame
   pub answered : (m : Machine) (a b : Pending) → IsReachable m → Contains m.book a → Contains m.kept b
       → a.request.id.0 ≢ b.request.id.0

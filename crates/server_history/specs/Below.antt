@@ -14,26 +14,26 @@ use Rattle.adapter.specs.declared.command.Operation.TheVariants.{ReadLog}
 use Rattle.adapter.specs.declared.tape.Entry.{Entry as TapeEntry}
 use Rattle.adapter.specs.declared.tape.Fault.{Fault}
 use Rattle.adapter.specs.Rules.{IsUnowned, IsOn, IsStable}
-use Rattle.refinement.specs.Acts.{InSlots, at_slots}
+use Rattle.refinement.specs.Acts.{DriverSlots, driver_state}
 use Rattle.adapter.specs.Access.{Access, Does, DoesAll, Loads, Stores, Writes}
 use Rattle.adapter.specs.Access.Access.{Loading, Storing}
-use Rattle.refinement.specs.Links.{IsPlugging, SparesRegister}
-use Rattle.refinement.specs.Tape.{TellsAmong}
+use Rattle.refinement.specs.Links.{IsPlugEvent, DoesNotWrite}
+use Rattle.refinement.specs.Tape.{TellsDeviceSteps}
 use Rattle.hba_regs.specs.Bits.{bit}
 use Rattle.hba_regs.specs.declared.reg.PortReg.{PortReg}
 use Rattle.hba_regs.specs.declared.reg.PortReg.TheVariants.{Cmd, Sctl}
 use Rattle.hba_regs.specs.declared.reg.Reg.TheVariants.{Ghc, Px}
-use Rattle.refinement.specs.Driven.{AnyUse, IsDrivenBy, IsSimulated, IsOf, SendsNone, Grows}
+use Rattle.refinement.specs.Driven.{AnyUse, IsDrivenBy, IsSimulated, SparesOtherPorts, GainsNoMove, Grows}
 use Rattle.refinement.specs.Relation.{StateRelation, IsDiskOf, SameMemory, SameSectors, port_at}
-use Rattle.refinement.specs.Returning.{may_return}
+use Rattle.refinement.specs.Returning.{replug_candidates}
 use Rattle.adapter.specs.Idle.{IsIdle}
-use Rattle.refinement.specs.Driver.{EndsWith, IsBacked, DriverState, DriverRelation, idle}
+use Rattle.refinement.specs.Driver.{EndsInStep, IsBacked, DriverState, DriverRelation, idle}
 use Rattle.refinement.specs.Slots.{Own, SlotStates, op_of}
 use Rattle.refinement.specs.Vacant.{IsFreshIfShown, IsVacant}
 use Rattle.block_machine.specs.Due.{AreAllDueInOrder, IsDue, IsInOrder, due_of, of_port, with_issued, without_request, with_waiting}
-use Rattle.refinement.specs.Errors.{NoneComes}
+use Rattle.refinement.specs.Errors.{NoDiskComes}
 use Rattle.block_machine.specs.State.{Machine, Pending}
-use Rattle.block_machine.specs.Refusals.{IsAcceptable, IsOpen, Situation}
+use Rattle.block_machine.specs.Refusals.{IsAcceptable, MayAccessFrame, Situation}
 use Rattle.block_machine.specs.Steps.{Step, Accept, Again, Issue, Answer, Load, May, Revoke, Store, after_step, newly_accepted}
 use Rattle.block_machine.specs.State as machine
 use Rattle.block_machine.specs.Steps as steps
@@ -49,75 +49,78 @@ use Rattle.block_machine.specs.Histories.{IsReachable}
 use Rattle.error_recovery.specs.Evidence.{BringsLog, HasFailed}
 use Rattle.port_boot.specs.States.{RunsOn, IsOfBoot}
 use Rattle.port_control.specs.Engines.{Falls, Sticks}
-use Rattle.error_recovery.specs.Recovery.{IsRecovering}
-use Rattle.commands.specs.Masks.{ReadsDone, IsFinding}
+use Rattle.error_recovery.specs.Recovery.{IsRecoveryAccess}
+use Rattle.commands.specs.Masks.{ReadsDone, ReadsCiOrSact}
 use Rattle.commands.specs.Tasks.{IsIssuing, IsTaskOf, IssuesTask, MayServe, with_serving}
 use Rattle.commands.specs.declared.ncq.Task.{Task}
-use Rattle.port_control.specs.LookLaws.{Laws}
-use Rattle.request_queue.specs.Entries.{Held, IsAccepted, IsEarlier, IsFresh, BookIsInOrder, IsWaiting, MayGoAgain, all_marked_under, asks_of, at_entry, issue, requeued_entry, unanswered_entries, without_entry}
+use Rattle.port_control.specs.EventLaws.{Laws}
+use Rattle.request_queue.specs.Entries.{BookEntry, IsAccepted, IsEarlier, IsNewlyAccepted, BookIsInOrder, IsWaiting, MayGoAgain, all_marked_under, asks_of, update_if_id, issue, requeued_entry, unanswered_entries, without_entry}
 use Rattle.request_queue.specs.declared.PendingRequest.{PendingRequest}
-use Rattle.request_queue.specs.Dispositions.{AnswersAlike, Holdings, AreResolved, keeps_loan}
-use Rattle.request_queue.specs.Machine.{IsBook, IsEntry}
+use Rattle.request_queue.specs.Dispositions.{CompletesAllWith, Holdings, AreResolved, keeps_loan}
+use Rattle.request_queue.specs.Machine.{BookRelation, EntryRelation}
 use Rattle.request_queue.specs.declared.disposition.Disposition.TheVariants.{Complete}
 use Rattle.server_history.specs.After.{RecoveryLaws, PortErrorLaws}
-use Rattle.server_history.specs.Basics.{AgeLaws, BasicLaws, SlotLaws, LivingLaws}
+use Rattle.server_history.specs.Basics.{AgeLaws, BasicLaws, SlotLaws, FrameHolderLaws}
 use Rattle.server_history.specs.Calls.{CallLaws, LookLaws}
 
 pub record LawsBelow : Type 0 where
   -- steps one after another
   pub basic : BasicLaws
-  pub living : LivingLaws
+  pub living : FrameHolderLaws
   -- the book and the machine's
-  pub accepts : (entries : List Held) (m : Machine) (e : Held) (r : machine.Accepted) → IsBook entries m.book
-      → IsEntry e (newly_accepted r) → IsBook (entries ++ e ∷ []) (after_step m (Accept r)).book
-  pub issues : (entries : List Held) (m : Machine) (mode : QueueMode) (p : Pending) → IsBook entries m.book
-      → IsBook (map (at_entry p.request.id issue) entries) (after_step m (Issue mode p)).book
-  pub again : (entries : List Held) (m : Machine) (p : Pending) → IsBook entries m.book
-      → IsBook (map (at_entry p.request.id requeued_entry) entries) (after_step m (Again p)).book
-  pub answers : (entries : List Held) (m : Machine) (p : Pending) (outcome : Outcome) → IsBook entries m.book
-      → IsBook (without_entry p.request.id entries) (after_step m (Answer p outcome)).book
-  pub revokes : (entries : List Held) (m : Machine) (client : ClientId) (grant : ℕ) → IsBook entries m.book
-      → IsBook (all_marked_under client grant entries) (after_step m (Revoke client grant)).book
-  pub counts : (entries : List Held) (book : List Pending) (client : ClientId) → IsBook entries book
-      → steps.unanswered_of book client ≡ unanswered_entries entries client.0
+  pub accepts : (entries : List BookEntry) (m : Machine) (e : BookEntry) (r : machine.Accepted)
+      → BookRelation entries m.book
+      → EntryRelation e (newly_accepted r) → BookRelation (entries ++ e ∷ []) (after_step m (Accept r)).book
+  pub issues : (entries : List BookEntry) (m : Machine) (mode : QueueMode) (p : Pending) → BookRelation entries m.book
+      → BookRelation (map (update_if_id p.request.id issue) entries) (after_step m (Issue mode p)).book
+  pub again : (entries : List BookEntry) (m : Machine) (p : Pending) → BookRelation entries m.book
+      → BookRelation (map (update_if_id p.request.id requeued_entry) entries) (after_step m (Again p)).book
+  pub answers : (entries : List BookEntry) (m : Machine) (p : Pending) (outcome : Outcome) → BookRelation entries m.book
+      → BookRelation (without_entry p.request.id entries) (after_step m (Answer p outcome)).book
+  pub revokes : (entries : List BookEntry) (m : Machine) (client : ClientId) (grant : ℕ) → BookRelation entries m.book
+      → BookRelation (all_marked_under client grant entries) (after_step m (Revoke client grant)).book
+  pub counts : (entries : List BookEntry) (book : List Pending) (client : ClientId) → BookRelation entries book
+      → steps.unanswered_count book client ≡ unanswered_entries entries client.0
   -- its order
-  pub one : (entries : List Held) (a b : Held) → BookIsInOrder entries → Contains entries a → Contains entries b
+  pub one : (entries : List BookEntry) (a b : BookEntry) → BookIsInOrder entries → Contains entries a
+      → Contains entries b
       → a.entry.id ≡ b.entry.id → a ≡ b
-  pub longer : (entries : List Held) (e : Held) → BookIsInOrder entries → All (λ x. IsEarlier x e) entries
-      → IsFresh e.entry
+  pub longer : (entries : List BookEntry) (e : BookEntry) → BookIsInOrder entries → All (λ x. IsEarlier x e) entries
+      → IsNewlyAccepted e.entry
       → 1 ≤ e.entry.client.0 → e.entry.client.0 ≤ 8 → unanswered_entries entries e.entry.client.0 < 16
       → BookIsInOrder (entries ++ e ∷ [])
-  pub issued : (entries : List Held) (id : RequestId) → BookIsInOrder entries → IsWaiting id entries
-      → BookIsInOrder (map (at_entry id issue) entries)
-  pub requeued : (entries : List Held) (id : RequestId) → BookIsInOrder entries → MayGoAgain id entries
-      → BookIsInOrder (map (at_entry id requeued_entry) entries)
-  pub fewer : (entries : List Held) (id : RequestId) → BookIsInOrder entries → BookIsInOrder (without_entry id entries)
-  pub marked : (entries : List Held) (client : ClientId) (grant : ℕ) → BookIsInOrder entries
+  pub issued : (entries : List BookEntry) (id : RequestId) → BookIsInOrder entries → IsWaiting id entries
+      → BookIsInOrder (map (update_if_id id issue) entries)
+  pub requeued : (entries : List BookEntry) (id : RequestId) → BookIsInOrder entries → MayGoAgain id entries
+      → BookIsInOrder (map (update_if_id id requeued_entry) entries)
+  pub fewer : (entries : List BookEntry) (id : RequestId) → BookIsInOrder entries
+      → BookIsInOrder (without_entry id entries)
+  pub marked : (entries : List BookEntry) (client : ClientId) (grant : ℕ) → BookIsInOrder entries
       → BookIsInOrder (all_marked_under client grant entries)
-  pub others : (entries : List Held) (id : RequestId) (change : PendingRequest → PendingRequest) (e : Held)
+  pub others : (entries : List BookEntry) (id : RequestId) (change : PendingRequest → PendingRequest) (e : BookEntry)
       → Contains entries e
-      → e.entry.id ≢ id → Contains (map (at_entry id change) entries) e
-  pub left : (entries : List Held) (id : RequestId) (e : Held) → Contains (without_entry id entries) e
+      → e.entry.id ≢ id → Contains (map (update_if_id id change) entries) e
+  pub left : (entries : List BookEntry) (id : RequestId) (e : BookEntry) → Contains (without_entry id entries) e
       ↔ (Contains entries e × (e.entry.id ≢ id))
-  pub asked : (entries : List Held) → BookIsInOrder entries → IsInOrder (asks_of entries)
+  pub asked : (entries : List BookEntry) → BookIsInOrder entries → IsInOrder (asks_of entries)
   -- what is lent
-  pub still_lent : (old new : Table) (entries : List Held) (frames : List Frame) (to : Option RequestId)
+  pub still_lent : (old new : Table) (entries : List BookEntry) (frames : List Frame) (to : Option RequestId)
       → LendsOnly old new frames to → All (λ f. lent_to old f ≡ None) frames → All (IsAccepted old) entries
       → All (IsAccepted new) entries
-  pub still_answered : (old new : Table) (entries : List Held) (e : Held) → Contains entries e
+  pub still_answered : (old new : Table) (entries : List BookEntry) (e : BookEntry) → Contains entries e
       → LendsOnly old new e.frames None → All (IsAccepted old) entries
       → All (IsAccepted new) (without_entry e.entry.id entries)
-  pub still_issued : (table : Table) (entries : List Held) (id : RequestId) → All (IsAccepted table) entries
-      → All (IsAccepted table) (map (at_entry id issue) entries)
-  pub still_requeued : (table : Table) (entries : List Held) (id : RequestId) → All (IsAccepted table) entries
-      → All (IsAccepted table) (map (at_entry id requeued_entry) entries)
-  pub still_marked : (table : Table) (entries : List Held) (client : ClientId) (grant : ℕ)
+  pub still_issued : (table : Table) (entries : List BookEntry) (id : RequestId) → All (IsAccepted table) entries
+      → All (IsAccepted table) (map (update_if_id id issue) entries)
+  pub still_requeued : (table : Table) (entries : List BookEntry) (id : RequestId) → All (IsAccepted table) entries
+      → All (IsAccepted table) (map (update_if_id id requeued_entry) entries)
+  pub still_marked : (table : Table) (entries : List BookEntry) (client : ClientId) (grant : ℕ)
       → All (IsAccepted table) entries → All (IsAccepted table) (all_marked_under client grant entries)
   -- requests that are answered with one outcome
   pub answered_each : (passes : PendingRequest → Bool) (outcome : Outcome)
       → ((e : PendingRequest) → keeps_loan outcome e ≡ false)
       → (old : Holdings) → BookIsInOrder old.book → All (IsAccepted old.table) old.book → (replies : List Reply)
-      (new : Holdings) → AnswersAlike passes outcome replies old new
+      (new : Holdings) → CompletesAllWith passes outcome replies old new
       → (now : Holdings) × AreResolved (λ e. Complete outcome) (filter (λ e. passes e.entry) old.book) replies old now
       × (now.book ≡ new.book) × (now.kept ≡ new.kept) × LendsOnly now.table new.table [] None
   -- what becomes of slots, and of the requests in them
@@ -130,11 +133,11 @@ pub record LawsBelow : Type 0 where
   pub backed_parts : (old mid new : Device) (m : Machine) (early late : List Step) → IsBacked old mid m early
       → IsBacked mid new (after m early) late → IsBacked old new m (late ++ early)
   -- what is due
-  pub waits : (mode : QueueMode) (entries : List Held) (r : Unanswered) → IsDue mode (asks_of entries) r
+  pub waits : (mode : QueueMode) (entries : List BookEntry) (r : Unanswered) → IsDue mode (asks_of entries) r
       → IsWaiting r.id entries
-  pub asks_issued : (entries : List Held) (id : RequestId) → asks_of (map (at_entry id issue) entries)
+  pub asks_issued : (entries : List BookEntry) (id : RequestId) → asks_of (map (update_if_id id issue) entries)
       ≡ with_issued id (asks_of entries)
-  pub asks_answered : (entries : List Held) (id : RequestId)
+  pub asks_answered : (entries : List BookEntry) (id : RequestId)
       → asks_of (without_entry id entries) ≡ without_request id (asks_of entries)
   pub exact : (mode : QueueMode) (port : Port) (book : List Unanswered) (r : Unanswered) → r.port ≡ port
       → Contains (due_of mode port book) r ↔ IsDue mode book r
@@ -154,56 +157,59 @@ pub record LawsBelow : Type 0 where
   pub looking : LookLaws
   -- a task is issued
   pub issuing_ends : (port : Port) (slot : ℕ) (r : Task) (frames : List Frame) (mode : QueueMode) (e : Pending)
-      (old new : Device) (s : InSlots) (m : Machine)
+      (old new : Device) (s : DriverSlots) (m : Machine)
       → IssuesTask port slot r frames old new → IsTaskOf port slot r frames mode e → IsReachable m
-      → DriverRelation m (at_slots s old) → MayServe port slot mode e s m
-      → EndsWith (at_slots s old) m (Issue mode e) (at_slots (with_serving port slot e.request.id s) new)
+      → DriverRelation m (driver_state s old) → MayServe port slot mode e s m
+      → EndsInStep (driver_state s old) m (Issue mode e) (driver_state (with_serving port slot e.request.id s) new)
   pub issuing_silent : (port : Port) (slot : ℕ) (r : Task) (frames : List Frame) (mode : QueueMode) (e : Pending)
-      (old new : Device) (s : InSlots) (m : Machine)
+      (old new : Device) (s : DriverSlots) (m : Machine)
       → IssuesTask port slot r frames old new → IsTaskOf port slot r frames mode e → IsReachable m
-      → DriverRelation m (at_slots s old) → MayServe port slot mode e s m → (q : ℕ) (o : Operation) → op_of o ≡ None
-      → (s.uses q 0 ≡ Own o → ⊥) → SendsNone q o old new
-  pub issuing_of : (port : Port) (slot : ℕ) (access : Access) → IsIssuing port slot access → IsOf port access
+      → DriverRelation m (driver_state s old) → MayServe port slot mode e s m → (q : ℕ) (o : Operation) → op_of o ≡ None
+      → (s.uses q 0 ≡ Own o → ⊥) → GainsNoMove q o old new
+  pub issuing_of : (port : Port) (slot : ℕ) (access : Access) → IsIssuing port slot access
+      → SparesOtherPorts port access
   -- it is found done
-  pub finding_of : (port : Port) (access : Access) → IsFinding port access → IsOf port access
+  pub finding_of : (port : Port) (access : Access) → ReadsCiOrSact port access → SparesOtherPorts port access
   pub finding_followed : (port : Port) (mask done : ℕ) (old new : Device) → ReadsDone port mask done old new
-      → IsSimulated (IsFinding port) AnyUse old new
+      → IsSimulated (ReadsCiOrSact port) AnyUse old new
   -- the adapter
   pub switches_on : (v : ℕ) (old new : Device) → old.hr ≡ false → bit v 31 ≡ true → bit v 0 ≡ false
       → Writes Ghc v old new → IsOn new
   -- accesses of one port
-  pub of_on : (port : Port) (old new : Device) → IsOn old → IsDrivenBy (IsOf port) old new → IsOn new
-  pub of_spares : (port q : Port) (r : PortReg) → q.0 ≢ port.0 → (access : Access) → IsOf port access
-      → SparesRegister (Px q r) access
-  pub of_host : (port : Port) (access : Access) → IsOf port access → SparesRegister Ghc access
+  pub of_on : (port : Port) (old new : Device) → IsOn old → IsDrivenBy (SparesOtherPorts port) old new → IsOn new
+  pub of_spares : (port q : Port) (r : PortReg) → q.0 ≢ port.0 → (access : Access) → SparesOtherPorts port access
+      → DoesNotWrite (Px q r) access
+  pub of_host : (port : Port) (access : Access) → SparesOtherPorts port access → DoesNotWrite Ghc access
   pub idle_agrees : (m : Machine) (d : Device) → IsInitial m → IsIdle d
       → ((port : ℕ) → IsDiskOf m (d.port port) port) → SameMemory m d.memory
       → (d.telling ≡ true → (port : ℕ) → SameSectors m (d.port port).disk port)
       → (d.telling ≡ true → (port k : ℕ)
-      → m.aside (port_at port) k ≡ may_return d.tape (d.port port).lasting port k) → DriverRelation m (idle d)
+      → m.aside (port_at port) k ≡ replug_candidates d.tape (d.port port).lasting port k) → DriverRelation m (idle d)
   -- clients' bytes
   pub acceptable_owned : (s : Situation) (r : Request) → IsAcceptable s r
       → All (λ frame. s.owner frame ≡ Some r.client) r.frames.items
   pub open_owned : (owner : Frame → Option ClientId) (lent : Frame → Option RequestId) (client : ClientId)
-      (frame : Frame) (offset count : ℕ) → IsOpen owner lent client frame offset count → owner frame ≡ Some client
+      (frame : Frame) (offset count : ℕ) → MayAccessFrame owner lent client frame offset count
+      → owner frame ≡ Some client
   pub client_stores : (k : DriverState) (m : Machine) (client : ClientId) (frame : Frame) (offset : ℕ) (bytes : List ℕ)
       (new : Device) → IsReachable m → DriverRelation m k → May m (Store client frame offset bytes)
       → Stores (FRAME_BYTES * frame.0 + offset) bytes k.device new
-      → EndsWith k m (Store client frame offset bytes) (record k { device = new })
+      → EndsInStep k m (Store client frame offset bytes) (record k { device = new })
   pub client_loads : (k : DriverState) (m : Machine) (client : ClientId) (frame : Frame) (offset : ℕ) (bytes : List ℕ)
-      (new : Device) → IsReachable m → DriverRelation m k → IsOpen m.owner m.lent client frame offset (length bytes)
+      (new : Device) → IsReachable m → DriverRelation m k
+      → MayAccessFrame m.owner m.lent client frame offset (length bytes)
       → Loads (FRAME_BYTES * frame.0 + offset) bytes k.device new
-      → EndsWith k m (Load client frame offset bytes) (record k { device = new })
+      → EndsInStep k m (Load client frame offset bytes) (record k { device = new })
   pub client_bytes_free : (uses : SlotStates) (m : Machine) (d : Device) → IsReachable m → StateRelation uses m d
       → (client : ClientId)
       (frame : Frame) (offset n : ℕ) → FRAME_BYTES * frame.0 + FRAME_BYTES ≤ d.size
-      → IsOpen m.owner m.lent client frame offset n → IsStable (IsUnowned (FRAME_BYTES * frame.0 + offset) n) d
+      → MayAccessFrame m.owner m.lent client frame offset n → IsStable (IsUnowned (FRAME_BYTES * frame.0 + offset) n) d
   -- a port that runs does so still
-  pub runs_over : (port : Port) (access : Access) (old new : Device) → IsOn old → SparesRegister (Px port Sctl) access
-      → SparesRegister (Px port Cmd) access → Does access old new → RunsOn port.0 old new
+  pub runs_over : (port : Port) (access : Access) (old new : Device) → IsOn old → DoesNotWrite (Px port Sctl) access
+      → DoesNotWrite (Px port Cmd) access → Does access old new → RunsOn port.0 old new
   pub runs_on : (port : Port) (accesses : List Access) (old new : Device) → IsOn old → DoesAll accesses old new
-      → All (SparesRegister Ghc) accesses → All (SparesRegister (Px port Sctl)) accesses
-      → All (SparesRegister (Px port Cmd)) accesses → RunsOn port.0 old new
+      → All (DoesNotWrite Ghc) accesses → All (DoesNotWrite (Px port Sctl)) accesses
+      → All (DoesNotWrite (Px port Cmd)) accesses → RunsOn port.0 old new
   pub runs_well : (port : ℕ) (old new : Device) → RunsOn port old new → Undisturbed port old new
       → RunsWell (old.port port) → RunsWell (new.port port)
   -- a port is recovered
@@ -213,14 +219,14 @@ pub record LawsBelow : Type 0 where
   -- a port's turn in a call
   pub calls : CallLaws
   -- a port that is recovered, or booted anew
-  pub recovering_of : (port : Port) (access : Access) → IsRecovering port access → IsOf port access
-  pub recovering_loads : (port : Port) (at_entry : ℕ) (bytes : List ℕ) → port.0 < 4
-      → IsRecovering port (Loading at_entry bytes)
-      → at_entry + length bytes ≤ DRIVER_BYTES
-  pub recovering_stores : (port : Port) (at_entry : ℕ) (bytes : List ℕ) → port.0 < 4
-      → IsRecovering port (Storing at_entry bytes)
-      → at_entry + length bytes ≤ DRIVER_BYTES
-  pub booting_of : (port : Port) (access : Access) → IsOfBoot port access → IsOf port access
+  pub recovering_of : (port : Port) (access : Access) → IsRecoveryAccess port access → SparesOtherPorts port access
+  pub recovering_loads : (port : Port) (address : ℕ) (bytes : List ℕ) → port.0 < 4
+      → IsRecoveryAccess port (Loading address bytes)
+      → address + length bytes ≤ DRIVER_BYTES
+  pub recovering_stores : (port : Port) (address : ℕ) (bytes : List ℕ) → port.0 < 4
+      → IsRecoveryAccess port (Storing address bytes)
+      → address + length bytes ≤ DRIVER_BYTES
+  pub booting_of : (port : Port) (access : Access) → IsOfBoot port access → SparesOtherPorts port access
   -- what accesses tell of a port's engines
   pub falls_then : (early late : List Access) (start running : ℕ) (port : Port) → Falls start running port early
       → Falls start running port (early ++ late)
@@ -230,25 +236,27 @@ pub record LawsBelow : Type 0 where
   pub sticks_since : (early late : List Access) (port : Port) → Sticks port late → Sticks port (early ++ late)
   -- what stands behind a fault in a part of a turn
   pub failed_stays : (port : Port) (early part late : List Access) (start old new end : Device) (fault : Fault)
-      → IsOn start → All (SparesRegister Ghc) early → All (SparesRegister (Px port Cmd)) early → DoesAll early start old
+      → IsOn start → All (DoesNotWrite Ghc) early → All (DoesNotWrite (Px port Cmd)) early → DoesAll early start old
       → DoesAll late new end → HasFailed port part old new fault → HasFailed port (early ++ (part ++ late)) start end
       fault
   pub log_stays : (port : Port) (start old new end : Device) (page : List ℕ) → Grows start old
-      → SendsNone port.0 ReadLog new end → BringsLog port old new page → BringsLog port start end page
+      → GainsNoMove port.0 ReadLog new end → BringsLog port old new page → BringsLog port start end page
   -- a request that waits again
-  pub asks_requeued : (entries : List Held) (id : RequestId) → asks_of (map (at_entry id requeued_entry) entries)
+  pub asks_requeued : (entries : List BookEntry) (id : RequestId)
+      → asks_of (map (update_if_id id requeued_entry) entries)
       ≡ with_waiting id (asks_of entries)
   -- requests that are marked
-  pub asks_marked : (entries : List Held) (client : ClientId) (grant : ℕ)
+  pub asks_marked : (entries : List BookEntry) (client : ClientId) (grant : ℕ)
       → asks_of (all_marked_under client grant entries) ≡ asks_of entries
   -- a disk that comes, or goes
-  pub out_on : (port : Port) (access : Access) (old new : Device) → NoneComes port.0 old new → Does access old new
+  pub out_on : (port : Port) (access : Access) (old new : Device) → NoDiskComes port.0 old new → Does access old new
       → (old.port port.0).present ≡ false → (new.port port.0).present ≡ false
-  pub vacant_on : (port : Port) (access : Access) (old new : Device) → NoneComes port.0 old new → Does access old new
+  pub vacant_on : (port : Port) (access : Access) (old new : Device) → NoDiskComes port.0 old new → Does access old new
       → IsVacant (old.port port.0) → IsVacant (new.port port.0)
-  pub fresh_on : (port : Port) (access : Access) (old new : Device) → NoneComes port.0 old new → Does access old new
+  pub fresh_on : (port : Port) (access : Access) (old new : Device) → NoDiskComes port.0 old new → Does access old new
       → IsFreshIfShown (old.port port.0) → IsFreshIfShown (new.port port.0)
   pub fresh_reset : (port : Port) (v : ℕ) (old new : Device) → v % 16 ≡ 1 → Writes (Px port Sctl) v old new
       → IsFreshIfShown (new.port port.0)
-  pub disks_told : (port : Port) (m : Machine) (gained : List TapeEntry) (steps : List Step) → TellsAmong m gained steps
-      → (e : TapeEntry) → Contains gained e → IsPlugging port.0 e → list_any (changes_disk port) steps ≡ true
+  pub disks_told : (port : Port) (m : Machine) (gained : List TapeEntry) (steps : List Step)
+      → TellsDeviceSteps m gained steps
+      → (e : TapeEntry) → Contains gained e → IsPlugEvent port.0 e → list_any (changes_disk port) steps ≡ true

@@ -3,100 +3,101 @@ use Rattle.std.specs.Prelude.{ℕ, true, false, ◌≡◌, ◌≢◌, ◌⊎◌,
 use Rattle.ata_types.specs.declared.Port.{Port}
 use Rattle.ata_types.specs.declared.PortState.TheVariants.{Ready}
 use Rattle.adapter.specs.Device.{Device, DevicePort}
-use Rattle.adapter.specs.Seen.{SeenAt}
+use Rattle.adapter.specs.Seen.{PortRegisterRead}
 use Rattle.adapter.specs.declared.access.DeviceStep.{DeviceStep}
 use Rattle.adapter.specs.declared.command.Operation.TheVariants.{ReadLog}
 use Rattle.adapter.specs.declared.tape.Fault.{Fault}
 use Rattle.adapter.specs.Rules.{IsOn}
 use Rattle.adapter.specs.Steps.{Steps}
 use Rattle.adapter.specs.Access.{Access, Does, DoesAll, Reads, note}
-use Rattle.refinement.specs.Links.{PlugsNone, SparesRegister, SameAdapter, HasDeviceOrNone}
+use Rattle.refinement.specs.Links.{NoPlugEvents, DoesNotWrite, SameAdapter, ShowsDiskIfIn}
 use Rattle.hba_regs.specs.Bits.{bit}
 use Rattle.hba_regs.specs.declared.reg.PortReg.{PortReg}
 use Rattle.hba_regs.specs.declared.reg.PortReg.TheVariants.{Ci, Is, Sact, Sctl, Ssts}
 use Rattle.hba_regs.specs.declared.reg.Reg.TheVariants.{Ghc, Px}
-use Rattle.refinement.specs.Driven.{IsDrivenBy, IsOf, LeavesPort, SendsNone, Grows}
-use Rattle.refinement.specs.Errors.{NoneComes, IsFatalOf}
+use Rattle.refinement.specs.Driven.{IsDrivenBy, SparesOtherPorts, LeavesPort, GainsNoMove, Grows}
+use Rattle.refinement.specs.Errors.{NoDiskComes, IsFatalOf}
 use Rattle.refinement.specs.Laws.{FragmentLaws}
-use Rattle.refinement.specs.Facts.{IsFaulted, IsRecorded, RunsWell, ShowsNoTrouble, TellsNoTrouble, Undisturbed, IsFaultOf}
-use Rattle.block_machine.specs.Events.{Ask, AbstractState, CallResult, Service}
+use Rattle.refinement.specs.Facts.{IsFaulted, FaultsOnRecord, RunsWell, ShowsNoTrouble, TellsNoTrouble, Undisturbed, IsFaultOf}
+use Rattle.block_machine.specs.Events.{AbstractCall, AbstractState, CallResult, Service}
 use Rattle.block_machine.specs.Histories.{JointState}
-use Rattle.block_machine.specs.Ports.{Evidence, IsInterrupted, Ports, SamePort}
+use Rattle.block_machine.specs.Ports.{Evidence, IsStoppedOrStuck, Ports, SamePort}
 use Rattle.driver_history.specs.Evidence.{IsEvidencedOf, ShowsChange, ShowsFailure}
-use Rattle.error_recovery.specs.Evidence.{BringsLog, HasFailed, GainsRunning}
-use Rattle.driver_history.specs.Histories.{BootsAnew, HasFaultAlone, LosesNoPortError, RunsWellAnew, IsUnfitOrForeign, ProbesDisk}
-use Rattle.driver_history.specs.Parts.{HasTurnIn, NamesAlike, all_of, EndsLinked}
-use Rattle.driver_history.specs.Trace.{ClearsNone, ResetsLink}
+use Rattle.error_recovery.specs.Evidence.{BringsLog, HasFailed, GainsSinceStart}
+use Rattle.driver_history.specs.Histories.{BootsAnew, HasOnlyTaskFileError, LosesNoPortError, RunsWellAnew, HasUnservedDisk, ProbesDisk}
+use Rattle.driver_history.specs.Parts.{HasTurnIn, EvidenceAgreesOn, call_accesses, EndsNoLinkDue}
+use Rattle.driver_history.specs.Trace.{ClearsNoError, ResetsLink}
 use Rattle.port_control.specs.Engines.{Stops}
-use Rattle.port_control.specs.Looks.{LooksAt, look_of, IsLooking}
-use Rattle.port_control.specs.Services.{HasLoss, IsOrdinary, IsService, ShowsDisks, ShowsFatals, ShowsFaults}
+use Rattle.port_control.specs.Looks.{LooksAt, port_event_of, IsLooking}
+use Rattle.port_control.specs.Services.{HasLoss, LeavesCauses, IsService, HidesNoPlugEvent, HidesNoFatal, HidesNoFault}
 use Rattle.port_control.specs.declared.events.PortEvent.{PortEvent}
 use Rattle.port_control.specs.declared.events.PortEvent.TheVariants.{FatalError, TaskFileError, LinkChanged, NoEvent}
-use Rattle.server_history.specs.Laws.{AccessKind, fits_of, may_of}
+use Rattle.server_history.specs.Laws.{AccessPurpose, fits_of, may_of}
 
 pub record LookLaws : Type 0 where
   -- a reading of a port's register; what other accesses leave of a port
   pub seen : (port : Port) (r : PortReg) (v : ℕ) (old new : Device) → Reads (Px port r) v old new → old.hr ≡ false
-      → SeenAt port.0 r v old new
+      → PortRegisterRead port.0 r v old new
   pub noted : (port : Port) (r : PortReg) (v : ℕ) (old new : Device) → old.hr ≡ false → Reads (Px port r) v old new
       → (new.port port.0).notes ≡ note r v (old.port port.0)
   pub shown_stays : (port : Port) (access : Access) (old new : Device) → old.hr ≡ false
-      → SparesRegister (Px port Sctl) access → Does access old new → HasDeviceOrNone (old.port port.0)
-      → HasDeviceOrNone (new.port port.0)
+      → DoesNotWrite (Px port Sctl) access → Does access old new → ShowsDiskIfIn (old.port port.0)
+      → ShowsDiskIfIn (new.port port.0)
   pub leaves_none : (p : DevicePort) → LeavesPort p p
   pub leaves_more : (old mid new : DevicePort) → LeavesPort old mid → LeavesPort mid new → LeavesPort old new
   -- a command that failed
   pub fails_look : (port : Port) (old new : Device) → IsOn old → LooksAt port TaskFileError old new
-      → (old.port port.0).st ≡ true → IsRecorded old.tape (old.port port.0) port.0 → IsFaulted (new.port port.0).halt
+      → (old.port port.0).st ≡ true → FaultsOnRecord old.tape (old.port port.0) port.0
+      → IsFaulted (new.port port.0).halt
       × ((new.port port.0).notes.last_ssts % 16 ≡ 3)
   pub fails_reads : (port : Port) (r : PortReg) (v : ℕ) (old new : Device) → IsOn old → Reads (Px port r) v old new
-      → r ≢ Ssts → (old.port port.0).st ≡ true → IsRecorded old.tape (old.port port.0) port.0
+      → r ≢ Ssts → (old.port port.0).st ≡ true → FaultsOnRecord old.tape (old.port port.0) port.0
       → IsFaulted (old.port port.0).halt → IsFaulted (new.port port.0).halt
       × ((new.port port.0).notes.last_ssts ≡ (old.port port.0).notes.last_ssts)
   -- what a look tells of trouble
   pub looks_changed : (port : Port) (result : PortEvent) (old new : Device) → IsOn old → LooksAt port result old new
       → ((old.port port.0).serr_n ≡ true) ⊎ ((old.port port.0).serr_x ≡ true) → result ≡ LinkChanged
   pub looks_unlinked : (port : Port) (result : PortEvent) (old new : Device) → IsOn old → LooksAt port result old new
-      → (old.port port.0).ssts_det ≢ 3 → (old.port port.0).link_due ≡ false → NoneComes port.0 old new
+      → (old.port port.0).ssts_det ≢ 3 → (old.port port.0).link_due ≡ false → NoDiskComes port.0 old new
       → result ≡ LinkChanged
-  pub looks_failed : (causes status : ℕ) → look_of causes status ≡ TaskFileError
+  pub looks_failed : (causes status : ℕ) → port_event_of causes status ≡ TaskFileError
       → (bit causes 30 ≡ true) × (bit causes 6 ≡ false) × (bit causes 22 ≡ false)
       × ((place : ℕ) → 27 ≤ place → place ≤ 29 → bit causes place ≡ false) × (status % 16 ≡ 3)
-  pub looks_undisturbed : (causes status : ℕ) → look_of causes status ≡ NoEvent → TellsNoTrouble causes
+  pub looks_undisturbed : (causes status : ℕ) → port_event_of causes status ≡ NoEvent → TellsNoTrouble causes
       × (status % 16 ≡ 3)
   pub looks_calm : (port : Port) (result : PortEvent) (old new : Device) → IsOn old → (l : LooksAt port result old new)
       → result ≡ NoEvent → ShowsNoTrouble (old.port port.0) × Undisturbed port.0 old l.seen
   -- a fatal error is told
-  pub looks_broken : (causes status : ℕ) → look_of causes status ≡ FatalError
+  pub looks_broken : (causes status : ℕ) → port_event_of causes status ≡ FatalError
       → ((bit causes 28 ≡ true) ⊎ (bit causes 29 ≡ true) ⊎ (bit causes 27 ≡ true)) × (bit causes 6 ≡ false)
       × (bit causes 22 ≡ false) × (status % 16 ≡ 3)
   -- what a look doesn't tell hasn't come
   pub looks_fault : (port : Port) (result : PortEvent) (old new : Device) → IsOn old → (l : LooksAt port result old new)
-      → bit l.causes 30 ≡ false → ShowsFaults port.0 old new
+      → bit l.causes 30 ≡ false → HidesNoFault port.0 old new
   pub looks_fatal : (port : Port) (result : PortEvent) (old new : Device) → IsOn old → (l : LooksAt port result old new)
-      → ((place : ℕ) → 27 ≤ place → place ≤ 29 → bit l.causes place ≡ false) → ShowsFatals port.0 old new
+      → ((place : ℕ) → 27 ≤ place → place ≤ 29 → bit l.causes place ≡ false) → HidesNoFatal port.0 old new
   pub looks_disk : (port : Port) (result : PortEvent) (old new : Device) → IsOn old → LooksAt port result old new
-      → ShowsDisks port.0 old new
-  pub ordinary_faults : (port : Port) (old new : Device) → IsOn old → IsDrivenBy (IsOrdinary port) old new
-      → ShowsFaults port.0 old new
-  pub ordinary_fatals : (port : Port) (old new : Device) → IsOn old → IsDrivenBy (IsOrdinary port) old new
-      → ShowsFatals port.0 old new
-  pub ordinary_disks : (port : Port) (old new : Device) → IsOn old → IsDrivenBy (IsOrdinary port) old new
-      → ShowsDisks port.0 old new
+      → HidesNoPlugEvent port.0 old new
+  pub ordinary_faults : (port : Port) (old new : Device) → IsOn old → IsDrivenBy (LeavesCauses port) old new
+      → HidesNoFault port.0 old new
+  pub ordinary_fatals : (port : Port) (old new : Device) → IsOn old → IsDrivenBy (LeavesCauses port) old new
+      → HidesNoFatal port.0 old new
+  pub ordinary_disks : (port : Port) (old new : Device) → IsOn old → IsDrivenBy (LeavesCauses port) old new
+      → HidesNoPlugEvent port.0 old new
   pub looks_loss : (port : Port) (old new : Device) → IsOn old → LooksAt port LinkChanged old new
       → (old.port port.0).link_due ≡ false → HasLoss port.0 old new
   -- accesses that serve ports
-  pub fragments : FragmentLaws AccessKind may_of fits_of
+  pub fragments : FragmentLaws AccessPurpose may_of fits_of
   pub looking_service : (port : Port) (access : Access) → IsLooking port access → IsService access
-  pub looking_of : (port : Port) (access : Access) → IsLooking port access → IsOf port access
+  pub looking_of : (port : Port) (access : Access) → IsLooking port access → SparesOtherPorts port access
   pub looks_driven : (port : Port) (result : PortEvent) (old new : Device) → LooksAt port result old new
       → IsDrivenBy (IsLooking port) old new
   pub looks_well : (port : Port) (result : PortEvent) (old new : Device) → IsOn old → LooksAt port result old new
       → RunsWell (old.port port.0) → Undisturbed port.0 old new → (result ≡ NoEvent) × RunsWell (new.port port.0)
   -- what serving ports writes, and leaves
-  pub services_spare_host : (access : Access) → IsService access → SparesRegister Ghc access
+  pub services_spare_host : (access : Access) → IsService access → DoesNotWrite Ghc access
   pub services_spare : (port : Port) (r : PortReg) → r ≢ Is → r ≢ Ci → r ≢ Sact → (access : Access) → IsService access
-      → SparesRegister (Px port r) access
+      → DoesNotWrite (Px port r) access
   pub services_on : (old new : Device) → IsOn old → IsDrivenBy IsService old new → IsOn new
   pub services_same : (old new : Device) → IsDrivenBy IsService old new → SameAdapter old new
   pub services_controls : (port : ℕ) (old new : Device) → IsOn old → IsDrivenBy IsService old new
@@ -104,42 +105,42 @@ pub record LookLaws : Type 0 where
       × ((new.port port).notes.sctl_written_at ≡ (old.port port).notes.sctl_written_at)
       × ((new.port port).notes.st_set_at ≡ (old.port port).notes.st_set_at)
   pub services_recorded : (port : ℕ) (old new : Device) → IsDrivenBy IsService old new
-      → IsRecorded old.tape (old.port port) port → IsRecorded new.tape (new.port port) port
+      → FaultsOnRecord old.tape (old.port port) port → FaultsOnRecord new.tape (new.port port) port
   pub looks_inactive : (port : Port) (q slot : ℕ) (old new : Device) → IsDrivenBy (IsLooking port) old new
       → (old.port q).sact slot ≡ false → (new.port q).sact slot ≡ false
 
 pub record CallLaws : Type 0 where
   -- a port's turn in a call
   pub evidence : (port : Port) (old : JointState Device) (begun : AbstractState) (ended ports : Ports) (new : Device)
-      (turn call : Evidence) (ask : Ask DeviceStep) (said : CallResult) → IsOn old.device
+      (turn call : Evidence) (ask : AbstractCall DeviceStep) (said : CallResult) → IsOn old.device
       → ((old.abstract.ports.state port ≡ Ready) ⊎ Contains turn.lost port → (old.device.port port.0).link_due ≡ false)
       → (t : HasTurnIn port old.device new) → IsOn t.end → SamePort old.abstract.ports begun.ports port
-      → SamePort ended ports port → NamesAlike port turn call
+      → SamePort ended ports port → EvidenceAgreesOn port turn call
       → IsEvidencedOf ask said t.turn (record { device = t.start; abstract = begun }) ended t.end turn port
-      → IsEvidencedOf ask said (all_of t) old ports new call port
+      → IsEvidencedOf ask said (call_accesses t) old ports new call port
   pub failed : (port : Port) (old new : Device) (fault : Fault) → IsOn old → (t : HasTurnIn port old new)
-      → HasFailed port t.turn t.start t.end fault → HasFailed port (all_of t) old new fault
+      → HasFailed port t.turn t.start t.end fault → HasFailed port (call_accesses t) old new fault
   pub brings : (port : Port) (old new : Device) (page : List ℕ) → IsOn old → (t : HasTurnIn port old new)
-      → SendsNone port.0 ReadLog t.end new → BringsLog port t.start t.end page → BringsLog port old new page
+      → GainsNoMove port.0 ReadLog t.end new → BringsLog port t.start t.end page → BringsLog port old new page
   -- a port's trouble, and its turn in the call
   pub ordinary : (port : Port) (old : JointState Device) (new : Device) (accesses : List Access) (evidence : Evidence)
       (ports : Ports) → IsOn old.device
-      → DoesAll accesses old.device new → All (SparesRegister Ghc) accesses → All (ClearsNone port) accesses
+      → DoesAll accesses old.device new → All (DoesNotWrite Ghc) accesses → All (ClearsNoError port) accesses
       → LosesNoPortError evidence old ports new port
   pub ordinary_steps : (port : Port) (old : JointState Device) (new : Device) (evidence : Evidence) (ports : Ports)
       → IsOn old.device → Steps old.device new → LosesNoPortError evidence old ports new port
   pub alone_then : (port : Port) (old : JointState Device) (begun : AbstractState) (new : Device) → IsOn old.device
       → (old.device.port port.0).link_due ≡ false → (t : HasTurnIn port old.device new) → IsOn t.end
-      → begun.ports.state port ≡ Ready → HasFaultAlone port old new
-      → HasFaultAlone port (record { device = t.start; abstract = begun }) t.end
+      → begun.ports.state port ≡ Ready → HasOnlyTaskFileError port old new
+      → HasOnlyTaskFileError port (record { device = t.start; abstract = begun }) t.end
   pub call_trouble : (port : Port) (old : JointState Device) (begun : AbstractState) (ended ports : Ports)
       (new : Device)
       (turn call : Evidence) → IsOn old.device
-      → (t : HasTurnIn port old.device new) → IsOn t.end → SamePort ended ports port → NamesAlike port turn call
-      → SamePort old.abstract.ports begun.ports port → (ended.state port ≡ Ready → IsInterrupted turn port
+      → (t : HasTurnIn port old.device new) → IsOn t.end → SamePort ended ports port → EvidenceAgreesOn port turn call
+      → SamePort old.abstract.ports begun.ports port → (ended.state port ≡ Ready → IsStoppedOrStuck turn port
       → length t.start.tape ≤ (t.end.port port.0).notes.st_set_at)
       → ((begun.ports.state port ≡ Ready) ⊎ (ended.state port ≡ Ready) → ShowsFailure (t.start.port port.0)
-      ⊎ ShowsChange (t.start.port port.0) → IsInterrupted turn port)
+      ⊎ ShowsChange (t.start.port port.0) → IsStoppedOrStuck turn port)
       → LosesNoPortError turn (record { device = t.start; abstract = begun }) ended t.end port
       → LosesNoPortError call old ports new port
   pub call_boots : (port : Port) (old : JointState Device) (begun : AbstractState) (ended ports : Ports) (new : Device)
@@ -148,37 +149,39 @@ pub record CallLaws : Type 0 where
       → (t : HasTurnIn port old.device new) → IsOn t.end → SamePort ended ports port
       → SamePort old.abstract.ports begun.ports port
       → BootsAnew Service one t.turn (record { device = t.start; abstract = begun }) ended t.end port
-      → BootsAnew Service other (all_of t) old ports new port
+      → BootsAnew Service other (call_accesses t) old ports new port
   pub call_well : (port : Port) (old : JointState Device) (begun : AbstractState) (ended ports : Ports) (new : Device)
       (turn call : Evidence) → IsOn old.device
       → (t : HasTurnIn port old.device new) → IsOn t.end
       → (ended.state port ≡ Ready → ((old.device.port port.0).link_due ≡ false) ⊎ ResetsLink port t.turn)
-      → SamePort ended ports port → NamesAlike port turn call
+      → SamePort ended ports port → EvidenceAgreesOn port turn call
       → (ended.state port ≡ Ready → (t.end.port port.0).notes.st_set_at ≤ length t.end.tape)
       → RunsWellAnew turn t.turn (record { device = t.start; abstract = begun }) ended t.end port
-      → RunsWellAnew call (all_of t) old ports new port
+      → RunsWellAnew call (call_accesses t) old ports new port
   -- a disk that is probed in a port's turn
   pub call_tries : (port : Port) (old : JointState Device) (begun : AbstractState) (ended ports : Ports) (new : Device)
       → IsOn old.device → (t : HasTurnIn port old.device new) → IsOn t.end → SamePort ended ports port
       → SamePort old.abstract.ports begun.ports port
-      → (IsUnfitOrForeign old.abstract.ports port → HasDeviceOrNone (old.device.port port.0))
-      → EndsLinked port (record { device = t.start; abstract = begun }) ended t.end
-      → (NoneComes port.0 t.start t.end → ProbesDisk t.turn (record { device = t.start; abstract = begun }) ended t.end
+      → (HasUnservedDisk old.abstract.ports port → ShowsDiskIfIn (old.device.port port.0))
+      → EndsNoLinkDue port (record { device = t.start; abstract = begun }) ended t.end
+      → (NoDiskComes port.0 t.start t.end → ProbesDisk t.turn
+      (record { device = t.start; abstract = begun }) ended t.end
       port)
-      → NoneComes port.0 old.device new → ProbesDisk (all_of t) old ports new port
+      → NoDiskComes port.0 old.device new → ProbesDisk (call_accesses t) old ports new port
   pub call_linked : (port : Port) (old : JointState Device) (begun : AbstractState) (ended ports : Ports) (new : Device)
       → IsOn old.device → (t : HasTurnIn port old.device new) → IsOn t.end → SamePort ended ports port
       → SamePort old.abstract.ports begun.ports port
-      → EndsLinked port (record { device = t.start; abstract = begun }) ended
-      t.end → EndsLinked port old ports new
+      → EndsNoLinkDue port (record { device = t.start; abstract = begun }) ended
+      t.end → EndsNoLinkDue port old ports new
   pub set_since : (port : Port) (accesses : List Access) (old new : Device) → IsOn old
-      → All (SparesRegister Ghc) accesses → DoesAll accesses old new → Stops port accesses → (new.port port.0).st ≡ true
+      → All (DoesNotWrite Ghc) accesses → DoesAll accesses old new → Stops port accesses → (new.port port.0).st ≡ true
       → length old.tape ≤ (new.port port.0).notes.st_set_at
   -- what came since ST was set
   pub fatal_in_part : (port : ℕ) (old start end new : Device) → Grows old start → Grows end new
-      → (new.port port).notes.st_set_at ≡ (end.port port).notes.st_set_at → GainsRunning (IsFatalOf port) port start end
-      → GainsRunning (IsFatalOf port) port old new
+      → (new.port port).notes.st_set_at ≡ (end.port port).notes.st_set_at
+      → GainsSinceStart (IsFatalOf port) port start end
+      → GainsSinceStart (IsFatalOf port) port old new
   pub calm_since : (port : ℕ) (old mid new : Device) → Grows old mid → Grows mid new → (new.port port).notes.st_set_at
-      ≤ length mid.tape → PlugsNone port old new
-      → (GainsRunning (IsFaultOf port) port old new → ⊥) → (GainsRunning (IsFatalOf port) port old new → ⊥)
+      ≤ length mid.tape → NoPlugEvents port old new
+      → (GainsSinceStart (IsFaultOf port) port old new → ⊥) → (GainsSinceStart (IsFatalOf port) port old new → ⊥)
       → Undisturbed port mid new

@@ -7,26 +7,26 @@ use Rattle.ata_types.specs.declared.request.Reply.{Reply}
 use Rattle.ata_types.specs.declared.request.RequestId.{RequestId}
 use Rattle.adapter.specs.Device.{Device}
 use Rattle.refinement.specs.Driver.{HasNoSlot, IsBacked, DriverState, DriverRelation}
-use Rattle.block_machine.specs.Events.{AllMay, Tells}
+use Rattle.block_machine.specs.Events.{AllMay, RepliesMatch}
 use Rattle.block_machine.specs.Histories.{IsReachable}
 use Rattle.block_machine.specs.Left.{after}
 use Rattle.block_machine.specs.State.{Machine, Pending}
 use Rattle.block_machine.specs.Steps.{Step, Again, Answer}
 use Rattle.dma_frames.specs.Loan.{Lending}
 use Rattle.dma_frames.specs.Table.{lent_to}
-use Rattle.request_queue.specs.Entries.{Held, IsAccepted, IsEarlier, BookIsInOrder}
+use Rattle.request_queue.specs.Entries.{BookEntry, IsAccepted, IsEarlier, BookIsInOrder}
 use Rattle.request_queue.specs.Dispositions.{Holdings, keeps_loan}
-use Rattle.request_queue.specs.Machine.{IsBook, IsEntry}
+use Rattle.request_queue.specs.Machine.{BookRelation, EntryRelation}
 use Rattle.request_queue.specs.declared.PendingRequest.{PendingRequest}
 use Rattle.request_queue.specs.declared.disposition.Disposition.{Disposition}
 use Rattle.request_queue.specs.declared.disposition.Disposition.TheVariants.{Complete, Requeue, Wait}
-use Rattle.server_history.specs.Server.{AreOfTwo, TellsGrant}
+use Rattle.server_history.specs.Server.{DifferInRequest, RevokedMarkAgrees}
 
 -- the step is the server's: a request of the port waits again, or is answered
-abbrev pub DecidesOn : Port → Step → Type 0
-DecidesOn port (Again e) = e.request.port ≡ port
-DecidesOn port (Answer e outcome) = e.request.port ≡ port
-DecidesOn port step = ⊥
+abbrev pub IsResolveStep : Port → Step → Type 0
+IsResolveStep port (Again e) = e.request.port ≡ port
+IsResolveStep port (Answer e outcome) = e.request.port ≡ port
+IsResolveStep port step = ⊥
 
 -- it ends with its frames lent still
 abbrev pub keeps_frames_lent : Disposition → PendingRequest → Bool
@@ -45,50 +45,51 @@ loans_of (e ∷ rest) = loans_of rest ++ loan_of e ∷ []
 -- The machine has the book and the loans. These are requests of the port in the book, each with a mark that tells
 -- whether the machine has its grant; and no slot serves one of them whose loan isn't kept.
 pub record AreResolvable (port : Port) (disposition : PendingRequest
-    → Disposition) (requests : List Held) (now : Holdings)
+    → Disposition) (requests : List BookEntry) (now : Holdings)
     (k : DriverState)
     (m : Machine) : Type 0 where
   pub reached : IsReachable m
   pub knows : DriverRelation m k
-  pub book : IsBook now.book m.book
+  pub book : BookRelation now.book m.book
   pub lent : (frame : Frame) → m.lent frame ≡ lent_to now.table frame
   pub ordered : BookIsInOrder now.book
   pub accepted : All (IsAccepted now.table) now.book
-  pub here : (e : Held) → Contains requests e → Contains now.book e × (e.entry.port ≡ port)
-  pub marked : (e : Held) → Contains requests e → TellsGrant m.rows e.entry
+  pub here : (e : BookEntry) → Contains requests e → Contains now.book e × (e.entry.port ≡ port)
+  pub marked : (e : BookEntry) → Contains requests e → RevokedMarkAgrees m.rows e.entry
   pub earlier : AllPairs IsEarlier requests
-  pub unserved : (e : Held) → Contains requests e → keeps_frames_lent (disposition e.entry) e.entry ≡ false
+  pub unserved : (e : BookEntry) → Contains requests e → keeps_frames_lent (disposition e.entry) e.entry ≡ false
       → HasNoSlot k.uses e.entry.id
 
 -- the request is decided on, and its loan isn't kept
-abbrev pub IsLetGo : (PendingRequest → Disposition) → Held → Type 0
+abbrev pub IsLetGo : (PendingRequest → Disposition) → BookEntry → Type 0
 IsLetGo disposition e = (disposition e.entry ≢ Wait) × (keeps_frames_lent (disposition e.entry) e.entry ≡ false)
 
 -- They are resolved by steps that decide on requests of the port, after which the machine has the book and the
 -- loans that are left. Those whose loans are kept are kept in the machine beside those that were, and each has one more
 -- loan. What is parked of the port was before, and is none of those that were let go.
-pub record AreResolvedInMachine (port : Port) (disposition : PendingRequest → Disposition) (requests : List Held)
+pub record AreResolvedInMachine (port : Port) (disposition : PendingRequest → Disposition) (requests : List BookEntry)
     (replies : List Reply)
     (old new : Holdings) (k : DriverState) (m : Machine) : Type 0 where
   pub steps : List Step
   pub parked : ℕ → List RequestId
   pub may : AllMay m steps
-  pub own : All (DecidesOn port) steps
+  pub own : All (IsResolveStep port) steps
   pub backed : (d : Device) → IsBacked d d m steps
   pub knows : DriverRelation (after m steps) (record k { parked = parked })
   pub others : (q : ℕ) → q ≢ port.0 → parked q ≡ k.parked q
   pub still : (id : RequestId) → Contains (parked port.0) id → Contains (k.parked port.0) id
-      × ((e : Held) → Contains requests e → IsLetGo disposition e → e.entry.id ≢ id)
-  pub book : IsBook new.book (after m steps).book
+      × ((e : BookEntry) → Contains requests e → IsLetGo disposition e → e.entry.id ≢ id)
+  pub book : BookRelation new.book (after m steps).book
   pub lent : (frame : Frame) → (after m steps).lent frame ≡ lent_to new.table frame
   pub held : List Pending
   pub kept : (after m steps).kept ≡ held ++ m.kept
   pub loans : new.kept ≡ old.kept ++ loans_of held
-  pub two : AllPairs AreOfTwo (loans_of held)
-  pub whose : (e : Pending) → Contains held e → (request : Held) × Contains requests request × IsEntry request e
+  pub two : AllPairs DifferInRequest (loans_of held)
+  pub whose : (e : Pending) → Contains held e → (request : BookEntry) × Contains requests request
+      × EntryRelation request e
       × (keeps_frames_lent (disposition request.entry) request.entry ≡ true)
-  pub answered : (e : Pending) (outcome : Outcome) → Contains steps (Answer e outcome) → (request : Held)
-      × Contains requests request × IsEntry request e × (disposition request.entry ≡ Complete outcome)
-  pub again : (e : Pending) → Contains steps (Again e) → (request : Held) × Contains requests request
-      × IsEntry request e × (disposition request.entry ≡ Requeue)
-  pub tells : Tells steps replies
+  pub answered : (e : Pending) (outcome : Outcome) → Contains steps (Answer e outcome) → (request : BookEntry)
+      × Contains requests request × EntryRelation request e × (disposition request.entry ≡ Complete outcome)
+  pub again : (e : Pending) → Contains steps (Again e) → (request : BookEntry) × Contains requests request
+      × EntryRelation request e × (disposition request.entry ≡ Requeue)
+  pub tells : RepliesMatch steps replies

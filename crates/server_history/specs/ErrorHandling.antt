@@ -24,7 +24,7 @@ use Rattle.commands.specs.Masks.{ReadsDone}
 use Rattle.port_control.specs.declared.Running as running_token
 use Rattle.port_control.specs.Looks.{LooksAt}
 use Rattle.port_control.specs.declared.events.PortEvent.TheVariants as look
-use Rattle.request_queue.specs.Entries.{Held, IsEarlier, is_of}
+use Rattle.request_queue.specs.Entries.{BookEntry, IsEarlier, is_of}
 use Rattle.request_queue.specs.Dispositions.{Holdings, AreResolved, disposition_of}
 use Rattle.request_queue.specs.declared.disposition.FailedRequest as disposition
 use Rattle.request_queue.specs.declared.disposition.Revalidation.{Revalidation}
@@ -34,7 +34,7 @@ use Rattle.slots.specs.declared.SlotUse.{SlotUse}
 use Rattle.server_history.specs.Served.{AnswersEach, IsMaskOf, IssuesAll, done_reply}
 use Rattle.port_control.specs.declared.events.PortError.{PortError}
 use Rattle.port_control.specs.declared.events.PortError.TheVariants.{FatalError, TaskFileError, TimedOut, LinkChanged}
-use Rattle.server_history.specs.Server.{ServerState, kept_at, mode_found, slots_at, used_for}
+use Rattle.server_history.specs.Server.{ServerState, quarantined_at, probed_mode, slots_at, used_for}
 
 -- ---- a port's error is handled
 
@@ -59,8 +59,8 @@ TellsErrorHandling TaskFileError port outstanding queued result accesses old new
 TellsErrorHandling port_error port outstanding queued result accesses old new = EndsStopped result
 
 -- each used slot has a queued command, or each has a plain one
-abbrev pub AreQueued : Bool → PortSlots → Type 0
-AreQueued queued slots = (slot : ℕ) (used : SlotUse) → use_at slots slot ≡ Some used → used.queued ≡ queued
+abbrev pub AreAllQueuedAs : Bool → PortSlots → Type 0
+AreAllQueuedAs queued slots = (slot : ℕ) (used : SlotUse) → use_at slots slot ≡ Some used → used.queued ≡ queued
 
 -- Trouble was found out. The masks were read; what was done was answered, in order of acceptance, and no slot of it is
 -- in use any more; and the port's error was handled, with the commands of the other used slots outstanding. So it came
@@ -74,14 +74,14 @@ pub record IsErrorHandled (port : Port) (old mid : ServerState) (new : Device) :
   pub done : ℕ
   pub found : Device
   pub reads : ReadsDone port mask done seen found
-  pub requests : List Held
+  pub requests : List BookEntry
   pub ordered : AllPairs IsEarlier requests
   pub each : AnswersEach port done requests (record old { device = found }) mid
   pub free : (slot : ℕ) → slot < 32 → bit done slot ≡ true → used_for mid.slots port.0 slot ≡ None
   pub outstanding : ℕ
   pub left : IsMaskOf (slots_at mid.slots port.0) outstanding
   pub queued : Bool
-  pub alike : AreQueued queued (slots_at mid.slots port.0)
+  pub alike : AreAllQueuedAs queued (slots_at mid.slots port.0)
   pub result : Recovered
   pub handling : RecoversOrStops port outstanding queued result mid.device new
   pub tells : TellsErrorHandling port_error port outstanding queued result handling.accesses mid.device new
@@ -115,19 +115,19 @@ IsRevalidation port_error was found Dead = found ≡ Unready DeadState
 -- ---- what becomes of its requests
 
 -- the request whose command failed is that of the slot that recovery names, with status and error
-abbrev pub IsFailed : PortSlots → Option FailedSlot → Option disposition.FailedRequest → Type 0
-IsFailed slots None failed = failed ≡ None
-IsFailed slots (Some its) failed =
+abbrev pub IsFailedRequest : PortSlots → Option FailedSlot → Option disposition.FailedRequest → Type 0
+IsFailedRequest slots None failed = failed ≡ None
+IsFailedRequest slots (Some its) failed =
     (used : SlotUse) × (use_at slots its.slot.0 ≡ Some used)
     × (failed ≡ Some (record { id = used.id; status = its.status; error = its.error }))
 
 -- the port's requests, in order of acceptance
-abbrev pub requests_of : Port → List Held → List Held
-requests_of port book = filter (λ (e : Held). is_of port e.entry) book
+abbrev pub requests_of : Port → List BookEntry → List BookEntry
+requests_of port book = filter (λ (e : BookEntry). is_of port e.entry) book
 
 -- what the server holds of all ports' requests, and keeps of the port's loans
 abbrev pub holdings_of : Port → ServerState → Holdings
-holdings_of port s = record { book = s.book; table = s.table; kept = kept_at s.kept port.0 }
+holdings_of port s = record { book = s.book; table = s.table; kept = quarantined_at s.kept port.0 }
 
 -- no slot of the port is used, and as many are usable as its mode has
 pub record AreUnused (mode : QueueMode) (slots : PortSlots) : Type 0 where
@@ -162,11 +162,11 @@ pub record HasResolved (port : Port) (later : List Reply) (old new : ServerState
   pub is : IsRevalidated
       (wanted_of old.wanted port.0) port error_handled.port_error was error_handled.result.next device new.device found
   pub mode : QueueMode
-  pub mode_is : mode ≡ mode_found new.device.cap found
+  pub mode_is : mode ≡ probed_mode new.device.cap found
   pub slots : PortSlots
   pub unused : AreUnused mode slots
   pub failed : Option disposition.FailedRequest
-  pub names : IsFailed (slots_at mid.slots port.0) error_handled.result.failed failed
+  pub names : IsFailedRequest (slots_at mid.slots port.0) error_handled.result.failed failed
   pub revalidation : Revalidation
   pub expects : IsRevalidation error_handled.port_error was found revalidation
   pub now : Holdings

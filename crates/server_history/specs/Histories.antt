@@ -3,19 +3,19 @@ use Rattle.std.specs.Prelude.{ℕ, Bool, true, false, ◌≡◌, List, [], ◌�
 use Rattle.ata_types.specs.declared.refusal.MemFault.{MemFault}
 use Rattle.adapter.specs.Device.{Device}
 use Rattle.adapter.specs.declared.access.DeviceStep.{DeviceStep}
-use Rattle.block_machine.specs.Events.{Ask, CallResult, Stored, Loaded}
+use Rattle.block_machine.specs.Events.{AbstractCall, CallResult, Stored, Loaded}
 use Rattle.block_machine.specs.Histories.{JointState, Happening}
 use Rattle.block_machine.specs.Histories as histories
-use Rattle.driver_history.specs.Histories.{Begins, CallCorresponds}
-use Rattle.server_history.specs.Server.{ServerState, ports_of, SettledInvariant, IsMachineOf}
-use Rattle.server_history.specs.Stalled.{StuckInvariant}
+use Rattle.driver_history.specs.Histories.{IsFirstInstant, CallCorresponds}
+use Rattle.server_history.specs.Server.{ServerState, ports_of, SettledInvariant, MachineRelation}
+use Rattle.server_history.specs.StuckServer.{StuckInvariant}
 
 -- An instant of a history is where the server stands: the device is its own, the ports are what it says, and the
 -- machine stands for it.
 pub record ServerRelation (now : JointState Device) (s : ServerState) : Type 0 where
   pub device_is : now.device ≡ s.device
   pub ports_are : now.abstract.ports ≡ ports_of s
-  pub machine : IsMachineOf s now.abstract.machine
+  pub machine : MachineRelation s now.abstract.machine
 
 -- what a store of a client's bytes says
 abbrev pub store_said : Result (Unit {0}) MemFault → CallResult
@@ -29,23 +29,24 @@ load_said (Err fault) bytes = Loaded (Err fault)
 
 -- the history leads to the server
 abbrev pub LeadsToServer : JointState Device → List (Happening Device DeviceStep) → ServerState → Type 0
-LeadsToServer first past s = histories.Leads (Begins s.wanted) (CallCorresponds s.wanted) ServerRelation first past s
+LeadsToServer first past s = histories.Leads (IsFirstInstant s.wanted)
+    (CallCorresponds s.wanted) ServerRelation first past s
 
 -- To every history that leads to the old server, a call that asked this and said that adds one event, which leads to
 -- the new one.
-abbrev pub ExtendsHistory : ServerState → ServerState → Ask DeviceStep → CallResult → Type 0
+abbrev pub ExtendsHistory : ServerState → ServerState → AbstractCall DeviceStep → CallResult → Type 0
 ExtendsHistory old new ask said = (first : JointState Device) (past : List (Happening Device DeviceStep))
     → LeadsToServer first past old
     → (h : Happening Device DeviceStep) × (h.event.ask ≡ ask) × (h.event.said ≡ said)
     × LeadsToServer first (h ∷ past) new
 
 -- So it does; and the new server's adapter is on, and each request is issued that is due.
-pub record ExtendsSettled (old new : ServerState) (ask : Ask DeviceStep) (said : CallResult) : Type 0 where
+pub record ExtendsSettled (old new : ServerState) (ask : AbstractCall DeviceStep) (said : CallResult) : Type 0 where
   pub settled : SettledInvariant new
   pub adds : ExtendsHistory old new ask said
 
 -- So it does; and the new server's adapter hasn't been seen to end a reset.
-pub record ExtendsStuck (old new : ServerState) (ask : Ask DeviceStep) (said : CallResult) : Type 0 where
+pub record ExtendsStuck (old new : ServerState) (ask : AbstractCall DeviceStep) (said : CallResult) : Type 0 where
   pub stalled : StuckInvariant new
   pub adds : ExtendsHistory old new ask said
 
@@ -56,9 +57,9 @@ InvariantBy false s = SettledInvariant s
 InvariantBy true s = StuckInvariant s
 
 -- So it does, and it is for the new server as it was.
-abbrev pub ExtendsBy : Bool → ServerState → ServerState → Ask DeviceStep → CallResult → Type 0
+abbrev pub ExtendsBy : Bool → ServerState → ServerState → AbstractCall DeviceStep → CallResult → Type 0
 ExtendsBy stuck old new ask said = InvariantBy stuck new × ExtendsHistory old new ask said
 
 -- a history without calls leads to the server
-abbrev pub HasBegun : ServerState → Type 0
-HasBegun s = (first : JointState Device) × LeadsToServer first [] s
+abbrev pub StartsHistory : ServerState → Type 0
+StartsHistory s = (first : JointState Device) × LeadsToServer first [] s

@@ -3,7 +3,7 @@ use Rattle.std.specs.Prelude.{ℕ, ◌≡◌, ◌≢◌, ◌↔◌, ◌++◌, Li
 use Rattle.ata_types.specs.declared.request.Frame.{Frame}
 use Rattle.dma_frames.specs.Loan.{Lending}
 use Rattle.dma_frames.specs.Table.{Table, lent_to}
-use Rattle.server_history.specs.Server.{AreOfTwo, IsLentOut, kept_at}
+use Rattle.server_history.specs.Server.{DifferInRequest, IsLentOut, quarantined_at}
 
 -- such loans end: their frames are lent to none, and nothing else changed
 pub record TakesBack (old new : Table) (Such : Lending → Type 0) : Type 0 where
@@ -15,7 +15,7 @@ pub record TakesBack (old new : Table) (Such : Lending → Type 0) : Type 0 wher
 -- then, all of them have ended; and it doesn't matter in which order they are told.
 pub record LoansEndInTurn : Type 0 where
   pub stays : (old new : Table) (ended : List Lending) (loan : Lending) → TakesBack old new (Contains ended)
-      → ((other : Lending) → Contains ended other → IsLentOut old other × AreOfTwo other loan)
+      → ((other : Lending) → Contains ended other → IsLentOut old other × DifferInRequest other loan)
       → IsLentOut old loan → IsLentOut new loan
   pub both : (old mid new : Table) (first later : List Lending) → TakesBack old mid (Contains first)
       → All (IsLentOut mid) later → TakesBack mid new (Contains later) → TakesBack old new (Contains (first ++ later))
@@ -24,12 +24,12 @@ pub record LoansEndInTurn : Type 0 where
 
 -- the loan is kept of some port
 abbrev pub IsKeptIn : List (List Lending) → Lending → Type 0
-IsKeptIn kept loan = (port : ℕ) × Contains (kept_at kept port) loan
+IsKeptIn kept loan = (port : ℕ) × Contains (quarantined_at kept port) loan
 
 -- The frames of each loan are lent to its request, and no two loans are of one request: so they may be given back, one
 -- after another.
-pub record MayGoBack (table : Table) (kept : List (List Lending)) : Type 0 where
-  pub lent : (port : ℕ) → All (IsLentOut table) (kept_at kept port)
-  pub two : (port : ℕ) → AllPairs AreOfTwo (kept_at kept port)
-  pub apart : (port other : ℕ) (a b : Lending) → port ≢ other → Contains (kept_at kept port) a
-      → Contains (kept_at kept other) b → AreOfTwo a b
+pub record MayGiveBack (table : Table) (kept : List (List Lending)) : Type 0 where
+  pub lent : (port : ℕ) → All (IsLentOut table) (quarantined_at kept port)
+  pub two : (port : ℕ) → AllPairs DifferInRequest (quarantined_at kept port)
+  pub apart : (port other : ℕ) (a b : Lending) → port ≢ other → Contains (quarantined_at kept port) a
+      → Contains (quarantined_at kept other) b → DifferInRequest a b

@@ -1,22 +1,22 @@
 -- The kinds of accesses of a port's turn, for the laws on fragments.
 use Rattle.ata_types.specs.declared.Port.{Port}
 use Rattle.adapter.specs.Access.{Access}
-use Rattle.commands.specs.Masks.{IsFinding}
+use Rattle.commands.specs.Masks.{ReadsCiOrSact}
 use Rattle.port_control.specs.Looks.{IsLooking}
 use Rattle.port_control.specs.Services.{IsService}
 use Rattle.refinement.specs.Driven.{AnyUse}
 use Rattle.refinement.specs.Slots.{SlotStates}
 
 -- a port is looked at, or what it has issued is looked for; or ports are served by both
-pub data AccessKind : Type 0 where
-  Looking : Port → AccessKind
-  Finding : Port → AccessKind
-  Serving : AccessKind
+pub data AccessPurpose : Type 0 where
+  Looking : Port → AccessPurpose
+  Finding : Port → AccessPurpose
+  Serving : AccessPurpose
 
-abbrev pub may_of : AccessKind → Access → Type 0
+abbrev pub may_of : AccessPurpose → Access → Type 0
 may_of (Looking port) = IsLooking port
-may_of (Finding port) = IsFinding port
+may_of (Finding port) = ReadsCiOrSact port
 may_of Serving = IsService
 
-abbrev pub fits_of : AccessKind → SlotStates → Type 0
+abbrev pub fits_of : AccessPurpose → SlotStates → Type 0
 fits_of kind = AnyUse

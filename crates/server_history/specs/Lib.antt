@@ -1,5 +1,5 @@
 pub mod Server
-pub mod Stalled
+pub mod StuckServer
 pub mod Kept
 pub mod Histories
 pub mod Served

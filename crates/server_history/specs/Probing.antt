@@ -19,7 +19,7 @@ use Rattle.identify.specs.declared.wanted.Wanted.{Wanted}
 use Rattle.port_control.specs.Glances.{FindsChange, FindsDevice}
 use Rattle.slots.specs.Uses.{PortSlots}
 use Rattle.server_history.specs.ErrorHandling.{AreUnused}
-use Rattle.server_history.specs.Server.{ServerState, mode_found}
+use Rattle.server_history.specs.Server.{ServerState, probed_mode}
 
 -- What a port in such a state is looked at for, and whether that was found: an absent one for a device that shows; one
 -- whose disk isn't served, for a change of its link, or a device that doesn't show. A dead port isn't looked at.
@@ -43,10 +43,10 @@ pub record ProbesAnew (wanted : Wanted) (port : Port) (found : ProbeResult) (mod
   pub stopped : Device
   pub gives_up : StopsForReset port 0 true result old stopped
   pub is : IsProbedAnew wanted port result.next stopped new found
-  pub mode_is : mode ≡ mode_found new.cap found
+  pub mode_is : mode ≡ probed_mode new.cap found
 
 -- So it was, and uses no slot. (The disk that it was last ready with is remembered, if there was one.)
-pub record BootsOnce (port : Port) (old new : ServerState) : Type 0 where
+pub record BootsUnreadyPort (port : Port) (old new : ServerState) : Type 0 where
   pub found : ProbeResult
   pub mode : QueueMode
   pub anew : ProbesAnew (wanted_of old.wanted port.0) port found mode old.device new.device
@@ -68,4 +68,4 @@ pub record ProbesPort (port : Port) (old new : ServerState) : Type 0 where
   pub seen : Device
   pub looks : IsLookedAt state port result old.device seen
   pub left : result ≡ false → new ≡ record old { device = seen }
-  pub boots : result ≡ true → BootsOnce port (record old { device = seen }) new
+  pub boots : result ≡ true → BootsUnreadyPort port (record old { device = seen }) new

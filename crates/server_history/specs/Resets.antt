@@ -11,14 +11,14 @@ use Rattle.host_boot.specs.declared.ProbeResult.{ProbeResult}
 use Rattle.host_boot.specs.declared.ProbeResult.TheVariants.{Ready, Unready}
 use Rattle.host_boot.specs.declared.Host.{Host}
 use Rattle.identify.specs.declared.DiskInfo.{DiskInfo}
-use Rattle.request_queue.specs.Entries.{Held, IsAccepted, BookIsInOrder}
+use Rattle.request_queue.specs.Entries.{BookEntry, IsAccepted, BookIsInOrder}
 use Rattle.request_queue.specs.Dispositions.{Holdings, AreResolved, disposition_of}
 use Rattle.request_queue.specs.declared.disposition.Revalidation.{Revalidation}
 use Rattle.request_queue.specs.declared.disposition.Revalidation.TheVariants.{SameDisk, DiskLost, Dead}
 use Rattle.server_history.specs.Kept.{IsKeptIn, TakesBack}
 use Rattle.server_history.specs.ErrorHandling.{IsSameDisk, holdings_of, requests_of}
 use Rattle.server_history.specs.Served.{IssuesAll}
-use Rattle.server_history.specs.Server.{ServerState, last_disk_in, kept_at, mode_at, mode_found, remembered_at, slots_at, used_for}
+use Rattle.server_history.specs.Server.{ServerState, last_disk_in, quarantined_at, mode_at, probed_mode, remembered_at, slots_at, used_for}
 
 -- ---- the adapter is taken over again
 
@@ -29,7 +29,7 @@ pub record IsReinitialized (old taken : ServerState) : Type 0 where
   pub idle : Device
   pub resets : Resets old.device idle
   pub back : TakesBack old.table taken.table (IsKeptIn old.kept)
-  pub unkept : (port : ℕ) → kept_at taken.kept port ≡ []
+  pub unkept : (port : ℕ) → quarantined_at taken.kept port ≡ []
   pub four_kept : length taken.kept ≡ 4
   pub host : Host
   pub takes : TakesOver old.wanted host idle taken.device
@@ -38,7 +38,7 @@ pub record IsReinitialized (old taken : ServerState) : Type 0 where
   pub four_remembered : length taken.remembered ≡ 4
   pub four_modes : length taken.modes ≡ 4
   pub modes : (port : ℕ) → port < 4
-      → mode_at taken.modes port ≡ mode_found taken.device.cap (probe_result_of host.ports port)
+      → mode_at taken.modes port ≡ probed_mode taken.device.cap (probe_result_of host.ports port)
   pub four_slots : length taken.slots ≡ 4
   pub places : (port : ℕ) → port < 4 → length (slots_at taken.slots port).places ≡ 32
   pub usable : (port : ℕ) → port < 4 → (slots_at taken.slots port).usable ≡ (mode_at taken.modes port).usable
@@ -69,7 +69,7 @@ with_holdings port now s = record s { table = now.table; kept = slice_set s.kept
 
 -- The requests of a port were resolved, in order of acceptance: none is told a fault, and what becomes of each else
 -- its port's revalidation says. So it came to this server.
-pub record SettlesPort (port : Port) (replies : List Reply) (old new : ServerState) : Type 0 where
+pub record ResolvesPort (port : Port) (replies : List Reply) (old new : ServerState) : Type 0 where
   pub revalidation : Revalidation
   pub expects : IsResetRevalidation (remembered_at old.remembered port.0)
       (probe_result_of old.ports port.0) revalidation
@@ -79,20 +79,20 @@ pub record SettlesPort (port : Port) (replies : List Reply) (old new : ServerSta
   pub server : new ≡ with_holdings port now old
 
 -- so it was with these ports, one after another, of which the first has this number
-abbrev pub SettlePorts : ℕ → List ProbeResult → List Reply → ServerState → ServerState → Type 0
-SettlePorts port [] replies old new = (replies ≡ []) × (new ≡ old)
-SettlePorts port (found ∷ rest) replies old new =
-    (mid : ServerState) × (its later : List Reply) × (replies ≡ its ++ later) × SettlesPort (port_at port) its old mid
-    × SettlePorts (port + 1) rest later mid new
+abbrev pub ResolvePorts : ℕ → List ProbeResult → List Reply → ServerState → ServerState → Type 0
+ResolvePorts port [] replies old new = (replies ≡ []) × (new ≡ old)
+ResolvePorts port (found ∷ rest) replies old new =
+    (mid : ServerState) × (its later : List Reply) × (replies ≡ its ++ later) × ResolvesPort (port_at port) its old mid
+    × ResolvePorts (port + 1) rest later mid new
 
 -- Its requests may be resolved: there are loans of four ports; the requests are in order, each as it was accepted,
 -- with its frames lent to it; and there is a place for the loan of each that is issued, beside those that are kept of
 -- its port.
-pub record MaySettle (s : ServerState) : Type 0 where
+pub record MayResolve (s : ServerState) : Type 0 where
   pub four_kept : length s.kept ≡ 4
   pub ordered : BookIsInOrder s.book
   pub accepted : All (IsAccepted s.table) s.book
-  pub places : (port : Port) → length (kept_at s.kept port.0) + count_by (λ (e : Held). e.entry.issued)
+  pub places : (port : Port) → length (quarantined_at s.kept port.0) + count_by (λ (e : BookEntry). e.entry.issued)
       (requests_of port s.book) ≤ 32
 
 -- ---- the whole
@@ -110,5 +110,5 @@ pub record ResetsServer (replies : List Reply) (old new : ServerState) : Type 0 
   pub taken : ServerState
   pub takes : IsReinitialized old taken
   pub settled : ServerState
-  pub settles : SettlePorts 0 taken.ports replies taken settled
+  pub settles : ResolvePorts 0 taken.ports replies taken settled
   pub issues : IssuePorts 0 taken.ports settled new

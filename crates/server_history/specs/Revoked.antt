@@ -5,7 +5,7 @@ use Rattle.ata_types.specs.declared.request.Outcome.TheVariants.{Revoked}
 use Rattle.ata_types.specs.declared.request.Reply.{Reply}
 use Rattle.block_machine.specs.Rules.{HasRow, without_row}
 use Rattle.request_queue.specs.Entries.{all_marked_under, waits_under}
-use Rattle.request_queue.specs.Dispositions.{AnswersAlike}
+use Rattle.request_queue.specs.Dispositions.{CompletesAllWith}
 use Rattle.server_history.specs.ErrorHandling.{holdings_of}
 use Rattle.server_history.specs.Server.{ServerState}
 
@@ -20,6 +20,6 @@ with_grant_revoked client number s = record s {
 -- of these the ones that waited were told Revoked. Nothing else changed.
 pub record RevokesGrant (client : ClientId) (number : ℕ) (replies : List Reply) (old new : ServerState) : Type 0 where
   pub has : HasRow client number old.grants
-  pub answers : AnswersAlike (waits_under client number) Revoked replies
+  pub answers : CompletesAllWith (waits_under client number) Revoked replies
       (holdings_of has.0.port (with_grant_revoked client number old)) (holdings_of has.0.port new)
   pub server : new ≡ record (with_grant_revoked client number old) { table = new.table; book = new.book }

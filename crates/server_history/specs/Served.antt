@@ -11,7 +11,7 @@ use Rattle.adapter.specs.Device.{Device}
 use Rattle.refinement.specs.Driven.{IsDrivenBy}
 use Rattle.block_machine.specs.Due.{IsDue, is_plain}
 use Rattle.block_machine.specs.declared.due.QueueMode.{QueueMode}
-use Rattle.block_machine.specs.Events.{AllDevices, IsByDevice}
+use Rattle.block_machine.specs.Events.{AllByDevice, IsByDevice}
 use Rattle.block_machine.specs.Rules.{IsNamed}
 use Rattle.block_machine.specs.State.{Pending}
 use Rattle.block_machine.specs.Steps.{Step, Answer, Issue, AllTouched}
@@ -22,8 +22,8 @@ use Rattle.commands.specs.Masks.{ReadsDone}
 use Rattle.commands.specs.Tasks.{HasBlockOf, IsIssuing, IssuesTask, addresses_of, meaning_of}
 use Rattle.refinement.specs.Readying.{IsStored}
 use Rattle.commands.specs.declared.ncq.Task.{Task}
-use Rattle.request_queue.specs.Entries.{Held, IsEarlier, asks, asks_of, at_entry, due_ids, issue, without_entry}
-use Rattle.request_queue.specs.Machine.{IsEntry}
+use Rattle.request_queue.specs.Entries.{BookEntry, IsEarlier, asks, asks_of, update_if_id, due_ids, issue, without_entry}
+use Rattle.request_queue.specs.Machine.{EntryRelation}
 use Rattle.server_history.specs.Server.{ServerState, mode_in, slots_at, used_for, with_slot}
 use Rattle.slots.specs.Uses.{PortSlots, IsLowestFree, use_at}
 use Rattle.slots.specs.declared.SlotUse.{SlotUse}
@@ -43,12 +43,12 @@ abbrev pub IsMaskOf : PortSlots → ℕ → Type 0
 IsMaskOf slots mask = (slot : ℕ) → slot < 32 → bit mask slot ≡ is_used (use_at slots slot)
 
 -- it stores header or table of a slot of the port, or writes that slot's bit of PxSACT or PxCI
-abbrev pub IssuesIn : Port → Access → Type 0
-IssuesIn port access = (slot : ℕ) × (slot < 32) × IsIssuing port slot access
+abbrev pub IsIssuingAnySlot : Port → Access → Type 0
+IsIssuingAnySlot port access = (slot : ℕ) × (slot < 32) × IsIssuing port slot access
 
 -- no slot has its bit
-abbrev pub HasNone : ℕ → Type 0
-HasNone mask = (slot : ℕ) → slot < 32 → bit mask slot ≡ false
+abbrev pub IsEmptyMask : ℕ → Type 0
+IsEmptyMask mask = (slot : ℕ) → slot < 32 → bit mask slot ≡ false
 
 -- a reply names the request
 abbrev pub IsAnsweredIn : RequestId → List Reply → Type 0
@@ -57,21 +57,22 @@ IsAnsweredIn id replies = (reply : Reply) × Contains replies reply × (reply.id
 -- PxCI and PxSACT were read, which tell which slots of the mask are done. A used slot's request was answered exactly if
 -- its slot was found done; where none was, nobody was answered, and that was all. Of accesses, only those followed that
 -- issue requests of the port's, if any.
-pub record Checks (port : Port) (slots : PortSlots) (mask : ℕ) (replies : List Reply) (old new : Device) : Type 0 where
+pub record PollsSlots (port : Port) (slots : PortSlots) (mask : ℕ) (replies : List Reply)
+    (old new : Device) : Type 0 where
   pub done : ℕ
   pub read : Device
   pub reads : ReadsDone port mask done old read
   pub exact : (slot : ℕ) (used : SlotUse) → slot < 32 → use_at slots slot ≡ Some used → bit done slot ≡ true
       ↔ IsAnsweredIn used.id replies
-  pub running : HasNone done → (replies ≡ []) × (new ≡ read)
-  pub over : IsDrivenBy (IssuesIn port) read new
+  pub running : IsEmptyMask done → (replies ≡ []) × (new ≡ read)
+  pub over : IsDrivenBy (IsIssuingAnySlot port) read new
 
 -- The slots that are used were checked. Where none is, nothing was read, nobody was answered, and that was all.
-pub record ChecksUsed (port : Port) (slots : PortSlots) (replies : List Reply) (old new : Device) : Type 0 where
+pub record PollsUsedSlots (port : Port) (slots : PortSlots) (replies : List Reply) (old new : Device) : Type 0 where
   pub mask : ℕ
   pub its : IsMaskOf slots mask
-  pub idle : HasNone mask → (replies ≡ []) × (new ≡ old)
-  pub checks : (HasNone mask → ⊥) → Checks port slots mask replies old new
+  pub idle : IsEmptyMask mask → (replies ≡ []) × (new ≡ old)
+  pub checks : (IsEmptyMask mask → ⊥) → PollsSlots port slots mask replies old new
 
 -- A port's turn in a service, in which no trouble was told of: the port was looked at, and the slots that it uses were
 -- checked.
@@ -81,22 +82,22 @@ pub record HasTurnWithoutError (port : Port) (slots : PortSlots) (replies : List
     pub seen : Device
     pub looks : LooksAt port look old seen
     pub quiet : look ≡ NoEvent
-    pub checked : ChecksUsed port slots replies seen new
+    pub checked : PollsUsedSlots port slots replies seen new
 
 -- ---- requests are issued
 
 -- a request, as a port with this mode issues it
-abbrev pub task_of : QueueMode → Held → Task
+abbrev pub task_of : QueueMode → BookEntry → Task
 task_of mode e = record { op = e.entry.op; range = e.entry.range; queued = not (is_plain mode e.entry.op) }
 
 -- what a slot is used for that has its command
-abbrev pub use_for : QueueMode → Held → SlotUse
+abbrev pub use_for : QueueMode → BookEntry → SlotUse
 use_for mode e = record { id = e.entry.id; queued = (task_of mode e).queued }
 
 -- A due request of the port was issued in the lowest slot that was free: the slot's bytes say it, and a trim's block
 -- names its sectors.
 pub record IssuesOne (port : Port) (id : RequestId) (old new : ServerState) : Type 0 where
-  pub request : Held
+  pub request : BookEntry
   pub here : Contains old.book request
   pub id_is : request.entry.id ≡ id
   pub port_is : request.entry.port ≡ port
@@ -111,7 +112,7 @@ pub record IssuesOne (port : Port) (id : RequestId) (old new : ServerState) : Ty
   pub server : new ≡ record old {
     device = new.device;
     slots = with_slot old.slots port.0 slot (Some (use_for (mode_in old port) request));
-    book = map (at_entry id issue) old.book;
+    book = map (update_if_id id issue) old.book;
   }
 
 -- these requests of the port were issued, one after another
@@ -126,7 +127,7 @@ IssuesAll port old new = IssuesEach port (due_ids (mode_in old port) port (asks_
 -- ---- a request is accepted
 
 -- the book's entry for a request, on a port
-abbrev pub accepted_as : Port → Request → RequestId → Held
+abbrev pub accepted_as : Port → Request → RequestId → BookEntry
 accepted_as port r id = record {
   entry = record {
     id = id;
@@ -165,11 +166,11 @@ abbrev pub SameSettings : ServerState → ServerState → Type 0
 SameSettings old new = new ≡ record old { device = new.device; table = new.table; slots = new.slots; book = new.book }
 
 -- the reply that says that a request was done
-abbrev pub done_reply : Held → Reply
+abbrev pub done_reply : BookEntry → Reply
 done_reply e = record { id = e.entry.id; client = e.entry.client; outcome = outcome.Ok }
 
 -- The request of a slot of the port was answered: it left slot and book, and its frames were given back.
-pub record AnswersOne (port : Port) (request : Held) (old new : ServerState) : Type 0 where
+pub record AnswersOne (port : Port) (request : BookEntry) (old new : ServerState) : Type 0 where
   pub here : Contains old.book request
   pub port_is : request.entry.port ≡ port
   pub slot : ℕ
@@ -186,7 +187,7 @@ pub record AnswersOne (port : Port) (request : Held) (old new : ServerState) : T
   }
 
 -- these requests, whose slots have their bits set here, were answered one after another
-abbrev pub AnswersEach : Port → ℕ → List Held → ServerState → ServerState → Type 0
+abbrev pub AnswersEach : Port → ℕ → List BookEntry → ServerState → ServerState → Type 0
 AnswersEach port done [] old new = new ≡ old
 AnswersEach port done (request ∷ requests) old new =
     (mid : ServerState) × (one : AnswersOne port request old mid) × (bit done one.slot ≡ true)
@@ -195,7 +196,7 @@ AnswersEach port done (request ∷ requests) old new =
 -- What was found done on the port was answered, in order of acceptance, and no slot of it is in use any more. Then what
 -- is due on the port was issued.
 pub record AnswersDone (port : Port) (done : ℕ) (replies : List Reply) (old new : ServerState) : Type 0 where
-  pub requests : List Held
+  pub requests : List BookEntry
   pub told : replies ≡ map done_reply requests
   pub ordered : AllPairs IsEarlier requests
   pub mid : ServerState
@@ -205,44 +206,45 @@ pub record AnswersDone (port : Port) (done : ℕ) (replies : List Reply) (old ne
 
 -- Nobody was answered in the turn, and nothing but the device changed; or what was found done in it was, from the
 -- moment on when the masks had been read.
-abbrev pub AnswersTurn : (port : Port) (replies : List Reply) (old new : ServerState)
+abbrev pub TurnAnswers : (port : Port) (replies : List Reply) (old new : ServerState)
     → HasTurnWithoutError port (slots_at old.slots port.0) replies old.device new.device → Type 0
-AnswersTurn port replies old new turn =
+TurnAnswers port replies old new turn =
     ((replies ≡ []) × (new ≡ record old { device = new.device }))
-    ⊎ ((some : HasNone turn.checked.mask → ⊥) × AnswersDone port (turn.checked.checks some).done replies
+    ⊎ ((some : IsEmptyMask turn.checked.mask → ⊥) × AnswersDone port (turn.checked.checks some).done replies
     (record old { device = (turn.checked.checks some).read }) new)
 
 -- ---- as the machine has it
 
 -- the steps are the device's, but for those that issue requests of the port
-abbrev pub IssuesOnly : QueueMode → Port → List Step → Type 0
-IssuesOnly mode port [] = Unit {0}
-IssuesOnly mode port (Issue its e ∷ steps) = (its ≡ mode) × (e.request.port ≡ port) × IssuesOnly mode port steps
-IssuesOnly mode port (step ∷ steps) = IsByDevice step × IssuesOnly mode port steps
+abbrev pub AllByDeviceOrIssue : QueueMode → Port → List Step → Type 0
+AllByDeviceOrIssue mode port [] = Unit {0}
+AllByDeviceOrIssue mode port (Issue its e ∷ steps) = (its ≡ mode) × (e.request.port ≡ port)
+    × AllByDeviceOrIssue mode port steps
+AllByDeviceOrIssue mode port (step ∷ steps) = IsByDevice step × AllByDeviceOrIssue mode port steps
 
 -- the answers of these requests, one after another, the last first
-abbrev pub answers_in : List Pending → List Step
-answers_in [] = []
-answers_in (e ∷ rest) = answers_in rest ++ Answer e outcome.Ok ∷ []
+abbrev pub ok_answers_of : List Pending → List Step
+ok_answers_of [] = []
+ok_answers_of (e ∷ rest) = ok_answers_of rest ++ Answer e outcome.Ok ∷ []
 
 -- The machine's request is this one of the port; it was issued, and it had ended with all its sectors touched.
-pub record HasEnded (port : Port) (request : Held) (done : Pending) : Type 0 where
+pub record HasEnded (port : Port) (request : BookEntry) (done : Pending) : Type 0 where
   pub port_is : request.entry.port ≡ port
-  pub entry : IsEntry request done
+  pub entry : EntryRelation request done
   pub issued : done.issued ≡ true
   pub ended : done.ended ≡ true
   pub touched : AllTouched done
 
 -- The steps are the device's, then the answers of these requests, which had ended, and then the device's but for the
 -- issues of requests of the port.
-pub record AnswersBy (mode : QueueMode) (port : Port) (replies : List Reply) (steps : List Step) : Type 0 where
-  pub requests : List Held
+pub record StepsAnswer (mode : QueueMode) (port : Port) (replies : List Reply) (steps : List Step) : Type 0 where
+  pub requests : List BookEntry
   pub told : replies ≡ map done_reply requests
   pub ordered : AllPairs IsEarlier requests
   pub ended : List Pending
   pub each : AllZip (HasEnded port) requests ended
   pub later : List Step
   pub before : List Step
-  pub steps_are : steps ≡ later ++ (answers_in ended ++ before)
-  pub first : AllDevices before
-  pub last : IssuesOnly mode port later
+  pub steps_are : steps ≡ later ++ (ok_answers_of ended ++ before)
+  pub first : AllByDevice before
+  pub last : AllByDeviceOrIssue mode port later

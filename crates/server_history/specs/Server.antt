@@ -13,13 +13,13 @@ use Rattle.adapter.specs.Device.{Device}
 use Rattle.adapter.specs.Rules.{IsOn, HasPort}
 use Rattle.refinement.specs.Driven.{known}
 use Rattle.refinement.specs.Driver.{DriverRelation}
-use Rattle.refinement.specs.Halting.{HaltsAsTaken}
-use Rattle.refinement.specs.Links.{HasDeviceOrNone}
+use Rattle.refinement.specs.Halting.{HaltIsOfTaken}
+use Rattle.refinement.specs.Links.{ShowsDiskIfIn}
 use Rattle.refinement.specs.Readying.{IsStored}
 use Rattle.refinement.specs.Slots.{Free, Serves, SlotState, SlotStates}
 use Rattle.block_machine.specs.Due.{NoneDue, is_plain}
 use Rattle.block_machine.specs.Histories.{IsReachable}
-use Rattle.block_machine.specs.Left.{IsRow}
+use Rattle.block_machine.specs.Left.{IsValidRow}
 use Rattle.block_machine.specs.Ports.{Ports}
 use Rattle.block_machine.specs.Refusals.{Situation}
 use Rattle.block_machine.specs.Rules.{DifferInName, HasRow}
@@ -33,12 +33,12 @@ use Rattle.host_boot.specs.declared.ProbeResult.TheVariants.{Unserved, Ready, Un
 use Rattle.host_boot.specs.declared.Host.{Host}
 use Rattle.identify.specs.declared.DiskInfo.{DiskInfo}
 use Rattle.identify.specs.declared.wanted.Wanted.{Wanted}
-use Rattle.port_boot.specs.States.{ShowsOwnDisk}
-use Rattle.request_queue.specs.Entries.{Held, asks_of, unanswered_entries, IsAccepted, BookIsInOrder}
-use Rattle.request_queue.specs.Machine.{IsBook}
+use Rattle.port_boot.specs.States.{HasDiskIfShown}
+use Rattle.request_queue.specs.Entries.{BookEntry, asks_of, unanswered_entries, IsAccepted, BookIsInOrder}
+use Rattle.request_queue.specs.Machine.{BookRelation}
 use Rattle.slots.specs.Uses.{PortSlots, use_at, with_use}
 use Rattle.slots.specs.declared.SlotUse.{SlotUse}
-use Rattle.driver_history.specs.Holds.{Runs, mode_of}
+use Rattle.driver_history.specs.Holds.{EngineRuns, mode_of_disk}
 use Rattle.request_queue.specs.declared.PendingRequest.{PendingRequest}
 
 -- The device behind the adapter; the grants; by frame its owner and the request that it is lent to; by port the disk
@@ -56,7 +56,7 @@ pub record ServerState : Type 0 where
   pub modes : List QueueMode
   pub slots : List PortSlots
   pub kept : List (List Lending)
-  pub book : List Held
+  pub book : List BookEntry
   pub last : ℕ
 
 -- ---- its ports, to clients
@@ -106,9 +106,9 @@ mode_at modes port = slice_index_or modes port plain_mode
 
 -- how a port that was found so takes commands, by an adapter of these abilities (CAP): a ready one as adapter and disk
 -- both can, another one at a time
-abbrev pub mode_found : ℕ → ProbeResult → QueueMode
-mode_found cap (Ready info) = mode_of cap info
-mode_found cap _ = plain_mode
+abbrev pub probed_mode : ℕ → ProbeResult → QueueMode
+probed_mode cap (Ready info) = mode_of_disk cap info
+probed_mode cap _ = plain_mode
 
 -- the port's mode
 abbrev pub mode_in : ServerState → Port → QueueMode
@@ -129,8 +129,8 @@ ports_of s = record {
 }
 
 -- what a request meets
-abbrev pub server_situation : ServerState → Situation
-server_situation s = record {
+abbrev pub admission_context : ServerState → Situation
+admission_context s = record {
   rows = s.grants;
   owner = owner_of s.table;
   lent = lent_to s.table;
@@ -160,14 +160,14 @@ abbrev pub with_slot : List PortSlots → ℕ → ℕ → Option SlotUse → Lis
 with_slot slots port slot used = slice_set slots port (with_use (slice_index_or slots port no_slots) slot used)
 
 -- it serves its request, or is free
-abbrev pub use_of : Option SlotUse → SlotState
-use_of None = Free
-use_of (Some used) = Serves used.id
+abbrev pub slot_state_of : Option SlotUse → SlotState
+slot_state_of None = Free
+slot_state_of (Some used) = Serves used.id
 
 -- A slot is used as the server has it, unless its port is dead: there an engine was awaited in vain, or the adapter
 -- isn't on, so that what was in the slot may be there still, and nobody asks for it until the adapter is reset.
 abbrev pub IsUsedAs : ProbeResult → Option SlotUse → SlotState → Type 0
-IsUsedAs found used u = found ≢ Unready Dead → u ≡ use_of used
+IsUsedAs found used u = found ≢ Unready Dead → u ≡ slot_state_of used
 
 -- each slot of each port is used so
 abbrev pub AreUsesOf : ServerState → SlotStates → Type 0
@@ -175,37 +175,39 @@ AreUsesOf s uses = (port slot : ℕ)
     → IsUsedAs (probe_result_of s.ports port) (used_for s.slots port slot) (uses port slot)
 
 -- the loans of the port that are kept
-abbrev pub kept_at : List (List Lending) → ℕ → List Lending
-kept_at kept port = slice_index_or kept port []
+abbrev pub quarantined_at : List (List Lending) → ℕ → List Lending
+quarantined_at kept port = slice_index_or kept port []
 
 -- the loan is the request's
 abbrev pub IsLoanOf : Lending → Pending → Type 0
 IsLoanOf loan e = (loan.request ≡ e.request.id) × (loan.frames ≡ e.request.asked.frames.items)
 
 -- the loans are of two requests
-abbrev pub AreOfTwo : Lending → Lending → Type 0
-AreOfTwo a b = a.request ≢ b.request
+abbrev pub DifferInRequest : Lending → Lending → Type 0
+DifferInRequest a b = a.request ≢ b.request
 
 -- The machine's kept requests are those whose loans the server keeps, one loan each, on dead ports alone.
-pub record AreKept (found : List ProbeResult) (kept : List (List Lending)) (requests : List Pending) : Type 0 where
+pub record QuarantineRelation (found : List ProbeResult) (kept : List (List Lending))
+    (requests : List Pending) : Type 0 where
   pub dead : (e : Pending) → Contains requests e → probe_result_of found e.request.port.0 ≡ Unready Dead
-  pub loan : (e : Pending) → Contains requests e → (loan : Lending) × Contains (kept_at kept e.request.port.0) loan
+  pub loan : (e : Pending) → Contains requests e → (loan : Lending)
+      × Contains (quarantined_at kept e.request.port.0) loan
       × IsLoanOf loan e
-  pub whose : (port : ℕ) (loan : Lending) → Contains (kept_at kept port) loan
+  pub whose : (port : ℕ) (loan : Lending) → Contains (quarantined_at kept port) loan
       → (e : Pending) × Contains requests e × (e.request.port.0 ≡ port) × IsLoanOf loan e
-  pub apart : (port : ℕ) → AllPairs AreOfTwo (kept_at kept port)
+  pub apart : (port : ℕ) → AllPairs DifferInRequest (quarantined_at kept port)
 
 -- The machine agrees with what the server knows of its device, where only a dead port's requests may have been taken
 -- from their slots; and it has the server's book, the requests whose loans it keeps, its grants, its owners, its loans
 -- and its next id.
-pub record IsMachineOf (s : ServerState) (m : Machine) : Type 0 where
+pub record MachineRelation (s : ServerState) (m : Machine) : Type 0 where
   pub uses : SlotStates
   pub used : AreUsesOf s uses
   pub parked : ℕ → List RequestId
   pub unparked : (port : ℕ) → probe_result_of s.ports port ≢ Unready Dead → parked port ≡ []
   pub knows : DriverRelation m (known uses parked s.device)
-  pub book : IsBook s.book m.book
-  pub kept : AreKept s.ports s.kept m.kept
+  pub book : BookRelation s.book m.book
+  pub kept : QuarantineRelation s.ports s.kept m.kept
   pub rows : m.rows ≡ s.grants
   pub owner : (frame : Frame) → m.owner frame ≡ owner_of s.table frame
   pub lent : (frame : Frame) → m.lent frame ≡ lent_to s.table frame
@@ -225,12 +227,12 @@ OwnedFramesAreClients table size = (frame : Frame) (client : ClientId) → owner
 -- What stands behind each port, as it was found; a ready one runs, has a disk in if it shows one, and doesn't wait for
 -- READ LOG EXT, and where a queued command halted it a queued one is taken; and one with a disk that isn't served shows
 -- a device, or has none in.
-pub record IsPortOf (wanted : List Wanted) (found : List ProbeResult) (port : ℕ) (d : Device) : Type 0 where
+pub record PortInvariant (wanted : List Wanted) (found : List ProbeResult) (port : ℕ) (d : Device) : Type 0 where
   pub behind : StillStandsBehind (wanted_of wanted port) (probe_result_of found port) port d
-  pub runs : state_of (probe_result_of found port) ≡ ReadyState → Runs port d
-  pub shown : FoundBadDisk (state_of (probe_result_of found port)) → HasDeviceOrNone (d.port port)
-  pub own : state_of (probe_result_of found port) ≡ ReadyState → ShowsOwnDisk (d.port port)
-  pub halts : state_of (probe_result_of found port) ≡ ReadyState → HaltsAsTaken (d.port port)
+  pub runs : state_of (probe_result_of found port) ≡ ReadyState → EngineRuns port d
+  pub shown : FoundBadDisk (state_of (probe_result_of found port)) → ShowsDiskIfIn (d.port port)
+  pub own : state_of (probe_result_of found port) ≡ ReadyState → HasDiskIfShown (d.port port)
+  pub halts : state_of (probe_result_of found port) ≡ ReadyState → HaltIsOfTaken (d.port port)
 
 -- how many slots of a port may be used: those of its mode, if it is ready
 abbrev pub usable_of : ProbeResult → QueueMode → ℕ
@@ -238,7 +240,7 @@ usable_of (Ready info) mode = mode.usable
 usable_of _ mode = 0
 
 -- The port may use so many of its 32 slots, and uses no other.
-pub record HasSlots (found : List ProbeResult) (modes : List QueueMode) (slots : List PortSlots)
+pub record SlotsInvariant (found : List ProbeResult) (modes : List QueueMode) (slots : List PortSlots)
     (port : ℕ) : Type 0 where
   pub places : length (slots_at slots port).places ≡ 32
   pub usable : (slots_at slots port).usable ≡ (mode_at modes port).usable
@@ -257,12 +259,12 @@ abbrev pub StandsAlone : List PortSlots → ℕ → ℕ → Type 0
 StandsAlone slots port slot = (slot ≡ 0) × ((other : ℕ) → other ≢ 0 → used_for slots port other ≡ None)
 
 -- a request has no mark just while its grant is there
-abbrev pub TellsGrant : List GrantRow → PendingRequest → Type 0
-TellsGrant rows r = (r.revoked ≡ false) ↔ HasRow r.client r.grant rows
+abbrev pub RevokedMarkAgrees : List GrantRow → PendingRequest → Type 0
+RevokedMarkAgrees rows r = (r.revoked ≡ false) ↔ HasRow r.client r.grant rows
 
 -- so it is of each, and one that waits has none
-pub record HasTrueMark (rows : List GrantRow) (e : Held) : Type 0 where
-  pub tells : TellsGrant rows e.entry
+pub record RevokedMarkInvariant (rows : List GrantRow) (e : BookEntry) : Type 0 where
+  pub tells : RevokedMarkAgrees rows e.entry
   pub waiting : e.entry.issued ≡ false → e.entry.revoked ≡ false
 
 -- What holds of a server at each moment of a call. The adapter is on and has the memory of the driver and of the
@@ -275,30 +277,30 @@ pub record InCallInvariant (s : ServerState) : Type 0 where
   pub on : IsOn s.device
   pub room : DRIVER_BYTES ≤ s.device.size
   pub there : (port : ℕ) → is_served (probe_result_of s.ports port) ≡ true → HasPort s.device port
-  pub behind : (port : ℕ) → port < 4 → IsPortOf s.wanted s.ports port s.device
+  pub behind : (port : ℕ) → port < 4 → PortInvariant s.wanted s.ports port s.device
   pub four : length s.slots ≡ 4
   pub four_modes : length s.modes ≡ 4
   pub four_remembered : length s.remembered ≡ 4
   pub four_kept : length s.kept ≡ 4
-  pub few_kept : (port : ℕ) → length (kept_at s.kept port) ≤ 32
-  pub modes : (port : ℕ) → port < 4 → mode_at s.modes port ≡ mode_found s.device.cap (probe_result_of s.ports port)
-  pub slots : (port : ℕ) → port < 4 → HasSlots s.ports s.modes s.slots port
-  pub kinds : (port : Port) (slot : ℕ) (used : SlotUse) (e : Held) → used_for s.slots port.0 slot ≡ Some used
+  pub few_kept : (port : ℕ) → length (quarantined_at s.kept port) ≤ 32
+  pub modes : (port : ℕ) → port < 4 → mode_at s.modes port ≡ probed_mode s.device.cap (probe_result_of s.ports port)
+  pub slots : (port : ℕ) → port < 4 → SlotsInvariant s.ports s.modes s.slots port
+  pub kinds : (port : Port) (slot : ℕ) (used : SlotUse) (e : BookEntry) → used_for s.slots port.0 slot ≡ Some used
       → Contains s.book e → e.entry.id ≡ used.id → used.queued ≡ not (is_plain (mode_in s port) e.entry.op)
   pub commands : (port slot : ℕ) (used : SlotUse) → used_for s.slots port slot ≡ Some used
       → HasStoredCommand used.queued s.device port slot
   pub alone : (port slot : ℕ) (used : SlotUse) → used_for s.slots port slot ≡ Some used → used.queued ≡ false
       → StandsAlone s.slots port slot
-  pub rows : All IsRow s.grants
+  pub rows : All IsValidRow s.grants
   pub owners : OwnedFramesAreClients s.table s.device.size
   pub accepted : All (IsAccepted s.table) s.book
   pub ordered : BookIsInOrder s.book
-  pub marked : All (HasTrueMark s.grants) s.book
+  pub marked : All (RevokedMarkInvariant s.grants) s.book
   pub handed_out : All (λ e. e.entry.id.0 ≤ s.last) s.book
   pub ready : All (λ e. state_of (probe_result_of s.ports e.entry.port.0) ≡ ReadyState) s.book
   pub machine : Machine
   pub reached : IsReachable machine
-  pub stands : IsMachineOf s machine
+  pub stands : MachineRelation s machine
 
 -- Between calls each request is issued that is due.
 pub record SettledInvariant (s : ServerState) : Type 0 where
@@ -314,8 +316,8 @@ pub record IsNewServer (host : Host) (s : ServerState) : Type 0 where
   pub four_remembered : length s.remembered ≡ 4
   pub forgotten : (port : ℕ) → remembered_at s.remembered port ≡ None
   pub four_kept : length s.kept ≡ 4
-  pub unkept : (port : ℕ) → kept_at s.kept port ≡ []
-  pub rows : All IsRow s.grants
+  pub unkept : (port : ℕ) → quarantined_at s.kept port ≡ []
+  pub rows : All IsValidRow s.grants
   pub names : AllPairs DifferInName s.grants
   pub few : length s.grants ≤ 64
   pub owners : OwnedFramesAreClients s.table s.device.size
@@ -326,7 +328,7 @@ pub record IsNewServer (host : Host) (s : ServerState) : Type 0 where
   pub four_slots : length s.slots ≡ 4
   pub four_modes : length s.modes ≡ 4
   pub places : (port : ℕ) → port < 4 → length (slots_at s.slots port).places ≡ 32
-  pub modes : (port : ℕ) → port < 4 → mode_at s.modes port ≡ mode_found s.device.cap (probe_result_of s.ports port)
+  pub modes : (port : ℕ) → port < 4 → mode_at s.modes port ≡ probed_mode s.device.cap (probe_result_of s.ports port)
   pub usable : (port : ℕ) → port < 4 → (slots_at s.slots port).usable ≡ (mode_at s.modes port).usable
   pub unused : (port slot : ℕ) → used_for s.slots port slot ≡ None
   pub book : s.book ≡ []

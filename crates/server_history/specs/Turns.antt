@@ -10,13 +10,13 @@ use Rattle.adapter.specs.declared.access.DeviceStep.{DeviceStep}
 use Rattle.adapter.specs.declared.command.Operation.TheVariants.{ReadLog}
 use Rattle.adapter.specs.declared.tape.Fault as tape_fault
 use Rattle.refinement.specs.Relation.{port_at}
-use Rattle.refinement.specs.Driven.{IsOf, SendsNone}
+use Rattle.refinement.specs.Driven.{SparesOtherPorts, GainsNoMove}
 use Rattle.refinement.specs.Driver.{IsBacked}
-use Rattle.block_machine.specs.Events.{Ask, AllLawful, AllMay, AnswersEnded, AreStepsOfCall, FindsAnother, HadDisk, IsByDevice, IssuesLast, AbstractState, NoneKeepsIssue, Served, Service, Tells, Tick, UnplugsAll}
+use Rattle.block_machine.specs.Events.{AbstractCall, AllLawful, AllMay, AnswersEnded, AreStepsOfCall, UnpluggedLostDisk, ShowsRealDisk, IsByDevice, IssuesLast, AbstractState, NoneKeepsIssue, Served, Service, RepliesMatch, Tick, AnswersAllUnplugged}
 use Rattle.block_machine.specs.Due.{of_port}
 use Rattle.block_machine.specs.Histories.{Happening, JointState, IsReachable}
 use Rattle.block_machine.specs.Left.{after}
-use Rattle.block_machine.specs.Ports.{Evidence, RequestFault, IsInterrupted, IsServiced, Ports, SameDisk, SamePort}
+use Rattle.block_machine.specs.Ports.{Evidence, RequestFault, IsStoppedOrStuck, IsServiced, Ports, SameDisk, SamePort}
 use Rattle.block_machine.specs.State.{Machine, Pending}
 use Rattle.block_machine.specs.Steps.{Step, Again, Answer, Issue}
 use Rattle.driver_history.specs.Heeding.{OnlyFailedPortsRequeue}
@@ -24,18 +24,18 @@ use Rattle.driver_history.specs.Evidence.{IsEvidencedOf}
 use Rattle.error_recovery.specs.Evidence.{BringsLog, HasFailed}
 use Rattle.identify.specs.Log.{TellsError}
 use Rattle.driver_history.specs.Histories.{FindsDone, IsIssuedOn, IssuesDue, LosesNoPortError, RunsWellAnew, PortCorresponds}
-use Rattle.driver_history.specs.Holds.{NoneWaits}
+use Rattle.driver_history.specs.Holds.{HasNoUnanswered}
 use Rattle.driver_history.specs.Trace.{IsDriversOwn, ResetsLink}
-use Rattle.driver_history.specs.Parts.{EndsLinked}
+use Rattle.driver_history.specs.Parts.{EndsNoLinkDue}
 use Rattle.host_boot.specs.Taken.{probe_result_of}
 use Rattle.host_boot.specs.declared.ProbeResult.{ProbeResult}
 use Rattle.host_boot.specs.declared.ProbeResult.TheVariants.{Ready, Unready, Unserved}
-use Rattle.request_queue.specs.Entries.{Held, IsOverdue, aged, asks_of}
+use Rattle.request_queue.specs.Entries.{BookEntry, IsOverdue, aged, asks_of}
 use Rattle.port_control.specs.declared.events.PortError.TheVariants.{TimedOut}
 use Rattle.server_history.specs.ErrorHandling.{HandlesPortError}
 use Rattle.server_history.specs.Probing.{ProbesPort}
-use Rattle.server_history.specs.Served.{AnswersTurn, HasTurnWithoutError}
-use Rattle.server_history.specs.Server.{ServerState, IsMachineOf, SettledInvariant, mode_at, mode_in, ports_of, remembered_at, slots_at, state_of, used_for}
+use Rattle.server_history.specs.Served.{TurnAnswers, HasTurnWithoutError}
+use Rattle.server_history.specs.Server.{ServerState, MachineRelation, SettledInvariant, mode_at, mode_in, ports_of, remembered_at, slots_at, state_of, used_for}
 use Rattle.slots.specs.declared.SlotUse.{SlotUse}
 
 -- the abstract and the joint state in which a machine stands for the server
@@ -95,7 +95,7 @@ pub data Turn : Type 0 where
   InService InProbe InRestart AtRest : Turn
 
 -- the call that the turn is a part of
-abbrev pub ask_of_turn : Turn → Ask DeviceStep
+abbrev pub ask_of_turn : Turn → AbstractCall DeviceStep
 ask_of_turn InService = Service
 ask_of_turn InProbe = Service
 ask_of_turn InRestart = Tick
@@ -122,7 +122,8 @@ pub record HandlesShownErrors (port : Port) (accesses : List Access) (old : Join
   pub well : RunsWellAnew evidence accesses old ports new port
 
 -- As such a call it has done of its port what a service does of one; where it probed a port that showed X, and no disk
--- came, no link is due at its end (EndsLinked); and where it restarts the port it has done what a call does of trouble.
+-- came, no link is due at its end (EndsNoLinkDue); and where it restarts the port it has done what a call does of
+-- trouble.
 abbrev pub TurnCorresponds : Turn → Port → List Reply → List Access → ServerState → ServerState → Machine → Evidence
     → List Step → Type 0
 TurnCorresponds InService port replies accesses old new m evidence steps =
@@ -131,12 +132,12 @@ TurnCorresponds InRestart port replies accesses old new m evidence steps =
     HandlesShownErrors port accesses (joint_state_of old m) evidence (ports_of new) new.device
 TurnCorresponds InProbe port replies accesses old new m evidence steps =
     PortCorresponds (joint_state_of old m) (happening_of_turn InProbe replies new evidence steps) accesses port
-    × EndsLinked port (joint_state_of old m) (ports_of new) new.device
+    × EndsNoLinkDue port (joint_state_of old m) (ports_of new) new.device
 TurnCorresponds AtRest port replies accesses old new m evidence steps = Unit {0}
 
 -- What was done was found by a reading of the masks, in which the bits of each slot that wasn't used when the turn
 -- began were clear. (The bytes of such a slot may say still the command of a request that has ended.)
-pub record FindsTurn (port : Port) (accesses : List Access) (old : ServerState) (m : Machine)
+pub record FindsDoneInTurn (port : Port) (accesses : List Access) (old : ServerState) (m : Machine)
     (steps : List Step) : Type 0 where
   pub done : FindsDone port accesses (joint_state_of old m) steps
   pub unused : (slot : ℕ) → slot < 32 → used_for old.slots port.0 slot ≡ None → (bit done.ci slot ≡ false)
@@ -149,56 +150,59 @@ pub record FindsTurn (port : Port) (accesses : List Access) (old : ServerState) 
 pub record RestartsPort (port : Port) (accesses : List Access) (old new : ServerState) (m : Machine)
     (evidence : Evidence)
     (steps : List Step) : Type 0 where
-  pub finds : FindsTurn port accesses old m steps
+  pub finds : FindsDoneInTurn port accesses old m steps
   pub boots : (state_of (probe_result_of new.ports port.0) ≡ Dead) ⊎ ResetsLink port accesses
   pub ended : AnswersEnded m steps port
-  pub interrupts : IsInterrupted evidence port
+  pub interrupts : IsStoppedOrStuck evidence port
   pub anew : NoneKeepsIssue steps (after m steps) port
-  pub another : FindsAnother steps (ports_of old) (ports_of new)
-  pub disk : HadDisk (abstract_state_of old m) steps (abstract_state_of new (after m steps)) port
+  pub another : UnpluggedLostDisk steps (ports_of old) (ports_of new)
+  pub disk : ShowsRealDisk (abstract_state_of old m) steps (abstract_state_of new (after m steps)) port
 
 -- What a turn owes besides. In a service requests wait again, are aborted, told Revoked or a fault, on ports alone that
 -- failed; of a port that isn't ready no fault is told, and no loss. A restart owes what it does, and tells no fault.
 -- Where a port rests nothing is done.
-abbrev pub OwesTurn : Turn → Port → List Access → ServerState → ServerState → Machine → Evidence → List Step → Type 0
-OwesTurn InService port accesses old new m evidence steps = OnlyFailedPortsRequeue evidence steps
-OwesTurn InProbe port accesses old new m evidence steps = OnlyFailedPortsRequeue evidence steps × (evidence.faults ≡ [])
-    × (evidence.lost ≡ [])
-OwesTurn InRestart port accesses old new m evidence steps = RestartsPort port accesses old new m evidence steps
+abbrev pub MeetsTurnDuty : Turn → Port → List Access → ServerState → ServerState → Machine → Evidence → List Step
+    → Type 0
+MeetsTurnDuty InService port accesses old new m evidence steps = OnlyFailedPortsRequeue evidence steps
+MeetsTurnDuty InProbe port accesses old new m evidence steps = OnlyFailedPortsRequeue evidence steps
     × (evidence.faults ≡ [])
-OwesTurn AtRest port accesses old new m evidence steps = (accesses ≡ []) × (steps ≡ []) × (evidence.faults ≡ [])
-    × (IsInterrupted evidence port → ⊥)
+    × (evidence.lost ≡ [])
+MeetsTurnDuty InRestart port accesses old new m evidence steps = RestartsPort port accesses old new m evidence steps
+    × (evidence.faults ≡ [])
+MeetsTurnDuty AtRest port accesses old new m evidence steps = (accesses ≡ []) × (steps ≡ []) × (evidence.faults ≡ [])
+    × (IsStoppedOrStuck evidence port → ⊥)
 
 -- What a turn that made these accesses and said these replies has made of the machine: its steps may come, and lead to
 -- a machine that stands for the new server; the tape backs them; and they are the device's own, or of requests of the
 -- port. Its evidence names the port alone, and is backed by the device. Of what its call owes and claims it owes and
 -- claims what a history asks; and it has done what a call does of a port.
-pub record MakesTurn (turn : Turn) (port : Port) (replies : List Reply) (accesses : List Access) (old new : ServerState)
+pub record SimulatesTurn (turn : Turn) (port : Port) (replies : List Reply) (accesses : List Access)
+    (old new : ServerState)
     (m : Machine) : Type 0 where
   pub steps : List Step
   pub evidence : Evidence
   pub may : AllMay m steps
-  pub stands : IsMachineOf new (after m steps)
+  pub stands : MachineRelation new (after m steps)
   pub backed : IsBacked old.device new.device m steps
   pub own : All (IsOfTurn port) steps
   pub belong : AreStepsOfCall (ask_of_turn turn) (ports_of new) steps
   pub last : IssuesLast steps
   pub names : NamesOnly port evidence
   pub lawful : AllLawful (abstract_state_of old m) evidence (ports_of new) steps
-  pub owes : OwesTurn turn port accesses old new m evidence steps
-  pub tells : Tells steps replies
-  pub unplugs : UnplugsAll steps (after m steps)
+  pub owes : MeetsTurnDuty turn port accesses old new m evidence steps
+  pub tells : RepliesMatch steps replies
+  pub unplugs : AnswersAllUnplugged steps (after m steps)
   pub becomes : IsServiced (ports_of old) evidence (ports_of new) port
   pub disk : SamePort (ports_of old) (ports_of new) port
-      ⊎ HadDisk (abstract_state_of old m) steps (abstract_state_of new (after m steps)) port
-  pub keeps : SameDisk (ports_of old) (ports_of new) port ⊎ NoneWaits (after m steps) port
+      ⊎ ShowsRealDisk (abstract_state_of old m) steps (abstract_state_of new (after m steps)) port
+  pub keeps : SameDisk (ports_of old) (ports_of new) port ⊎ HasNoUnanswered (after m steps) port
   pub issues : (ports_of new).state port ≡ ReadyState → IssuesDue (mode_in new port) steps (after m steps) port
   pub evidenced : IsEvidencedOf (ask_of_turn turn) (Served replies) accesses (joint_state_of old m)
       (ports_of new) new.device
       evidence port
   pub faults : (told : RequestFault) → Contains evidence.faults told → TellsFault port accesses old new told
   pub ties : TurnCorresponds turn port replies accesses old new m evidence steps
-  pub finds : turn ≡ InService → (e : Pending) → IsIssuedOn port m e → FindsTurn port accesses old m steps
+  pub finds : turn ≡ InService → (e : Pending) → IsIssuedOn port m e → FindsDoneInTurn port accesses old m steps
 
 -- what a turn of the port leaves of the server: its grants, the disks that are wanted, the id that was handed out last,
 -- and what it has of other ports and their requests (the machine that stands for it has the owners, and the loans that
@@ -219,19 +223,19 @@ pub record LeavesOthers (port : Port) (old new : ServerState) : Type 0 where
 pub record IsPortTurn (turn : Turn) (port : Port) (replies : List Reply) (old new : ServerState) : Type 0 where
   pub accesses : List Access
   pub does : DoesAll accesses old.device new.device
-  pub of : All (IsOf port) accesses
+  pub of : All (SparesOtherPorts port) accesses
   pub own : All IsDriversOwn accesses
   pub others : LeavesOthers port old new
   pub silent : (q : ℕ) → q ≢ port.0 → state_of (probe_result_of old.ports q) ≢ Dead
-      → SendsNone q ReadLog old.device new.device
-  pub makes : (m : Machine) → IsReachable m → IsMachineOf old m → MakesTurn turn port replies accesses old new m
+      → GainsNoMove q ReadLog old.device new.device
+  pub makes : (m : Machine) → IsReachable m → MachineRelation old m → SimulatesTurn turn port replies accesses old new m
 
 -- The port's error was handled, where a look told of one; else those of its requests were answered that were found
 -- done.
 abbrev pub DoesTurn : Port → List Reply → ServerState → ServerState → Type 0
 DoesTurn port replies old new =
     ((turn : HasTurnWithoutError port (slots_at old.slots port.0) replies old.device new.device)
-    × AnswersTurn port replies old new turn)
+    × TurnAnswers port replies old new turn)
     ⊎ ((handling : HandlesPortError port replies old new) × (handling.settled.error_handled.port_error ≢ TimedOut))
 
 -- What serving a port does: the port has its turn, which is a part of a service.
@@ -278,7 +282,7 @@ a_tick_older s = record s { book = aged (λ port. is_ready (probe_result_of s.po
 
 -- A ready port's turn in a tick, where the book was this when requests had got older: its error was handled, where one
 -- was overdue; else it rests.
-abbrev pub TicksPort : List Held → Port → List Reply → ServerState → ServerState → Type 0
+abbrev pub TicksPort : List BookEntry → Port → List Reply → ServerState → ServerState → Type 0
 TicksPort book port replies old new =
     (IsOverdue port book × (handling : HandlesPortError port replies old new)
     × (handling.settled.error_handled.port_error ≡ TimedOut)

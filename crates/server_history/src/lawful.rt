@@ -1,36 +1,36 @@
 // What laws of the crates below say, for this crate's proofs. Nothing comes of calling these functions.
 ghost use Rattle.server_history.specs.After.{RecoveryLaws, PortErrorLaws};
-ghost use Rattle.server_history.specs.Basics.{AgeLaws, BasicLaws, LivingLaws, SlotLaws};
+ghost use Rattle.server_history.specs.Basics.{AgeLaws, BasicLaws, FrameHolderLaws, SlotLaws};
 ghost use Rattle.server_history.specs.Below.{LawsBelow};
 ghost use Rattle.server_history.specs.Calls.{CallLaws, LookLaws};
 
 use adapter::laws::law_accesses_compose;
-use adapter::laws::law_port_registers_are_accessed;
-use adapter::laws::law_saying_is_one;
-use adapter::laws::law_steps_keep;
-use adapter::laws::law_steps_switch_nothing_on;
+use adapter::laws::law_decoding_is_unique;
+use adapter::laws::law_port_register_accesses;
+use adapter::laws::law_steps_guarantee;
+use adapter::laws::law_steps_never_switch_on;
 use block_machine::laws::law_a_name_is_of_one_row;
 use block_machine::laws::law_accepted_is_granted;
+use block_machine::laws::law_due_depends_on_own_port;
 use block_machine::laws::law_due_in_turn;
 use block_machine::laws::law_due_is_exact;
 use block_machine::laws::law_ended_is_issued;
 use block_machine::laws::law_frames_are_their_clients;
+use block_machine::laws::law_holder_was_accepted;
 use block_machine::laws::law_lent_frame_is_its_own;
 use block_machine::laws::law_limits_hold;
-use block_machine::laws::law_living_was_accepted;
 use block_machine::laws::law_one_id_is_in_the_book_once;
 use block_machine::laws::law_one_id_is_one_request;
 use block_machine::laws::law_other_ports_stay;
-use block_machine::laws::law_own_requests_count;
 use block_machine::laws::law_ready_ports_are_served;
 use block_machine::laws::law_rows_shrink_and_owners_stay;
-use block_machine::laws::law_steps_go_on;
+use block_machine::laws::law_step_lists_compose;
 use block_machine::laws::law_what_is_kept_was_answered;
 use commands::laws::law_calls_are_of_one_port;
 use commands::laws::law_finding_is_followed;
 use commands::laws::law_issuing_performs;
 use driver_history::laws::law_a_turns_evidence_is_the_calls;
-use driver_history::laws::law_each_instant_holds;
+use driver_history::laws::law_driver_invariant_holds;
 use driver_history::laws::law_histories_reach_their_machines;
 use driver_history::troubles::law_a_fatal_error_of_a_part_is_of_the_whole;
 use driver_history::troubles::law_a_fault_alone_in_a_call_is_alone_in_a_turn;
@@ -47,18 +47,18 @@ use port_boot::laws::law_a_boot_is_of_its_port;
 use port_boot::laws::law_a_disk_is_in_where_one_shows;
 use port_boot::laws::law_a_port_runs_on;
 use port_control::events::lawful::law_base;
-use port_control::events::laws::law_answers_tell;
 use port_control::events::laws::law_errors_are_heeded;
 use port_control::events::laws::law_errors_are_seen;
 use port_control::events::laws::law_failures_are_found;
 use port_control::events::laws::law_looks_are_of_one_port;
 use port_control::events::laws::law_looks_are_services;
+use port_control::events::laws::law_port_events_tell;
 use port_control::events::laws::law_services_leave;
 use port_control::events::laws::law_services_spare_registers;
 use port_control::laws::law_what_is_told_of_engines_stays;
-use refinement::acts::law_acts_give;
-use refinement::disks::law_none_comes_in;
-use refinement::facts::law_device_or_none_stays;
+use refinement::acts::law_acts_advance_driver;
+use refinement::disks::law_no_disk_comes_in;
+use refinement::facts::law_disk_in_stays_shown;
 use refinement::facts::law_disk_stays;
 use refinement::facts::law_ended_is_clear;
 use refinement::facts::law_errors_are_shown;
@@ -73,6 +73,7 @@ use refinement::giving_up::law_given_up_requests_are_parked;
 use refinement::giving_up::law_slots_are_given_up;
 use refinement::kinds::law_fragments;
 use refinement::laws::law_accepting_agrees;
+use refinement::laws::law_advances_compose;
 use refinement::laws::law_an_idle_device_agrees;
 use refinement::laws::law_answering_agrees;
 use refinement::laws::law_backing_composes;
@@ -83,7 +84,6 @@ use refinement::laws::law_device_steps_are_parts;
 use refinement::laws::law_disks_are_told;
 use refinement::laws::law_due_finds_free_slot;
 use refinement::laws::law_going_again_agrees;
-use refinement::laws::law_going_composes;
 use refinement::laws::law_keeping_agrees;
 use refinement::laws::law_own_steps_are_backed;
 use refinement::laws::law_pages_come_when_asked;
@@ -98,10 +98,10 @@ use refinement::laws::law_waiting_has_no_slot;
 use refinement::readying::law_readied_stays;
 use refinement::readying::law_stored_stays_over_acts;
 use refinement::recovering::law_halts_are_of_taken_commands;
-use request_queue::laws::law_accepted_requests_stay;
+use request_queue::laws::law_accepted_is_preserved;
 use request_queue::laws::law_an_id_is_one_request;
 use request_queue::laws::law_answers_of_one_outcome_are_one_change;
-use request_queue::laws::law_clients_have_as_many;
+use request_queue::laws::law_client_counts_agree;
 use request_queue::laws::law_operations_change_one_request;
 use request_queue::laws::law_operations_change_what_is_due;
 use request_queue::laws::law_steps_change_the_book;
@@ -112,12 +112,12 @@ use std::marker::Brand;
 fn law_basics()
     ensures { BasicLaws }
 {
-    law_steps_keep();
+    law_steps_guarantee();
     law_device_steps_are_parts();
-    law_each_instant_holds();
+    law_driver_invariant_holds();
     law_ready_ports_are_served();
-    law_steps_switch_nothing_on();
-    law_steps_go_on();
+    law_steps_never_switch_on();
+    law_step_lists_compose();
     law_histories_reach_their_machines();
     law_one_id_is_in_the_book_once();
     law_ended_is_issued();
@@ -126,11 +126,11 @@ fn law_basics()
 }
 
 /// What holds of requests that are unanswered, or kept.
-pub fn law_living()
-    ensures { LivingLaws }
+pub fn law_frame_holders()
+    ensures { FrameHolderLaws }
 {
     law_limits_hold();
-    law_living_was_accepted();
+    law_holder_was_accepted();
     law_accepted_is_granted();
     law_rows_shrink_and_owners_stay();
     law_a_name_is_of_one_row();
@@ -151,7 +151,7 @@ fn law_slots()
     law_answering_agrees();
     law_going_again_agrees();
     law_keeping_agrees();
-    law_acts_give();
+    law_acts_advance_driver();
     law_pages_come_when_asked();
     law_over_stays();
     law_slots_are_given_up();
@@ -159,7 +159,7 @@ fn law_slots()
     law_putting_is_of_one_slot();
     law_waiting_has_no_slot();
     law_due_finds_free_slot();
-    law_saying_is_one();
+    law_decoding_is_unique();
     law_stored_stays_over_acts();
     law_readied_stays();
     law_fault_is_outstanding();
@@ -172,7 +172,7 @@ fn law_ages()
     law_ticking_agrees();
     law_steps_change_the_book();
     law_the_book_stays_in_order();
-    law_accepted_requests_stay();
+    law_accepted_is_preserved();
     law_operations_change_what_is_due();
 }
 
@@ -180,14 +180,14 @@ fn law_ages()
 fn law_looks()
     ensures { LookLaws }
 {
-    law_port_registers_are_accessed();
+    law_port_register_accesses();
     law_notes_are_set();
-    law_device_or_none_stays();
+    law_disk_in_stays_shown();
     law_fragments::<Brand>();
     law_other_ports_are_left();
     law_failures_are_found();
     law_errors_are_seen();
-    law_answers_tell();
+    law_port_events_tell();
     law_errors_are_heeded();
     law_looks_are_services();
     law_looks_are_of_one_port();
@@ -200,7 +200,7 @@ fn law_recoveries()
     ensures { RecoveryLaws }
 {
     law_slots_are_counted();
-    law_going_composes();
+    law_advances_compose();
     law_putting_is_of_one_slot();
     law_other_ports_are_left();
     law_a_disk_is_in_where_one_shows();
@@ -238,7 +238,7 @@ pub fn law_below()
     ensures { LawsBelow }
 {
     law_basics();
-    law_living();
+    law_frame_holders();
     law_slots();
     law_ages();
     law_looks();
@@ -246,18 +246,18 @@ pub fn law_below()
     law_port_errors();
     law_calls();
     law_steps_change_the_book();
-    law_clients_have_as_many();
+    law_client_counts_agree();
     law_an_id_is_one_request();
     law_the_book_stays_in_order();
     law_operations_change_one_request();
-    law_accepted_requests_stay();
+    law_accepted_is_preserved();
     law_answers_of_one_outcome_are_one_change();
     law_backing_composes();
     law_own_steps_are_backed();
     law_operations_change_what_is_due();
     law_due_is_exact();
     law_due_in_turn();
-    law_own_requests_count();
+    law_due_depends_on_own_port();
     law_other_ports_stay();
     law_base();
     law_issuing_performs();
@@ -270,7 +270,7 @@ pub fn law_below()
     law_a_boot_is_of_its_port();
     law_what_is_told_of_engines_stays();
     law_what_stands_behind_a_fault_stays();
-    law_none_comes_in();
+    law_no_disk_comes_in();
     law_disks_are_told();
     law_an_idle_device_agrees();
     law_frames_are_their_clients();

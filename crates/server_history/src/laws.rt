@@ -23,7 +23,7 @@ ghost use Rattle.refinement.specs.Facts.{RunsWell, Undisturbed};
 ghost use Rattle.refinement.specs.Slots.{IsOver};
 ghost use Rattle.block_machine.specs.Due.{IsDue, is_plain};
 ghost use Rattle.block_machine.specs.Events.{Submit, StoreAt, LoadAt, RevokeOf, Service, State, Tick, Device as Told, Submitted, Served, Shown, Stepped, WasRevoked};
-ghost use Rattle.block_machine.specs.Refusals.{IsAcceptable, IsFirstRefusal, IsOpen, IsFirstMemFault};
+ghost use Rattle.block_machine.specs.Refusals.{IsAcceptable, IsFirstRefusal, MayAccessFrame, IsFirstMemFault};
 ghost use Rattle.block_machine.specs.Rules.{HasRow, IsNamed};
 ghost use Rattle.command_table.specs.Written.{IsUnused};
 ghost use Rattle.dma_frames.specs.Table.{Table, LendsOnly, owner_of, lent_to};
@@ -33,30 +33,30 @@ ghost use Rattle.identify.specs.declared.DiskInfo.{DiskInfo};
 ghost use Rattle.host_boot.specs.declared.Host.{Host};
 ghost use Rattle.hba_regs.specs.Bits.{bit};
 ghost use Rattle.commands.specs.Masks.{ReadsDone, SeesClear};
-ghost use Rattle.request_queue.specs.Entries.{Held, asks, asks_of, due_ids};
-ghost use Rattle.server_history.specs.Histories.{ExtendsSettled, ExtendsBy, ExtendsHistory, HasBegun, InvariantBy, load_said, store_said};
+ghost use Rattle.request_queue.specs.Entries.{BookEntry, asks, asks_of, due_ids};
+ghost use Rattle.server_history.specs.Histories.{ExtendsSettled, ExtendsBy, ExtendsHistory, StartsHistory, InvariantBy, load_said, store_said};
 ghost use Rattle.server_history.specs.Kept.{LoansEndInTurn};
 ghost use Rattle.server_history.specs.Revoked.{RevokesGrant};
-ghost use Rattle.server_history.specs.Served.{Accepts, AnswersDone, AnswersOne, HasNone, IsMaskOf, IssuesOne, accepting, IssuesAll};
-ghost use Rattle.server_history.specs.Stalled.{BookInvariant};
+ghost use Rattle.server_history.specs.Served.{Accepts, AnswersDone, AnswersOne, IsEmptyMask, IsMaskOf, IssuesOne, accepting, IssuesAll};
+ghost use Rattle.server_history.specs.StuckServer.{ServerInvariant};
 ghost use Rattle.server_history.specs.Probing.{ProbesPort};
 ghost use Rattle.server_history.specs.Turns.{IsPortTurn, InRestart, ServePorts, ServesPort, Ticks, ProbesUnready, a_tick_older};
 ghost use Rattle.port_control.specs.declared.events.PortError.TheVariants.{TimedOut};
-ghost use Rattle.server_history.specs.Server.{ServerState, mode_found, InCallInvariant, IsNewServer, SettledInvariant, kept_at, mode_in, ports_of, server_situation, slots_at, state_of, used_for};
+ghost use Rattle.server_history.specs.Server.{ServerState, probed_mode, InCallInvariant, IsNewServer, SettledInvariant, quarantined_at, mode_in, ports_of, admission_context, slots_at, state_of, used_for};
 ghost use Rattle.slots.specs.Uses.{IsLowestFree, IsTaken};
 ghost use Rattle.slots.specs.declared.SlotUse.{SlotUse};
 ghost use Rattle.port_control.specs.Looks.{IsLooking, LooksAt};
 ghost use Rattle.port_control.specs.declared.events.PortEvent.TheVariants.{TaskFileError, NoEvent};
 ghost use Rattle.ata_types.specs.declared.PortState.{PortState};
-ghost use Rattle.error_recovery.specs.Recovery.{FitsFor, StopsForReset, IsAloneIn, MayRecover};
+ghost use Rattle.error_recovery.specs.Recovery.{PlainUsesSlot0, StopsForReset, PlainIsSlot0, MayRecover};
 ghost use Rattle.error_recovery.specs.declared.Recovered.{Recovered};
 ghost use Rattle.error_recovery.specs.declared.Next.TheVariants.{Restart};
 ghost use Rattle.port_boot.specs.States.{IsBootable};
 ghost use Rattle.port_control.specs.Ports.{IsStopped};
 ghost use Rattle.port_control.specs.declared.Stopped.{Stopped};
-ghost use Rattle.server_history.specs.ErrorHandling.{AreQueued, IsErrorHandled, HasResolved, HandlesPortError, requests_of};
+ghost use Rattle.server_history.specs.ErrorHandling.{AreAllQueuedAs, IsErrorHandled, HasResolved, HandlesPortError, requests_of};
 
-use super::lawful::{law_below, law_living};
+use super::lawful::{law_below, law_frame_holders};
 use ata_types::MOST_READINGS;
 use host_boot::laws::law_what_was_taken_over_may_be_served;
 
@@ -73,7 +73,7 @@ pub fn law_new_ready_ports_run_well()
 /// A server of an adapter that was taken over holds what a server keeps, and a history without calls leads to it.
 pub fn law_a_new_server_has_begun()
     ensures { (s : ServerState) (host : Host) (idle : Device) → IsIdle idle → TellsDisks idle
-        → TakesOver s.wanted host idle s.device → IsNewServer host s → SettledInvariant s × HasBegun s }
+        → TakesOver s.wanted host idle s.device → IsNewServer host s → SettledInvariant s × StartsHistory s }
 {
     law_below();
     law_what_was_taken_over_may_be_served();
@@ -81,7 +81,7 @@ pub fn law_a_new_server_has_begun()
 
 /// A device that does what it is told adds an event, and so does one that can't. Where the adapter isn't on, it isn't
 /// switched on.
-pub fn law_device_steps_add()
+pub fn law_device_steps_extend_history()
     ensures done { (stuck : Bool) (s : ServerState) (new : Device) (step : DeviceStep) → InvariantBy stuck s
         → Asked step s.device new → Steps s.device new
         → ExtendsBy stuck s (record s { device = new }) (Told step) (Stepped true) }
@@ -93,9 +93,9 @@ pub fn law_device_steps_add()
 
 /// A call that is refused adds an event, and so does asking for a port's state, whether or not the adapter is on:
 /// nothing changes.
-pub fn law_refusals_add()
+pub fn law_refusals_extend_history()
     ensures submit { (stuck : Bool) (s : ServerState) (r : Request) (refusal : Refusal) → InvariantBy stuck s
-        → IsFirstRefusal (server_situation s) r refusal → ExtendsHistory s s (Submit r) (Submitted (Err refusal)) }
+        → IsFirstRefusal (admission_context s) r refusal → ExtendsHistory s s (Submit r) (Submitted (Err refusal)) }
     ensures store { (stuck : Bool) (s : ServerState) (client : ClientId) (frame : Frame) (offset : ℕ) (bytes : List ℕ)
         (fault : MemFault) → InvariantBy stuck s
         → IsFirstMemFault (owner_of s.table) (lent_to s.table) client frame offset (length bytes) fault
@@ -115,25 +115,25 @@ pub fn law_refusals_add()
 
 /// Bytes of an open frame may be loaded and stored, whatever the device does first, and whether or not the adapter is
 /// on.
-pub fn law_open_bytes_are_free()
-    ensures { (s : ServerState) (client : ClientId) (frame : Frame) (offset count : ℕ) → BookInvariant s
-        → IsOpen (owner_of s.table) (lent_to s.table) client frame offset count
+pub fn law_open_frames_are_accessible()
+    ensures { (s : ServerState) (client : ClientId) (frame : Frame) (offset count : ℕ) → ServerInvariant s
+        → MayAccessFrame (owner_of s.table) (lent_to s.table) client frame offset count
         → IsStable (IsUnowned (FRAME_BYTES * frame.0 + offset) count) s.device }
 {
     law_below();
 }
 
 /// Bytes of an open frame that a client stores or loads add an event, whether or not the adapter is on.
-pub fn law_client_bytes_add()
+pub fn law_client_bytes_extend_history()
     ensures store { (stuck : Bool) (s : ServerState) (new : Device) (client : ClientId) (frame : Frame) (offset : ℕ)
         (bytes : List ℕ) → InvariantBy stuck s
-        → IsOpen (owner_of s.table) (lent_to s.table) client frame offset (length bytes)
+        → MayAccessFrame (owner_of s.table) (lent_to s.table) client frame offset (length bytes)
         → Stores (FRAME_BYTES * frame.0 + offset) bytes s.device new
         → ExtendsBy stuck s (record s { device = new }) (StoreAt client frame offset bytes) (store_said (Ok tt)) }
     ensures load { (stuck : Bool) (s : ServerState) (new : Device) (client : ClientId) (frame : Frame)
         (offset count : ℕ)
         (bytes : List ℕ) → InvariantBy stuck s → length bytes ≡ count
-        → IsOpen (owner_of s.table) (lent_to s.table) client frame offset count
+        → MayAccessFrame (owner_of s.table) (lent_to s.table) client frame offset count
         → Loads (FRAME_BYTES * frame.0 + offset) bytes s.device new
         → ExtendsBy stuck s (record s { device = new }) (LoadAt client frame offset count) (load_said (Ok tt) bytes) }
 {
@@ -143,13 +143,13 @@ pub fn law_client_bytes_add()
 /// A due request of a server finds a free slot. The lowest is usable, one of the adapter's, and slot 0 for a plain
 /// command; and some machine agrees with a driver that doesn't use it.
 pub fn law_a_due_request_may_issue()
-    ensures lowest { (s : ServerState) (request : Held) → InCallInvariant s → Contains s.book request
+    ensures lowest { (s : ServerState) (request : BookEntry) → InCallInvariant s → Contains s.book request
         → IsDue (mode_in s request.entry.port) (asks_of s.book) (asks request.entry)
         → (slot : ℕ) → IsLowestFree (slots_at s.slots request.entry.port.0) slot
         → (slot < (mode_in s request.entry.port).usable) × (slot < 32) × (slot ≤ s.device.cap / 256 % 32)
         × (is_plain (mode_in s request.entry.port) request.entry.op ≡ true → slot ≡ 0)
         × RelatesWith (IsUnused request.entry.port.0 slot) s.device }
-    ensures full { (s : ServerState) (request : Held) → InCallInvariant s → Contains s.book request
+    ensures full { (s : ServerState) (request : BookEntry) → InCallInvariant s → Contains s.book request
         → IsDue (mode_in s request.entry.port) (asks_of s.book) (asks request.entry)
         → ((slot : ℕ) → slot < (slots_at s.slots request.entry.port.0).usable
         → IsTaken (slots_at s.slots request.entry.port.0) slot) → ⊥ }
@@ -163,17 +163,17 @@ pub fn law_a_used_slot_has_its_request()
         → state_of (probe_result_of s.ports port.0)
         ≡ ReadyState
         → used_for s.slots port.0 slot ≡ Some used
-        → (request : Held) × Contains s.book request × (request.entry.id ≡ used.id) × (request.entry.port ≡ port)
+        → (request : BookEntry) × Contains s.book request × (request.entry.id ≡ used.id) × (request.entry.port ≡ port)
         × (request.entry.issued ≡ true) }
 {}
 
 /// A server goes on while requests are accepted, answered and issued, and a grant is revoked.
-pub fn law_requests_keep()
+pub fn law_requests_preserve_invariant()
     ensures accepted { (s : ServerState) (port : Port) (r : Request) (row : GrantRow) (id : RequestId) (table : Table)
-        → InCallInvariant s → IsAcceptable (server_situation s) r → IsNamed s.grants r row → row.port ≡ port
+        → InCallInvariant s → IsAcceptable (admission_context s) r → IsNamed s.grants r row → row.port ≡ port
         → id.0 ≡ s.last + 1
         → LendsOnly s.table table r.frames.items (Some id) → InCallInvariant (accepting port r id table s) }
-    ensures answered { (s new : ServerState) (port : Port) (request : Held) → InCallInvariant s
+    ensures answered { (s new : ServerState) (port : Port) (request : BookEntry) → InCallInvariant s
         → state_of (probe_result_of s.ports port.0)
         ≡ ReadyState
         → (one : AnswersOne port request s new) → IsOver (s.device.port port.0) one.slot → InCallInvariant new }
@@ -198,7 +198,7 @@ pub fn law_a_finished_port_settles()
 /// A server goes on while its port is looked at, and while what the port has issued is looked for. The commands of
 /// slots that were found done are over, where the used slots were asked for, and no other. Where nobody looks, it is as
 /// though the port had been looked at without an access.
-pub fn law_looks_keep()
+pub fn law_looks_preserve_invariant()
     ensures looking { (s : ServerState) (new : Device) (port : Port) → InCallInvariant s
         → state_of (probe_result_of s.ports port.0)
         ≡ ReadyState
@@ -227,13 +227,13 @@ pub fn law_a_port_is_served()
     ensures unfinished { (s : ServerState) (seen new : Device) (port : Port) (mask : ℕ) → SettledInvariant s
         → state_of (probe_result_of s.ports port.0) ≡ ReadyState → LooksAt port NoEvent s.device seen
         → IsSimulated (IsLooking port) AnyUse s.device seen → IsMaskOf (slots_at s.slots port.0) mask
-        → (HasNone mask → ⊥) → (done : ℕ) → ReadsDone port mask done seen new → SeesClear port mask done seen
-        → HasNone done → ServesPort port [] s (record s { device = new }) }
+        → (IsEmptyMask mask → ⊥) → (done : ℕ) → ReadsDone port mask done seen new → SeesClear port mask done seen
+        → IsEmptyMask done → ServesPort port [] s (record s { device = new }) }
     ensures finished { (s new : ServerState) (seen found : Device) (port : Port) (mask done : ℕ) (replies : List Reply)
         → SettledInvariant s → state_of (probe_result_of s.ports port.0) ≡ ReadyState
         → LooksAt port NoEvent s.device seen → IsSimulated (IsLooking port) AnyUse s.device seen
-        → IsMaskOf (slots_at s.slots port.0) mask → (HasNone mask → ⊥) → ReadsDone port mask done seen found
-        → SeesClear port mask done seen → (HasNone done → ⊥)
+        → IsMaskOf (slots_at s.slots port.0) mask → (IsEmptyMask mask → ⊥) → ReadsDone port mask done seen found
+        → SeesClear port mask done seen → (IsEmptyMask done → ⊥)
         → AnswersDone port done replies (record s { device = found }) new → ServesPort port replies s new }
     ensures error_handled { (s new : ServerState) (port : Port) (replies : List Reply) → SettledInvariant s
         → state_of (probe_result_of s.ports port.0) ≡ ReadyState → (r : HandlesPortError port replies s new)
@@ -266,12 +266,12 @@ pub fn law_port_errors_may_be_handled()
     ensures agreed { (s : ServerState) (port : Port) (queued : Bool) → InCallInvariant s
         → state_of (probe_result_of s.ports port.0)
         ≡ ReadyState
-        → AreQueued queued (slots_at s.slots port.0) → RelatesWith (FitsFor queued port.0) s.device }
+        → AreAllQueuedAs queued (slots_at s.slots port.0) → RelatesWith (PlainUsesSlot0 queued port.0) s.device }
     ensures alike { (s : ServerState) (port : Port) (slot : ℕ) (used : SlotUse) → InCallInvariant s
-        → used_for s.slots port.0 slot ≡ Some used → AreQueued used.queued (slots_at s.slots port.0) }
+        → used_for s.slots port.0 slot ≡ Some used → AreAllQueuedAs used.queued (slots_at s.slots port.0) }
     ensures alone { (s : ServerState) (port : Port) (queued : Bool) (outstanding : ℕ) → InCallInvariant s
-        → IsMaskOf (slots_at s.slots port.0) outstanding → AreQueued queued (slots_at s.slots port.0)
-        → IsAloneIn queued outstanding }
+        → IsMaskOf (slots_at s.slots port.0) outstanding → AreAllQueuedAs queued (slots_at s.slots port.0)
+        → PlainIsSlot0 queued outstanding }
 {
     law_below();
 }
@@ -288,10 +288,11 @@ pub fn law_a_port_goes_on_after_its_errors()
         → state_of (probe_result_of s.ports port.0)
         ≡ ReadyState
         → (r : IsErrorHandled port s mid device) → IsSimulated (IsLooking port) AnyUse s.device r.seen
-        → mode_in s port ≡ mode_found device.cap (probe_result_of s.ports port.0) }
+        → mode_in s port ≡ probed_mode device.cap (probe_result_of s.ports port.0) }
     ensures places { (s : ServerState) (port : Port) → InCallInvariant s
         → state_of (probe_result_of s.ports port.0) ≡ ReadyState
-        → (kept_at s.kept port.0 ≡ []) × (count_by (λ (e : Held). e.entry.issued) (requests_of port s.book) ≤ 32) }
+        → (quarantined_at s.kept port.0 ≡ []) × (count_by (λ (e : BookEntry). e.entry.issued)
+        (requests_of port s.book) ≤ 32) }
     ensures settled { (s new : ServerState) (port : Port) (later : List Reply) → InCallInvariant s
         → state_of (probe_result_of s.ports port.0) ≡ ReadyState → (a : HasResolved port later s new)
         → IsSimulated (IsLooking port) AnyUse s.device a.error_handled.seen → InCallInvariant new }
@@ -303,9 +304,9 @@ pub fn law_a_port_goes_on_after_its_errors()
 }
 
 /// A request that is accepted adds an event.
-pub fn law_acceptances_add()
+pub fn law_acceptances_extend_history()
     ensures { (s new : ServerState) (port : Port) (r : Request) (id : RequestId) → SettledInvariant s
-        → IsAcceptable (server_situation s) r → Accepts port r id s new
+        → IsAcceptable (admission_context s) r → Accepts port r id s new
         → ExtendsSettled s new (Submit r) (Submitted (Ok id)) }
 {
     law_below();
@@ -313,7 +314,7 @@ pub fn law_acceptances_add()
 
 /// A client's grant that is revoked adds an event: the requests that waited under it are answered, and what is due on
 /// its port is issued.
-pub fn law_revocations_add()
+pub fn law_revocations_extend_history()
     ensures { (s mid new : ServerState) (client : ClientId) (number : ℕ) (replies : List Reply) → SettledInvariant s
         → (revokes : RevokesGrant client number replies s mid) → IssuesAll revokes.has.0.port mid new
         → ExtendsSettled s new (RevokeOf client number) (WasRevoked (Some replies)) }
@@ -322,7 +323,7 @@ pub fn law_revocations_add()
 }
 
 /// Ports that have their turns in a service one after another add an event: ready ones are served, and others probed.
-pub fn law_services_add()
+pub fn law_services_extend_history()
     ensures { (s new : ServerState) (replies : List Reply) → SettledInvariant s → ServePorts 0 s.ports replies s new
         → ExtendsSettled s new Service (Served replies) }
 {
@@ -352,14 +353,14 @@ pub fn law_an_unready_port_is_probed()
 }
 
 /// A server goes on while its requests get older.
-pub fn law_requests_get_older()
+pub fn law_aging_keeps_invariant()
     ensures { (s : ServerState) → SettledInvariant s → SettledInvariant (a_tick_older s) }
 {
     law_below();
 }
 
 /// A tick adds an event: requests get older, and ready ports have their turns one after another.
-pub fn law_ticks_add()
+pub fn law_ticks_extend_history()
     ensures { (s new : ServerState) (replies : List Reply) → SettledInvariant s → Ticks replies s new
         → ExtendsSettled s new Tick (Served replies) }
 {

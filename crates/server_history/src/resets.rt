@@ -4,9 +4,9 @@ ghost use Rattle.ata_types.specs.declared.request.Reply.{Reply};
 ghost use Rattle.block_machine.specs.Events.{Reset, WasReset};
 ghost use Rattle.server_history.specs.Ended.{ResetLaws};
 ghost use Rattle.server_history.specs.Histories.{ExtendsSettled};
-ghost use Rattle.server_history.specs.Resets.{IsReinitialized, IssuePorts, MaySettle, ResetsServer, SettlePorts};
+ghost use Rattle.server_history.specs.Resets.{IsReinitialized, IssuePorts, MayResolve, ResetsServer, ResolvePorts};
 ghost use Rattle.server_history.specs.Server.{InCallInvariant, SettledInvariant, ServerState};
-ghost use Rattle.server_history.specs.Stalled.{BookInvariant};
+ghost use Rattle.server_history.specs.StuckServer.{ServerInvariant};
 
 use super::lawful::law_below;
 use block_machine::laws::law_lent_frame_is_its_own;
@@ -26,20 +26,20 @@ fn law_resets()
 /// A server goes on once its adapter was taken over again and its requests were resolved; and once what is due was
 /// issued, nothing is due.
 pub fn law_a_reset_server_goes_on()
-    ensures settle { (s taken : ServerState) → BookInvariant s → IsReinitialized s taken → MaySettle taken }
-    ensures kept { (s taken settled : ServerState) (replies : List Reply) → BookInvariant s → IsReinitialized s taken
-        → SettlePorts 0 taken.ports replies taken settled → InCallInvariant settled }
-    ensures settled { (s taken settled new : ServerState) (replies : List Reply) → BookInvariant s
+    ensures settle { (s taken : ServerState) → ServerInvariant s → IsReinitialized s taken → MayResolve taken }
+    ensures kept { (s taken settled : ServerState) (replies : List Reply) → ServerInvariant s → IsReinitialized s taken
+        → ResolvePorts 0 taken.ports replies taken settled → InCallInvariant settled }
+    ensures settled { (s taken settled new : ServerState) (replies : List Reply) → ServerInvariant s
         → IsReinitialized s taken
-        → SettlePorts 0 taken.ports replies taken settled → IssuePorts 0 taken.ports settled new
+        → ResolvePorts 0 taken.ports replies taken settled → IssuePorts 0 taken.ports settled new
         → SettledInvariant new }
 {
     law_resets();
 }
 
 /// A reset that ends adds an event.
-pub fn law_resets_add()
-    ensures { (s new : ServerState) (replies : List Reply) → BookInvariant s → ResetsServer replies s new
+pub fn law_resets_extend_history()
+    ensures { (s new : ServerState) (replies : List Reply) → ServerInvariant s → ResetsServer replies s new
         → ExtendsSettled s new Reset (WasReset (Some replies)) }
 {
     law_resets();

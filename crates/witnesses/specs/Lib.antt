@@ -1,7 +1,7 @@
 pub mod Runs
 pub mod Scene
 pub mod Allowed
-pub mod CommandToFinish
+pub mod ReadyPort
 pub mod Recovery
 pub mod Loss
 pub mod Dead

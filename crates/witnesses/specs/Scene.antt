@@ -15,7 +15,7 @@ use Rattle.adapter.specs.declared.tape.Move as tape_move
 use Rattle.refinement.specs.Places.{scratch_of}
 use Rattle.block_machine.specs.Ports.{Ports}
 use Rattle.block_machine.specs.declared.due.QueueMode.{QueueMode}
-use Rattle.driver_history.specs.Holds.{mode_of}
+use Rattle.driver_history.specs.Holds.{mode_of_disk}
 use Rattle.identify.specs.declared.DiskInfo.{DiskInfo}
 use Rattle.port_control.specs.Ports.{programmed}
 
@@ -93,5 +93,5 @@ showing info served states = record {
   serial = λ port. info.serial;
   sectors = λ port. info.sectors;
   trims = λ port. info.trim;
-  mode = λ port. mode_of queueing_cap info;
+  mode = λ port. mode_of_disk queueing_cap info;
 }

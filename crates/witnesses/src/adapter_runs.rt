@@ -6,7 +6,7 @@ ghost use Rattle.adapter.specs.Steps.DeviceTransition.{FetchFault as SenselessFe
 ghost use Rattle.witnesses.specs.Runs.{StepComes, ComesSafely, FirstHasFailed, IsBeingReset, IsSafe, TransitionKind, SecondEndsFirst};
 ghost use Rattle.witnesses.specs.Runs.TransitionKind.{FetchFault};
 
-use adapter::laws::{law_kept_bytes_stay, law_saying_is_one};
+use adapter::laws::{law_decoding_is_unique, law_kept_bytes_stay};
 
 /// Each kind of step of the device can come, in a state that an idle adapter comes to by accesses, each of which the
 /// rules allow in the state in which it is made: and where its commands stand on bytes that no step changes, but for
@@ -16,7 +16,7 @@ pub fn law_each_step_can_come()
     ensures senseless { StepComes FetchFault }
 {
     law_kept_bytes_stay();
-    law_saying_is_one();
+    law_decoding_is_unique();
 }
 
 /// Where the commands stand on bytes that no step changes, none is taken for no command.

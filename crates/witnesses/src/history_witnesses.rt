@@ -1,5 +1,5 @@
 // Laws of the definitions: the clause is the theorem. These functions do nothing.
-ghost use Rattle.witnesses.specs.CommandToFinish.{ReadyPortHasBegun};
+ghost use Rattle.witnesses.specs.ReadyPort.{ReadyPortHasBegun};
 ghost use Rattle.witnesses.specs.Dead.{StuckResetIsAHistory};
 ghost use Rattle.witnesses.specs.Fatal.{FatalErrorIsAHistory};
 ghost use Rattle.witnesses.specs.Hung.{HungPortIsAHistory};
@@ -17,7 +17,7 @@ pub fn law_a_ready_port_has_begun()
 
 /// There is a history with a service that answers a plain read with its fault, and leaves the port running well: all
 /// that is asked of its calls is met.
-pub fn law_a_recovery_ties()
+pub fn law_a_recovery_is_a_history()
     ensures { RecoveryIsAHistory }
 {}
 
@@ -29,7 +29,7 @@ pub fn law_a_loss_is_a_history()
 
 /// There is a history with a reset that doesn't end, and a service that tells its ports dead: all that is asked of its
 /// calls is met.
-pub fn law_a_death_is_a_history()
+pub fn law_a_stuck_reset_is_a_history()
     ensures { StuckResetIsAHistory }
 {}
 

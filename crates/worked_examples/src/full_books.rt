@@ -1,6 +1,6 @@
 // A full book: 16 unanswered requests of each of eight clients on four ports, and which of them are due.
 ghost use Rattle.std.specs.Prelude.{◌≡◌, ◌<◌, ◌≤◌, ◌+◌, [], All};
-ghost use Rattle.request_queue.specs.Entries.{IsFresh};
+ghost use Rattle.request_queue.specs.Entries.{IsNewlyAccepted};
 
 use ata_types::{ClientId, Op, Port, Range, RequestId, Sector};
 use block_machine::QueueMode;
@@ -15,7 +15,7 @@ use std::test::Fail;
 fn request(id: u64) -> PendingRequest
     requires { (1 ≤ id) × (id ≤ 128) }
     ensures id { result.id.0 ≡ id }
-    ensures fresh { IsFresh result }
+    ensures fresh { IsNewlyAccepted result }
     ensures client { (1 ≤ result.client.0) × (result.client.0 ≤ 8) }
 {
     let turn = (id - 1) / 4;
@@ -44,8 +44,7 @@ fn fill(rt: &impl Abort, book: &mut Book, table: &mut FrameTable)
     for number in 0..128u64 {
         let entry = request(number + 1);
         assert!(rt; book.unanswered(entry.client) < 16);
-        let loan = table.lend(entry.client, &[], entry.id);
-        book.accept(entry, loan);
+        book.accept(entry, &[], table);
     }
 }
 

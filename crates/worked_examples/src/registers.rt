@@ -67,10 +67,14 @@ fn interrupt_causes(rt: HostRuntime) {
     let causes = fatal | link | received;
     assert_eq!(rt; causes, PortInterrupts(0x7840_004b));
     assert!(rt;
-        causes.has_task_file_error() && causes.has_host_bus_fatal() && causes.has_host_bus_data()
+        causes.has_task_file_error()
+            && causes.has_host_bus_fatal_error()
+            && causes.has_host_bus_data_error()
     );
     assert!(rt;
-        causes.has_interface_fatal() && causes.has_phy_ready_change() && causes.has_port_change()
+        causes.has_interface_fatal_error()
+            && causes.has_phy_ready_change()
+            && causes.has_port_change()
     );
 }
 

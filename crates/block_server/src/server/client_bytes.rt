@@ -4,13 +4,15 @@ ghost use Rattle.std.specs.Prelude.{◌≡◌, ◌+◌, ◌*◌, IfErr, IfOk, le
 use super::Server;
 use adapter::Adapter;
 use ata_types::{ClientId, FRAME_BYTES, Frame, MemFault};
-use server_history::laws::{law_client_bytes_add, law_open_bytes_are_free, law_refusals_add};
-use server_history::stalled::law_book_invariant_holds;
+use server_history::laws::{
+    law_client_bytes_extend_history, law_open_frames_are_accessible, law_refusals_extend_history,
+};
+use server_history::stuck_server::law_server_invariant_holds;
 
 impl<A: Adapter> Server<A> {
     ghost use Rattle.adapter.specs.Counted.{MakesAtMost};
     ghost use Rattle.block_machine.specs.Events.{LoadAt, StoreAt};
-    ghost use Rattle.block_machine.specs.Refusals.{IsFirstMemFault, IsOpen};
+    ghost use Rattle.block_machine.specs.Refusals.{IsFirstMemFault, MayAccessFrame};
     ghost use Rattle.block_server.specs.Calls.{LoadsFrame, StoresFrame};
     ghost use Rattle.block_server.specs.View.{server_of};
     ghost use Rattle.dma_frames.specs.Table.{lent_to, owner_of};
@@ -25,7 +27,8 @@ impl<A: Adapter> Server<A> {
         offset: u32,
         length: usize,
     ) -> Result<u32, MemFault>
-        ensures ok { IfOk result (λ address. IsOpen (owner_of self.now.table) (lent_to self.now.table) client frame
+        ensures ok { IfOk result (λ address. MayAccessFrame (owner_of self.now.table)
+            (lent_to self.now.table) client frame
             offset length × (address ≡ FRAME_BYTES * frame.0 + offset)) }
         ensures err { IfErr result (IsFirstMemFault (owner_of self.now.table) (lent_to self.now.table) client frame
             offset length) }
@@ -58,10 +61,10 @@ impl<A: Adapter> Server<A> {
             (StoreAt client frame offset bytes.now) (store_said result) }
         ensures cost { MakesAtMost 1 (A.access_count self.old.adapter) (A.access_count self.new.adapter) }
     {
-        law_refusals_add();
-        law_book_invariant_holds();
-        law_open_bytes_are_free();
-        law_client_bytes_add();
+        law_refusals_extend_history();
+        law_server_invariant_holds();
+        law_open_frames_are_accessible();
+        law_client_bytes_extend_history();
         let address = self.open(client, frame, offset, bytes.len())?;
         self.adapter.store(address, bytes);
         Ok(())
@@ -80,10 +83,10 @@ impl<A: Adapter> Server<A> {
             (LoadAt client frame offset (length out.old)) (load_said result out.new) }
         ensures cost { MakesAtMost 1 (A.access_count self.old.adapter) (A.access_count self.new.adapter) }
     {
-        law_refusals_add();
-        law_book_invariant_holds();
-        law_open_bytes_are_free();
-        law_client_bytes_add();
+        law_refusals_extend_history();
+        law_server_invariant_holds();
+        law_open_frames_are_accessible();
+        law_client_bytes_extend_history();
         let address = self.open(client, frame, offset, out.len())?;
         self.adapter.load(address, out);
         Ok(())

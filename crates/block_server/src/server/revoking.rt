@@ -4,9 +4,13 @@ ghost use Rattle.std.specs.Prelude.{[], IfErr, IfOk, None, Ok, Err, Some};
 use super::Server;
 use adapter::Adapter;
 use ata_types::{ClientId, NoSuchGrant, Replies};
-use request_queue::laws::{law_accepted_requests_stay, law_the_book_stays_in_order};
-use server_history::laws::{law_refusals_add, law_requests_keep, law_revocations_add};
-use server_history::stalled::{law_book_invariant_holds, law_stuck_revocations_add};
+use request_queue::laws::{law_accepted_is_preserved, law_the_book_stays_in_order};
+use server_history::laws::{
+    law_refusals_extend_history, law_requests_preserve_invariant, law_revocations_extend_history,
+};
+use server_history::stuck_server::{
+    law_server_invariant_holds, law_stuck_revocations_extend_history,
+};
 
 impl<A: Adapter> Server<A> {
     ghost use Rattle.block_machine.specs.Events.{RevokeOf, WasRevoked};
@@ -14,7 +18,7 @@ impl<A: Adapter> Server<A> {
     ghost use Rattle.block_server.specs.View.{server_of};
     ghost use Rattle.server_history.specs.Histories.{ExtendsHistory};
     ghost use Rattle.adapter.specs.Counted.{MakesAtMost};
-    ghost use Rattle.block_server.specs.Costs.{MOST_OF_REVOKE};
+    ghost use Rattle.block_server.specs.Costs.{MOST_REVOKE_ACCESSES};
 
     /// Revokes the client's grant of this number.
     ///
@@ -37,7 +41,8 @@ impl<A: Adapter> Server<A> {
             (RevokeOf client number) (WasRevoked (Some replies.items))) }
         ensures adds_none { IfErr result (λ none. ExtendsHistory (server_of A.device self.old)
             (server_of A.device self.new) (RevokeOf client number) (WasRevoked None)) }
-        ensures cost { MakesAtMost MOST_OF_REVOKE (A.access_count self.old.adapter) (A.access_count self.new.adapter) }
+        ensures cost { MakesAtMost MOST_REVOKE_ACCESSES (A.access_count self.old.adapter)
+            (A.access_count self.new.adapter) }
     {
         let mut replies = Replies::new();
         self.revoke_into(client, number, &mut replies)?;
@@ -55,15 +60,16 @@ impl<A: Adapter> Server<A> {
         ensures adds { ExtendsHistory (server_of A.device self.old) (server_of A.device self.new)
             (RevokeOf client number)
             (revoke_said result replies.new.items) }
-        ensures cost { MakesAtMost MOST_OF_REVOKE (A.access_count self.old.adapter) (A.access_count self.new.adapter) }
+        ensures cost { MakesAtMost MOST_REVOKE_ACCESSES (A.access_count self.old.adapter)
+            (A.access_count self.new.adapter) }
     {
-        law_accepted_requests_stay();
+        law_accepted_is_preserved();
         law_the_book_stays_in_order();
-        law_book_invariant_holds();
-        law_requests_keep();
-        law_revocations_add();
-        law_stuck_revocations_add();
-        law_refusals_add();
+        law_server_invariant_holds();
+        law_requests_preserve_invariant();
+        law_revocations_extend_history();
+        law_stuck_revocations_extend_history();
+        law_refusals_extend_history();
         replies.clear();
         let Some(row) = self.grants.revoke(client, number) else {
             return Err(NoSuchGrant);

@@ -1,7 +1,7 @@
 use Rattle.std.proofs.Common.{ℕ, ◌*◌, ◌++◌, ◌∷◌, List, [], length, sym, ap, ◌∙◌, subst, arith, append_assoc}
 use Rattle.std.proofs.lemmas.List.{append-nil, length-append, length-drop, drop_all}
 use Rattle.adapter.specs.declared.command.Prd.{Prd}
-use Rattle.command_table.specs.Runs.{AreJoined}
+use Rattle.command_table.specs.Runs.{PrdsCoverFrames}
 use Rattle.command_table.proofs.Cover.{Fits, joined_more, joined_cover, all_whole, all_allowed}
 use Rattle.command_table.proofs.prds_in.Goals as goal
 
@@ -11,7 +11,7 @@ loop-covered-init g c = record {
   room = omega arith;
   within = let w = c.requires.fill.within in omega (arith, w);
   last = let l = c.requires.fill.last in omega (arith, l);
-  joined = λ es j. subst (λ (xs : List Prd). AreJoined c.args.frames.now c.args.bytes (xs ++ es)) (sym c.new-entries.ensures) j;
+  joined = λ es j. subst (λ (xs : List Prd). PrdsCoverFrames c.args.frames.now c.args.bytes (xs ++ es)) (sym c.new-entries.ensures) j;
 }
 
 pub loop-covered-preserved : goal.loop-covered-preserved
@@ -37,7 +37,7 @@ loop-covered-preserved g c =
       joined = λ es j.
           let e : Prd = record { address = 4096 * c.from.result; bytes = c.min-bytes.result } in
           let more = v.joined (e ∷ es) (joined_more frames covered c.loop-covered.left count e es c.loop-covered-test.true v.last run (ap (λ (x : ℕ). 4096 * x) c.from.ensures) size j) in
-          subst (AreJoined frames c.args.bytes) (sym (append_assoc c.loop-covered.entries.items (e ∷ []) es) ∙ ap (λ (xs : List Prd). xs ++ es) (sym c.push.ensures.items)) more;
+          subst (PrdsCoverFrames frames c.args.bytes) (sym (append_assoc c.loop-covered.entries.items (e ∷ []) es) ∙ ap (λ (xs : List Prd). xs ++ es) (sym c.push.ensures.items)) more;
     }
 
 pub returns : goal.returns
@@ -49,8 +49,8 @@ returns g c =
     let room = v.room in
     let over = c.loop-covered-test.false in
     let fits : Fits frames c.args.bytes = record { within = c.requires.fill.within; last = c.requires.fill.last } in
-    let j : AreJoined frames c.args.bytes c.loop-covered.entries.items =
-    subst (AreJoined frames c.args.bytes) (append-nil c.loop-covered.entries.items) (v.joined [] (drop_all c.loop-covered.covered frames over, omega (arith, within, over))) in
+    let j : PrdsCoverFrames frames c.args.bytes c.loop-covered.entries.items =
+    subst (PrdsCoverFrames frames c.args.bytes) (append-nil c.loop-covered.entries.items) (v.joined [] (drop_all c.loop-covered.covered frames over, omega (arith, within, over))) in
     record {
       joined = j;
       number = omega (arith, number, room);

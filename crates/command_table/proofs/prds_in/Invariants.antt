@@ -1,6 +1,6 @@
 use Rattle.std.proofs.Common.{◌+◌, ◌-◌, ◌*◌, ◌<◌, ◌≤◌, List, ◌++◌, length, drop}
 use Rattle.adapter.specs.declared.command.Prd.{Prd}
-use Rattle.command_table.specs.Runs.{AreJoined}
+use Rattle.command_table.specs.Runs.{PrdsCoverFrames}
 use Rattle.command_table.proofs.prds_in.Given as goal
 
 abbrev pub invariant-loop-covered : goal.invariant-loop-covered
@@ -10,7 +10,7 @@ invariant-loop-covered g l = record {
   within : l.left ≤ 4096 * (length l.frames - l.covered);
   last : 4096 * (length l.frames - l.covered) < l.left + 4096;
   -- with PRDs of what is left behind those that there are, all is covered
-  joined : (es : List Prd) → AreJoined (drop l.covered l.frames) l.left es → AreJoined l.frames l.bytes (l.entries.items ++ es);
+  joined : (es : List Prd) → PrdsCoverFrames (drop l.covered l.frames) l.left es → PrdsCoverFrames l.frames l.bytes (l.entries.items ++ es);
 }
 
 abbrev pub decreases-loop-covered : goal.decreases-loop-covered

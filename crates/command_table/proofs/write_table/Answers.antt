@@ -10,7 +10,7 @@ use Rattle.adapter.specs.Memory.{bytes_at}
 use Rattle.adapter.specs.Rules.{IsUnowned, IsStable}
 use Rattle.adapter.specs.Encoding.{EncodesHeader}
 use Rattle.refinement.specs.Places.{list_of, table_of}
-use Rattle.command_table.specs.Laws.AccessKind.{Tables}
+use Rattle.command_table.specs.Laws.AccessPurpose.{Tables}
 use Rattle.command_table.specs.Written.{IsTableStore}
 use Rattle.command_table.proofs.Storing.{store_free, store_followed, store_on, store_size, store_there, store_agrees, stored_says}
 use Rattle.command_table.proofs.write_table.Goals as goal

@@ -3,10 +3,10 @@ use Rattle.ata_types.specs.declared.Port.{Port}
 use Rattle.adapter.specs.Device.Halt.{NotHalted}
 use Rattle.adapter.specs.Rules.{HasPort}
 use Rattle.adapter.specs.declared.command.Operation.TheVariants.{Identify}
-use Rattle.refinement.specs.Driven.{RelatesWith, SendsNone}
+use Rattle.refinement.specs.Driven.{RelatesWith, GainsNoMove}
 use Rattle.refinement.specs.Driver.{AllFree}
 use Rattle.disk_page.specs.Asking.{LeavesRunning}
-use Rattle.port_control.specs.Ports.{FailsToStopPort, PortStops, HasStopped}
+use Rattle.port_control.specs.Ports.{FailsToStopPort, PortStops, HasStCleared}
 use Rattle.error_recovery.specs.Parts.{ReadsLog}
 use Rattle.error_recovery.specs.Recovery.{Recovers}
 use Rattle.error_recovery.specs.declared.Recovered as recovered
@@ -38,7 +38,7 @@ returns-in-Some-clause-recovers g c = λ old r.
     let same = c.port-port.ensures ∙ c.go_on-running.ensures.names in
     let start = g.A.Adapter.device c.go_on-running.new.adapter in
     let log = g.A.Adapter.device c.read_log.new.adapter in
-    let P : Port → Type 0 = λ p. LeavesRunning p.0 start log × SendsNone p.0 Identify start log × ((log.port p.0).halt ≡ NotHalted) × ReadsLog p c.args.outstanding (Some c.in-Some.failed) start log in
+    let P : Port → Type 0 = λ p. LeavesRunning p.0 start log × GainsNoMove p.0 Identify start log × ((log.port p.0).halt ≡ NotHalted) × ReadsLog p c.args.outstanding (Some c.in-Some.failed) start log in
     let e = c.in-Some.ensures in
     let x = subst P same (e.asks.leaves, e.asks.silent, e.asks.running, e.asks.reads) in
     names_one c.law_base.ensures port c.args.outstanding true _ _ old _ r _ c.go_on-running.ensures.goes _ refl x.0 x.1 c.in-Some.failed c.others-again.result c.go_on-running.result c.go_on-running.ensures.names
@@ -59,7 +59,7 @@ returns-in-Ok-clause-recovers g c = λ old r.
     let start = g.A.Adapter.device c.go_on-running.new.adapter in
     let log = g.A.Adapter.device c.read_log.new.adapter in
     let new = g.A.Adapter.device c.stop.new.adapter in
-    let P : Port → Type 0 = λ p. LeavesRunning p.0 start log × SendsNone p.0 Identify start log × ReadsLog p c.args.outstanding None start log × PortStops p log new × HasStopped (log.port p.0) (new.port p.0) in
+    let P : Port → Type 0 = λ p. LeavesRunning p.0 start log × GainsNoMove p.0 Identify start log × ReadsLog p c.args.outstanding None start log × PortStops p log new × HasStCleared (log.port p.0) (new.port p.0) in
     let e = c.in_default.ensures in
     let x = subst P same (e.asks.leaves, e.asks.silent, e.asks.reads, c.in-Ok.ensures.halts, c.stop.ensures.has) in
     let R : recovered.Recovered → Type 0 = λ result. Recovers port c.args.outstanding true result old new in
@@ -73,7 +73,7 @@ returns-in-Err-clause-recovers g c = λ old r.
     let start = g.A.Adapter.device c.go_on-running.new.adapter in
     let log = g.A.Adapter.device c.read_log.new.adapter in
     let new = g.A.Adapter.device c.stop.new.adapter in
-    let P : Port → Type 0 = λ p. LeavesRunning p.0 start log × SendsNone p.0 Identify start log × ReadsLog p c.args.outstanding None start log × FailsToStopPort p log new × HasStopped (log.port p.0) (new.port p.0) in
+    let P : Port → Type 0 = λ p. LeavesRunning p.0 start log × GainsNoMove p.0 Identify start log × ReadsLog p c.args.outstanding None start log × FailsToStopPort p log new × HasStCleared (log.port p.0) (new.port p.0) in
     let e = c.in_default.ensures in
     let x = subst P same (e.asks.leaves, e.asks.silent, e.asks.reads, c.in-Err.ensures.fails.1, c.stop.ensures.has) in
     let R : recovered.Recovered → Type 0 = λ result. Recovers port c.args.outstanding true result old new in

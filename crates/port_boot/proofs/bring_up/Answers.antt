@@ -1,6 +1,6 @@
 use Rattle.std.proofs.Common.{inl, inr, refl, sym, ◌∙◌, subst}
 use Rattle.ata_types.specs.declared.Port.{Port}
-use Rattle.refinement.specs.Driven.{AnyUse, IsControl, IsSimulated}
+use Rattle.refinement.specs.Driven.{AnyUse, OnPortWriting, IsSimulated}
 use Rattle.refinement.specs.Driver.{AllFree}
 use Rattle.port_control.specs.Calls.{FindsDisk, FindsFault, MayBeStarted, MayResetLink, StaysReceiving, Starts}
 use Rattle.port_control.specs.Ports.{IsCommandRegister, IsResetRegister}
@@ -28,7 +28,7 @@ returns-in_default-clause-fails g c =
 
 pub returns-in-Err-clause-fails : goal.returns-in-Err-clause-fails
 returns-in-Err-clause-fails g c =
-    let P : Port → Type 0 = λ p. IsSimulated (IsControl IsResetRegister p) AnyUse (g.A.Adapter.device c.receive.new.adapter) (g.A.Adapter.device c.comreset.new.adapter) in
+    let P : Port → Type 0 = λ p. IsSimulated (OnPortWriting IsResetRegister p) AnyUse (g.A.Adapter.device c.receive.new.adapter) (g.A.Adapter.device c.comreset.new.adapter) in
     let second = subst P c.in-Ok.ensures.names c.comreset.ensures.followed in
     let F : Port → Type 0 = λ p. StaysReceiving p (g.A.Adapter.device c.receive.new.adapter) (g.A.Adapter.device c.comreset.new.adapter) × FindsFault p c.in-Err.fault (g.A.Adapter.device c.receive.new.adapter) (g.A.Adapter.device c.comreset.new.adapter) in
     let f = subst F c.in-Ok.ensures.names (c.comreset.ensures.resets, c.in-Err.ensures.fault.1) in
@@ -44,7 +44,7 @@ returns-in-Err-clause-fails g c =
 pub start-requires : goal.start-requires
 start-requires g c =
     let at = c.in-Ok.ensures.names in
-    let P : Port → Type 0 = λ p. IsSimulated (IsControl IsResetRegister p) AnyUse (g.A.Adapter.device c.receive.new.adapter) (g.A.Adapter.device c.comreset.new.adapter) in
+    let P : Port → Type 0 = λ p. IsSimulated (OnPortWriting IsResetRegister p) AnyUse (g.A.Adapter.device c.receive.new.adapter) (g.A.Adapter.device c.comreset.new.adapter) in
     let second = subst P at c.comreset.ensures.followed in
     let found = c.in-Ok-comreset.ensures.finds in
     let F : Port → Type 0 = λ p. StaysReceiving p (g.A.Adapter.device c.receive.new.adapter) (g.A.Adapter.device c.comreset.new.adapter) × FindsDisk p (g.A.Adapter.device c.receive.new.adapter) (g.A.Adapter.device c.comreset.new.adapter) in
@@ -58,11 +58,11 @@ start-requires g c =
 pub returns-clause-rises : goal.returns-clause-rises
 returns-clause-rises g c =
     let at = c.in-Ok.ensures.names in
-    let P : Port → Type 0 = λ p. IsSimulated (IsControl IsResetRegister p) AnyUse (g.A.Adapter.device c.receive.new.adapter) (g.A.Adapter.device c.comreset.new.adapter) in
+    let P : Port → Type 0 = λ p. IsSimulated (OnPortWriting IsResetRegister p) AnyUse (g.A.Adapter.device c.receive.new.adapter) (g.A.Adapter.device c.comreset.new.adapter) in
     let second = subst P at c.comreset.ensures.followed in
     let found = c.in-Ok-comreset.ensures.finds in
     let then = found.0 ∙ at in
-    let Q : Port → Type 0 = λ p. IsSimulated (IsControl IsCommandRegister p) (λ uses. AllFree uses p.0) (g.A.Adapter.device c.comreset.new.adapter) (g.A.Adapter.device c.start.new.adapter) in
+    let Q : Port → Type 0 = λ p. IsSimulated (OnPortWriting IsCommandRegister p) (λ uses. AllFree uses p.0) (g.A.Adapter.device c.comreset.new.adapter) (g.A.Adapter.device c.start.new.adapter) in
     let third = subst Q then c.start.ensures.followed in
     let F : Port → Type 0 = λ p. FindsDisk p (g.A.Adapter.device c.receive.new.adapter) (g.A.Adapter.device c.comreset.new.adapter) in
     let S : Port → Type 0 = λ p. Starts p (g.A.Adapter.device c.comreset.new.adapter) (g.A.Adapter.device c.start.new.adapter) in

@@ -1,5 +1,5 @@
 use Rattle.std.proofs.Common.{refl}
-use Rattle.port_control.specs.Ports.{FindsSignature, LooksAfterReset}
+use Rattle.port_control.specs.Ports.{FindsSignature, SeesResetFault}
 use Rattle.port_control.proofs.Using.{usable_after}
 use Rattle.port_control.proofs.Resetting.{looked, reset_on, both_followed, both_on, both_coming, both_found}
 use Rattle.port_control.proofs.comreset.Goals as goal
@@ -47,7 +47,7 @@ pub returns-in-Err-clause-fault : goal.returns-in-Err-clause-fault
 returns-in-Err-clause-fault g c = (
   refl,
   record {
-    reset = reset_on c.args.receiving.port (LooksAfterReset c.args.receiving.port c.in-Err.fault) _ _ _ c.send_comreset.ensures.sends.reset c.in-Err.ensures.fault.looks (looked c.law_base.ensures c.args.receiving.port _ _ _ (record { on = c.requires.may.on; there = c.requires.may.there; agreed = c.requires.may.agreed }) c.send_comreset.ensures.followed c.look.ensures.followed);
+    reset = reset_on c.args.receiving.port (SeesResetFault c.args.receiving.port c.in-Err.fault) _ _ _ c.send_comreset.ensures.sends.reset c.in-Err.ensures.fault.looks (looked c.law_base.ensures c.args.receiving.port _ _ _ (record { on = c.requires.may.on; there = c.requires.may.there; agreed = c.requires.may.agreed }) c.send_comreset.ensures.followed c.look.ensures.followed);
     fault = c.in-Err.ensures.fault.fault;
     found = λ other. both_found c.law_base.ensures c.args.receiving.port _ _ _ (record { on = c.requires.may.on; there = c.requires.may.there; agreed = c.requires.may.agreed }) c.send_comreset.ensures.followed c.look.ensures.followed c.send_comreset.ensures.sends.coming c.send_comreset.ensures.sends.awaited (c.in-Err.ensures.fault.found other);
     signature = c.in-Err.ensures.fault.signature;

@@ -8,7 +8,7 @@ use Rattle.port_control.proofs.Looking.{looks, sig_saw, sig_idle, sig_last, sig_
 use Rattle.port_control.proofs.Resetting.{has_device, finds_link, finds_busy, finds_signature}
 use Rattle.port_control.proofs.look.Goals as goal
 use Rattle.port_control.specs.Laws.RegisterSet.{Clearing}
-use Rattle.port_control.specs.Laws.AccessKind.{Controlling}
+use Rattle.port_control.specs.Laws.AccessPurpose.{Controlling}
 use Rattle.port_control.proofs.Stretching.{followed_then}
 
 pub clear_errors-requires-clause-usable : goal.clear_errors-requires-clause-usable

@@ -10,9 +10,9 @@ use Rattle.adapter.specs.Access.{Access, Does, Reads, Writes}
 use Rattle.adapter.specs.Access.Access.{Reading, Writing}
 use Rattle.adapter.specs.Device.{Device}
 use Rattle.adapter.specs.Rules.{IsOn}
-use Rattle.refinement.specs.Facts.{IsFaulted, IsRecorded}
-use Rattle.refinement.specs.Links.{SparesRegister}
-use Rattle.port_control.specs.LookLaws.{Laws}
+use Rattle.refinement.specs.Facts.{IsFaulted, FaultsOnRecord}
+use Rattle.refinement.specs.Links.{DoesNotWrite}
+use Rattle.port_control.specs.EventLaws.{Laws}
 use Rattle.port_control.specs.Looks.{LooksAt}
 use Rattle.port_control.specs.declared.events.PortEvent.TheVariants as look
 use Rattle.port_control.proofs.looks.Stretching.{spared_on}
@@ -21,12 +21,12 @@ use Rattle.port_control.proofs.looks.Telling.{answered_failed}
 -- it runs, with its faults on record, and one has halted it
 pub record StandsFaulted (port : Port) (d : Device) : Type 0 where
   pub st : (d.port port.0).st ≡ true
-  pub recorded : IsRecorded d.tape (d.port port.0) port.0
+  pub recorded : FaultsOnRecord d.tape (d.port port.0) port.0
   pub halted : IsFaulted (d.port port.0).halt
 
 module _ (laws : Laws) (port : Port) where
   -- what an access leaves that writes neither PxCMD nor PxSCTL
-  runs_on : (access : Access) (old new : Device) → IsOn old → SparesRegister (Px port Cmd) access → Does access old new → (old.port port.0).st ≡ true → (new.port port.0).st ≡ true
+  runs_on : (access : Access) (old new : Device) → IsOn old → DoesNotWrite (Px port Cmd) access → Does access old new → (old.port port.0).st ≡ true → (new.port port.0).st ≡ true
   runs_on access old new on spares does st = ((laws.access_controls port access old new on.no_reset does).command spares).0 ∙ st
 
   pub reading_on : (r : Reg) (v : ℕ) (old new : Device) → IsOn old → Reads r v old new → StandsFaulted port old → StandsFaulted port new
@@ -47,7 +47,7 @@ module _ (laws : Laws) (port : Port) where
   pub law_link_stays : (r : PortReg) (v : ℕ) (old new : Device) → r ≢ Ssts → Reads (Px port r) v old new → (new.port port.0).notes.last_ssts ≡ (old.port port.0).notes.last_ssts
   law_link_stays r v old new other reads = ((laws.access_notes port (Reading (Px port r) v) old new reads).link (λ e. other (let z : Px port r ≡ Px port Ssts = e in cc))).0
 
-  module _ (old new : Device) (on : IsOn old) (l : LooksAt port look.TaskFileError old new) (st : (old.port port.0).st ≡ true) (recorded : IsRecorded old.tape (old.port port.0) port.0) where
+  module _ (old new : Device) (on : IsOn old) (l : LooksAt port look.TaskFileError old new) (st : (old.port port.0).st ≡ true) (recorded : FaultsOnRecord old.tape (old.port port.0) port.0) where
     seen_on : IsOn l.seen
     seen_on = spared_on laws (Reading (Px port Is) l.causes) old l.seen tt l.reads on
 

@@ -16,10 +16,10 @@ use Rattle.adapter.specs.Steps.{Steps}
 use Rattle.refinement.specs.Driven.{Grows, IsDrivenBy}
 use Rattle.refinement.specs.Errors.{IsFatalOf, NoneFails, NoneFatal}
 use Rattle.refinement.specs.Facts.{IsFaultOf}
-use Rattle.refinement.specs.Links.{LeavesLink, PlugsNone, SparesRegister}
-use Rattle.port_control.specs.LookLaws.{Laws}
+use Rattle.refinement.specs.Links.{LeavesLink, NoPlugEvents, DoesNotWrite}
+use Rattle.port_control.specs.EventLaws.{Laws}
 use Rattle.port_control.specs.Looks.{LooksAt}
-use Rattle.port_control.specs.Services.{HasLoss, IsService, IsOrdinary, ShowsDisks, ShowsFatals, ShowsFaults, ShowsNoFatal}
+use Rattle.port_control.specs.Services.{HasLoss, IsService, LeavesCauses, HidesNoPlugEvent, HidesNoFatal, HidesNoFault, ShowsNoFatal}
 use Rattle.port_control.specs.declared.events.PortEvent.{PortEvent}
 use Rattle.port_control.specs.declared.events.PortEvent.TheVariants.{LinkChanged}
 use Rattle.port_control.proofs.looks.Seeing.{cleared_on, left_set, rest, seen_on}
@@ -36,7 +36,7 @@ shows_still p new (inr up) det = up.det
 abbrev StaysLinked : ℕ → Device → Device → Type 0
 StaysLinked port old new =
     Grows old new
-    × (PlugsNone port old new → (old.port port).link_due ≡ false → (old.port port).ssts_det ≡ 3 → ((new.port port).link_due ≡ false) × ((new.port port).ssts_det ≡ 3))
+    × (NoPlugEvents port old new → (old.port port).link_due ≡ false → (old.port port).ssts_det ≡ 3 → ((new.port port).link_due ≡ false) × ((new.port port).ssts_det ≡ 3))
 
 -- ---- what isn't shown hasn't come
 
@@ -52,10 +52,10 @@ module _ (laws : Laws) (Clear : DevicePort → Type 0) (None : ℕ → Device �
       let early = p late.0 in
       (early.0, more port.0 a b c early.1 late.1)
 
-  module _ (over : (access : Access) (old new : Device) → IsOn old → IsOrdinary port access → Does access old new → Shown old new) where
-    ordinary_over : (old new : Device) → IsOn old → IsDrivenBy (IsOrdinary port) old new → Shown old new
+  module _ (over : (access : Access) (old new : Device) → IsOn old → LeavesCauses port access → Does access old new → Shown old new) where
+    ordinary_over : (old new : Device) → IsOn old → IsDrivenBy (LeavesCauses port) old new → Shown old new
     ordinary_over old new on a =
-        (kept_on laws Shown (λ d clear. (clear, none port.0 d)) shown_more (IsOrdinary port) (λ access is. spares_ghc access is.0) (λ access x y here is does. over access x y here is does) old new on a).0
+        (kept_on laws Shown (λ d clear. (clear, none port.0 d)) shown_more (LeavesCauses port) (λ access is. spares_ghc access is.0) (λ access x y here is does. over access x y here is does) old new on a).0
 
     look_over : (result : PortEvent) (old new : Device) (l : LooksAt port result old new) → IsOn old → Shown l.seen l.cleared → Shown old new
     look_over result old new l on write =
@@ -70,7 +70,7 @@ module _ (laws : Laws) (Clear : DevicePort → Type 0) (None : ℕ → Device �
       (early.0, more port.0 old w.mid new early.1 (ends (sym (ap (λ (d : Device). d.tape) w.effect))))
 
 -- neither PxIS nor PxSERR is among the registers that are written
-ordinary_spares : (port : Port) (access : Access) → IsOrdinary port access → SparesRegister (Px port Serr) access
+ordinary_spares : (port : Port) (access : Access) → LeavesCauses port access → DoesNotWrite (Px port Serr) access
 ordinary_spares port access is = spares_port port Serr (λ e. cc) (λ e. cc) (λ e. cc) access is.0
 
 module _ (laws : Laws) where
@@ -97,13 +97,13 @@ module _ (laws : Laws) where
 
   -- ---- what isn't shown hasn't come
 
-  fault_over : (port : Port) (access : Access) (old new : Device) → IsOn old → IsOrdinary port access → Does access old new → ShowsFaults port.0 old new
+  fault_over : (port : Port) (access : Access) (old new : Device) → IsOn old → LeavesCauses port access → Does access old new → HidesNoFault port.0 old new
   fault_over port access old new on is does = laws.access_unfailed port access old new on.no_reset is.1 does
 
-  fatal_over : (port : Port) (access : Access) (old new : Device) → IsOn old → IsOrdinary port access → Does access old new → ShowsFatals port.0 old new
+  fatal_over : (port : Port) (access : Access) (old new : Device) → IsOn old → LeavesCauses port access → Does access old new → HidesNoFatal port.0 old new
   fatal_over port access old new on is does = laws.access_unbroken port access old new on.no_reset is.1 does
 
-  disk_over : (port : Port) (access : Access) (old new : Device) → IsOn old → IsOrdinary port access → Does access old new → ShowsDisks port.0 old new
+  disk_over : (port : Port) (access : Access) (old new : Device) → IsOn old → LeavesCauses port access → Does access old new → HidesNoPlugEvent port.0 old new
   disk_over port access old new on is does = laws.access_undisturbed port access old new on.no_reset (ordinary_spares port access is) does
 
   abbrev Tfes : DevicePort → Type 0
@@ -112,14 +112,14 @@ module _ (laws : Laws) where
   abbrev Change : DevicePort → Type 0
   Change p = p.serr_n ≡ false
 
-  pub ordinary_shows : (port : Port) (old new : Device) → IsOn old → IsDrivenBy (IsOrdinary port) old new → ShowsFaults port.0 old new
+  pub ordinary_shows : (port : Port) (old new : Device) → IsOn old → IsDrivenBy (LeavesCauses port) old new → HidesNoFault port.0 old new
   ordinary_shows port = ordinary_over laws Tfes NoneFails laws.tape.fails_none laws.tape.fails_more port (fault_over port)
 
-  pub ordinary_fatals : (port : Port) (old new : Device) → IsOn old → IsDrivenBy (IsOrdinary port) old new → ShowsFatals port.0 old new
+  pub ordinary_fatals : (port : Port) (old new : Device) → IsOn old → IsDrivenBy (LeavesCauses port) old new → HidesNoFatal port.0 old new
   ordinary_fatals port = ordinary_over laws ShowsNoFatal NoneFatal laws.tape.fatal_none laws.tape.fatal_more port (fatal_over port)
 
-  pub ordinary_disks : (port : Port) (old new : Device) → IsOn old → IsDrivenBy (IsOrdinary port) old new → ShowsDisks port.0 old new
-  ordinary_disks port = ordinary_over laws Change PlugsNone laws.tape.plugs_none laws.tape.plugs_more port (disk_over port)
+  pub ordinary_disks : (port : Port) (old new : Device) → IsOn old → IsDrivenBy (LeavesCauses port) old new → HidesNoPlugEvent port.0 old new
+  ordinary_disks port = ordinary_over laws Change NoPlugEvents laws.tape.plugs_none laws.tape.plugs_more port (disk_over port)
 
   -- a bit that is clear after a write that leaves it was clear
   was_clear : (port : Port) (v place : ℕ) (old new : Device) → old.hr ≡ false → (w : Writes (Px port Is) v old new) → bit v place ≡ false → (new.port port.0).is place ≡ false → (w.mid.port port.0).is place ≡ false
@@ -134,14 +134,14 @@ module _ (laws : Laws) where
     off : l.seen.hr ≡ false
     off = (seen_on laws port result old new l on).no_reset
 
-    pub unread_shows : bit l.causes 30 ≡ false → ShowsFaults port.0 old new
+    pub unread_shows : bit l.causes 30 ≡ false → HidesNoFault port.0 old new
     unread_shows unread =
         look_over laws Tfes NoneFails laws.tape.fails_none laws.tape.fails_more port (fault_over port) result old new l on
         (write_over laws Tfes NoneFails laws.tape.fails_none laws.tape.fails_more port (laws.steps_unfailed port.0) l.causes l.seen l.cleared off l.clears
         (was_clear port l.causes 30 l.seen l.cleared off l.clears unread)
         (λ tape. record { gained = []; tape = sym tape ∙ sym (append-nil l.clears.mid.tape); none = All-nil (λ e. IsFaultOf port.0 e → ⊥) }))
 
-    pub unread_fatals : ((place : ℕ) → 27 ≤ place → place ≤ 29 → bit l.causes place ≡ false) → ShowsFatals port.0 old new
+    pub unread_fatals : ((place : ℕ) → 27 ≤ place → place ≤ 29 → bit l.causes place ≡ false) → HidesNoFatal port.0 old new
     unread_fatals unread =
         look_over laws ShowsNoFatal NoneFatal laws.tape.fatal_none laws.tape.fatal_more port (fatal_over port) result old new l on
         (write_over laws ShowsNoFatal NoneFatal laws.tape.fatal_none laws.tape.fatal_more port (laws.steps_unbroken port.0) l.causes l.seen l.cleared off l.clears
@@ -149,9 +149,9 @@ module _ (laws : Laws) where
         (λ tape. record { gained = []; tape = sym tape ∙ sym (append-nil l.clears.mid.tape); none = All-nil (λ e. IsFatalOf port.0 e → ⊥) }))
 
     -- the write of PxIS is none of PxSERR
-    pub look_disks : ShowsDisks port.0 old new
+    pub look_disks : HidesNoPlugEvent port.0 old new
     look_disks =
-        look_over laws Change PlugsNone laws.tape.plugs_none laws.tape.plugs_more port (disk_over port) result old new l on
+        look_over laws Change NoPlugEvents laws.tape.plugs_none laws.tape.plugs_more port (disk_over port) result old new l on
         (laws.access_undisturbed port (Writing (Px port Is) l.causes) l.seen l.cleared off (λ e. absurd (let z : Px port Is ≡ Px port Serr = e in cc)) l.clears)
 
     -- what comes before PxSSTS is read
@@ -186,7 +186,7 @@ module _ (laws : Laws) where
         linked = services_keep laws (StaysLinked port.0) (λ d. (laws.tape.grows_none d, λ none due det. (due, det))) (linked_more port.0) (λ access x y ready kind does. service_linked port access x y ready kind does)
             old l.acknowledged on early
 
-        parts : PlugsNone port.0 old new → PlugsNone port.0 old l.acknowledged × PlugsNone port.0 l.acknowledged new
+        parts : NoPlugEvents port.0 old new → NoPlugEvents port.0 old l.acknowledged × NoPlugEvents port.0 l.acknowledged new
         parts = laws.tape.plugs_parts port.0 old l.acknowledged new linked.0.0.0 showing.0 linked.0.0.1 showing.1
 
         by_change : (bit l.causes 22 ≡ true) ⊎ (bit l.causes 6 ≡ true) → HasLoss port.0 old new

@@ -11,11 +11,11 @@ use Rattle.adapter.specs.Access.{Reads, Writes}
 use Rattle.adapter.specs.Access.Access.{Reading, Writing}
 use Rattle.adapter.specs.Device.{Device}
 use Rattle.adapter.specs.Rules.{IsOn, HasPort, MayWrite, IsStable}
-use Rattle.refinement.specs.Driven.{AnyUse, IsBitOf, IsSimulated}
+use Rattle.refinement.specs.Driven.{AnyUse, IsSoleBit, IsSimulated}
 use Rattle.refinement.specs.Links.{SameAdapter}
-use Rattle.port_control.specs.LookLaws.{Laws}
-use Rattle.port_control.specs.LookLaws.AccessKind.{Looking}
-use Rattle.port_control.specs.Looks.{look_of, IsLooking, LooksAt}
+use Rattle.port_control.specs.EventLaws.{Laws}
+use Rattle.port_control.specs.EventLaws.AccessPurpose.{Looking}
+use Rattle.port_control.specs.Looks.{port_event_of, IsLooking, LooksAt}
 use Rattle.port_control.specs.declared.events.PortEvent.{PortEvent}
 use Rattle.port_control.proofs.looks.Stretching.{spared_on}
 
@@ -24,9 +24,9 @@ there_after : (port : ℕ) (old new : Device) → SameAdapter old new → HasPor
 there_after port old new s there = (there.0, ap (λ (pi : ℕ). bit pi port) s.pi ∙ there.1)
 
 -- a bit that was set in no other bits
-pub bit_alone : (port place v : ℕ) → place ≡ port → v < 2 ^ 32 → bit v place ≡ true → ((k : ℕ) → k < 32 → k ≢ place → bit v k ≡ bit 0 k) → IsBitOf port v
+pub bit_alone : (port place v : ℕ) → place ≡ port → v < 2 ^ 32 → bit v place ≡ true → ((k : ℕ) → k < 32 → k ≢ place → bit v k ≡ bit 0 k) → IsSoleBit port v
 bit_alone port place v same fits set others =
-    let P : ℕ → Type 0 = λ p. IsBitOf p v in
+    let P : ℕ → Type 0 = λ p. IsSoleBit p v in
     subst P same (record { here = set; alone = alone })
   where
     alone : (k : ℕ) → k ≢ place → bit v k ≡ false
@@ -64,13 +64,13 @@ module _ (laws : Laws) (port : Port) (d0 d1 : Device) (causes : ℕ) (on : IsOn 
     two_on = spared_on laws (Writing (Px port Is) v) d1 d2 (λ e. cc) second one_on
 
     -- PxIS was written, so the port's bit of IS may be
-    pub acknowledging_may : (own : ℕ) → IsBitOf port.0 own → IsStable (MayWrite reg.Is own) d2
+    pub acknowledging_may : (own : ℕ) → IsSoleBit port.0 own → IsStable (MayWrite reg.Is own) d2
     acknowledging_may own alone = laws.acknowledging_may port v d1 d2 one_on second own (λ q small set. elim (cases_eq q port.0) [
       | inl e ↦ inl e
       | inr other ↦ absurd (true≢false (sym set ∙ alone.alone q other))
     ])
 
-    module _ (own : ℕ) (alone : IsBitOf port.0 own) (d3 : Device) (third : Writes reg.Is own d2 d3) where
+    module _ (own : ℕ) (alone : IsSoleBit port.0 own) (d3 : Device) (third : Writes reg.Is own d2 d3) where
       three_on : IsOn d3
       three_on = spared_on laws (Writing reg.Is own) d2 d3 (λ e. cc) third two_on
 
@@ -93,8 +93,8 @@ module _ (laws : Laws) (port : Port) (d0 d1 : Device) (causes : ℕ) (on : IsOn 
             (laws.fragments.reads (Looking port) (Px port Ssts) status d3 d4 (inr refl) fourth).followed))
 
 -- where what was read is written back, it was a look
-pub looked : (port : Port) (result : PortEvent) (d0 d1 d2 d3 d4 : Device) (causes own status : ℕ) → IsBitOf port.0 own → Reads (Px port Is) causes d0 d1 → Writes (Px port Is) causes d1 d2 →
-    Writes reg.Is own d2 d3 → Reads (Px port Ssts) status d3 d4 → result ≡ look_of causes status → LooksAt port result d0 d4
+pub looked : (port : Port) (result : PortEvent) (d0 d1 d2 d3 d4 : Device) (causes own status : ℕ) → IsSoleBit port.0 own → Reads (Px port Is) causes d0 d1 → Writes (Px port Is) causes d1 d2 →
+    Writes reg.Is own d2 d3 → Reads (Px port Ssts) status d3 d4 → result ≡ port_event_of causes status → LooksAt port result d0 d4
 looked port result d0 d1 d2 d3 d4 causes own status alone first second third fourth is = record {
   causes = causes;
   seen = d1;

@@ -10,13 +10,13 @@ use Rattle.adapter.specs.Access.{Access, Does, Writes}
 use Rattle.adapter.specs.Access.Access.{Reading, Writing}
 use Rattle.adapter.specs.Device.{DevicePort, Device}
 use Rattle.adapter.specs.Rules.{IsOn}
-use Rattle.adapter.specs.Seen.{PutAt}
+use Rattle.adapter.specs.Seen.{PortRegisterWritten}
 use Rattle.refinement.specs.Driven.{Grows, IsDrivenBy}
-use Rattle.refinement.specs.Errors.{KeepsErrors, NoneComes}
+use Rattle.refinement.specs.Errors.{KeepsErrors, NoDiskComes}
 use Rattle.refinement.specs.Facts.{RunsWell, ShowsNoTrouble, Undisturbed}
-use Rattle.port_control.specs.LookLaws.{Laws}
+use Rattle.port_control.specs.EventLaws.{Laws}
 use Rattle.port_control.specs.Looks.{IsLooking, LooksAt}
-use Rattle.port_control.specs.Services.{IsService, IsOrdinary, KeepsChanges}
+use Rattle.port_control.specs.Services.{IsService, LeavesCauses, KeepsSerrNX}
 use Rattle.port_control.specs.declared.events.PortEvent.{PortEvent}
 use Rattle.port_control.specs.declared.events.PortEvent.TheVariants as look
 use Rattle.port_control.proofs.looks.Serving.{looking_service, spares_port, services_keep, calm_parts, services_well, errors_stay}
@@ -27,7 +27,7 @@ use Rattle.port_control.proofs.looks.Telling.{answered_undisturbed, told_lost, t
 abbrev Unlinks : ℕ → Device → Device → Type 0
 Unlinks port old new =
     Grows old new
-    × ((old.port port).link_due ≡ false → ((new.port port).link_due ≡ false) × (NoneComes port old new → (new.port port).ssts_det ≡ 3 → (old.port port).ssts_det ≡ 3))
+    × ((old.port port).link_due ≡ false → ((new.port port).link_due ≡ false) × (NoDiskComes port old new → (new.port port).ssts_det ≡ 3 → (old.port port).ssts_det ≡ 3))
 
 module _ (port : Port) (result : PortEvent) (old new : Device) (l : LooksAt port result old new) where
   -- the last of the accesses, the last two, and the last three
@@ -51,12 +51,12 @@ module _ (port : Port) (result : PortEvent) (old new : Device) (l : LooksAt port
   }
 
   -- what comes once PxIS is cleared
-  pub rest : IsDrivenBy (IsOrdinary port) l.cleared new
+  pub rest : IsDrivenBy (LeavesCauses port) l.cleared new
   rest = record {
     accesses = clears_own;
     all = (l.acknowledged, l.acknowledges, (new, l.shows, refl));
-    only = All-cons (IsOrdinary port) (Writing reg.Is l.own) shows (inl refl, λ e. let z : reg.Is ≡ Px port Is = e in cc)
-        (All-cons (IsOrdinary port) (Reading (Px port Ssts) l.status) [] (tt, tt) (All-nil (IsOrdinary port)));
+    only = All-cons (LeavesCauses port) (Writing reg.Is l.own) shows (inl refl, λ e. let z : reg.Is ≡ Px port Is = e in cc)
+        (All-cons (LeavesCauses port) (Reading (Px port Ssts) l.status) [] (tt, tt) (All-nil (LeavesCauses port)));
   }
 
 module _ (laws : Laws) where
@@ -89,7 +89,7 @@ module _ (laws : Laws) where
   pub left_set : (port : Port) (v place : ℕ) (old new : Device) → old.hr ≡ false → (w : Writes (Px port Is) v old new) → (w.mid.port port.0).is place ≡ true → bit v place ≡ false → (new.port port.0).is place ≡ true
   left_set port v place old new off w set unread =
       let again : Writes (Px port Is) v w.mid new = record { mid = w.mid; steps = laws.steps_none w.mid; effect = w.effect } in
-      let p : PutAt port.0 Is v w.mid new = laws.put port Is v w.mid new again ((laws.law_steps_keep old w.mid w.steps).on off).no_reset in
+      let p : PortRegisterWritten port.0 Is v w.mid new = laws.put port Is v w.mid new again ((laws.law_steps_guarantee old w.mid w.steps).on off).no_reset in
       let still : (p.mid.port port.0).is place ≡ true = (p.keeps.on.controls port.0).is place set in
       ap (λ (q : DevicePort). q.is place) p.here ∙ (ap (λ (b : Bool). b && not (bit v place)) still ∙ ap (λ (b : Bool). not b) unread)
 
@@ -123,7 +123,7 @@ module _ (laws : Laws) where
     seen_changed (inl n) = l.tells ∙ told_lost l.causes l.status (inr (inl ((laws.changes_told port l.causes old l.seen on.no_reset l.reads).0 n)))
     seen_changed (inr x) = l.tells ∙ told_lost l.causes l.status (inl ((laws.changes_told port l.causes old l.seen on.no_reset l.reads).1 x))
 
-    pub seen_unlinked : (old.port port.0).ssts_det ≢ 3 → (old.port port.0).link_due ≡ false → NoneComes port.0 old new → result ≡ look.LinkChanged
+    pub seen_unlinked : (old.port port.0).ssts_det ≢ 3 → (old.port port.0).link_due ≡ false → NoDiskComes port.0 old new → result ≡ look.LinkChanged
     seen_unlinked none undue comes =
         let stays = unlinked_stays port old new on as_services in
         l.tells ∙ told_lost l.causes l.status (inr (inr (λ (three : l.status % 16 ≡ 3). none ((stays.1 undue).1 comes (sym shown ∙ three)))))
@@ -146,7 +146,7 @@ module _ (laws : Laws) where
     later : KeepsErrors (l.cleared.port port.0) (new.port port.0)
     later = errors_stay laws port l.cleared new cleared_on (rest port result old new l)
 
-    pub looking_changes : KeepsChanges (old.port port.0) (new.port port.0)
+    pub looking_changes : KeepsSerrNX (old.port port.0) (new.port port.0)
     looking_changes =
         let a = laws.access_news port (Reading (Px port Is) l.causes) old l.seen on.no_reset tt l.reads in
         let b = laws.access_news port (Writing (Px port Is) l.causes) l.seen l.cleared seen_on.no_reset (λ e. cc) l.clears in

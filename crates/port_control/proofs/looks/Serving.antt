@@ -11,15 +11,15 @@ use Rattle.adapter.specs.Access.Access.{Reading, Writing, Loading, Storing}
 use Rattle.adapter.specs.Device.{DevicePort, Device}
 use Rattle.adapter.specs.Rules.{IsOn}
 use Rattle.refinement.specs.Relation.{port_at}
-use Rattle.refinement.specs.Driven.{AnyAccess, Grows, IsUse, IsRelated, IsDrivenBy, IsSimulated}
+use Rattle.refinement.specs.Driven.{AnyAccess, Grows, SameUses, IsRelated, IsDrivenBy, IsSimulated}
 use Rattle.refinement.specs.Errors.{KeepsErrors}
 use Rattle.refinement.specs.Facts.{RunsWell, Undisturbed}
-use Rattle.refinement.specs.Links.{SparesRegister, SameAdapter, LeavesControls}
+use Rattle.refinement.specs.Links.{DoesNotWrite, SameAdapter, LeavesControls}
 use Rattle.refinement.specs.Slots.{SlotStates}
-use Rattle.port_control.specs.LookLaws.{Laws}
-use Rattle.port_control.specs.LookLaws.AccessKind.{Serving}
+use Rattle.port_control.specs.EventLaws.{Laws}
+use Rattle.port_control.specs.EventLaws.AccessPurpose.{Serving}
 use Rattle.port_control.specs.Looks.{IsLooking}
-use Rattle.port_control.specs.Services.{IsService, IsOrdinary}
+use Rattle.port_control.specs.Services.{IsService, LeavesCauses}
 use Rattle.port_control.proofs.looks.Stretching.{driven_as, kept, kept_on}
 
 -- ---- kinds of accesses
@@ -31,7 +31,7 @@ looking_service port (Writing r v) (inr is) = inl is.0
 looking_service port (Storing at bytes) here = absurd here
 looking_service port (Loading at bytes) here = absurd here
 
-pub looking_beside : (port other : Port) (access : Access) → port.0 ≢ other.0 → IsLooking port access → IsOrdinary other access
+pub looking_beside : (port other : Port) (access : Access) → port.0 ≢ other.0 → IsLooking port access → LeavesCauses other access
 looking_beside port other (Reading r v) ne here = (tt, tt)
 looking_beside port other (Writing r v) ne (inl e) = (inr (port, inl e), λ q. ne (let z : Px port Is ≡ Px other Is = sym e ∙ q in let same : port ≡ other = cc in ap (λ (p : Port). p.0) same))
 looking_beside port other (Writing r v) ne (inr is) = (inl is.0, λ q. absurd (let z : reg.Is ≡ Px other Is = sym is.0 ∙ q in cc))
@@ -39,7 +39,7 @@ looking_beside port other (Storing at bytes) ne here = absurd here
 looking_beside port other (Loading at bytes) ne here = absurd here
 
 -- no other register is written
-pub spares_other : (r : Reg) → (reg.Is ≡ r → ⊥) → ((port : Port) (its : PortReg) → (its ≡ Is) ⊎ ((its ≡ Ci) ⊎ (its ≡ Sact)) → Px port its ≡ r → ⊥) → (access : Access) → IsService access → SparesRegister r access
+pub spares_other : (r : Reg) → (reg.Is ≡ r → ⊥) → ((port : Port) (its : PortReg) → (its ≡ Is) ⊎ ((its ≡ Ci) ⊎ (its ≡ Sact)) → Px port its ≡ r → ⊥) → (access : Access) → IsService access → DoesNotWrite r access
 spares_other r one own (Writing w v) (inl e) = λ q. one (sym e ∙ q)
 spares_other r one own (Writing w v) (inr (port, inl e)) = λ q. own port Is (inl refl) (sym e ∙ q)
 spares_other r one own (Writing w v) (inr (port, inr (inl e))) = λ q. own port Ci (inr (inl refl)) (sym e ∙ q)
@@ -48,11 +48,11 @@ spares_other r one own (Reading w v) is = tt
 spares_other r one own (Loading at bytes) is = tt
 spares_other r one own (Storing at bytes) is = tt
 
-pub spares_ghc : (access : Access) → IsService access → SparesRegister Ghc access
+pub spares_ghc : (access : Access) → IsService access → DoesNotWrite Ghc access
 spares_ghc = spares_other Ghc (λ e. cc) (λ port its which e. absurd (let z : Px port its ≡ Ghc = e in cc))
 
 -- of a port, no other
-pub spares_port : (port : Port) (r : PortReg) → (Is ≡ r → ⊥) → (Ci ≡ r → ⊥) → (Sact ≡ r → ⊥) → (access : Access) → IsService access → SparesRegister (Px port r) access
+pub spares_port : (port : Port) (r : PortReg) → (Is ≡ r → ⊥) → (Ci ≡ r → ⊥) → (Sact ≡ r → ⊥) → (access : Access) → IsService access → DoesNotWrite (Px port r) access
 spares_port port r one two three = spares_other (Px port r) (λ e. absurd (let z : reg.Is ≡ Px port r = e in cc)) (λ q its which e.
     let same : its ≡ r = let z : Px q its ≡ Px port r = e in cc in
     ⊎_elim (λ (is : its ≡ Is). one (sym is ∙ same)) (λ w. ⊎_elim (λ (is : its ≡ Ci). two (sym is ∙ same)) (λ (is : its ≡ Sact). three (sym is ∙ same)) w) which)
@@ -123,7 +123,7 @@ module _ (laws : Laws) where
   service_well : (port : Port) (access : Access) (old new : Device) → IsOn old → IsService access → Does access old new → Undisturbed port.0 old new → RunsWell (old.port port.0) → RunsWell (new.port port.0)
   service_well port access old new on is does calm well =
       laws.well_of (new.port port.0)
-      (laws.access_started port access old new on.no_reset (λ v e. absurd (subst (SparesRegister (Px port Cmd)) e (spares_port port Cmd (λ e. cc) (λ e. cc) (λ e. cc) access is) refl))
+      (laws.access_started port access old new on.no_reset (λ v e. absurd (subst (DoesNotWrite (Px port Cmd)) e (spares_port port Cmd (λ e. cc) (λ e. cc) (λ e. cc) access is) refl))
       (spares_port port Sctl (λ e. cc) (λ e. cc) (λ e. cc) access is) calm does (laws.started_well (old.port port.0) well))
       (laws.shows_still (old.port port.0) (new.port port.0) (laws.access_clear port access old new on.no_reset well.linked calm does) well.quiet)
 
@@ -136,16 +136,16 @@ module _ (laws : Laws) where
 
   -- ---- a machine agrees on
 
-  pub services_agree : (uses : SlotStates) (old new : Device) → IsSimulated IsService (IsUse uses) old new → IsRelated uses old → IsRelated uses new
+  pub services_agree : (uses : SlotStates) (old new : Device) → IsSimulated IsService (SameUses uses) old new → IsRelated uses old → IsRelated uses new
   services_agree uses old new followed a = laws.fragments.agreed (Serving uses) (λ uses. uses) uses old new refl followed a
 
   -- ---- what tells of trouble
 
-  pub errors_stay : (port : Port) (old new : Device) → IsOn old → IsDrivenBy (IsOrdinary port) old new → KeepsErrors (old.port port.0) (new.port port.0)
+  pub errors_stay : (port : Port) (old new : Device) → IsOn old → IsDrivenBy (LeavesCauses port) old new → KeepsErrors (old.port port.0) (new.port port.0)
   errors_stay port old new on a =
       (kept_on laws (λ x y. KeepsErrors (x.port port.0) (y.port port.0)) (λ d. record { is = λ place h. h; serr_n = λ h. h; serr_x = λ h. h })
       (λ x y z p q. record { is = λ place h. q.is place (p.is place h); serr_n = λ h. q.serr_n (p.serr_n h); serr_x = λ h. q.serr_x (p.serr_x h) })
-      (IsOrdinary port) (λ access is. spares_ghc access is.0)
+      (LeavesCauses port) (λ access is. spares_ghc access is.0)
       (λ access x y ready is does.
       let news = laws.access_news port access x y ready.no_reset (spares_port port Serr (λ e. cc) (λ e. cc) (λ e. cc) access is.0) does in
       record { is = laws.access_causes port access x y ready.no_reset is.1 does; serr_n = news.0; serr_x = news.1 })

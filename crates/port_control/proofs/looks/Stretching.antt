@@ -6,8 +6,8 @@ use Rattle.adapter.specs.Access.{Access, Does, DoesAll}
 use Rattle.adapter.specs.Device.{Device}
 use Rattle.adapter.specs.Rules.{IsOn}
 use Rattle.refinement.specs.Driven.{IsDrivenBy}
-use Rattle.refinement.specs.Links.{SparesRegister}
-use Rattle.port_control.specs.LookLaws.{Laws}
+use Rattle.refinement.specs.Links.{DoesNotWrite}
+use Rattle.port_control.specs.EventLaws.{Laws}
 
 -- accesses of one kind are of each wider one
 pub driven_as : (May More : Access → Type 0) (old new : Device) → ((access : Access) → May access → More access) → IsDrivenBy May old new → IsDrivenBy More old new
@@ -24,12 +24,12 @@ module _ (Keeps : Device → Device → Type 0) (none : (d : Device) → Keeps d
   kept each old new a = kept_over each a.accesses old new a.only a.all
 
 -- an access that doesn't write GHC leaves an adapter on
-pub spared_on : (laws : Laws) (access : Access) (old new : Device) → SparesRegister Ghc access → Does access old new → IsOn old → IsOn new
-spared_on laws access old new spares does on = laws.access_on access old new on (λ v e. absurd (subst (SparesRegister Ghc) e spares refl)) does
+pub spared_on : (laws : Laws) (access : Access) (old new : Device) → DoesNotWrite Ghc access → Does access old new → IsOn old → IsOn new
+spared_on laws access old new spares does on = laws.access_on access old new on (λ v e. absurd (subst (DoesNotWrite Ghc) e spares refl)) does
 
 -- so it is with what each keeps of an adapter that is on, where none writes GHC
 pub kept_on : (laws : Laws) (Keeps : Device → Device → Type 0) → ((d : Device) → Keeps d d) → ((a b c : Device) → Keeps a b → Keeps b c → Keeps a c) → (May : Access → Type 0) →
-    ((access : Access) → May access → SparesRegister Ghc access) → ((access : Access) (old new : Device) → IsOn old → May access → Does access old new → Keeps old new) →
+    ((access : Access) → May access → DoesNotWrite Ghc access) → ((access : Access) (old new : Device) → IsOn old → May access → Does access old new → Keeps old new) →
     (old new : Device) → IsOn old → IsDrivenBy May old new → Keeps old new × IsOn new
 kept_on laws Keeps none more May spares each old new on a =
     kept (λ x y. IsOn x → Keeps x y × IsOn y) (λ d here. (none d, here)) (λ x y z p q here. let first = p here in let second = q first.1 in (more x y z first.0 second.0, second.1)) May

@@ -3,7 +3,7 @@ use Rattle.std.proofs.Common.{ℕ, ◌≡◌, ◌≢◌, ◌≤◌, ◌⊎◌, �
 use Rattle.std.proofs.lemmas.Bool.{cases_eq, eqb-true, eq-eqb, ne_eqb}
 use Rattle.hba_regs.specs.Bits.{bit}
 use Rattle.refinement.specs.Facts.{TellsNoTrouble}
-use Rattle.port_control.specs.Looks.{look_of}
+use Rattle.port_control.specs.Looks.{port_event_of}
 use Rattle.port_control.specs.declared.events.PortEvent.{PortEvent}
 use Rattle.port_control.specs.declared.events.PortEvent.TheVariants.{LinkChanged, FatalError, TaskFileError, NoEvent}
 
@@ -70,7 +70,7 @@ four_places P a b c d place low high =
     elim (cases_eq place 30) [ inl e ↦ subst P (sym e) d | inr n ↦ three_places P a b c place low (omega (arith, n, high)) ]
 
 module _ (causes status : ℕ) where
-  pub answered_lost : look_of causes status ≡ LinkChanged → (bit causes 6 ≡ true) ⊎ (bit causes 22 ≡ true) ⊎ (status % 16 ≢ 3)
+  pub answered_lost : port_event_of causes status ≡ LinkChanged → (bit causes 6 ≡ true) ⊎ (bit causes 22 ≡ true) ⊎ (status % 16 ≢ 3)
   answered_lost h =
       elim (lost (bit causes 6) (bit causes 22) (status % 16 == 3) (bit causes 28) (bit causes 29) (bit causes 27) (bit causes 30) h) [
         | inl pcs ↦ inl pcs
@@ -80,27 +80,27 @@ module _ (causes status : ℕ) where
         ]
       ]
 
-  pub answered_broken : look_of causes status ≡ FatalError → ((bit causes 28 ≡ true) ⊎ (bit causes 29 ≡ true) ⊎ (bit causes 27 ≡ true)) × (bit causes 6 ≡ false) × (bit causes 22 ≡ false) × (status % 16 ≡ 3)
+  pub answered_broken : port_event_of causes status ≡ FatalError → ((bit causes 28 ≡ true) ⊎ (bit causes 29 ≡ true) ⊎ (bit causes 27 ≡ true)) × (bit causes 6 ≡ false) × (bit causes 22 ≡ false) × (status % 16 ≡ 3)
   answered_broken h =
       let x = broken (bit causes 6) (bit causes 22) (status % 16 == 3) (bit causes 28) (bit causes 29) (bit causes 27) (bit causes 30) h in
       (x.0, x.1, x.2, eqb-true (status % 16) 3 x.3)
 
-  pub answered_failed : look_of causes status ≡ TaskFileError →
+  pub answered_failed : port_event_of causes status ≡ TaskFileError →
       (bit causes 30 ≡ true) × (bit causes 6 ≡ false) × (bit causes 22 ≡ false) × ((place : ℕ) → 27 ≤ place → place ≤ 29 → bit causes place ≡ false) × (status % 16 ≡ 3)
   answered_failed h =
       let x = failed (bit causes 6) (bit causes 22) (status % 16 == 3) (bit causes 28) (bit causes 29) (bit causes 27) (bit causes 30) h in
       (x.0, x.1, x.2, three_places (λ place. bit causes place ≡ false) x.3.2 x.3.0 x.3.1, eqb-true (status % 16) 3 x.4)
 
-  pub answered_undisturbed : look_of causes status ≡ NoEvent → TellsNoTrouble causes × (status % 16 ≡ 3)
+  pub answered_undisturbed : port_event_of causes status ≡ NoEvent → TellsNoTrouble causes × (status % 16 ≡ 3)
   answered_undisturbed h =
       let x = calm (bit causes 6) (bit causes 22) (status % 16 == 3) (bit causes 28) (bit causes 29) (bit causes 27) (bit causes 30) h in
       (record { change = x.0.0; ready = x.0.1; quiet = four_places (λ place. bit causes place ≡ false) x.1.2 x.1.0 x.1.1 x.1.3 }, eqb-true (status % 16) 3 x.2)
 
-  pub told_undisturbed : TellsNoTrouble causes → status % 16 ≡ 3 → look_of causes status ≡ NoEvent
+  pub told_undisturbed : TellsNoTrouble causes → status % 16 ≡ 3 → port_event_of causes status ≡ NoEvent
   told_undisturbed t three = rw (t.change, t.ready, eq-eqb (status % 16) 3 three, t.quiet 28 (omega arith) (omega arith), t.quiet 29 (omega arith) (omega arith), t.quiet 27 (omega arith) (omega arith), t.quiet 30 (omega arith) (omega arith)) refl
 
   -- each of the three comes first
-  pub told_lost : (bit causes 6 ≡ true) ⊎ (bit causes 22 ≡ true) ⊎ (status % 16 ≢ 3) → look_of causes status ≡ LinkChanged
+  pub told_lost : (bit causes 6 ≡ true) ⊎ (bit causes 22 ≡ true) ⊎ (status % 16 ≢ 3) → port_event_of causes status ≡ LinkChanged
   told_lost (inl pcs) = rw pcs refl
   told_lost (inr (inl prcs)) = ap (λ (b : Bool). if b then LinkChanged else rest) (two (bit causes 6) (bit causes 22) (not (status % 16 == 3)) prcs)
     where

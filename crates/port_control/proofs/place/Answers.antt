@@ -1,4 +1,4 @@
-use Rattle.ata_types.specs.declared.memory.TheConstants.{PORT_BYTES, RECEIVED_OFFSET}
+use Rattle.ata_types.specs.declared.memory.TheConstants.{PORT_BYTES, RECEIVED_FIS_OFFSET}
 use Rattle.std.proofs.Common.{◌+◌, ◌*◌, ap, ◌∙◌}
 use Rattle.port_control.proofs.Placing.{placed_first, clb_may, clb_placed, clbu_may, clbu_placed, fb_may, fb_placed, fbu_may, fbu_placed, programmed_by}
 use Rattle.port_control.proofs.place.Goals as goal
@@ -19,14 +19,14 @@ write-requires-3 g c =
     let a = placed_first c.law_base.ensures c.args.port _ c.requires.usable c.requires.quiet c.requires.room in
     let b = clb_placed c.law_base.ensures c.args.port _ _ _ _ a _ (ap (λ n. PORT_BYTES * n) c.from-list.ensures) c.write.ensures.does in
     let d = clbu_placed c.law_base.ensures c.args.port _ _ _ _ b c.write-2.ensures.does in
-    fb_may c.law_base.ensures c.args.port _ _ (g.A.Adapter.device c.args.adapter.now) _ d _ (ap (λ n. PORT_BYTES * n + RECEIVED_OFFSET) c.from-list.ensures)
+    fb_may c.law_base.ensures c.args.port _ _ (g.A.Adapter.device c.args.adapter.now) _ d _ (ap (λ n. PORT_BYTES * n + RECEIVED_FIS_OFFSET) c.from-list.ensures)
 
 pub write-requires-4 : goal.write-requires-4
 write-requires-4 g c =
     let a = placed_first c.law_base.ensures c.args.port _ c.requires.usable c.requires.quiet c.requires.room in
     let b = clb_placed c.law_base.ensures c.args.port _ _ _ _ a _ (ap (λ n. PORT_BYTES * n) c.from-list.ensures) c.write.ensures.does in
     let d = clbu_placed c.law_base.ensures c.args.port _ _ _ _ b c.write-2.ensures.does in
-    let e = fb_placed c.law_base.ensures c.args.port _ _ _ _ d _ (ap (λ n. PORT_BYTES * n + RECEIVED_OFFSET) c.from-list.ensures) c.write-3.ensures.does in
+    let e = fb_placed c.law_base.ensures c.args.port _ _ _ _ d _ (ap (λ n. PORT_BYTES * n + RECEIVED_FIS_OFFSET) c.from-list.ensures) c.write-3.ensures.does in
     fbu_may c.law_base.ensures c.args.port _ _ (g.A.Adapter.device c.args.adapter.now) _ e
 
 pub returns-clause-followed : goal.returns-clause-followed
@@ -34,7 +34,7 @@ returns-clause-followed g c =
     let a = placed_first c.law_base.ensures c.args.port _ c.requires.usable c.requires.quiet c.requires.room in
     let b = clb_placed c.law_base.ensures c.args.port _ _ _ _ a _ (ap (λ n. PORT_BYTES * n) c.from-list.ensures) c.write.ensures.does in
     let d = clbu_placed c.law_base.ensures c.args.port _ _ _ _ b c.write-2.ensures.does in
-    let e = fb_placed c.law_base.ensures c.args.port _ _ _ _ d _ (ap (λ n. PORT_BYTES * n + RECEIVED_OFFSET) c.from-list.ensures) c.write-3.ensures.does in
+    let e = fb_placed c.law_base.ensures c.args.port _ _ _ _ d _ (ap (λ n. PORT_BYTES * n + RECEIVED_FIS_OFFSET) c.from-list.ensures) c.write-3.ensures.does in
     let f = fbu_placed c.law_base.ensures c.args.port _ _ _ _ e c.write-4.ensures.does in
     f.followed
 
@@ -43,7 +43,7 @@ returns-clause-places g c =
     let a = placed_first c.law_base.ensures c.args.port _ c.requires.usable c.requires.quiet c.requires.room in
     let b = clb_placed c.law_base.ensures c.args.port _ _ _ _ a _ (ap (λ n. PORT_BYTES * n) c.from-list.ensures) c.write.ensures.does in
     let d = clbu_placed c.law_base.ensures c.args.port _ _ _ _ b c.write-2.ensures.does in
-    let e = fb_placed c.law_base.ensures c.args.port _ _ _ _ d _ (ap (λ n. PORT_BYTES * n + RECEIVED_OFFSET) c.from-list.ensures) c.write-3.ensures.does in
+    let e = fb_placed c.law_base.ensures c.args.port _ _ _ _ d _ (ap (λ n. PORT_BYTES * n + RECEIVED_FIS_OFFSET) c.from-list.ensures) c.write-3.ensures.does in
     let f = fbu_placed c.law_base.ensures c.args.port _ _ _ _ e c.write-4.ensures.does in
     record {
       quiet = f.quiet;

@@ -3,7 +3,7 @@ use Rattle.port_control.specs.Engines.{FailsToStopReceiving, StopsReceiving}
 use Rattle.port_control.proofs.Using.{falls_then, same_adapter, usable_after}
 use Rattle.port_control.proofs.receive.Goals as goal
 use Rattle.port_control.specs.Laws.RegisterSet.{Commanding, Placing}
-use Rattle.port_control.specs.Laws.AccessKind.{Controlling}
+use Rattle.port_control.specs.Laws.AccessPurpose.{Controlling}
 use Rattle.port_control.proofs.Stretching.{followed_then, followed_wider, told_both, told_wider}
 
 pub returns-then-not-stop_receiving-clause-on : goal.returns-then-not-stop_receiving-clause-on

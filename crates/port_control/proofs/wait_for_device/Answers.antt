@@ -2,10 +2,10 @@ use Rattle.ata_types.specs.declared.limits.TheConstants.{MOST_READINGS}
 use Rattle.std.proofs.Common.{ℕ, ◌≡◌, subst, arith, rules}
 use Rattle.hba_regs.specs.declared.reg.PortReg.TheVariants.{Ssts}
 use Rattle.port_control.proofs.Looking.{missing_followed, device_seen, device_up, sees_device, without_none, missing_still}
-use Rattle.port_control.specs.Ports.{HasLink, ReadsWithout}
+use Rattle.port_control.specs.Ports.{HasLink, ReadsInVain}
 use Rattle.port_control.proofs.wait_for_device.Goals as goal
 use Rattle.port_control.specs.Laws.RegisterSet.{Clearing}
-use Rattle.port_control.specs.Laws.AccessKind.{Controlling}
+use Rattle.port_control.specs.Laws.AccessPurpose.{Controlling}
 
 pub loop-reading-init : goal.loop-reading-init
 loop-reading-init g c = record {
@@ -42,6 +42,6 @@ pub returns-clause-misses : goal.returns-clause-misses
 returns-clause-misses g c = λ _.
     let all : c.loop-reading._reading ≡ MOST_READINGS = omega arith in
     record {
-      misses = subst (λ (n : ℕ). ReadsWithout c.args.port Ssts HasLink n (g.A.Adapter.device c.args.adapter.now) (g.A.Adapter.device c.loop-reading.adapter)) all c.loop-reading.invariant.known.misses;
+      misses = subst (λ (n : ℕ). ReadsInVain c.args.port Ssts HasLink n (g.A.Adapter.device c.args.adapter.now) (g.A.Adapter.device c.loop-reading.adapter)) all c.loop-reading.invariant.known.misses;
       fault = search rules;
     }

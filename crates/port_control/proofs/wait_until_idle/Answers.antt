@@ -2,10 +2,10 @@ use Rattle.ata_types.specs.declared.limits.TheConstants.{MOST_READINGS}
 use Rattle.std.proofs.Common.{ℕ, ◌≡◌, sym, ◌∙◌, subst, arith, rules}
 use Rattle.hba_regs.specs.declared.reg.PortReg.TheVariants.{Tfd}
 use Rattle.port_control.proofs.Looking.{busy_followed, busy_saw, busy_waits, busy_quiet, idle_seen, busy_still, without_none}
-use Rattle.port_control.specs.Ports.{ShowsIdle, ReadsWithout}
+use Rattle.port_control.specs.Ports.{ShowsIdle, ReadsInVain}
 use Rattle.port_control.proofs.wait_until_idle.Goals as goal
 use Rattle.port_control.specs.Laws.RegisterSet.{Clearing}
-use Rattle.port_control.specs.Laws.AccessKind.{Controlling}
+use Rattle.port_control.specs.Laws.AccessPurpose.{Controlling}
 
 pub loop-reading-init : goal.loop-reading-init
 loop-reading-init g c = record {
@@ -54,7 +54,7 @@ returns-clause-awaits g c =
       idle = λ is. absurd (cc);
       busy = λ _. (
         search rules,
-        subst (λ (n : ℕ). ReadsWithout c.args.port Tfd ShowsIdle n (g.A.Adapter.device c.args.adapter.now) (g.A.Adapter.device c.loop-reading.adapter)) all c.loop-reading.invariant.known.stays,
+        subst (λ (n : ℕ). ReadsInVain c.args.port Tfd ShowsIdle n (g.A.Adapter.device c.args.adapter.now) (g.A.Adapter.device c.loop-reading.adapter)) all c.loop-reading.invariant.known.stays,
       );
       quiet = search rules;
     }

@@ -1,8 +1,8 @@
 // What laws of the crates below say of the accesses of looks, for their proofs and those above. Nothing comes of
 // calling it.
-ghost use Rattle.port_control.specs.LookLaws.{Laws};
+ghost use Rattle.port_control.specs.EventLaws.{Laws};
 
-use adapter::laws::{law_port_registers_are_accessed, law_steps_compose, law_steps_keep};
+use adapter::laws::{law_port_register_accesses, law_steps_compose, law_steps_guarantee};
 use refinement::disks::law_look_tells;
 use refinement::facts::{
     law_adapter_stays, law_cleared_stays, law_controls_stay, law_errors_are_kept,
@@ -21,9 +21,9 @@ use std::marker::Brand;
 pub fn law_base()
     ensures { Laws }
 {
-    law_port_registers_are_accessed();
+    law_port_register_accesses();
     law_steps_compose();
-    law_steps_keep();
+    law_steps_guarantee();
     law_look_tells();
     law_adapter_stays();
     law_cleared_stays();

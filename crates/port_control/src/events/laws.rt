@@ -8,13 +8,13 @@ ghost use Rattle.hba_regs.specs.declared.reg.Reg.TheVariants.{Ghc, Px};
 ghost use Rattle.adapter.specs.Access.{Access, Reads};
 ghost use Rattle.adapter.specs.Device.{Device};
 ghost use Rattle.adapter.specs.Rules.{IsOn};
-ghost use Rattle.refinement.specs.Driven.{IsUse, IsRelated, IsDrivenBy, IsSimulated, IsOf};
-ghost use Rattle.refinement.specs.Errors.{KeepsErrors, NoneComes};
-ghost use Rattle.refinement.specs.Facts.{IsFaulted, IsRecorded, RunsWell, ShowsNoTrouble, TellsNoTrouble, Undisturbed};
-ghost use Rattle.refinement.specs.Links.{SameAdapter, SparesRegister};
+ghost use Rattle.refinement.specs.Driven.{SameUses, IsRelated, IsDrivenBy, IsSimulated, SparesOtherPorts};
+ghost use Rattle.refinement.specs.Errors.{KeepsErrors, NoDiskComes};
+ghost use Rattle.refinement.specs.Facts.{IsFaulted, FaultsOnRecord, RunsWell, ShowsNoTrouble, TellsNoTrouble, Undisturbed};
+ghost use Rattle.refinement.specs.Links.{SameAdapter, DoesNotWrite};
 ghost use Rattle.refinement.specs.Slots.{SlotStates};
-ghost use Rattle.port_control.specs.Looks.{look_of, IsLooking, LooksAt};
-ghost use Rattle.port_control.specs.Services.{HasLoss, IsService, IsOrdinary, KeepsChanges, ShowsDisks, ShowsFatals, ShowsFaults};
+ghost use Rattle.port_control.specs.Looks.{port_event_of, IsLooking, LooksAt};
+ghost use Rattle.port_control.specs.Services.{HasLoss, IsService, LeavesCauses, KeepsSerrNX, HidesNoPlugEvent, HidesNoFatal, HidesNoFault};
 ghost use Rattle.port_control.specs.declared.events.PortEvent.{PortEvent};
 ghost use Rattle.port_control.specs.declared.events.PortEvent.TheVariants as look;
 
@@ -24,15 +24,15 @@ use super::lawful::law_base;
 pub fn law_looks_are_services()
     ensures looking { (port : Port) (access : Access) → IsLooking port access → IsService access }
     ensures beside { (port other : Port) (access : Access) → port.0 ≢ other.0 → IsLooking port access
-        → IsOrdinary other access }
+        → LeavesCauses other access }
     ensures look { (port : Port) (result : PortEvent) (old new : Device) → LooksAt port result old new
         → IsDrivenBy (IsLooking port) old new }
 {}
 
-/// A look touches no register of another port, nor another port's bit of IS: so what is said of such accesses (`IsOf`)
-/// is so of each.
+/// A look touches no register of another port, nor another port's bit of IS: so what is said of such accesses
+/// (`SparesOtherPorts`) is so of each.
 pub fn law_looks_are_of_one_port()
-    ensures { (port : Port) (access : Access) → IsLooking port access → IsOf port access }
+    ensures { (port : Port) (access : Access) → IsLooking port access → SparesOtherPorts port access }
 {}
 
 /// What serving ports leaves: the adapter, which stays on; ST and the command list of each port; DET of each port's
@@ -51,10 +51,10 @@ pub fn law_services_leave()
     ensures well { (port : Port) (old new : Device) → IsOn old → IsDrivenBy IsService old new
         → Undisturbed port.0 old new → RunsWell (old.port port.0) → RunsWell (new.port port.0) }
     ensures recorded { (port : ℕ) (old new : Device) → IsDrivenBy IsService old new
-        → IsRecorded old.tape (old.port port) port → IsRecorded new.tape (new.port port) port }
+        → FaultsOnRecord old.tape (old.port port) port → FaultsOnRecord new.tape (new.port port) port }
     ensures inactive { (port : Port) (q slot : ℕ) (old new : Device) → IsDrivenBy (IsLooking port) old new
         → (old.port q).sact slot ≡ false → (new.port q).sact slot ≡ false }
-    ensures agrees { (uses : SlotStates) (old new : Device) → IsSimulated IsService (IsUse uses) old new
+    ensures agrees { (uses : SlotStates) (old new : Device) → IsSimulated IsService (SameUses uses) old new
         → IsRelated uses old
         → IsRelated uses new }
 {
@@ -63,25 +63,25 @@ pub fn law_services_leave()
 
 /// Accesses that serve ports write of each port PxIS, PxCI and PxSACT alone, and not GHC.
 pub fn law_services_spare_registers()
-    ensures host { (access : Access) → IsService access → SparesRegister Ghc access }
+    ensures host { (access : Access) → IsService access → DoesNotWrite Ghc access }
     ensures port { (port : Port) (r : PortReg) → r ≢ Is → r ≢ Ci → r ≢ Sact → (access : Access) → IsService access
-        → SparesRegister (Px port r) access }
+        → DoesNotWrite (Px port r) access }
 {}
 
 /// What each answer of a look says of what was read.
-pub fn law_answers_tell()
-    ensures lost { (causes status : ℕ) → look_of causes status ≡ look.LinkChanged
+pub fn law_port_events_tell()
+    ensures lost { (causes status : ℕ) → port_event_of causes status ≡ look.LinkChanged
         → (bit causes 6 ≡ true) ⊎ (bit causes 22 ≡ true) ⊎ (status % 16 ≢ 3) }
-    ensures broken { (causes status : ℕ) → look_of causes status ≡ look.FatalError
+    ensures broken { (causes status : ℕ) → port_event_of causes status ≡ look.FatalError
         → ((bit causes 28 ≡ true) ⊎ (bit causes 29 ≡ true) ⊎ (bit causes 27 ≡ true))
         × (bit causes 6 ≡ false) × (bit causes 22 ≡ false) × (status % 16 ≡ 3) }
-    ensures failed { (causes status : ℕ) → look_of causes status ≡ look.TaskFileError
+    ensures failed { (causes status : ℕ) → port_event_of causes status ≡ look.TaskFileError
         → (bit causes 30 ≡ true) × (bit causes 6 ≡ false) × (bit causes 22 ≡ false)
         × ((place : ℕ) → 27 ≤ place → place ≤ 29 → bit causes place ≡ false) × (status % 16 ≡ 3) }
-    ensures undisturbed { (causes status : ℕ) → look_of causes status ≡ look.NoEvent
+    ensures undisturbed { (causes status : ℕ) → port_event_of causes status ≡ look.NoEvent
         → TellsNoTrouble causes × (status % 16 ≡ 3) }
     ensures calm { (causes status : ℕ) → TellsNoTrouble causes → status % 16 ≡ 3
-        → look_of causes status ≡ look.NoEvent }
+        → port_event_of causes status ≡ look.NoEvent }
 {}
 
 /// A look sees what there is. It is `NoEvent` only where it told no trouble, and where nothing went wrong until
@@ -94,7 +94,7 @@ pub fn law_errors_are_seen()
     ensures changed { (port : Port) (result : PortEvent) (old new : Device) → IsOn old → LooksAt port result old new
         → ((old.port port.0).serr_n ≡ true) ⊎ ((old.port port.0).serr_x ≡ true) → result ≡ look.LinkChanged }
     ensures unlinked { (port : Port) (result : PortEvent) (old new : Device) → IsOn old → LooksAt port result old new
-        → (old.port port.0).ssts_det ≢ 3 → (old.port port.0).link_due ≡ false → NoneComes port.0 old new
+        → (old.port port.0).ssts_det ≢ 3 → (old.port port.0).link_due ≡ false → NoDiskComes port.0 old new
         → result ≡ look.LinkChanged }
     ensures well { (port : Port) (result : PortEvent) (old new : Device) → IsOn old → LooksAt port result old new
         → RunsWell (old.port port.0) → Undisturbed port.0 old new → (result ≡ look.NoEvent)
@@ -107,10 +107,10 @@ pub fn law_errors_are_seen()
 /// set where they are set. So does a look with N and X; and with each bit of PxIS that it hasn't read, also one that is
 /// set between the reading and the write.
 pub fn law_errors_stay_told()
-    ensures errors { (port : Port) (old new : Device) → IsOn old → IsDrivenBy (IsOrdinary port) old new
+    ensures errors { (port : Port) (old new : Device) → IsOn old → IsDrivenBy (LeavesCauses port) old new
         → KeepsErrors (old.port port.0) (new.port port.0) }
     ensures changes { (port : Port) (result : PortEvent) (old new : Device) → IsOn old → LooksAt port result old new
-        → KeepsChanges (old.port port.0) (new.port port.0) }
+        → KeepsSerrNX (old.port port.0) (new.port port.0) }
     ensures causes { (port : Port) (result : PortEvent) (old new : Device) → IsOn old
         → (l : LooksAt port result old new)
         → (place : ℕ) → (l.clears.mid.port port.0).is place ≡ true → bit l.causes place ≡ false
@@ -123,10 +123,11 @@ pub fn law_errors_stay_told()
 /// readings of the port leave both.
 pub fn law_failures_are_found()
     ensures look { (port : Port) (old new : Device) → IsOn old → LooksAt port look.TaskFileError old new
-        → (old.port port.0).st ≡ true → IsRecorded old.tape (old.port port.0) port.0 → IsFaulted (new.port port.0).halt
+        → (old.port port.0).st ≡ true → FaultsOnRecord old.tape (old.port port.0) port.0
+        → IsFaulted (new.port port.0).halt
         × ((new.port port.0).notes.last_ssts % 16 ≡ 3) }
     ensures reads { (port : Port) (r : PortReg) (v : ℕ) (old new : Device) → IsOn old → Reads (Px port r) v old new
-        → r ≢ Ssts → (old.port port.0).st ≡ true → IsRecorded old.tape (old.port port.0) port.0
+        → r ≢ Ssts → (old.port port.0).st ≡ true → FaultsOnRecord old.tape (old.port port.0) port.0
         → IsFaulted (old.port port.0).halt → IsFaulted (new.port port.0).halt
         × ((new.port port.0).notes.last_ssts ≡ (old.port port.0).notes.last_ssts) }
 {
@@ -138,17 +139,17 @@ pub fn law_failures_are_found()
 /// a loss only where the port had one to tell, or a disk went or came, if no link was due.
 pub fn law_errors_are_heeded()
     ensures fault { (port : Port) (result : PortEvent) (old new : Device) → IsOn old → (l : LooksAt port result old new)
-        → bit l.causes 30 ≡ false → ShowsFaults port.0 old new }
+        → bit l.causes 30 ≡ false → HidesNoFault port.0 old new }
     ensures fatal { (port : Port) (result : PortEvent) (old new : Device) → IsOn old → (l : LooksAt port result old new)
-        → ((place : ℕ) → 27 ≤ place → place ≤ 29 → bit l.causes place ≡ false) → ShowsFatals port.0 old new }
+        → ((place : ℕ) → 27 ≤ place → place ≤ 29 → bit l.causes place ≡ false) → HidesNoFatal port.0 old new }
     ensures disk { (port : Port) (result : PortEvent) (old new : Device) → IsOn old → LooksAt port result old new
-        → ShowsDisks port.0 old new }
-    ensures faults { (port : Port) (old new : Device) → IsOn old → IsDrivenBy (IsOrdinary port) old new
-        → ShowsFaults port.0 old new }
-    ensures fatals { (port : Port) (old new : Device) → IsOn old → IsDrivenBy (IsOrdinary port) old new
-        → ShowsFatals port.0 old new }
-    ensures disks { (port : Port) (old new : Device) → IsOn old → IsDrivenBy (IsOrdinary port) old new
-        → ShowsDisks port.0 old new }
+        → HidesNoPlugEvent port.0 old new }
+    ensures faults { (port : Port) (old new : Device) → IsOn old → IsDrivenBy (LeavesCauses port) old new
+        → HidesNoFault port.0 old new }
+    ensures fatals { (port : Port) (old new : Device) → IsOn old → IsDrivenBy (LeavesCauses port) old new
+        → HidesNoFatal port.0 old new }
+    ensures disks { (port : Port) (old new : Device) → IsOn old → IsDrivenBy (LeavesCauses port) old new
+        → HidesNoPlugEvent port.0 old new }
     ensures loss { (port : Port) (old new : Device) → IsOn old → LooksAt port look.LinkChanged old new
         → (old.port port.0).link_due ≡ false → HasLoss port.0 old new }
 {

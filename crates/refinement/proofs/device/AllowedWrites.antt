@@ -11,12 +11,12 @@ use Rattle.hba_regs.specs.declared.reg.PortReg.{PortReg}
 use Rattle.hba_regs.specs.declared.reg.PortReg.TheVariants.{Clb, Clbu, Fb, Fbu, Is, Ie, Cmd, Tfd, Sig, Ssts, Sctl, Serr, Sact, Ci}
 use Rattle.adapter.specs.Access.{Writes}
 use Rattle.adapter.specs.Device.{Bases, Notes, DevicePort, Device}
-use Rattle.adapter.specs.Kept.{Keeps, KeepsOn, KeepsPort, KeepsControls}
+use Rattle.adapter.specs.Kept.{Keeps, KeepsOutsideReset, KeepsPort, KeepsControls}
 use Rattle.adapter.specs.Rules.{IsOn, HasPort, MayStart, MaySetFre, MayStopReceiving, MayWriteCmd, MayWritePort, MayWrite, IsStable}
-use Rattle.adapter.proofs.Calls.{PutAt, put, on_after, on_stays}
-use Rattle.adapter.proofs.KeptLemmas.{law_steps_keep}
-use Rattle.refinement.specs.Driver.{LeavesUses, AllFree, IsWrittenBack}
-use Rattle.refinement.specs.Facts.{KeepsRecord, IsQuiet}
+use Rattle.adapter.proofs.Calls.{PortRegisterWritten, put, on_after, on_stays}
+use Rattle.adapter.proofs.KeptLemmas.{law_steps_guarantee}
+use Rattle.refinement.specs.Driver.{LeavesUses, AllFree, KeepsOtherCmdBits}
+use Rattle.refinement.specs.Facts.{KeepsRecord, IsCleanToStart}
 use Rattle.refinement.specs.Places.{list_of, received_of}
 use Rattle.refinement.specs.Slots.{SlotStates}
 use Rattle.refinement.proofs.device.StartConditions.{steps_quiet}
@@ -84,11 +84,11 @@ pub write_stays : (r : Reg) (v : ℕ) (d : Device) → ((port : Port) → r ≢ 
 write_stays Ghc v d other x mid s = x
 write_stays adapter.Is v d other x mid s = (
   on_stays x.0 s,
-  λ port small set. ap (λ (n : Notes). n.acknowledged) ((law_steps_keep s).notes port) ∙ x.1 port small set,
+  λ port small set. ap (λ (n : Notes). n.acknowledged) ((law_steps_guarantee s).notes port) ∙ x.1 port small set,
 )
 write_stays (Px port r) v d other x mid s =
-    let k : Keeps d mid = law_steps_keep s in
-    let c : KeepsOn d mid = k.on x.0.no_reset in (
+    let k : Keeps d mid = law_steps_guarantee s in
+    let c : KeepsOutsideReset d mid = k.on x.0.no_reset in (
       on_after x.0 c,
       (x.1.0, ap (λ (n : ℕ). bit n port.0) k.pi ∙ x.1.1),
       port_stays (d.port port.0) (mid.port port.0) (k.port port.0) (c.controls port.0) (k.notes port.0) r v d mid k.size (λ e. other port (ap (Px port) e)) x.2,
@@ -103,8 +103,8 @@ write_stays Bohc v d other x mid s = x
 
 pub uses_stay : (uses : SlotStates) (r : Reg) (v : ℕ) (d : Device) → d.hr ≡ false → LeavesUses uses r v d → IsStable (LeavesUses uses r v) d
 uses_stay uses (Px port Cmd) v d off x mid s =
-    let k : Keeps d mid = law_steps_keep s in
-    let c : KeepsOn d mid = k.on off in
+    let k : Keeps d mid = law_steps_guarantee s in
+    let c : KeepsOutsideReset d mid = k.on off in
     record {
       start = λ b. ⊎_elim (λ (on : (d.port port.0).st ≡ true). inl ((c.controls port.0).st ∙ on)) (λ (free : AllFree uses port.0). inr free) (x.start b);
       receive = λ b. let y = x.receive b in (y.0, ap (λ (z : Bases). z.fb) (k.port port.0).bases ∙ y.1);
@@ -132,9 +132,9 @@ uses_stay uses Bohc v d off x mid s = x
 
 pub record_stays : (r : Reg) (v : ℕ) (d : Device) → d.hr ≡ false → KeepsRecord r v d → IsStable (KeepsRecord r v) d
 record_stays (Px port Cmd) v d off x mid s =
-    let c : KeepsOn d mid = (law_steps_keep s).on off in
-    λ b. ⊎_elim (λ (on : (d.port port.0).st ≡ true). inl ((c.controls port.0).st ∙ on)) (λ (quiet : IsQuiet (d.port port.0)). inr (steps_quiet port.0 d mid s quiet)) (x b)
-record_stays (Px port Sctl) v d off x mid s = ((law_steps_keep s).port port.0).cr x
+    let c : KeepsOutsideReset d mid = (law_steps_guarantee s).on off in
+    λ b. ⊎_elim (λ (on : (d.port port.0).st ≡ true). inl ((c.controls port.0).st ∙ on)) (λ (quiet : IsCleanToStart (d.port port.0)). inr (steps_quiet port.0 d mid s quiet)) (x b)
+record_stays (Px port Sctl) v d off x mid s = ((law_steps_guarantee s).port port.0).cr x
 record_stays (Px port Clb) v d off x mid s = x
 record_stays (Px port Clbu) v d off x mid s = x
 record_stays (Px port Fb) v d off x mid s = x
@@ -178,10 +178,10 @@ module _ (port : Port) (was v : ℕ) (d : Device) (on : IsOn d) (there : HasPort
   may : MayWriteCmd (d.port port.0) v → IsStable (MayWrite (Px port Cmd) v) d
   may x = write_stays (Px port Cmd) v d (λ p e. cc) (on, there, x)
 
-  others : (st fre : Bool) → IsWrittenBack st fre was v → (place : ℕ) → place < 32 → place ≢ 0 → place ≢ 4 → bit v place ≡ bit (d.port port.0).notes.last_cmd place
+  others : (st fre : Bool) → KeepsOtherCmdBits st fre was v → (place : ℕ) → place < 32 → place ≢ 0 → place ≢ 4 → bit v place ≡ bit (d.port port.0).notes.last_cmd place
   others st fre x place small start receive = x.others place small start receive ∙ ap (λ (n : ℕ). bit n place) (sym last)
 
-  pub starting_may : MayStart (d.port port.0) → IsWrittenBack true true was v → IsStable (MayWrite (Px port Cmd) v) d
+  pub starting_may : MayStart (d.port port.0) → KeepsOtherCmdBits true true was v → IsStable (MayWrite (Px port Cmd) v) d
   starting_may ready x = may (record {
     start = λ b. inr ready;
     receive = λ b. inl ready.receives;
@@ -189,7 +189,7 @@ module _ (port : Port) (was v : ℕ) (d : Device) (on : IsOn d) (there : HasPort
     others = others true true x;
   })
 
-  pub stopping_may : IsWrittenBack false (d.port port.0).fre was v → IsStable (MayWrite (Px port Cmd) v) d
+  pub stopping_may : KeepsOtherCmdBits false (d.port port.0).fre was v → IsStable (MayWrite (Px port Cmd) v) d
   stopping_may x = may (record {
     start = λ b. absurd (both_ways _ x.start b);
     receive = λ b. inl (sym x.receive ∙ b);
@@ -197,7 +197,7 @@ module _ (port : Port) (was v : ℕ) (d : Device) (on : IsOn d) (there : HasPort
     others = others false (d.port port.0).fre x;
   })
 
-  pub receiving_may : MaySetFre (d.port port.0) → IsWrittenBack (d.port port.0).st true was v → IsStable (MayWrite (Px port Cmd) v) d
+  pub receiving_may : MaySetFre (d.port port.0) → KeepsOtherCmdBits (d.port port.0).st true was v → IsStable (MayWrite (Px port Cmd) v) d
   receiving_may ready x = may (record {
     start = λ b. inl (sym x.start ∙ b);
     receive = λ b. inr ready;
@@ -205,7 +205,7 @@ module _ (port : Port) (was v : ℕ) (d : Device) (on : IsOn d) (there : HasPort
     others = others (d.port port.0).st true x;
   })
 
-  pub no_receiving_may : MayStopReceiving (d.port port.0) → IsWrittenBack false false was v → IsStable (MayWrite (Px port Cmd) v) d
+  pub no_receiving_may : MayStopReceiving (d.port port.0) → KeepsOtherCmdBits false false was v → IsStable (MayWrite (Px port Cmd) v) d
   no_receiving_may ready x = may (record {
     start = λ b. absurd (both_ways _ x.start b);
     receive = λ b. absurd (both_ways _ x.receive b);
@@ -216,7 +216,7 @@ module _ (port : Port) (was v : ℕ) (d : Device) (on : IsOn d) (there : HasPort
 -- ---- IS, after PxIS
 
 module _ (port : Port) (v : ℕ) (old new : Device) (on : IsOn old) (call : Writes (Px port Is) v old new) where
-  wrote : PutAt port.0 Is v old new
+  wrote : PortRegisterWritten port.0 Is v old new
   wrote = put port Is v old new call on.no_reset
 
   acknowledged_here : (q : ℕ) → q ≡ port.0 → (new.port q).notes.acknowledged ≡ true

@@ -12,7 +12,7 @@ use Rattle.adapter.specs.Kept.{Keeps}
 use Rattle.adapter.proofs.Changed.{changed_same}
 use Rattle.refinement.specs.Below.{StepLaws}
 use Rattle.refinement.specs.Facts.{RunsWell, Undisturbed, ShowsNoTrouble, TellsNoTrouble, ClearsNoTrouble}
-use Rattle.refinement.specs.Links.{PlugsNone}
+use Rattle.refinement.specs.Links.{NoPlugEvents}
 use Rattle.refinement.specs.Started.{IsUp, IsStarted}
 use Rattle.refinement.proofs.device.RisingLink.{steps_up}
 use Rattle.refinement.proofs.device.HealthyPort.{written_tape}
@@ -28,10 +28,10 @@ started_now v tape p on off u =
     (record { st = refl; cr = refl; det = u.det; present = u.present; fresh = u.fresh; linked = u.linked; running = u.restarts; whole = refl }))
 
 module _ (laws : StepLaws) (port : Port) (v : ℕ) (old new : Device) (off : old.hr ≡ false) (stopped : (old.port port.0).st ≡ false) (stands : (old.port port.0).cr ≡ false) (on : bit v 0 ≡ true) (call : Writes (Px port Cmd) v old new) (up : IsUp (old.port port.0)) where
-  pub start_is_made : PlugsNone port.0 old new → IsStarted (new.port port.0)
+  pub start_is_made : NoPlugEvents port.0 old new → IsStarted (new.port port.0)
   start_is_made none =
       let k : Keeps old call.mid = laws.keeps _ _ call.steps in
-      let before : PlugsNone port.0 old call.mid = plugs_before port.0 old call.mid new (ap (λ (d : Device). d.tape) call.effect ∙ written_tape (Px port Cmd) v call.mid) none in
+      let before : NoPlugEvents port.0 old call.mid = plugs_before port.0 old call.mid new (ap (λ (d : Device). d.tape) call.effect ∙ written_tape (Px port Cmd) v call.mid) none in
       subst IsStarted (sym (ap (λ (d : Device). d.port port.0) call.effect ∙ changed_same call.mid.port port.0 _))
       (started_now v (length call.mid.tape) (call.mid.port port.0) on ((k.port port.0).st stopped) (steps_up laws port.0 old call.mid off stands before call.steps up))
 

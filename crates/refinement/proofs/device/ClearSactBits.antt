@@ -9,7 +9,7 @@ use Rattle.hba_regs.specs.declared.reg.PortReg.{PortReg}
 use Rattle.hba_regs.specs.declared.reg.PortReg.TheVariants as px
 use Rattle.adapter.specs.Access.{Reads, Writes, note, port_written, with_st}
 use Rattle.adapter.specs.Device.{DevicePort, Device}
-use Rattle.adapter.specs.Steps.{Steps, restarted}
+use Rattle.adapter.specs.Steps.{Steps, halt_after_start}
 use Rattle.block_machine.specs.State.{Machine}
 use Rattle.refinement.specs.Below.{StepLaws}
 use Rattle.refinement.specs.Slots.{SlotState, Free, Own, Serves, SlotStates, Stage, IsOver, RelatesSlot, Armed}
@@ -60,7 +60,7 @@ module _ (slot : ℕ) where
   command_clear false tape p u = if_false p.st p.sact slot u
   command_clear true tape p u = by p.st
     where
-      by : (b : Bool) → IsClearBit slot (if b then p else record p { st = true; cr = true; broken = false; halt = restarted p.halt; notes = record p.notes { st_set_at = tape } })
+      by : (b : Bool) → IsClearBit slot (if b then p else record p { st = true; cr = true; broken = false; halt = halt_after_start p.halt; notes = record p.notes { st_set_at = tape } })
       by true = u
       by false = u
 

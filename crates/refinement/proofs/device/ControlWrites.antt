@@ -8,7 +8,7 @@ use Rattle.hba_regs.specs.declared.reg.PortReg.{PortReg}
 use Rattle.hba_regs.specs.declared.reg.PortReg.TheVariants.{Clb, Clbu, Fb, Fbu, Ie, Cmd, Sctl}
 use Rattle.adapter.specs.Access.{Writes, port_written, with_st, with_fre}
 use Rattle.adapter.specs.Device.{DevicePort, Device}
-use Rattle.adapter.specs.Steps.{restarted}
+use Rattle.adapter.specs.Steps.{halt_after_start}
 use Rattle.adapter.proofs.Changed.{changed_same}
 use Rattle.refinement.specs.Below.{StepLaws}
 
@@ -51,7 +51,7 @@ start_set laws port v old new off on x = seen (λ (p : DevicePort). (p.cr ≡ tr
       st = true;
       cr = true;
       broken = false;
-      halt = restarted (x.mid.port port.0).halt;
+      halt = halt_after_start (x.mid.port port.0).halt;
       notes = record (x.mid.port port.0).notes { st_set_at = length x.mid.tape };
     }
 

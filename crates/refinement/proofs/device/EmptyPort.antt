@@ -7,7 +7,7 @@ use Rattle.hba_regs.specs.Bits.{bit}
 use Rattle.hba_regs.specs.declared.reg.Reg.TheVariants.{Ghc, Px}
 use Rattle.hba_regs.specs.declared.reg.PortReg.{PortReg}
 use Rattle.hba_regs.specs.declared.reg.PortReg.TheVariants.{Cmd, Sctl, Ssts}
-use Rattle.adapter.specs.Access.{Access, Does, Reads, Writes, note, unacknowledged, port_written, with_st, with_fre, with_det}
+use Rattle.adapter.specs.Access.{Access, Does, Reads, Writes, note, with_is_cleared, port_written, with_st, with_fre, with_det}
 use Rattle.adapter.specs.Device.{DevicePort, Device}
 use Rattle.adapter.specs.Idle.{IsIdle}
 use Rattle.adapter.specs.Kept.{Keeps}
@@ -16,8 +16,8 @@ use Rattle.adapter.specs.Steps.DeviceTransition.{Fetch, FetchFault, Move, Clear,
 use Rattle.adapter.specs.declared.tape.Entry.{Entry}
 use Rattle.adapter.proofs.Changed.{changed_same}
 use Rattle.refinement.specs.Below.{StepLaws}
-use Rattle.refinement.specs.Errors.{IsComing, NoneComes}
-use Rattle.refinement.specs.Links.{HasDeviceOrNone}
+use Rattle.refinement.specs.Errors.{IsDiskComing, NoDiskComes}
+use Rattle.refinement.specs.Links.{ShowsDiskIfIn}
 use Rattle.refinement.proofs.device.FactsOverAccesses.{access_steps, effect_keeps}
 use Rattle.refinement.proofs.device.ErrorBits.{comes_parts, comes_before, command_beside}
 use Rattle.refinement.proofs.device.TapeGains.{NoneOf, gained_none}
@@ -30,8 +30,8 @@ use Rattle.refinement.specs.Vacant.{IsVacant, IsFreshIfShown}
 
 -- what each step keeps that is no disk's coming, lists of them keep
 leads_without : StepLaws → (port : ℕ) (P : DevicePort → Type 0) →
-    ((d : Device) (gained : List Entry) → NoneOf (IsComing port) gained → (step : DeviceTransition) → Can step d → (device_after step d).tape ≡ d.tape ++ gained → P (d.port port) → P ((device_after step d).port port)) →
-    (steps : List DeviceTransition) (old new : Device) → StepLeads steps old new → NoneComes port old new → P (old.port port) → P (new.port port)
+    ((d : Device) (gained : List Entry) → NoneOf (IsDiskComing port) gained → (step : DeviceTransition) → Can step d → (device_after step d).tape ≡ d.tape ++ gained → P (d.port port) → P ((device_after step d).port port)) →
+    (steps : List DeviceTransition) (old new : Device) → StepLeads steps old new → NoDiskComes port old new → P (old.port port) → P (new.port port)
 leads_without laws port P keep [] old new e none h = subst (λ (d : Device). P (d.port port)) (sym e) h
 leads_without laws port P keep (step ∷ steps) old new (can, lead) none h =
     let k : Keeps old (device_after step old) = laws.step step _ can in
@@ -41,10 +41,10 @@ leads_without laws port P keep (step ∷ steps) old new (can, lead) none h =
 
 -- and so do accesses, where their writes keep it
 access_without : StepLaws → (port : Port) (P : DevicePort → Type 0) →
-    ((d : Device) (gained : List Entry) → NoneOf (IsComing port.0) gained → (step : DeviceTransition) → Can step d → (device_after step d).tape ≡ d.tape ++ gained → P (d.port port.0) → P ((device_after step d).port port.0)) →
-    ((p : DevicePort) (r : PortReg) (v : ℕ) → P p → P (record p { notes = note r v p })) → ((p : DevicePort) → P p → P (unacknowledged p)) →
+    ((d : Device) (gained : List Entry) → NoneOf (IsDiskComing port.0) gained → (step : DeviceTransition) → Can step d → (device_after step d).tape ≡ d.tape ++ gained → P (d.port port.0) → P ((device_after step d).port port.0)) →
+    ((p : DevicePort) (r : PortReg) (v : ℕ) → P p → P (record p { notes = note r v p })) → ((p : DevicePort) → P p → P (with_is_cleared p)) →
     ((r : PortReg) (v tape : ℕ) (p : DevicePort) → P p → P (port_written r v tape p)) →
-    (access : Access) (old new : Device) → NoneComes port.0 old new → Does access old new → P (old.port port.0) → P (new.port port.0)
+    (access : Access) (old new : Device) → NoDiskComes port.0 old new → Does access old new → P (old.port port.0) → P (new.port port.0)
 access_without laws port P keep noting acknowledging writing access old new none x h =
     let s = access_steps access old new x in
     effect_keeps P port noting acknowledging access old new x (λ r v mid is steps y. writing r v (length mid.tape) (mid.port port.0) y)
@@ -63,7 +63,7 @@ det_was false det e = e
 abbrev Out : DevicePort → Type 0
 Out p = p.present ≡ false
 
-module _ (port : ℕ) (d : Device) (gained : List Entry) (none : NoneOf (IsComing port) gained) where
+module _ (port : ℕ) (d : Device) (gained : List Entry) (none : NoneOf (IsDiskComing port) gained) where
   step_out : (step : DeviceTransition) → Can step d → (device_after step d).tape ≡ d.tape ++ gained → Out (d.port port) → Out ((device_after step d).port port)
   step_out (Fetch p slot c places) can is h = at_port Out Out d p port _ h (λ e x. x) (λ ne x. x)
   step_out (FetchFault p slot queued kept_bits) can is h = at_port Out Out d p port _ h (λ e x. x) (λ ne x. x)
@@ -76,7 +76,7 @@ module _ (port : ℕ) (d : Device) (gained : List Entry) (none : NoneOf (IsComin
   step_out (FrFall p) can is h = at_port Out Out d p port _ h (λ e x. x) (λ ne x. x)
   step_out (LinkUp p sig n) can is h = at_port Out Out d p port _ h (λ e x. x) (λ ne x. x)
   step_out (Unplug p) can is h = at_port Out Out d p port _ h (λ e x. refl) (λ ne x. x)
-  step_out (Plug p disk) can is h = at_port Out Out d p port _ h (λ e x. absurd (gained_none (IsComing port) d.tape _ gained is none e)) (λ ne x. x)
+  step_out (Plug p disk) can is h = at_port Out Out d p port _ h (λ e x. absurd (gained_none (IsDiskComing port) d.tape _ gained is none e)) (λ ne x. x)
   step_out ResetEnds can is h = h
   step_out (Scribble p slot at bytes) can is h = h
 
@@ -84,10 +84,10 @@ written_out : (r : PortReg) (v tape : ℕ) (p : DevicePort) → Out p → Out (p
 written_out Cmd v tape p h = (command_beside v tape p).6 ∙ h
 written_out _ v tape p h = h
 
-pub out_steps : StepLaws → (port : ℕ) (old new : Device) → NoneComes port old new → Steps old new → (old.port port).present ≡ false → (new.port port).present ≡ false
+pub out_steps : StepLaws → (port : ℕ) (old new : Device) → NoDiskComes port old new → Steps old new → (old.port port).present ≡ false → (new.port port).present ≡ false
 out_steps laws port old new none s h = leads_without laws port Out (step_out port) s.steps old new s.lead none h
 
-pub out_access : StepLaws → (port : Port) (access : Access) (old new : Device) → NoneComes port.0 old new → Does access old new → (old.port port.0).present ≡ false → (new.port port.0).present ≡ false
+pub out_access : StepLaws → (port : Port) (access : Access) (old new : Device) → NoDiskComes port.0 old new → Does access old new → (old.port port.0).present ≡ false → (new.port port.0).present ≡ false
 out_access laws port access old new none x h = access_without laws port Out (step_out port.0) (λ p r v y. y) (λ p y. y) written_out access old new none x h
 
 -- ---- and none shows
@@ -98,7 +98,7 @@ Vacant p = (p.present ≡ false) × (p.ssts_det ≢ 3)
 is_vacant : (p : DevicePort) → Vacant p → IsVacant p
 is_vacant p h = record { out = h.0; det = h.1 }
 
-module _ (port : ℕ) (d : Device) (gained : List Entry) (none : NoneOf (IsComing port) gained) where
+module _ (port : ℕ) (d : Device) (gained : List Entry) (none : NoneOf (IsDiskComing port) gained) where
   step_vacant : (step : DeviceTransition) → Can step d → (device_after step d).tape ≡ d.tape ++ gained → Vacant (d.port port) → Vacant ((device_after step d).port port)
   step_vacant (Fetch p slot c places) can is h = at_port Vacant Vacant d p port _ h (λ e x. x) (λ ne x. x)
   step_vacant (FetchFault p slot queued kept_bits) can is h = at_port Vacant Vacant d p port _ h (λ e x. x) (λ ne x. x)
@@ -111,7 +111,7 @@ module _ (port : ℕ) (d : Device) (gained : List Entry) (none : NoneOf (IsComin
   step_vacant (FrFall p) can is h = at_port Vacant Vacant d p port _ h (λ e x. x) (λ ne x. x)
   step_vacant (LinkUp p sig n) can is h = at_port Vacant Vacant d p port _ h (λ e x. absurd (both_ways _ x.0 can.present)) (λ ne x. x)
   step_vacant (Unplug p) can is h = at_port Vacant Vacant d p port _ h (λ e x. (refl, λ z. not_three z)) (λ ne x. x)
-  step_vacant (Plug p disk) can is h = at_port Vacant Vacant d p port _ h (λ e x. absurd (gained_none (IsComing port) d.tape _ gained is none e)) (λ ne x. x)
+  step_vacant (Plug p disk) can is h = at_port Vacant Vacant d p port _ h (λ e x. absurd (gained_none (IsDiskComing port) d.tape _ gained is none e)) (λ ne x. x)
   step_vacant ResetEnds can is h = (h.0, λ z. not_three z)
   step_vacant (Scribble p slot at bytes) can is h = h
 
@@ -120,16 +120,16 @@ written_vacant Cmd v tape p h = let c = command_beside v tape p in (c.6 ∙ h.0,
 written_vacant Sctl v tape p h = (h.0, λ up. h.1 (det_was (nat_eq (v % 16) 1) p.ssts_det up))
 written_vacant _ v tape p h = h
 
-pub vacant_steps : StepLaws → (port : ℕ) (old new : Device) → NoneComes port old new → Steps old new → IsVacant (old.port port) → IsVacant (new.port port)
+pub vacant_steps : StepLaws → (port : ℕ) (old new : Device) → NoDiskComes port old new → Steps old new → IsVacant (old.port port) → IsVacant (new.port port)
 vacant_steps laws port old new none s h = is_vacant (new.port port) (leads_without laws port Vacant (step_vacant port) s.steps old new s.lead none (h.out, h.det))
 
-pub vacant_access : StepLaws → (port : Port) (access : Access) (old new : Device) → NoneComes port.0 old new → Does access old new → IsVacant (old.port port.0) → IsVacant (new.port port.0)
+pub vacant_access : StepLaws → (port : Port) (access : Access) (old new : Device) → NoDiskComes port.0 old new → Does access old new → IsVacant (old.port port.0) → IsVacant (new.port port.0)
 vacant_access laws port access old new none x h =
     is_vacant (new.port port.0) (access_without laws port Vacant (step_vacant port.0) (λ p r v y. y) (λ p y. y) written_vacant access old new none x (h.out, h.det))
 
 -- ---- a disk that shows has sent its first FIS
 
-module _ (port : ℕ) (d : Device) (gained : List Entry) (none : NoneOf (IsComing port) gained) where
+module _ (port : ℕ) (d : Device) (gained : List Entry) (none : NoneOf (IsDiskComing port) gained) where
   step_fresh : (step : DeviceTransition) → Can step d → (device_after step d).tape ≡ d.tape ++ gained → IsFreshIfShown (d.port port) → IsFreshIfShown ((device_after step d).port port)
   step_fresh (Fetch p slot c places) can is h = at_port IsFreshIfShown IsFreshIfShown d p port _ h (λ e x. x) (λ ne x. x)
   step_fresh (FetchFault p slot queued kept_bits) can is h = at_port IsFreshIfShown IsFreshIfShown d p port _ h (λ e x. x) (λ ne x. x)
@@ -142,7 +142,7 @@ module _ (port : ℕ) (d : Device) (gained : List Entry) (none : NoneOf (IsComin
   step_fresh (FrFall p) can is h = at_port IsFreshIfShown IsFreshIfShown d p port _ h (λ e x. x) (λ ne x. x)
   step_fresh (LinkUp p sig n) can is h = at_port IsFreshIfShown IsFreshIfShown d p port _ h (λ e x _. refl) (λ ne x. x)
   step_fresh (Unplug p) can is h = at_port IsFreshIfShown IsFreshIfShown d p port _ h (λ e x z. not_three z) (λ ne x. x)
-  step_fresh (Plug p disk) can is h = at_port IsFreshIfShown IsFreshIfShown d p port _ h (λ e x. absurd (gained_none (IsComing port) d.tape _ gained is none e)) (λ ne x. x)
+  step_fresh (Plug p disk) can is h = at_port IsFreshIfShown IsFreshIfShown d p port _ h (λ e x. absurd (gained_none (IsDiskComing port) d.tape _ gained is none e)) (λ ne x. x)
   step_fresh ResetEnds can is h = λ z. not_three z
   step_fresh (Scribble p slot at bytes) can is h = h
 
@@ -160,15 +160,15 @@ written_fresh Cmd v tape p h = λ up. command_fresh v tape p ∙ h (sym (command
 written_fresh Sctl v tape p h = λ up. h (det_was (nat_eq (v % 16) 1) p.ssts_det up)
 written_fresh _ v tape p h = h
 
-pub fresh_steps : StepLaws → (port : ℕ) (old new : Device) → NoneComes port old new → Steps old new → IsFreshIfShown (old.port port) → IsFreshIfShown (new.port port)
+pub fresh_steps : StepLaws → (port : ℕ) (old new : Device) → NoDiskComes port old new → Steps old new → IsFreshIfShown (old.port port) → IsFreshIfShown (new.port port)
 fresh_steps laws port old new none s h = leads_without laws port IsFreshIfShown (step_fresh port) s.steps old new s.lead none h
 
-pub fresh_access : StepLaws → (port : Port) (access : Access) (old new : Device) → NoneComes port.0 old new → Does access old new → IsFreshIfShown (old.port port.0) → IsFreshIfShown (new.port port.0)
+pub fresh_access : StepLaws → (port : Port) (access : Access) (old new : Device) → NoDiskComes port.0 old new → Does access old new → IsFreshIfShown (old.port port.0) → IsFreshIfShown (new.port port.0)
 fresh_access laws port access old new none x h = access_without laws port IsFreshIfShown (step_fresh port.0) (λ p r v y. y) (λ p y. y) written_fresh access old new none x h
 
 -- ---- where it begins
 
-module _ (laws : StepLaws) (v : ℕ) (old new : Device) (on : old.hr ≡ true) (call : Reads Ghc v old new) (clear : bit v 0 ≡ false) (port : ℕ) (none : NoneComes port old new) where
+module _ (laws : StepLaws) (v : ℕ) (old new : Device) (on : old.hr ≡ true) (call : Reads Ghc v old new) (clear : bit v 0 ≡ false) (port : ℕ) (none : NoDiskComes port old new) where
   pub vacant_reset : (old.port port).present ≡ false → IsVacant (new.port port)
   vacant_reset out =
       let s = reset_read v old new on call clear in
@@ -190,7 +190,7 @@ fresh_comreset port v old new one call =
     subst IsFreshIfShown (sym (ap (λ (d : Device). d.port port.0) call.effect ∙ changed_same call.mid.port port.0 _))
     (subst (λ (n : ℕ). IsFreshIfShown (with_det n (length call.mid.tape) (call.mid.port port.0))) (sym one) (λ z. not_three z))
 
-pub device_shown : (port : Port) (v : ℕ) (old new : Device) → Reads (Px port Ssts) v old new → v % 16 ≡ 3 → HasDeviceOrNone (new.port port.0)
+pub device_shown : (port : Port) (v : ℕ) (old new : Device) → Reads (Px port Ssts) v old new → v % 16 ≡ 3 → ShowsDiskIfIn (new.port port.0)
 device_shown port v old new call three =
     inl (ap (λ (d : Device). (d.port port.0).ssts_det) call.effect ∙ (ap (λ (p : DevicePort). p.ssts_det) (changed_same call.mid.port port.0 _) ∙ (sym call.shows ∙ three)))
 

@@ -19,8 +19,8 @@ use Rattle.adapter.specs.declared.tape.Entry.TheVariants as entry
 use Rattle.adapter.proofs.Changed.{changed_same, changed_other}
 use Rattle.refinement.specs.Below.{StepLaws}
 use Rattle.refinement.specs.Driven.{Grows}
-use Rattle.refinement.specs.Errors.{KeepsErrors, IsComing, NoneComes, ChangesByDisks}
-use Rattle.refinement.specs.Links.{SparesRegister, IsPlugging, PlugsNone}
+use Rattle.refinement.specs.Errors.{KeepsErrors, IsDiskComing, NoDiskComes, ChangesByDisks}
+use Rattle.refinement.specs.Links.{DoesNotWrite, IsPlugEvent, NoPlugEvents}
 use Rattle.refinement.proofs.device.FactsOverAccesses.{access_steps, effect_keeps}
 use Rattle.refinement.proofs.device.TapeGains.{gains_nothing, gains_more, gains_parts, gained_none, none_narrower}
 use Rattle.refinement.proofs.device.HealthyPort.{at_port}
@@ -28,23 +28,23 @@ use Rattle.refinement.proofs.device.PortControls.{spared, plugs_nothing, plugs_m
 
 -- ---- disks that come
 
-pub comes_nothing : (port : ℕ) (d : Device) → NoneComes port d d
-comes_nothing port d = let g = gains_nothing (IsComing port) d in record { gained = g.0; tape = g.1; none = g.2 }
+pub comes_nothing : (port : ℕ) (d : Device) → NoDiskComes port d d
+comes_nothing port d = let g = gains_nothing (IsDiskComing port) d in record { gained = g.0; tape = g.1; none = g.2 }
 
-pub comes_more : (port : ℕ) (old mid new : Device) → NoneComes port old mid → NoneComes port mid new → NoneComes port old new
+pub comes_more : (port : ℕ) (old mid new : Device) → NoDiskComes port old mid → NoDiskComes port mid new → NoDiskComes port old new
 comes_more port old mid new a b =
-    let g = gains_more (IsComing port) old mid new (a.gained, a.tape, a.none) (b.gained, b.tape, b.none) in
+    let g = gains_more (IsDiskComing port) old mid new (a.gained, a.tape, a.none) (b.gained, b.tape, b.none) in
     record { gained = g.0; tape = g.1; none = g.2 }
 
-pub comes_parts : (port : ℕ) (old mid new : Device) (early late : List Entry) → mid.tape ≡ old.tape ++ early → new.tape ≡ mid.tape ++ late → NoneComes port old new → NoneComes port old mid × NoneComes port mid new
+pub comes_parts : (port : ℕ) (old mid new : Device) (early late : List Entry) → mid.tape ≡ old.tape ++ early → new.tape ≡ mid.tape ++ late → NoDiskComes port old new → NoDiskComes port old mid × NoDiskComes port mid new
 comes_parts port old mid new early late a b h =
-    let g = gains_parts (IsComing port) old mid new early late a b (h.gained, h.tape, h.none) in
+    let g = gains_parts (IsDiskComing port) old mid new early late a b (h.gained, h.tape, h.none) in
     (record { gained = g.0.0; tape = g.0.1; none = g.0.2 }, record { gained = g.1.0; tape = g.1.1; none = g.1.2 })
 
-pub plugs_come : (port : ℕ) (old new : Device) → PlugsNone port old new → NoneComes port old new
-plugs_come port old new p = record { gained = p.gained; tape = p.tape; none = none_narrower (IsPlugging port) (IsComing port) narrower p.gained p.none }
+pub plugs_come : (port : ℕ) (old new : Device) → NoPlugEvents port old new → NoDiskComes port old new
+plugs_come port old new p = record { gained = p.gained; tape = p.tape; none = none_narrower (IsPlugEvent port) (IsDiskComing port) narrower p.gained p.none }
   where
-    narrower : (e : Entry) → IsComing port e → IsPlugging port e
+    narrower : (e : Entry) → IsDiskComing port e → IsPlugEvent port e
     narrower (entry.Plug at name) x = x
     narrower (entry.Unplug at) x = absurd x
     narrower (entry.Move move) x = absurd x
@@ -70,7 +70,7 @@ change_more port old mid new early late a b = record {
 }
 
 -- before the effect of an access the tape has what it has after it
-pub comes_before : (port : ℕ) (old mid new : Device) → new.tape ≡ mid.tape → NoneComes port old new → NoneComes port old mid
+pub comes_before : (port : ℕ) (old mid new : Device) → new.tape ≡ mid.tape → NoDiskComes port old new → NoDiskComes port old mid
 comes_before port old mid new same h = record { gained = h.gained; tape = sym same ∙ h.tape; none = h.none }
 
 -- ---- a step while no link is due
@@ -80,11 +80,11 @@ abbrev SameNews : DevicePort → DevicePort → Type 0
 SameNews p q = (q.link_due ≡ p.link_due) × (q.serr_n ≡ p.serr_n) × (q.serr_x ≡ p.serr_x) × (q.ssts_det ≡ p.ssts_det)
 
 -- the tape gains one entry, or none
-one_plugs : (port : ℕ) (d new : Device) (e : Entry) → (IsPlugging port e → ⊥) → new.tape ≡ d.tape ++ e ∷ [] → PlugsNone port d new
-one_plugs port d new e other is = record { gained = e ∷ []; tape = is; none = All-cons (λ e. IsPlugging port e → ⊥) e [] other (All-nil (λ e. IsPlugging port e → ⊥)) }
+one_plugs : (port : ℕ) (d new : Device) (e : Entry) → (IsPlugEvent port e → ⊥) → new.tape ≡ d.tape ++ e ∷ [] → NoPlugEvents port d new
+one_plugs port d new e other is = record { gained = e ∷ []; tape = is; none = All-cons (λ e. IsPlugEvent port e → ⊥) e [] other (All-nil (λ e. IsPlugEvent port e → ⊥)) }
 
-no_plugs : (port : ℕ) (d new : Device) → new.tape ≡ d.tape → PlugsNone port d new
-no_plugs port d new is = record { gained = []; tape = is ∙ sym (append-nil d.tape); none = All-nil (λ e. IsPlugging port e → ⊥) }
+no_plugs : (port : ℕ) (d new : Device) → new.tape ≡ d.tape → NoPlugEvents port d new
+no_plugs port d new is = record { gained = []; tape = is ∙ sym (append-nil d.tape); none = All-nil (λ e. IsPlugEvent port e → ⊥) }
 
 -- a step, and then steps, while no link is due
 abbrev Turns : ℕ → Device → Device → Type 0
@@ -94,14 +94,14 @@ module _ (port : ℕ) (d : Device) (off : d.hr ≡ false) (undue : (d.port port)
   abbrev News : DevicePort → Type 0
   News q = SameNews (d.port port) q
 
-  calm : (new : Device) → News (new.port port) → PlugsNone port d new → Turns port d new
+  calm : (new : Device) → News (new.port port) → NoPlugEvents port d new → Turns port d new
   calm new same none = (
     same.0 ∙ undue,
     record { serr_n = λ _ h. same.1 ∙ h; serr_x = λ _ h. same.2 ∙ h; det = λ _ up. (sym same.3 ∙ up, none) },
   )
 
   -- a disk of another port goes or comes
-  elsewhere : (p : ℕ) (new : DevicePort) (device_after : Device) → device_after.port ≡ changed d.port p new → PlugsNone port d device_after → (p ≡ port → ⊥) → Turns port d device_after
+  elsewhere : (p : ℕ) (new : DevicePort) (device_after : Device) → device_after.port ≡ changed d.port p new → NoPlugEvents port d device_after → (p ≡ port → ⊥) → Turns port d device_after
   elsewhere p new device_after is none ne =
       let same : device_after.port port ≡ d.port port = ap (λ (f : ℕ → DevicePort). f port) is ∙ changed_other d.port p new port (λ e. ne (sym e)) in
       calm device_after (subst News (sym same) (refl, refl, refl, refl)) none
@@ -121,7 +121,7 @@ module _ (port : ℕ) (d : Device) (off : d.hr ≡ false) (undue : (d.port port)
       (λ (e : p ≡ port). (
         at_port News (λ (q : DevicePort). q.link_due ≡ false) d p port _ (refl, refl, refl, refl) (λ _ x. x.0 ∙ undue) (λ _ x. undue),
         record {
-          serr_n = λ none h. absurd (gained_none (IsPlugging port) d.tape _ none.gained none.tape none.none e);
+          serr_n = λ none h. absurd (gained_none (IsPlugEvent port) d.tape _ none.gained none.tape none.none e);
           serr_x = λ none h. at_port News (λ (q : DevicePort). q.serr_x ≡ false) d p port _ (refl, refl, refl, refl) (λ _ x. x.2 ∙ h) (λ _ x. h);
           det = λ none up. absurd (lost p e up);
         },
@@ -137,9 +137,9 @@ module _ (port : ℕ) (d : Device) (off : d.hr ≡ false) (undue : (d.port port)
       (λ (e : p ≡ port). (
         at_port News (λ (q : DevicePort). q.link_due ≡ false) d p port _ (refl, refl, refl, refl) (λ _ x. x.0 ∙ undue) (λ _ x. undue),
         record {
-          serr_n = λ none h. absurd (gained_none (IsPlugging port) d.tape _ none.gained none.tape none.none e);
-          serr_x = λ none h. absurd (gained_none (IsComing port) d.tape _ none.gained none.tape none.none e);
-          det = λ none up. absurd (gained_none (IsComing port) d.tape _ none.gained none.tape none.none e);
+          serr_n = λ none h. absurd (gained_none (IsPlugEvent port) d.tape _ none.gained none.tape none.none e);
+          serr_x = λ none h. absurd (gained_none (IsDiskComing port) d.tape _ none.gained none.tape none.none e);
+          det = λ none up. absurd (gained_none (IsDiskComing port) d.tape _ none.gained none.tape none.none e);
         },
       ))
       (λ (ne : p ≡ port → ⊥). elsewhere p _ _ refl (one_plugs port d _ _ ne refl) ne)
@@ -225,7 +225,7 @@ written_undue Sctl v tape p other h = absurd (other refl)
 written_undue Cmd v tape p other h = (command_beside v tape p).4 ∙ h
 written_undue _ v tape p other h = h
 
-pub access_undue : StepLaws → (port : Port) (access : Access) (old new : Device) → old.hr ≡ false → (old.port port.0).link_due ≡ false → SparesRegister (Px port Sctl) access → Does access old new → (new.port port.0).link_due ≡ false
+pub access_undue : StepLaws → (port : Port) (access : Access) (old new : Device) → old.hr ≡ false → (old.port port.0).link_due ≡ false → DoesNotWrite (Px port Sctl) access → Does access old new → (new.port port.0).link_due ≡ false
 access_undue laws port access old new off undue spares x =
     let s = access_steps access old new x in
     effect_keeps Undue port (λ p r v h. h) (λ p h. h) access old new x
@@ -241,7 +241,7 @@ written_news first Serr v tape p other h = absurd (other refl)
 written_news first Cmd v tape p other h = let c = command_beside v tape p in (λ n. c.1 ∙ h.0 n, λ x. c.2 ∙ h.1 x)
 written_news first _ v tape p other h = h
 
-pub access_news : StepLaws → (port : Port) (access : Access) (old new : Device) → old.hr ≡ false → SparesRegister (Px port Serr) access → Does access old new →
+pub access_news : StepLaws → (port : Port) (access : Access) (old new : Device) → old.hr ≡ false → DoesNotWrite (Px port Serr) access → Does access old new →
     ((old.port port.0).serr_n ≡ true → (new.port port.0).serr_n ≡ true) × ((old.port port.0).serr_x ≡ true → (new.port port.0).serr_x ≡ true)
 access_news laws port access old new off spares x =
     let s = access_steps access old new x in
@@ -259,7 +259,7 @@ written_causes first Is v tape p other h = absurd (other refl)
 written_causes first Cmd v tape p other h = λ place set. ap (λ (f : ℕ → Bool). f place) (command_beside v tape p).0 ∙ h place set
 written_causes first _ v tape p other h = h
 
-pub access_causes : StepLaws → (port : Port) (access : Access) (old new : Device) → old.hr ≡ false → SparesRegister (Px port Is) access → Does access old new → (place : ℕ) → (old.port port.0).is place ≡ true → (new.port port.0).is place ≡ true
+pub access_causes : StepLaws → (port : Port) (access : Access) (old new : Device) → old.hr ≡ false → DoesNotWrite (Px port Is) access → Does access old new → (place : ℕ) → (old.port port.0).is place ≡ true → (new.port port.0).is place ≡ true
 access_causes laws port access old new off spares x =
     let s = access_steps access old new x in
     effect_keeps (KeepsCauses (old.port port.0)) port (λ p r v h. h) (λ p h. h) access old new x

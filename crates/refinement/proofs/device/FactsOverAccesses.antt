@@ -7,13 +7,13 @@ use Rattle.hba_regs.specs.Bits.{bit}
 use Rattle.hba_regs.specs.declared.reg.Reg.{Reg}
 use Rattle.hba_regs.specs.declared.reg.Reg.TheVariants.{Cap, Ghc, Is, Pi, Vs, Cap2, Bohc, Px}
 use Rattle.hba_regs.specs.declared.reg.PortReg.{PortReg}
-use Rattle.adapter.specs.Access.{Access, Does, note, noted, written, port_written, unacknowledged}
+use Rattle.adapter.specs.Access.{Access, Does, note, noted, written, port_written, with_is_cleared}
 use Rattle.adapter.specs.Access.Access.{Reading, Writing, Loading, Storing}
 use Rattle.adapter.specs.Device.{DevicePort, Device}
 use Rattle.adapter.specs.Steps.{Steps}
 use Rattle.adapter.proofs.Changed.{changed_other}
 use Rattle.refinement.specs.Relation.{port_at}
-use Rattle.refinement.specs.Driven.{IsOf}
+use Rattle.refinement.specs.Driven.{SparesOtherPorts}
 use Rattle.refinement.proofs.steps.AdapterCalls.{noted_tape}
 use Rattle.refinement.proofs.device.HealthyPort.{at_port, written_tape}
 
@@ -35,7 +35,7 @@ module _ (P : DevicePort → Type 0) (port : Port) (noting : (p : DevicePort) (r
   noted_on Cap2 v d h = h
   noted_on Bohc v d h = h
 
-  module _ (acknowledging : (p : DevicePort) → P p → P (unacknowledged p)) where
+  module _ (acknowledging : (p : DevicePort) → P p → P (with_is_cleared p)) where
     pub written_on : (r : Reg) (v : ℕ) (d : Device) → ((q : PortReg) → r ≡ Px port q → P (d.port port.0) → P (port_written q v (length d.tape) (d.port port.0))) → P (d.port port.0) → P ((written r v d).port port.0)
     written_on (Px p r) v d writing h = at_port P P d p.0 port.0 _ h
         (λ e x.
@@ -44,7 +44,7 @@ module _ (P : DevicePort → Type 0) (port : Port) (noting : (p : DevicePort) (r
         (λ ne x. x)
     written_on Is v d writing h = by (bit v port.0)
       where
-        by : (b : Bool) → P (if b then unacknowledged (d.port port.0) else d.port port.0)
+        by : (b : Bool) → P (if b then with_is_cleared (d.port port.0) else d.port port.0)
         by true = acknowledging (d.port port.0) h
         by false = h
     written_on Cap v d writing h = h
@@ -71,7 +71,7 @@ module _ (port : Port) (q : ℕ) (other : q ≢ port.0) where
   beside : (p : Port) → p ≡ port → q ≢ p.0
   beside p is e = other (e ∙ ap (λ (x : Port). x.0) is)
 
-  noted_beside : (r : Reg) (v : ℕ) (d : Device) → IsOf port (Reading r v) → (noted r v d).port q ≡ d.port q
+  noted_beside : (r : Reg) (v : ℕ) (d : Device) → SparesOtherPorts port (Reading r v) → (noted r v d).port q ≡ d.port q
   noted_beside (Px p r) v d is = changed_other d.port p.0 _ q (beside p is)
   noted_beside Cap v d is = refl
   noted_beside Ghc v d is = refl
@@ -81,18 +81,18 @@ module _ (port : Port) (q : ℕ) (other : q ≢ port.0) where
   noted_beside Cap2 v d is = refl
   noted_beside Bohc v d is = refl
 
-  written_beside : (r : Reg) (v : ℕ) (d : Device) → IsOf port (Writing r v) → (written r v d).port q ≡ d.port q
+  written_beside : (r : Reg) (v : ℕ) (d : Device) → SparesOtherPorts port (Writing r v) → (written r v d).port q ≡ d.port q
   written_beside (Px p r) v d is = changed_other d.port p.0 _ q (beside p is)
   written_beside Cap v d is = absurd is
   written_beside Ghc v d is = absurd is
-  written_beside Is v d is = cond-false (bit v q) (unacknowledged (d.port q)) (d.port q) (is.alone q other)
+  written_beside Is v d is = cond-false (bit v q) (with_is_cleared (d.port q)) (d.port q) (is.alone q other)
   written_beside Pi v d is = absurd is
   written_beside Vs v d is = absurd is
   written_beside Cap2 v d is = absurd is
   written_beside Bohc v d is = absurd is
 
   -- it is as the device's steps left it
-  pub beside_same : (access : Access) (old new : Device) (x : Does access old new) → IsOf port access → new.port q ≡ (access_steps access old new x).0.port q
+  pub beside_same : (access : Access) (old new : Device) (x : Does access old new) → SparesOtherPorts port access → new.port q ≡ (access_steps access old new x).0.port q
   unfolding access_steps
   beside_same (Reading r v) old new x is = ap (λ (d : Device). d.port q) x.effect ∙ noted_beside r v x.mid is
   beside_same (Writing r v) old new x is = ap (λ (d : Device). d.port q) x.effect ∙ written_beside r v x.mid is

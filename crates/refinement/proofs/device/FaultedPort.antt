@@ -9,19 +9,19 @@ use Rattle.hba_regs.specs.declared.reg.Reg.TheVariants.{Cap, Ghc, Pi, Vs, Cap2, 
 use Rattle.hba_regs.specs.declared.reg.Reg.TheVariants as adapter
 use Rattle.hba_regs.specs.declared.reg.PortReg.{PortReg}
 use Rattle.hba_regs.specs.declared.reg.PortReg.TheVariants.{Clb, Clbu, Fb, Fbu, Is, Ie, Cmd, Tfd, Sig, Ssts, Sctl, Serr, Sact, Ci}
-use Rattle.adapter.specs.Access.{Reads, Writes, noted, written, port_written, with_st, with_fre, unacknowledged}
+use Rattle.adapter.specs.Access.{Reads, Writes, noted, written, port_written, with_st, with_fre, with_is_cleared}
 use Rattle.adapter.specs.Device.{DevicePort, Device}
-use Rattle.adapter.specs.Kept.{Keeps, KeepsOn}
+use Rattle.adapter.specs.Kept.{Keeps, KeepsOutsideReset}
 use Rattle.adapter.specs.Steps.{DeviceTransition, Can, device_after, Steps}
 use Rattle.adapter.specs.Steps.DeviceTransition.{Fetch, FetchFault, Move, Clear, Done, Fault, Fatal, Fall, FrFall, LinkUp, Unplug, Plug, ResetEnds, Scribble}
-use Rattle.adapter.specs.Seen.{SeenAt}
+use Rattle.adapter.specs.Seen.{PortRegisterRead}
 use Rattle.adapter.specs.declared.tape.Entry.{Entry}
 use Rattle.block_machine.specs.State.{Machine}
 use Rattle.refinement.specs.Below.{StepLaws}
 use Rattle.refinement.specs.Relation.{StateRelation}
 use Rattle.refinement.specs.Slots.{SlotState, Free, SlotStates, RelatesSlot, IsEmptySlot}
 use Rattle.refinement.proofs.steps.StillFrames.{over_unused}
-use Rattle.refinement.specs.Facts.{IsFaulted, ShowsFault, HasFaults, IsRecorded}
+use Rattle.refinement.specs.Facts.{IsFaulted, ShowsFault, RecordsFaults, FaultsOnRecord}
 use Rattle.refinement.proofs.device.AwaitedLink.{leads_keep}
 use Rattle.refinement.proofs.device.HealthyPort.{at_port}
 use Rattle.refinement.proofs.device.RecordedFaults.{faulted_admits, fault_halts}
@@ -48,9 +48,9 @@ step_stuck d port (Plug p disk) can h = at_port IsStuck IsStuck d p port _ h (λ
 step_stuck d port ResetEnds can h = λ st. absurd (false≢true st)
 step_stuck d port (Scribble p slot at bytes) can h = h
 
-module _ (laws : StepLaws) (port : ℕ) (old new : Device) (off : old.hr ≡ false) (st : (old.port port).st ≡ true) (h : IsRecorded old.tape (old.port port) port) (faulted : IsFaulted (old.port port).halt) where
+module _ (laws : StepLaws) (port : ℕ) (old new : Device) (off : old.hr ≡ false) (st : (old.port port).st ≡ true) (h : FaultsOnRecord old.tape (old.port port) port) (faulted : IsFaulted (old.port port).halt) where
   running : Steps old new → (new.port port).st ≡ true
-  running s = let k : Keeps old new = laws.keeps _ _ s in let on : KeepsOn old new = k.on off in (on.controls port).st ∙ st
+  running s = let k : Keeps old new = laws.keeps _ _ s in let on : KeepsOutsideReset old new = k.on off in (on.controls port).st ∙ st
 
   pub steps_faulted : Steps old new → IsFaulted (new.port port).halt
   steps_faulted s = (leads_keep IsStuck step_stuck port s.steps old new s.lead (λ on. ((h st).linked, faulted)) (running s)).1
@@ -65,7 +65,7 @@ noted_halt port Vs v d h = h
 noted_halt port Cap2 v d h = h
 noted_halt port Bohc v d h = h
 
-pub reads_faulted : StepLaws → (port : ℕ) (r : Reg) (v : ℕ) (old new : Device) → old.hr ≡ false → (old.port port).st ≡ true → IsRecorded old.tape (old.port port) port → IsFaulted (old.port port).halt →
+pub reads_faulted : StepLaws → (port : ℕ) (r : Reg) (v : ℕ) (old new : Device) → old.hr ≡ false → (old.port port).st ≡ true → FaultsOnRecord old.tape (old.port port) port → IsFaulted (old.port port).halt →
     Reads r v old new → IsFaulted (new.port port).halt
 reads_faulted laws port r v old new off st h faulted call =
     subst (λ (d : Device). IsFaulted (d.port port).halt) (sym call.effect) (noted_halt port r v call.mid (steps_faulted laws port old call.mid off st h faulted call.steps))
@@ -96,7 +96,7 @@ written_halt port (Px p r) v d st = at_port (λ x. x.st ≡ true) (λ x. x.halt 
     (λ e x. port_halt r v (length d.tape) (d.port p.0) x ∙ ap (λ (k : ℕ). (d.port k).halt) e) (λ ne x. refl)
 written_halt port adapter.Is v d st = by (bit v port)
   where
-    by : (b : Bool) → (if b then unacknowledged (d.port port) else d.port port).halt ≡ (d.port port).halt
+    by : (b : Bool) → (if b then with_is_cleared (d.port port) else d.port port).halt ≡ (d.port port).halt
     by true = refl
     by false = refl
 written_halt port Cap v d st = refl
@@ -106,7 +106,7 @@ written_halt port Vs v d st = refl
 written_halt port Cap2 v d st = refl
 written_halt port Bohc v d st = refl
 
-pub writes_faulted : StepLaws → (port : ℕ) (r : Reg) (v : ℕ) (old new : Device) → old.hr ≡ false → (old.port port).st ≡ true → IsRecorded old.tape (old.port port) port → IsFaulted (old.port port).halt →
+pub writes_faulted : StepLaws → (port : ℕ) (r : Reg) (v : ℕ) (old new : Device) → old.hr ≡ false → (old.port port).st ≡ true → FaultsOnRecord old.tape (old.port port) port → IsFaulted (old.port port).halt →
     Writes r v old new → IsFaulted (new.port port).halt
 writes_faulted laws port r v old new off st h faulted call =
     let mid : IsFaulted (call.mid.port port).halt = steps_faulted laws port old call.mid off st h faulted call.steps in
@@ -115,11 +115,11 @@ writes_faulted laws port r v old new off st h faulted call =
     subst IsFaulted (sym same) mid
 
 -- TFES is read
-pub tfes_tells : StepLaws → (port : Port) (v : ℕ) (old new : Device) → old.hr ≡ false → (old.port port.0).st ≡ true → IsRecorded old.tape (old.port port.0) port.0 → Reads (Px port Is) v old new → bit v 30 ≡ true →
+pub tfes_tells : StepLaws → (port : Port) (v : ℕ) (old new : Device) → old.hr ≡ false → (old.port port.0).st ≡ true → FaultsOnRecord old.tape (old.port port.0) port.0 → Reads (Px port Is) v old new → bit v 30 ≡ true →
     IsFaulted (new.port port.0).halt
 tfes_tells laws port v old new off st h call set =
-    let x : SeenAt port.0 Is v old new = laws.seen port Is v old new call off in
-    let now : HasFaults new.tape (new.port port.0) port.0 = reads_recorded port.0 (Px port Is) v old new call h ((x.keeps.on.controls port.0).st ∙ st) in
+    let x : PortRegisterRead port.0 Is v old new = laws.seen port Is v old new call off in
+    let now : RecordsFaults new.tape (new.port port.0) port.0 = reads_recorded port.0 (Px port Is) v old new call h ((x.keeps.on.controls port.0).st ∙ st) in
     now.flag (sym (x.shows 30 refl) ∙ set)
 
 -- the status and the error of the value
@@ -127,11 +127,11 @@ parts_read : (v tfd status error : ℕ) → v % 65536 ≡ tfd → tfd ≡ status
 parts_read v tfd status error e f low high = (omega (arith, e, f, low, high), omega (arith, e, f, low, high))
 
 -- TFD of a port that a fault has halted shows the last one
-pub fault_is_read : StepLaws → (port : Port) (v : ℕ) (old new : Device) → old.hr ≡ false → (old.port port.0).st ≡ true → IsRecorded old.tape (old.port port.0) port.0 → IsFaulted (old.port port.0).halt →
+pub fault_is_read : StepLaws → (port : Port) (v : ℕ) (old new : Device) → old.hr ≡ false → (old.port port.0).st ≡ true → FaultsOnRecord old.tape (old.port port.0) port.0 → IsFaulted (old.port port.0).halt →
     Reads (Px port Tfd) v old new → (s : ShowsFault (drop (new.port port.0).notes.st_set_at new.tape) (new.port port.0) port.0) × (v % 256 ≡ s.fault.status) × (v / 256 % 256 ≡ s.fault.error)
 fault_is_read laws port v old new off st h faulted call =
-    let x : SeenAt port.0 Tfd v old new = laws.seen port Tfd v old new call off in
-    let now : HasFaults new.tape (new.port port.0) port.0 = reads_recorded port.0 (Px port Tfd) v old new call h ((x.keeps.on.controls port.0).st ∙ st) in
+    let x : PortRegisterRead port.0 Tfd v old new = laws.seen port Tfd v old new call off in
+    let now : RecordsFaults new.tape (new.port port.0) port.0 = reads_recorded port.0 (Px port Tfd) v old new call h ((x.keeps.on.controls port.0).st ∙ st) in
     let s : ShowsFault (drop (new.port port.0).notes.st_set_at new.tape) (new.port port.0) port.0 = now.fault (reads_faulted laws port.0 (Px port Tfd) v old new off st h faulted call) in
     let parts = parts_read v (new.port port.0).tfd s.fault.status s.fault.error x.shows s.shown s.fits.0 s.fits.1 in
     (s, parts.0, parts.1)

@@ -8,7 +8,7 @@ use Rattle.hba_regs.specs.declared.reg.Reg.TheVariants.{Ghc, Px}
 use Rattle.hba_regs.specs.declared.reg.PortReg.{PortReg}
 use Rattle.hba_regs.specs.declared.reg.PortReg.TheVariants as px
 use Rattle.hba_regs.specs.declared.reg.PortReg.TheVariants.{Cmd}
-use Rattle.adapter.specs.Access.{Reads, Writes, note, port_written, with_st, with_fre, unacknowledged}
+use Rattle.adapter.specs.Access.{Reads, Writes, note, port_written, with_st, with_fre, with_is_cleared}
 use Rattle.adapter.specs.Device.{FetchedCommand, DevicePort, Device}
 use Rattle.adapter.specs.Idle.{IsIdlePort}
 use Rattle.adapter.specs.Kept.{KeepsPort}
@@ -21,7 +21,7 @@ use Rattle.block_machine.specs.Histories.{IsReachable}
 use Rattle.block_machine.specs.Left as left
 use Rattle.refinement.specs.Below.{StepLaws}
 use Rattle.refinement.specs.Relation.{StateRelation, port_at}
-use Rattle.refinement.specs.Facts.{IsHalted, IsAfterReset}
+use Rattle.refinement.specs.Facts.{IsEngineStopped, IsQuiescentPort}
 use Rattle.refinement.specs.Follows.{SimulatesSteps}
 use Rattle.refinement.specs.Slots.{SlotState, Free, Own, Serves, SlotStates, Stage, OwnWaits, OwnTaken, OwnOver, IsOver, RelatesSlot, Armed}
 use Rattle.refinement.proofs.device.FactsOverAccesses.{noted_on, written_on}
@@ -30,31 +30,31 @@ use Rattle.refinement.proofs.device.ClearSactBits.{if_false}
 
 -- ---- it stays so
 
-pub halted_on : {old new : DevicePort} → KeepsPort old new → IsHalted old → IsHalted new
+pub halted_on : {old new : DevicePort} → KeepsPort old new → IsEngineStopped old → IsEngineStopped new
 halted_on k h = record { st = k.st h.st; cr = k.cr h.cr; ci = λ s. k.ci s (h.ci s); taken = k.idle h.cr h.taken }
 
-pub reset_on : {old new : DevicePort} → KeepsPort old new → IsAfterReset old → IsAfterReset new
+pub reset_on : {old new : DevicePort} → KeepsPort old new → IsQuiescentPort old → IsQuiescentPort new
 reset_on k h = record { halted = halted_on k h.halted; sact = λ s. k.sact s (h.sact s); fre = k.fre h.fre; fr = k.fr h.fr }
 
-pub law_halted_stays : StepLaws → (port : ℕ) (old new : Device) → Steps old new → IsHalted (old.port port) → IsHalted (new.port port)
-law_halted_stays laws port old new s h = halted_on ((laws.keeps _ _ s).port port) h
+pub law_stopped_engine_stays : StepLaws → (port : ℕ) (old new : Device) → Steps old new → IsEngineStopped (old.port port) → IsEngineStopped (new.port port)
+law_stopped_engine_stays laws port old new s h = halted_on ((laws.keeps _ _ s).port port) h
 
-pub reset_stays : StepLaws → (port : ℕ) (old new : Device) → Steps old new → IsAfterReset (old.port port) → IsAfterReset (new.port port)
+pub reset_stays : StepLaws → (port : ℕ) (old new : Device) → Steps old new → IsQuiescentPort (old.port port) → IsQuiescentPort (new.port port)
 reset_stays laws port old new s h = reset_on ((laws.keeps _ _ s).port port) h
 
-pub idle_halted : (p : DevicePort) → IsIdlePort p → IsHalted p
+pub idle_halted : (p : DevicePort) → IsIdlePort p → IsEngineStopped p
 idle_halted p i = record { st = i.st; cr = i.cr; ci = i.ci; taken = i.taken }
 
-pub idle_reset : (p : DevicePort) → IsIdlePort p → IsAfterReset p
+pub idle_reset : (p : DevicePort) → IsIdlePort p → IsQuiescentPort p
 idle_reset p i = record { halted = idle_halted p i; sact = i.sact; fre = i.fre; fr = i.fr }
 
-pub reset_idle : (p : DevicePort) → IsAfterReset p → IsIdlePort p
+pub reset_idle : (p : DevicePort) → IsQuiescentPort p → IsIdlePort p
 reset_idle p h = record { st = h.halted.st; cr = h.halted.cr; fre = h.fre; fr = h.fr; ci = h.halted.ci; sact = h.sact; taken = h.halted.taken }
 
 -- ---- over readings and writes
 
 -- a port is as its engine says
-same_halted : (p new : DevicePort) → new.st ≡ p.st → new.cr ≡ p.cr → new.ci ≡ p.ci → new.taken ≡ p.taken → IsHalted p → IsHalted new
+same_halted : (p new : DevicePort) → new.st ≡ p.st → new.cr ≡ p.cr → new.ci ≡ p.ci → new.taken ≡ p.taken → IsEngineStopped p → IsEngineStopped new
 same_halted p new st cr ci taken h = record {
   st = st ∙ h.st;
   cr = cr ∙ h.cr;
@@ -62,28 +62,28 @@ same_halted p new st cr ci taken h = record {
   taken = λ s. ap (λ (f : ℕ → Option FetchedCommand). f s) taken ∙ h.taken s;
 }
 
-same_reset : (p new : DevicePort) → new.sact ≡ p.sact → new.fre ≡ p.fre → new.fr ≡ p.fr → IsAfterReset p → IsHalted new → IsAfterReset new
+same_reset : (p new : DevicePort) → new.sact ≡ p.sact → new.fre ≡ p.fre → new.fr ≡ p.fr → IsQuiescentPort p → IsEngineStopped new → IsQuiescentPort new
 same_reset p new sact fre fr h halted = record { halted = halted; sact = λ s. ap (λ (f : ℕ → Bool). f s) sact ∙ h.sact s; fre = fre ∙ h.fre; fr = fr ∙ h.fr }
 
-noted_halted : (p : DevicePort) (r : PortReg) (v : ℕ) → IsHalted p → IsHalted (record p { notes = note r v p })
+noted_halted : (p : DevicePort) (r : PortReg) (v : ℕ) → IsEngineStopped p → IsEngineStopped (record p { notes = note r v p })
 noted_halted p r v h = same_halted p _ refl refl refl refl h
 
-noted_reset : (p : DevicePort) (r : PortReg) (v : ℕ) → IsAfterReset p → IsAfterReset (record p { notes = note r v p })
+noted_reset : (p : DevicePort) (r : PortReg) (v : ℕ) → IsQuiescentPort p → IsQuiescentPort (record p { notes = note r v p })
 noted_reset p r v h = same_reset p _ refl refl refl h (noted_halted p r v h.halted)
 
-unacknowledged_halted : (p : DevicePort) → IsHalted p → IsHalted (unacknowledged p)
+unacknowledged_halted : (p : DevicePort) → IsEngineStopped p → IsEngineStopped (with_is_cleared p)
 unacknowledged_halted p h = same_halted p _ refl refl refl refl h
 
-unacknowledged_reset : (p : DevicePort) → IsAfterReset p → IsAfterReset (unacknowledged p)
+unacknowledged_reset : (p : DevicePort) → IsQuiescentPort p → IsQuiescentPort (with_is_cleared p)
 unacknowledged_reset p h = same_reset p _ refl refl refl h (unacknowledged_halted p h.halted)
 
 -- ST stays 0
 module _ (v tape : ℕ) (p : DevicePort) (off : bit v 0 ≡ false) where
-  stopped_halted : IsHalted p → IsHalted (port_written Cmd v tape p)
-  stopped_halted h = subst (λ (b : Bool). IsHalted (with_fre (bit v 4) (with_st b tape p))) (sym off)
+  stopped_halted : IsEngineStopped p → IsEngineStopped (port_written Cmd v tape p)
+  stopped_halted h = subst (λ (b : Bool). IsEngineStopped (with_fre (bit v 4) (with_st b tape p))) (sym off)
       (record { st = refl; cr = h.cr; ci = λ s. if_false p.st p.ci s (h.ci s); taken = h.taken })
 
-  stopped_reset : bit v 4 ≡ false → IsAfterReset p → IsAfterReset (port_written Cmd v tape p)
+  stopped_reset : bit v 4 ≡ false → IsQuiescentPort p → IsQuiescentPort (port_written Cmd v tape p)
   stopped_reset fre h = record {
     halted = stopped_halted h.halted;
     sact = λ s. subst (λ (b : Bool). (with_fre (bit v 4) (with_st b tape p)).sact s ≡ false) (sym off) (if_false p.st p.sact s (h.sact s));
@@ -91,7 +91,7 @@ module _ (v tape : ℕ) (p : DevicePort) (off : bit v 0 ≡ false) where
     fr = subst (λ (b : Bool). (with_fre b (with_st (bit v 0) tape p)).fr ≡ false) (sym fre) (subst (λ (b : Bool). (with_st b tape p).fr ≡ false) (sym off) h.fr);
   }
 
-port_halted : (r : PortReg) (v : ℕ) (d : Device) (p : DevicePort) → MayWritePort r v d p → (r ≡ Cmd → bit v 0 ≡ false) → IsHalted p → IsHalted (port_written r v (length d.tape) p)
+port_halted : (r : PortReg) (v : ℕ) (d : Device) (p : DevicePort) → MayWritePort r v d p → (r ≡ Cmd → bit v 0 ≡ false) → IsEngineStopped p → IsEngineStopped (port_written r v (length d.tape) p)
 port_halted Cmd v d p may off h = stopped_halted v (length d.tape) p (off refl) h
 port_halted px.Ci v d p may off h = absurd (both_ways _ h.st may.running)
 port_halted px.Clb v d p may off h = same_halted p _ refl refl refl refl h
@@ -105,7 +105,7 @@ port_halted px.Serr v d p may off h = same_halted p _ refl refl refl refl h
 port_halted px.Sact v d p may off h = same_halted p _ refl refl refl refl h
 port_halted _ v d p may off h = h
 
-port_reset : (r : PortReg) (v : ℕ) (d : Device) (p : DevicePort) → MayWritePort r v d p → (r ≡ Cmd → (bit v 0 ≡ false) × (bit v 4 ≡ false)) → IsAfterReset p → IsAfterReset (port_written r v (length d.tape) p)
+port_reset : (r : PortReg) (v : ℕ) (d : Device) (p : DevicePort) → MayWritePort r v d p → (r ≡ Cmd → (bit v 0 ≡ false) × (bit v 4 ≡ false)) → IsQuiescentPort p → IsQuiescentPort (port_written r v (length d.tape) p)
 port_reset Cmd v d p may off h = stopped_reset v (length d.tape) p (off refl).0 (off refl).1 h
 port_reset px.Sact v d p may off h = absurd (both_ways _ h.halted.st may)
 port_reset px.Ci v d p may off h = absurd (both_ways _ h.halted.st may.running)
@@ -119,29 +119,29 @@ port_reset px.Sctl v d p may off h = same_reset p _ refl refl refl h (port_halte
 port_reset px.Serr v d p may off h = same_reset p _ refl refl refl h (port_halted px.Serr v d p may (λ e. (off e).0) h.halted)
 port_reset _ v d p may off h = h
 
-pub halted_reads : StepLaws → (port : ℕ) (r : Reg) (v : ℕ) (old new : Device) → Reads r v old new → IsHalted (old.port port) → IsHalted (new.port port)
+pub halted_reads : StepLaws → (port : ℕ) (r : Reg) (v : ℕ) (old new : Device) → Reads r v old new → IsEngineStopped (old.port port) → IsEngineStopped (new.port port)
 halted_reads laws port r v old new x h =
-    subst (λ (d : Device). IsHalted (d.port port)) (sym x.effect) (noted_on IsHalted (port_at port) noted_halted r v x.mid (law_halted_stays laws port old x.mid x.steps h))
+    subst (λ (d : Device). IsEngineStopped (d.port port)) (sym x.effect) (noted_on IsEngineStopped (port_at port) noted_halted r v x.mid (law_stopped_engine_stays laws port old x.mid x.steps h))
 
-pub reset_reads : StepLaws → (port : ℕ) (r : Reg) (v : ℕ) (old new : Device) → Reads r v old new → IsAfterReset (old.port port) → IsAfterReset (new.port port)
+pub reset_reads : StepLaws → (port : ℕ) (r : Reg) (v : ℕ) (old new : Device) → Reads r v old new → IsQuiescentPort (old.port port) → IsQuiescentPort (new.port port)
 reset_reads laws port r v old new x h =
-    subst (λ (d : Device). IsAfterReset (d.port port)) (sym x.effect) (noted_on IsAfterReset (port_at port) noted_reset r v x.mid (reset_stays laws port old x.mid x.steps h))
+    subst (λ (d : Device). IsQuiescentPort (d.port port)) (sym x.effect) (noted_on IsQuiescentPort (port_at port) noted_reset r v x.mid (reset_stays laws port old x.mid x.steps h))
 
 -- what may be written in a port's register
 may_port : (port : Port) (r : Reg) (q : PortReg) (v : ℕ) (d : Device) → r ≡ Px port q → MayWrite r v d → MayWritePort q v d (d.port port.0)
 may_port port r q v d is may = let w : MayWrite (Px port q) v d = subst (λ (z : Reg). MayWrite z v d) is may in w.2
 
-pub halted_writes : StepLaws → (port : Port) (r : Reg) (v : ℕ) (old new : Device) → IsStable (MayWrite r v) old → (r ≡ Px port Cmd → bit v 0 ≡ false) → Writes r v old new → IsHalted (old.port port.0) → IsHalted (new.port port.0)
+pub halted_writes : StepLaws → (port : Port) (r : Reg) (v : ℕ) (old new : Device) → IsStable (MayWrite r v) old → (r ≡ Px port Cmd → bit v 0 ≡ false) → Writes r v old new → IsEngineStopped (old.port port.0) → IsEngineStopped (new.port port.0)
 halted_writes laws port r v old new may off x h =
-    subst (λ (d : Device). IsHalted (d.port port.0)) (sym x.effect)
-    (written_on IsHalted port noted_halted unacknowledged_halted r v x.mid
+    subst (λ (d : Device). IsEngineStopped (d.port port.0)) (sym x.effect)
+    (written_on IsEngineStopped port noted_halted unacknowledged_halted r v x.mid
     (λ q is. port_halted q v x.mid (x.mid.port port.0) (may_port port r q v x.mid is (may x.mid x.steps)) (λ c. off (is ∙ ap (Px port) c)))
-    (law_halted_stays laws port.0 old x.mid x.steps h))
+    (law_stopped_engine_stays laws port.0 old x.mid x.steps h))
 
-pub reset_writes : StepLaws → (port : Port) (r : Reg) (v : ℕ) (old new : Device) → IsStable (MayWrite r v) old → (r ≡ Px port Cmd → (bit v 0 ≡ false) × (bit v 4 ≡ false)) → Writes r v old new → IsAfterReset (old.port port.0) → IsAfterReset (new.port port.0)
+pub reset_writes : StepLaws → (port : Port) (r : Reg) (v : ℕ) (old new : Device) → IsStable (MayWrite r v) old → (r ≡ Px port Cmd → (bit v 0 ≡ false) × (bit v 4 ≡ false)) → Writes r v old new → IsQuiescentPort (old.port port.0) → IsQuiescentPort (new.port port.0)
 reset_writes laws port r v old new may off x h =
-    subst (λ (d : Device). IsAfterReset (d.port port.0)) (sym x.effect)
-    (written_on IsAfterReset port noted_reset unacknowledged_reset r v x.mid
+    subst (λ (d : Device). IsQuiescentPort (d.port port.0)) (sym x.effect)
+    (written_on IsQuiescentPort port noted_reset unacknowledged_reset r v x.mid
     (λ q is. port_reset q v x.mid (x.mid.port port.0) (may_port port r q v x.mid is (may x.mid x.steps)) (λ c. off (is ∙ ap (Px port) c)))
     (reset_stays laws port.0 old x.mid x.steps h))
 
@@ -166,23 +166,23 @@ over_of m d port slot (Serves id) st cr h = of h.stage
     of (inr (inr (inl x))) = record { issued = x.issued; free = x.free }
     of (inr (inr (inr x))) = record { issued = x.issued; free = x.free }
 
-pub stopped_halts : (uses : SlotStates) (m : Machine) (d : Device) (port : ℕ) → StateRelation uses m d → (d.port port).st ≡ false → (d.port port).cr ≡ false → IsHalted (d.port port)
+pub stopped_halts : (uses : SlotStates) (m : Machine) (d : Device) (port : ℕ) → StateRelation uses m d → (d.port port).st ≡ false → (d.port port).cr ≡ false → IsEngineStopped (d.port port)
 stopped_halts uses m d port a st cr =
     let over : (slot : ℕ) → IsOver (d.port port) slot = λ slot. over_of m d port slot (uses port slot) st cr (a.slot port slot) in
     record { st = st; cr = cr; ci = λ s. (over s).issued; taken = λ s. (over s).free }
 
 pub law_stop_is_found : StepLaws → (uses : SlotStates) (m : Machine) (port : Port) (v : ℕ) (old new : Device) → IsReachable m → StateRelation uses m old →
-    (old.port port.0).st ≡ false → Reads (Px port Cmd) v old new → bit v 15 ≡ false → IsHalted (new.port port.0)
+    (old.port port.0).st ≡ false → Reads (Px port Cmd) v old new → bit v 15 ≡ false → IsEngineStopped (new.port port.0)
 law_stop_is_found laws uses m port v old new reached a st call clear =
     let f : SimulatesSteps uses m old call.mid = steps_follow uses m old call.mid reached a call.steps in
     let k : KeepsPort (old.port port.0) (call.mid.port port.0) = (laws.keeps _ _ call.steps).port port.0 in
-    let h : IsHalted (call.mid.port port.0) = stopped_halts uses (left.after m f.steps) call.mid port.0 f.agrees (k.st st) (sym call.shows.3 ∙ clear) in
+    let h : IsEngineStopped (call.mid.port port.0) = stopped_halts uses (left.after m f.steps) call.mid port.0 f.agrees (k.st st) (sym call.shows.3 ∙ clear) in
     let is : new.port port.0 ≡ record (call.mid.port port.0) { notes = note Cmd v (call.mid.port port.0) } = ap (λ (d : Device). d.port port.0) call.effect ∙ changed_same call.mid.port port.0 _ in
-    subst IsHalted (sym is) (record { st = h.st; cr = h.cr; ci = h.ci; taken = h.taken })
+    subst IsEngineStopped (sym is) (record { st = h.st; cr = h.cr; ci = h.ci; taken = h.taken })
 
 -- ---- HR is read 0
 
-pub reset_left : (d : Device) (port : ℕ) → IsAfterReset ((device_after ResetEnds d).port port)
+pub reset_left : (d : Device) (port : ℕ) → IsQuiescentPort ((device_after ResetEnds d).port port)
 reset_left d port = record { halted = record { st = refl; cr = refl; ci = λ s. refl; taken = λ s. refl }; sact = λ s. refl; fre = refl; fr = refl }
 
 -- a step, and then steps
@@ -219,7 +219,7 @@ reset_read v old new on call clear =
     subst (Ends old) (sym call.effect) (reset_ends call.steps.steps old call.mid on (sym call.shows.0 ∙ clear) call.steps.lead)
 
 -- what it leaves stays
-pub law_reset_is_found : StepLaws → (v : ℕ) (old new : Device) → old.hr ≡ true → Reads Ghc v old new → bit v 0 ≡ false → (port : ℕ) → IsAfterReset (new.port port)
+pub law_reset_is_found : StepLaws → (v : ℕ) (old new : Device) → old.hr ≡ true → Reads Ghc v old new → bit v 0 ≡ false → (port : ℕ) → IsQuiescentPort (new.port port)
 law_reset_is_found laws v old new on call clear port =
     let s = reset_read v old new on call clear in
     (reset_stays laws) port (device_after ResetEnds s.0) new s.1 (reset_left s.0 port)

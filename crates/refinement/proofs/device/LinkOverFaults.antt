@@ -17,7 +17,7 @@ use Rattle.adapter.specs.declared.tape.Entry.{Entry}
 use Rattle.adapter.proofs.Changed.{changed_same}
 use Rattle.refinement.specs.Below.{StepLaws}
 use Rattle.refinement.specs.Errors.{NoneFatal, IsFatalOf}
-use Rattle.refinement.specs.Links.{SparesRegister, PlugsNone, LeavesDisk, SameLink, ComesUp, LeavesLink, IsPlugging}
+use Rattle.refinement.specs.Links.{DoesNotWrite, NoPlugEvents, LeavesDisk, SameLink, ComesUp, LeavesLink, IsPlugEvent}
 use Rattle.refinement.specs.Started.{IsUp, IsStarted, ClearsNoStart}
 use Rattle.refinement.proofs.device.FactsOverAccesses.{access_steps, effect_keeps}
 use Rattle.refinement.proofs.device.FaultlessStretches.{fatal_parts}
@@ -38,11 +38,11 @@ linked_on p new l disk control h = record {
   released = λ one. h.released (sym control ∙ one);
 }
 
-pub steps_linked : StepLaws → (port : ℕ) (old new : Device) → old.hr ≡ false → PlugsNone port old new → Steps old new → IsLinked (old.port port) → IsLinked (new.port port)
+pub steps_linked : StepLaws → (port : ℕ) (old new : Device) → old.hr ≡ false → NoPlugEvents port old new → Steps old new → IsLinked (old.port port) → IsLinked (new.port port)
 steps_linked laws port old new off none s h =
     linked_on (old.port port) (new.port port) (steps_link laws port old new off s none) (steps_disk laws port old new s none) (((laws.keeps _ _ s).on off).controls port).sctl_det h
 
-pub access_linked : StepLaws → (port : Port) (access : Access) (old new : Device) → old.hr ≡ false → SparesRegister (Px port Sctl) access → PlugsNone port.0 old new → Does access old new → IsLinked (old.port port.0) → IsLinked (new.port port.0)
+pub access_linked : StepLaws → (port : Port) (access : Access) (old new : Device) → old.hr ≡ false → DoesNotWrite (Px port Sctl) access → NoPlugEvents port.0 old new → Does access old new → IsLinked (old.port port.0) → IsLinked (new.port port.0)
 access_linked laws port access old new off spares none x h =
     linked_on (old.port port.0) (new.port port.0) (access_link laws port access old new off spares x none) (access_disk laws port.0 access old new x none)
     ((access_controls laws port access old new off x).control spares).0 h
@@ -64,7 +64,7 @@ runs_of p h = (h.st, h.cr, h.det, h.present, h.fresh, h.linked, h.whole)
 is_running : (p : DevicePort) → Runs p → RunsLinked p
 is_running p h = record { st = h.0; cr = h.1; det = h.2; present = h.3; fresh = h.4; linked = h.5; whole = h.6 }
 
-module _ (port : ℕ) (d : Device) (gained others : List Entry) (none : NoneOf (IsPlugging port) gained) (calm : NoneOf (IsFatalOf port) others) where
+module _ (port : ℕ) (d : Device) (gained others : List Entry) (none : NoneOf (IsPlugEvent port) gained) (calm : NoneOf (IsFatalOf port) others) where
   step_runs : (step : DeviceTransition) → d.hr ≡ false → Can step d → (device_after step d).tape ≡ d.tape ++ gained → (device_after step d).tape ≡ d.tape ++ others → Runs (d.port port) → Runs ((device_after step d).port port)
   step_runs (Fetch p slot c places) off can is too h = at_port Runs Runs d p port _ h (λ e x. x) (λ ne x. x)
   step_runs (FetchFault p slot queued kept_bits) off can is too h = at_port Runs Runs d p port _ h (λ e x. x) (λ ne x. x)
@@ -78,13 +78,13 @@ module _ (port : ℕ) (d : Device) (gained others : List Entry) (none : NoneOf (
   step_runs (FrFall p) off can is too h = at_port Runs Runs d p port _ h (λ e x. x) (λ ne x. x)
   step_runs (LinkUp p sig n) off can is too h = at_port Runs Runs d p port _ h (λ e x. absurd (both_ways _ x.5 can.due)) (λ ne x. x)
   step_runs (Unplug p) off can is too h = at_port Runs Runs d p port _ h
-      (λ e x. absurd (gained_none (IsPlugging port) d.tape _ gained is none e)) (λ ne x. x)
+      (λ e x. absurd (gained_none (IsPlugEvent port) d.tape _ gained is none e)) (λ ne x. x)
   step_runs (Plug p disk) off can is too h = at_port Runs Runs d p port _ h
-      (λ e x. absurd (gained_none (IsPlugging port) d.tape _ gained is none e)) (λ ne x. x)
+      (λ e x. absurd (gained_none (IsPlugEvent port) d.tape _ gained is none e)) (λ ne x. x)
   step_runs ResetEnds off can is too h = absurd (both_ways _ off can)
   step_runs (Scribble p slot at bytes) off can is too h = h
 
-leads_run : StepLaws → (port : ℕ) (steps : List DeviceTransition) (old new : Device) → old.hr ≡ false → PlugsNone port old new → NoneFatal port old new → StepLeads steps old new → Runs (old.port port) → Runs (new.port port)
+leads_run : StepLaws → (port : ℕ) (steps : List DeviceTransition) (old new : Device) → old.hr ≡ false → NoPlugEvents port old new → NoneFatal port old new → StepLeads steps old new → Runs (old.port port) → Runs (new.port port)
 leads_run laws port [] old new off none calm e h = subst (λ (d : Device). Runs (d.port port)) (sym e) h
 leads_run laws port (step ∷ steps) old new off none calm (can, lead) h =
     let k : Keeps old (device_after step old) = laws.step step _ can in
@@ -94,7 +94,7 @@ leads_run laws port (step ∷ steps) old new off none calm (can, lead) h =
     leads_run laws port steps (device_after step old) new (k.on off).no_reset plugs.1 fatal.1 lead
     (step_runs port old plugs.0.gained fatal.0.gained plugs.0.none fatal.0.none step off can plugs.0.tape fatal.0.tape h)
 
-pub steps_run : StepLaws → (port : ℕ) (old new : Device) → old.hr ≡ false → PlugsNone port old new → NoneFatal port old new → Steps old new → RunsLinked (old.port port) → RunsLinked (new.port port)
+pub steps_run : StepLaws → (port : ℕ) (old new : Device) → old.hr ≡ false → NoPlugEvents port old new → NoneFatal port old new → Steps old new → RunsLinked (old.port port) → RunsLinked (new.port port)
 steps_run laws port old new off none calm s h = is_running (new.port port) (leads_run laws port s.steps old new off none calm s.lead (runs_of (old.port port) h))
 
 -- ST stays 1
@@ -112,7 +112,7 @@ written_runs _ v tape p on other h = h
 fatal_before : (port : ℕ) (old mid new : Device) → new.tape ≡ mid.tape → NoneFatal port old new → NoneFatal port old mid
 fatal_before port old mid new same h = record { gained = h.gained; tape = sym same ∙ h.tape; none = h.none }
 
-pub access_runs : StepLaws → (port : Port) (access : Access) (old new : Device) → old.hr ≡ false → ClearsNoStart port access → SparesRegister (Px port Sctl) access → PlugsNone port.0 old new → NoneFatal port.0 old new → Does access old new →
+pub access_runs : StepLaws → (port : Port) (access : Access) (old new : Device) → old.hr ≡ false → ClearsNoStart port access → DoesNotWrite (Px port Sctl) access → NoPlugEvents port.0 old new → NoneFatal port.0 old new → Does access old new →
     RunsLinked (old.port port.0) → RunsLinked (new.port port.0)
 access_runs laws port access old new off keeps spares none calm x h =
     let s = access_steps access old new x in
@@ -129,11 +129,11 @@ running_now v tape p on off u =
     (subst (λ (x : DevicePort). RunsLinked (with_fre (bit v 4) x)) (sym (cond-false p.st p _ off))
     (record { st = refl; cr = refl; det = u.det; present = u.present; fresh = u.fresh; linked = u.linked; whole = refl }))
 
-pub start_runs : StepLaws → (port : Port) (v : ℕ) (old new : Device) → old.hr ≡ false → (old.port port.0).st ≡ false → (old.port port.0).cr ≡ false → bit v 0 ≡ true → PlugsNone port.0 old new → Writes (Px port Cmd) v old new →
+pub start_runs : StepLaws → (port : Port) (v : ℕ) (old new : Device) → old.hr ≡ false → (old.port port.0).st ≡ false → (old.port port.0).cr ≡ false → bit v 0 ≡ true → NoPlugEvents port.0 old new → Writes (Px port Cmd) v old new →
     IsLinked (old.port port.0) → RunsLinked (new.port port.0)
 start_runs laws port v old new off stopped stands on none call h =
     let k : Keeps old call.mid = laws.keeps _ _ call.steps in
-    let before : PlugsNone port.0 old call.mid = plugs_before port.0 old call.mid new (ap (λ (d : Device). d.tape) call.effect ∙ written_tape (Px port Cmd) v call.mid) none in
+    let before : NoPlugEvents port.0 old call.mid = plugs_before port.0 old call.mid new (ap (λ (d : Device). d.tape) call.effect ∙ written_tape (Px port Cmd) v call.mid) none in
     subst RunsLinked (sym (ap (λ (d : Device). d.port port.0) call.effect ∙ changed_same call.mid.port port.0 _))
     (running_now v (length call.mid.tape) (call.mid.port port.0) on ((k.port port.0).st stopped) (steps_linked laws port.0 old call.mid off before call.steps h))
 

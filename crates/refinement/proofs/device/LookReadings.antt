@@ -9,10 +9,10 @@ use Rattle.adapter.specs.Access.{Reads}
 use Rattle.adapter.specs.Access.Access.{Reading}
 use Rattle.adapter.specs.Device.{Device}
 use Rattle.adapter.specs.Kept.{KeepsControls}
-use Rattle.adapter.specs.Seen.{SeenAt}
+use Rattle.adapter.specs.Seen.{PortRegisterRead}
 use Rattle.refinement.specs.Below.{StepLaws}
 use Rattle.refinement.specs.Errors.{ChangesByDisks, NoneFails}
-use Rattle.refinement.specs.Links.{PlugsNone, LeavesLink, SameLink, ComesUp}
+use Rattle.refinement.specs.Links.{NoPlugEvents, LeavesLink, SameLink, ComesUp}
 use Rattle.refinement.proofs.device.ErrorBits.{access_change, plugs_come}
 use Rattle.refinement.proofs.device.PortControls.{access_link}
 use Rattle.refinement.proofs.device.RaisedBits.{access_raises}
@@ -20,7 +20,7 @@ use Rattle.refinement.proofs.device.TroubleBits.{shown_place}
 
 module _ (laws : StepLaws) (port : Port) (v : ℕ) (old new : Device) (off : old.hr ≡ false) where
   module _ (call : Reads (Px port Is) v old new) where
-    seen_is : SeenAt port.0 Is v old new
+    seen_is : PortRegisterRead port.0 Is v old new
     seen_is = laws.seen port Is v old new call off
 
     kept : KeepsControls (old.port port.0) (new.port port.0)
@@ -33,7 +33,7 @@ module _ (laws : StepLaws) (port : Port) (v : ℕ) (old new : Device) (off : old
     errors_told = (λ n. seen_is.shows 22 refl ∙ kept.serr_n n, λ x. seen_is.shows 6 refl ∙ kept.serr_x x)
 
     pub lost_told : (old.port port.0).link_due ≡ false → (bit v 22 ≡ true) ⊎ (bit v 6 ≡ true) →
-        ((old.port port.0).serr_n ≡ true) ⊎ (((old.port port.0).serr_x ≡ true) ⊎ (PlugsNone port.0 old new → ⊥))
+        ((old.port port.0).serr_n ≡ true) ⊎ (((old.port port.0).serr_x ≡ true) ⊎ (NoPlugEvents port.0 old new → ⊥))
     lost_told undue told = ⊎_elim
         (λ (n : (old.port port.0).serr_n ≡ true). inl n)
         (λ (n : (old.port port.0).serr_n ≡ false). ⊎_elim
@@ -45,7 +45,7 @@ module _ (laws : StepLaws) (port : Port) (v : ℕ) (old new : Device) (off : old
         change : ChangesByDisks port.0 old new
         change = access_change laws port (Reading (Px port Is) v) old new off undue call
 
-        neither : (old.port port.0).serr_n ≡ false → (old.port port.0).serr_x ≡ false → PlugsNone port.0 old new → ⊥
+        neither : (old.port port.0).serr_n ≡ false → (old.port port.0).serr_x ≡ false → NoPlugEvents port.0 old new → ⊥
         neither n x none = ⊎_elim
             (λ (t : bit v 22 ≡ true). absurd (both_ways _ (seen_is.shows 22 refl ∙ change.serr_n none n) t))
             (λ (t : bit v 6 ≡ true). absurd (both_ways _ (seen_is.shows 6 refl ∙ change.serr_x (plugs_come port.0 old new none) x) t))
@@ -57,7 +57,7 @@ module _ (laws : StepLaws) (port : Port) (v : ℕ) (old new : Device) (off : old
         (λ (f : (old.port port.0).is 30 ≡ false). inr (λ none. absurd (both_ways _ (seen_is.shows 30 refl ∙ (access_raises laws port (Reading (Px port Is) v) old new call).fault none f) told)))
         (cases_Bool ((old.port port.0).is 30))
 
-  pub unlinked_told : (old.port port.0).link_due ≡ false → Reads (Px port Ssts) v old new → v % 16 ≢ 3 → ((old.port port.0).ssts_det ≢ 3) ⊎ (PlugsNone port.0 old new → ⊥)
+  pub unlinked_told : (old.port port.0).link_due ≡ false → Reads (Px port Ssts) v old new → v % 16 ≢ 3 → ((old.port port.0).ssts_det ≢ 3) ⊎ (NoPlugEvents port.0 old new → ⊥)
   unlinked_told undue call other = ⊎_elim
       (λ (three : (old.port port.0).ssts_det ≡ 3). inr (λ none. other (shows ∙ same three (access_link laws port (Reading (Px port Ssts) v) old new off tt call none))))
       (λ (ne : (old.port port.0).ssts_det ≡ 3 → ⊥). inl ne)

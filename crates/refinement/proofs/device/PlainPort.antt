@@ -12,7 +12,7 @@ use Rattle.adapter.specs.Commands.{Meaning, is_queued}
 use Rattle.adapter.specs.Device.{Halt, FetchedCommand, DevicePort, Device}
 use Rattle.adapter.specs.Device.Halt.{NotHalted, HaltedPlain, HaltedQueued, LogOnly}
 use Rattle.adapter.specs.Memory.{changed}
-use Rattle.adapter.specs.Steps.{DeviceTransition, Can, device_after, StepLeads, Steps, halted, restarted, begun, MayFetch}
+use Rattle.adapter.specs.Steps.{DeviceTransition, Can, device_after, StepLeads, Steps, halted, halt_after_start, begun, MayFetch}
 use Rattle.adapter.specs.Steps.DeviceTransition.{Fetch, FetchFault, Move, Clear, Done, Fault, Fatal, Fall, FrFall, LinkUp, Unplug, Plug, ResetEnds, Scribble}
 use Rattle.adapter.proofs.SaysLemmas.{says_meaning}
 use Rattle.block_machine.specs.Histories.{IsReachable}
@@ -22,7 +22,7 @@ use Rattle.refinement.specs.Below.{StepLaws}
 use Rattle.refinement.specs.Relation.{StateRelation}
 use Rattle.refinement.specs.Facts.{RunsWell, TellsNoTrouble}
 use Rattle.refinement.specs.Follows.{SimulatesSteps}
-use Rattle.refinement.specs.Links.{SparesRegister}
+use Rattle.refinement.specs.Links.{DoesNotWrite}
 use Rattle.refinement.specs.Places.{scratch_of}
 use Rattle.refinement.specs.Slots.{SlotState, Free, Armed, Own, Serves, SlotStates, Stage, OwnWaits, OwnTaken, OwnOver, RelatesSlot, op_of}
 use Rattle.refinement.specs.Started.{IsUp}
@@ -38,7 +38,7 @@ use Rattle.refinement.specs.Recovering.{IsLinked, WorksPlainly}
 
 -- as facts of a port's fields
 abbrev Plain : DevicePort → Type 0
-Plain p = (restarted p.halt ≡ NotHalted) × ((slot : ℕ) → p.sact slot ≡ false) × ((slot : ℕ) (t : FetchedCommand) → p.taken slot ≡ Some t → is_queued t.meaning.operation ≡ false)
+Plain p = (halt_after_start p.halt ≡ NotHalted) × ((slot : ℕ) → p.sact slot ≡ false) × ((slot : ℕ) (t : FetchedCommand) → p.taken slot ≡ Some t → is_queued t.meaning.operation ≡ false)
 
 plain_of : (p : DevicePort) → WorksPlainly p → Plain p
 plain_of p h = (h.restarts, h.unarmed, h.plain)
@@ -99,7 +99,7 @@ taken_plain uses m d port slot t a st clear is = by (uses port slot) (a.slot por
 -- ---- a step
 
 -- a plain fault is ended by a start, where the halt before it was
-halted_plain : (h : Halt) → restarted h ≡ NotHalted → restarted (halted h false) ≡ NotHalted
+halted_plain : (h : Halt) → halt_after_start h ≡ NotHalted → halt_after_start (halted h false) ≡ NotHalted
 halted_plain NotHalted e = refl
 halted_plain HaltedPlain e = refl
 halted_plain HaltedQueued e = absurd (let z : LogOnly ≡ NotHalted = e in cc)
@@ -139,7 +139,7 @@ module _ (uses : SlotStates) (m : Machine) (d : Device) (a : StateRelation uses 
       (λ e x. (refl, fallen_on (is_queued t.meaning.operation) (d.port p) slot x.1, taken_on (d.port p) slot None (λ z none. absurd (none-some _ none)) x.2)) (λ ne x. x)
   step_plain (Fault p slot error kept_bits t) can = at_port Plain Plain d p port _ h
       (λ e x. (
-        ap (λ (b : Bool). restarted (halted (d.port p).halt b)) (x.2 slot t can.taken) ∙ halted_plain (d.port p).halt x.0,
+        ap (λ (b : Bool). halt_after_start (halted (d.port p).halt b)) (x.2 slot t can.taken) ∙ halted_plain (d.port p).halt x.0,
         x.1,
         x.2,
       ))
@@ -170,14 +170,14 @@ command_plain v tape p h = by (bit v 0) p.st refl
     by : (b s : Bool) → p.st ≡ s → Plain (with_fre (bit v 4) (with_st b tape p))
     by false s is = (h.0, λ slot. if_false p.st p.sact slot (h.1 slot), h.2)
     by true true is = subst (λ (x : DevicePort). Plain (with_fre (bit v 4) x)) (sym (cond-true p.st p _ is)) h
-    by true false is = subst (λ (x : DevicePort). Plain (with_fre (bit v 4) x)) (sym (cond-false p.st p _ is)) (ap restarted h.0, h.1, h.2)
+    by true false is = subst (λ (x : DevicePort). Plain (with_fre (bit v 4) x)) (sym (cond-false p.st p _ is)) (ap halt_after_start h.0, h.1, h.2)
 
 written_plain : (r : PortReg) (v tape : ℕ) (p : DevicePort) → (r ≡ Sact → ⊥) → Plain p → Plain (port_written r v tape p)
 written_plain Cmd v tape p other h = command_plain v tape p h
 written_plain Sact v tape p other h = absurd (other refl)
 written_plain _ v tape p other h = h
 
-pub access_plain : StepLaws → (uses : SlotStates) (m : Machine) (port : Port) (access : Access) (old new : Device) → IsReachable m → StateRelation uses m old → SparesRegister (Px port Sact) access → Does access old new →
+pub access_plain : StepLaws → (uses : SlotStates) (m : Machine) (port : Port) (access : Access) (old new : Device) → IsReachable m → StateRelation uses m old → DoesNotWrite (Px port Sact) access → Does access old new →
     WorksPlainly (old.port port.0) → WorksPlainly (new.port port.0)
 access_plain laws uses m port access old new r a spares x h =
     let s = access_steps access old new x in
@@ -189,7 +189,7 @@ access_plain laws uses m port access old new r a spares x h =
 -- ---- where it begins, and what it gives
 
 pub running_plainly : (uses : SlotStates) (m : Machine) (port : ℕ) (d : Device) → StateRelation uses m d → (d.port port).st ≡ true → (d.port port).halt ≡ NotHalted → ((slot : ℕ) → (d.port port).sact slot ≡ false) → WorksPlainly (d.port port)
-running_plainly uses m port d a st runs clear = record { restarts = ap restarted runs; unarmed = clear; plain = λ slot t is. taken_plain uses m d port slot t a st (clear slot) is }
+running_plainly uses m port d a st runs clear = record { restarts = ap halt_after_start runs; unarmed = clear; plain = λ slot t is. taken_plain uses m d port slot t a st (clear slot) is }
 
 pub plainly_up : (p : DevicePort) → IsLinked p → WorksPlainly p → IsUp p
 plainly_up p l w = record { det = l.det; present = l.present; fresh = l.fresh; linked = l.linked; released = l.released; restarts = w.restarts }

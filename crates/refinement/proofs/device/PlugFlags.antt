@@ -18,7 +18,7 @@ use Rattle.adapter.specs.Steps.DeviceTransition.{Fetch, FetchFault, Move, Clear,
 use Rattle.adapter.specs.declared.tape.Entry.{Entry}
 use Rattle.adapter.proofs.Changed.{changed_same}
 use Rattle.refinement.specs.Below.{StepLaws}
-use Rattle.refinement.specs.Links.{SparesRegister, IsPlugging, PlugsNone}
+use Rattle.refinement.specs.Links.{DoesNotWrite, IsPlugEvent, NoPlugEvents}
 use Rattle.refinement.proofs.device.FactsOverAccesses.{access_steps, effect_keeps}
 use Rattle.refinement.proofs.device.ErrorBits.{command_beside}
 use Rattle.refinement.proofs.device.TapeGains.{NoneOf, gained_parts}
@@ -33,7 +33,7 @@ IsNoted p = p.serr_n ≡ true
 
 -- a step gains no entry, or one, and then the flag tells of a disk
 abbrev Raises : ℕ → Bool → List Entry → Type 0
-Raises port noted gained = (gained ≡ []) ⊎ ((e : Entry) × (gained ≡ e ∷ []) × (IsPlugging port e → noted ≡ true))
+Raises port noted gained = (gained ≡ []) ⊎ ((e : Entry) × (gained ≡ e ∷ []) × (IsPlugEvent port e → noted ≡ true))
 
 -- what is shown of a port that was changed
 at_changed : (Q : DevicePort → Type 0) (d : Device) (p port : ℕ) (new : DevicePort) → p ≡ port → Q new → Q (changed d.port p new port)
@@ -45,7 +45,7 @@ step_raises port d step can gained is = by step can is
     nothing : {noted : Bool} → d.tape ≡ d.tape ++ gained → Raises port noted gained
     nothing is = inl (sym (append_cancel_left d.tape [] gained (append-nil d.tape ∙ is)))
 
-    one : {noted : Bool} (e : Entry) → (IsPlugging port e → noted ≡ true) → d.tape ++ e ∷ [] ≡ d.tape ++ gained → Raises port noted gained
+    one : {noted : Bool} (e : Entry) → (IsPlugEvent port e → noted ≡ true) → d.tape ++ e ∷ [] ≡ d.tape ++ gained → Raises port noted gained
     one e notes is = inr (e, sym (append_cancel_left d.tape (e ∷ []) gained is), notes)
 
     plugged : (p : ℕ) (new : DevicePort) → new.serr_n ≡ true → p ≡ port → IsNoted (changed d.port p new port)
@@ -70,23 +70,23 @@ step_raises port d step can gained is = by step can is
 -- ---- lists of steps
 
 -- The flag stays raised while no reset is pending: what it doesn't tell hasn't come.
-leads_untold : StepLaws → (port : ℕ) (steps : List DeviceTransition) (old new : Device) → old.hr ≡ false → StepLeads steps old new → (IsNoted (new.port port) → ⊥) → (gained : List Entry) → new.tape ≡ old.tape ++ gained → NoneOf (IsPlugging port) gained
+leads_untold : StepLaws → (port : ℕ) (steps : List DeviceTransition) (old new : Device) → old.hr ≡ false → StepLeads steps old new → (IsNoted (new.port port) → ⊥) → (gained : List Entry) → new.tape ≡ old.tape ++ gained → NoneOf (IsPlugEvent port) gained
 leads_untold laws port [] old new off e untold gained is =
-    subst (NoneOf (IsPlugging port)) (append_cancel_left old.tape [] gained (append-nil old.tape ∙ ap (λ (d : Device). d.tape) (sym e) ∙ is)) (All-nil (λ e. IsPlugging port e → ⊥))
+    subst (NoneOf (IsPlugEvent port)) (append_cancel_left old.tape [] gained (append-nil old.tape ∙ ap (λ (d : Device). d.tape) (sym e) ∙ is)) (All-nil (λ e. IsPlugEvent port e → ⊥))
 leads_untold laws port (step ∷ steps) old new off (can, lead) untold gained is =
     let k : Keeps old (device_after step old) = laws.step step _ can in
     let l : Keeps (device_after step old) new = laws.keeps _ _ (record { steps = steps; lead = lead }) in
     let off' : (device_after step old).hr ≡ false = (k.on off).no_reset in
-    subst (NoneOf (IsPlugging port)) (sym (gained_parts old.tape (device_after step old).tape new.tape k.gained l.gained gained k.tape l.tape is))
-    (All-append (λ e. IsPlugging port e → ⊥) k.gained l.gained
+    subst (NoneOf (IsPlugEvent port)) (sym (gained_parts old.tape (device_after step old).tape new.tape k.gained l.gained gained k.tape l.tape is))
+    (All-append (λ e. IsPlugEvent port e → ⊥) k.gained l.gained
     (plugs port ((device_after step old).port port).serr_n k.gained (step_raises port old step can k.gained k.tape) (λ x. untold (((l.on off').controls port).serr_n x)))
     (leads_untold laws port steps (device_after step old) new off' lead untold l.gained l.tape))
   where
-    plugs : (port : ℕ) (noted : Bool) (gained : List Entry) → Raises port noted gained → (noted ≡ true → ⊥) → NoneOf (IsPlugging port) gained
-    plugs port noted gained (inl e) untold = subst (NoneOf (IsPlugging port)) (sym e) (All-nil (λ e. IsPlugging port e → ⊥))
-    plugs port noted gained (inr (x, e, notes)) untold = subst (NoneOf (IsPlugging port)) (sym e) (All-cons (λ e. IsPlugging port e → ⊥) x [] (λ k. untold (notes k)) (All-nil (λ e. IsPlugging port e → ⊥)))
+    plugs : (port : ℕ) (noted : Bool) (gained : List Entry) → Raises port noted gained → (noted ≡ true → ⊥) → NoneOf (IsPlugEvent port) gained
+    plugs port noted gained (inl e) untold = subst (NoneOf (IsPlugEvent port)) (sym e) (All-nil (λ e. IsPlugEvent port e → ⊥))
+    plugs port noted gained (inr (x, e, notes)) untold = subst (NoneOf (IsPlugEvent port)) (sym e) (All-cons (λ e. IsPlugEvent port e → ⊥) x [] (λ k. untold (notes k)) (All-nil (λ e. IsPlugEvent port e → ⊥)))
 
-pub noted_plugs : StepLaws → (port : ℕ) (old new : Device) → old.hr ≡ false → Steps old new → (new.port port).serr_n ≡ false → ((old.port port).serr_n ≡ false) × PlugsNone port old new
+pub noted_plugs : StepLaws → (port : ℕ) (old new : Device) → old.hr ≡ false → Steps old new → (new.port port).serr_n ≡ false → ((old.port port).serr_n ≡ false) × NoPlugEvents port old new
 noted_plugs laws port old new off s clear =
     let k : Keeps old new = laws.keeps _ _ s in (
       was_false (old.port port).serr_n (new.port port).serr_n ((k.on off).controls port).serr_n clear,
@@ -104,15 +104,15 @@ written_flag first Serr v tape p other h = absurd (other refl)
 written_flag first Cmd v tape p other h = (command_beside v tape p).1 ∙ h
 written_flag first _ v tape p other h = h
 
-effect_flag : (port : Port) (access : Access) (old new : Device) (x : Does access old new) → SparesRegister (Px port Serr) access → SameFlag ((access_steps access old new x).0.port port.0) (new.port port.0)
+effect_flag : (port : Port) (access : Access) (old new : Device) (x : Does access old new) → DoesNotWrite (Px port Serr) access → SameFlag ((access_steps access old new x).0.port port.0) (new.port port.0)
 effect_flag port access old new x spares =
     let first : DevicePort = (access_steps access old new x).0.port port.0 in
     effect_keeps (SameFlag first) port (λ p r v h. h) (λ p h. h) access old new x
     (λ r v mid is steps h. written_flag first r v (length mid.tape) (mid.port port.0) (spared port r Serr access v spares is) h)
     refl
 
-pub access_plugs : StepLaws → (port : Port) (access : Access) (old new : Device) → old.hr ≡ false → SparesRegister (Px port Serr) access → Does access old new → (new.port port.0).serr_n ≡ false →
-    ((old.port port.0).serr_n ≡ false) × PlugsNone port.0 old new
+pub access_plugs : StepLaws → (port : Port) (access : Access) (old new : Device) → old.hr ≡ false → DoesNotWrite (Px port Serr) access → Does access old new → (new.port port.0).serr_n ≡ false →
+    ((old.port port.0).serr_n ≡ false) × NoPlugEvents port.0 old new
 access_plugs laws port access old new off spares x clear =
     let s = access_steps access old new x in
     let before : (s.0.port port.0).serr_n ≡ false = sym (effect_flag port access old new x spares) ∙ clear in
@@ -122,7 +122,7 @@ access_plugs laws port access old new off spares x clear =
 -- ---- what is read
 
 pub read_plugs : StepLaws → (port : Port) (v : ℕ) (old new : Device) → old.hr ≡ false → Reads (Px port Serr) v old new → bit v 16 ≡ false →
-    ((new.port port.0).serr_n ≡ false) × ((old.port port.0).serr_n ≡ false) × PlugsNone port.0 old new
+    ((new.port port.0).serr_n ≡ false) × ((old.port port.0).serr_n ≡ false) × NoPlugEvents port.0 old new
 read_plugs laws port v old new off x clear =
     let is : new.port port.0 ≡ record (x.mid.port port.0) { notes = note Serr v (x.mid.port port.0) } = ap (λ (d : Device). d.port port.0) x.effect ∙ changed_same x.mid.port port.0 _ in
     let n : (new.port port.0).serr_n ≡ false = ap (λ (p : DevicePort). p.serr_n) is ∙ sym x.shows.0 ∙ clear in

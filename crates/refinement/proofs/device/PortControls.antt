@@ -19,7 +19,7 @@ use Rattle.adapter.specs.declared.tape.Entry.TheVariants as entry
 use Rattle.refinement.specs.Below.{StepLaws}
 use Rattle.refinement.specs.Relation.{port_at}
 use Rattle.refinement.specs.Facts.{IsDisturbance, Undisturbed}
-use Rattle.refinement.specs.Links.{SparesRegister, LeavesControls, IsPlugging, PlugsNone, LeavesDisk, SameLink, ComesUp, LeavesLink}
+use Rattle.refinement.specs.Links.{DoesNotWrite, LeavesControls, IsPlugEvent, NoPlugEvents, LeavesDisk, SameLink, ComesUp, LeavesLink}
 use Rattle.refinement.proofs.steps.AdapterCalls.{note_times}
 use Rattle.refinement.proofs.device.FactsOverAccesses.{access_steps, effect_keeps}
 use Rattle.refinement.proofs.device.TapeGains.{NoneOf, gains_nothing, gains_more, gains_parts, gained_none, none_narrower}
@@ -27,23 +27,23 @@ use Rattle.refinement.proofs.device.HealthyPort.{at_port}
 
 -- ---- disks that go or come
 
-pub plugs_nothing : (port : ℕ) (d : Device) → PlugsNone port d d
-plugs_nothing port d = let g = gains_nothing (IsPlugging port) d in record { gained = g.0; tape = g.1; none = g.2 }
+pub plugs_nothing : (port : ℕ) (d : Device) → NoPlugEvents port d d
+plugs_nothing port d = let g = gains_nothing (IsPlugEvent port) d in record { gained = g.0; tape = g.1; none = g.2 }
 
-pub plugs_more : (port : ℕ) (old mid new : Device) → PlugsNone port old mid → PlugsNone port mid new → PlugsNone port old new
+pub plugs_more : (port : ℕ) (old mid new : Device) → NoPlugEvents port old mid → NoPlugEvents port mid new → NoPlugEvents port old new
 plugs_more port old mid new a b =
-    let g = gains_more (IsPlugging port) old mid new (a.gained, a.tape, a.none) (b.gained, b.tape, b.none) in
+    let g = gains_more (IsPlugEvent port) old mid new (a.gained, a.tape, a.none) (b.gained, b.tape, b.none) in
     record { gained = g.0; tape = g.1; none = g.2 }
 
-pub plugs_parts : (port : ℕ) (old mid new : Device) (early late : List Entry) → mid.tape ≡ old.tape ++ early → new.tape ≡ mid.tape ++ late → PlugsNone port old new → PlugsNone port old mid × PlugsNone port mid new
+pub plugs_parts : (port : ℕ) (old mid new : Device) (early late : List Entry) → mid.tape ≡ old.tape ++ early → new.tape ≡ mid.tape ++ late → NoPlugEvents port old new → NoPlugEvents port old mid × NoPlugEvents port mid new
 plugs_parts port old mid new early late a b h =
-    let g = gains_parts (IsPlugging port) old mid new early late a b (h.gained, h.tape, h.none) in
+    let g = gains_parts (IsPlugEvent port) old mid new early late a b (h.gained, h.tape, h.none) in
     (record { gained = g.0.0; tape = g.0.1; none = g.0.2 }, record { gained = g.1.0; tape = g.1.1; none = g.1.2 })
 
-pub undisturbed_plugs : (port : ℕ) (old new : Device) → Undisturbed port old new → PlugsNone port old new
-undisturbed_plugs port old new u = record { gained = u.gained; tape = u.tape; none = none_narrower (IsDisturbance port) (IsPlugging port) narrower u.gained u.calm }
+pub undisturbed_plugs : (port : ℕ) (old new : Device) → Undisturbed port old new → NoPlugEvents port old new
+undisturbed_plugs port old new u = record { gained = u.gained; tape = u.tape; none = none_narrower (IsDisturbance port) (IsPlugEvent port) narrower u.gained u.calm }
   where
-    narrower : (e : Entry) → IsPlugging port e → IsDisturbance port e
+    narrower : (e : Entry) → IsPlugEvent port e → IsDisturbance port e
     narrower (entry.Unplug at) x = x
     narrower (entry.Plug at name) x = x
     narrower (entry.Move move) x = absurd x
@@ -71,7 +71,7 @@ moved_disk operation.Trim disk sector bytes = (refl, refl)
 moved_disk operation.Identify disk sector bytes = (refl, refl)
 moved_disk operation.ReadLog disk sector bytes = (refl, refl)
 
-module _ (first : DevicePort) (port : ℕ) (d : Device) (gained : List Entry) (none : NoneOf (IsPlugging port) gained) where
+module _ (first : DevicePort) (port : ℕ) (d : Device) (gained : List Entry) (none : NoneOf (IsPlugEvent port) gained) where
   abbrev Stays : DevicePort → Type 0
   Stays p = LeavesDisk first p
 
@@ -87,12 +87,12 @@ module _ (first : DevicePort) (port : ℕ) (d : Device) (gained : List Entry) (n
   step_disk (Fall p) is h = at_port Stays Stays d p port _ h (λ e x. disk_on first _ _ refl refl refl refl x) (λ ne x. x)
   step_disk (FrFall p) is h = at_port Stays Stays d p port _ h (λ e x. disk_on first _ _ refl refl refl refl x) (λ ne x. x)
   step_disk (LinkUp p sig n) is h = at_port Stays Stays d p port _ h (λ e x. disk_on first _ _ refl refl refl refl x) (λ ne x. x)
-  step_disk (Unplug p) is h = at_port Stays Stays d p port _ h (λ e x. absurd (gained_none (IsPlugging port) d.tape _ gained is none e)) (λ ne x. x)
-  step_disk (Plug p disk) is h = at_port Stays Stays d p port _ h (λ e x. absurd (gained_none (IsPlugging port) d.tape _ gained is none e)) (λ ne x. x)
+  step_disk (Unplug p) is h = at_port Stays Stays d p port _ h (λ e x. absurd (gained_none (IsPlugEvent port) d.tape _ gained is none e)) (λ ne x. x)
+  step_disk (Plug p disk) is h = at_port Stays Stays d p port _ h (λ e x. absurd (gained_none (IsPlugEvent port) d.tape _ gained is none e)) (λ ne x. x)
   step_disk ResetEnds is h = disk_on first (d.port port) _ refl refl refl refl h
   step_disk (Scribble p slot at bytes) is h = h
 
-leads_disk : StepLaws → (first : DevicePort) (port : ℕ) (steps : List DeviceTransition) (old new : Device) → StepLeads steps old new → PlugsNone port old new → LeavesDisk first (old.port port) → LeavesDisk first (new.port port)
+leads_disk : StepLaws → (first : DevicePort) (port : ℕ) (steps : List DeviceTransition) (old new : Device) → StepLeads steps old new → NoPlugEvents port old new → LeavesDisk first (old.port port) → LeavesDisk first (new.port port)
 leads_disk laws first port [] old new e plugs h = subst (λ (d : Device). LeavesDisk first (d.port port)) (sym e) h
 leads_disk laws first port (step ∷ steps) old new (can, lead) plugs h =
     let k : Keeps old (device_after step old) = laws.step step _ can in
@@ -100,7 +100,7 @@ leads_disk laws first port (step ∷ steps) old new (can, lead) plugs h =
     let parts = plugs_parts port old (device_after step old) new k.gained l.gained k.tape l.tape plugs in
     leads_disk laws first port steps (device_after step old) new lead parts.1 (step_disk first port old parts.0.gained parts.0.none step parts.0.tape h)
 
-pub steps_disk : StepLaws → (port : ℕ) (old new : Device) → Steps old new → PlugsNone port old new → LeavesDisk (old.port port) (new.port port)
+pub steps_disk : StepLaws → (port : ℕ) (old new : Device) → Steps old new → NoPlugEvents port old new → LeavesDisk (old.port port) (new.port port)
 steps_disk laws port old new s plugs = leads_disk laws (old.port port) port s.steps old new s.lead plugs (disk_refl (old.port port))
 
 command_disk : (first : DevicePort) (v tape : ℕ) (p : DevicePort) → LeavesDisk first p → LeavesDisk first (port_written Cmd v tape p)
@@ -126,10 +126,10 @@ written_disk first Ci v tape p h = disk_on first p _ refl refl refl refl h
 written_disk first _ v tape p h = h
 
 -- before the effect of an access the tape has what it has after it
-pub plugs_before : (port : ℕ) (old mid new : Device) → new.tape ≡ mid.tape → PlugsNone port old new → PlugsNone port old mid
+pub plugs_before : (port : ℕ) (old mid new : Device) → new.tape ≡ mid.tape → NoPlugEvents port old new → NoPlugEvents port old mid
 plugs_before port old mid new same plugs = record { gained = plugs.gained; tape = sym same ∙ plugs.tape; none = plugs.none }
 
-pub access_disk : StepLaws → (port : ℕ) (access : Access) (old new : Device) → Does access old new → PlugsNone port old new → LeavesDisk (old.port port) (new.port port)
+pub access_disk : StepLaws → (port : ℕ) (access : Access) (old new : Device) → Does access old new → NoPlugEvents port old new → LeavesDisk (old.port port) (new.port port)
 access_disk laws port access old new x plugs =
     let s = access_steps access old new x in
     effect_keeps (LeavesDisk (old.port port)) (port_at port) (λ p r v h. disk_on (old.port port) p _ refl refl refl refl h) (λ p h. disk_on (old.port port) p _ refl refl refl refl h) access old new x
@@ -146,7 +146,7 @@ link_on p q new due det fresh sig present control (inl h) = inl (record { due = 
 link_on p q new due det fresh sig present control (inr h) =
     inr (record { due = h.due; up = due ∙ h.up; det = det ∙ h.det; fresh = fresh ∙ h.fresh; present = present ∙ h.present; released = control ∙ h.released })
 
-module _ (first : DevicePort) (port : ℕ) (d : Device) (gained : List Entry) (none : NoneOf (IsPlugging port) gained) where
+module _ (first : DevicePort) (port : ℕ) (d : Device) (gained : List Entry) (none : NoneOf (IsPlugEvent port) gained) where
   abbrev Linked : DevicePort → Type 0
   Linked p = LeavesLink first p
 
@@ -166,12 +166,12 @@ module _ (first : DevicePort) (port : ℕ) (d : Device) (gained : List Entry) (n
       (λ (s : ComesUp first (d.port p)). absurd (both_ways _ s.up can.due))
       x)
       (λ ne x. x)
-  step_link (Unplug p) off can is h = at_port Linked Linked d p port _ h (λ e x. absurd (gained_none (IsPlugging port) d.tape _ gained is none e)) (λ ne x. x)
-  step_link (Plug p disk) off can is h = at_port Linked Linked d p port _ h (λ e x. absurd (gained_none (IsPlugging port) d.tape _ gained is none e)) (λ ne x. x)
+  step_link (Unplug p) off can is h = at_port Linked Linked d p port _ h (λ e x. absurd (gained_none (IsPlugEvent port) d.tape _ gained is none e)) (λ ne x. x)
+  step_link (Plug p disk) off can is h = at_port Linked Linked d p port _ h (λ e x. absurd (gained_none (IsPlugEvent port) d.tape _ gained is none e)) (λ ne x. x)
   step_link ResetEnds off can is h = absurd (both_ways _ off can)
   step_link (Scribble p slot at bytes) off can is h = h
 
-leads_link : StepLaws → (first : DevicePort) (port : ℕ) (steps : List DeviceTransition) (old new : Device) → old.hr ≡ false → StepLeads steps old new → PlugsNone port old new → LeavesLink first (old.port port) → LeavesLink first (new.port port)
+leads_link : StepLaws → (first : DevicePort) (port : ℕ) (steps : List DeviceTransition) (old new : Device) → old.hr ≡ false → StepLeads steps old new → NoPlugEvents port old new → LeavesLink first (old.port port) → LeavesLink first (new.port port)
 leads_link laws first port [] old new off e plugs h = subst (λ (d : Device). LeavesLink first (d.port port)) (sym e) h
 leads_link laws first port (step ∷ steps) old new off (can, lead) plugs h =
     let k : Keeps old (device_after step old) = laws.step step _ can in
@@ -179,7 +179,7 @@ leads_link laws first port (step ∷ steps) old new off (can, lead) plugs h =
     let parts = plugs_parts port old (device_after step old) new k.gained l.gained k.tape l.tape plugs in
     leads_link laws first port steps (device_after step old) new (k.on off).no_reset lead parts.1 (step_link first port old parts.0.gained parts.0.none step off can parts.0.tape h)
 
-pub steps_link : StepLaws → (port : ℕ) (old new : Device) → old.hr ≡ false → Steps old new → PlugsNone port old new → LeavesLink (old.port port) (new.port port)
+pub steps_link : StepLaws → (port : ℕ) (old new : Device) → old.hr ≡ false → Steps old new → NoPlugEvents port old new → LeavesLink (old.port port) (new.port port)
 steps_link laws port old new off s plugs = leads_link laws (old.port port) port s.steps old new off s.lead plugs (link_refl (old.port port))
 
 command_link : (first : DevicePort) (v tape : ℕ) (p : DevicePort) → LeavesLink first p → LeavesLink first (port_written Cmd v tape p)
@@ -205,10 +205,10 @@ written_link first Ci v tape p other h = link_on first p _ refl refl refl refl r
 written_link first _ v tape p other h = h
 
 -- a write of the port's register is of another one
-pub spared : (port : Port) (r q : PortReg) (access : Access) (v : ℕ) → SparesRegister (Px port q) access → access ≡ Writing (Px port r) v → r ≢ q
-spared port r q access v spares is e = subst (SparesRegister (Px port q)) is spares (ap (Px port) e)
+pub spared : (port : Port) (r q : PortReg) (access : Access) (v : ℕ) → DoesNotWrite (Px port q) access → access ≡ Writing (Px port r) v → r ≢ q
+spared port r q access v spares is e = subst (DoesNotWrite (Px port q)) is spares (ap (Px port) e)
 
-pub access_link : StepLaws → (port : Port) (access : Access) (old new : Device) → old.hr ≡ false → SparesRegister (Px port Sctl) access → Does access old new → PlugsNone port.0 old new → LeavesLink (old.port port.0) (new.port port.0)
+pub access_link : StepLaws → (port : Port) (access : Access) (old new : Device) → old.hr ≡ false → DoesNotWrite (Px port Sctl) access → Does access old new → NoPlugEvents port.0 old new → LeavesLink (old.port port.0) (new.port port.0)
 access_link laws port access old new off spares x plugs =
     let s = access_steps access old new x in
     effect_keeps (LeavesLink (old.port port.0)) port (λ p r v h. link_on (old.port port.0) p _ refl refl refl refl refl refl h) (λ p h. link_on (old.port port.0) p _ refl refl refl refl refl refl h) access old new x
@@ -241,7 +241,7 @@ module _ (access : Access) (port : Port) (first : DevicePort) where
   noted_controls p r v h = controls_on p _ refl refl (note_times r v p).0 refl refl (note_times r v p).1 refl refl h
 
   -- PxCMD leaves the others
-  command_controls : (v tape : ℕ) (p : DevicePort) → (SparesRegister (Px port Cmd) access → ⊥) → Controls p → Controls (port_written Cmd v tape p)
+  command_controls : (v tape : ℕ) (p : DevicePort) → (DoesNotWrite (Px port Cmd) access → ⊥) → Controls p → Controls (port_written Cmd v tape p)
   command_controls v tape p here h = record {
     command = λ s. absurd (here s);
     control = λ s. (rest.0 ∙ (h.control s).0, rest.1 ∙ (h.control s).1);
@@ -260,7 +260,7 @@ module _ (access : Access) (port : Port) (first : DevicePort) where
       rest : SameRest p (with_fre (bit v 4) (with_st (bit v 0) tape p))
       rest = by (bit v 0) p.st refl
 
-  written_controls : (r : PortReg) (v tape : ℕ) (p : DevicePort) → (SparesRegister (Px port r) access → ⊥) → Controls p → Controls (port_written r v tape p)
+  written_controls : (r : PortReg) (v tape : ℕ) (p : DevicePort) → (DoesNotWrite (Px port r) access → ⊥) → Controls p → Controls (port_written r v tape p)
   written_controls Cmd v tape p here h = command_controls v tape p here h
   written_controls Sctl v tape p here h = record { command = h.command; control = λ s. absurd (here s); interrupts = h.interrupts; list = h.list; list_upper = h.list_upper; received = h.received; received_upper = h.received_upper }
   written_controls Clb v tape p here h = record { command = h.command; control = h.control; interrupts = h.interrupts; list = λ s. absurd (here s); list_upper = h.list_upper; received = h.received; received_upper = h.received_upper }

@@ -9,7 +9,7 @@ use Rattle.hba_regs.specs.declared.reg.Reg.TheVariants.{Cap, Ghc, Pi, Vs, Cap2, 
 use Rattle.hba_regs.specs.declared.reg.Reg.TheVariants as adapter
 use Rattle.hba_regs.specs.declared.reg.PortReg.{PortReg}
 use Rattle.hba_regs.specs.declared.reg.PortReg.TheVariants.{Is, Cmd, Tfd, Sig, Ssts, Sctl, Sact, Ci}
-use Rattle.adapter.specs.Access.{Access, Does, Reads, PortShows, note, noted, written, port_written, with_st, with_fre, unacknowledged}
+use Rattle.adapter.specs.Access.{Access, Does, Reads, PortShows, note, noted, written, port_written, with_st, with_fre, with_is_cleared}
 use Rattle.adapter.specs.Access.Access.{Reading, Writing, Loading, Storing}
 use Rattle.adapter.specs.Device.{Notes, DevicePort, Device}
 use Rattle.adapter.specs.Kept.{KeepsControls}
@@ -17,8 +17,8 @@ use Rattle.adapter.specs.Steps.{Steps}
 use Rattle.adapter.proofs.Changed.{changed_same}
 use Rattle.refinement.specs.Below.{StepLaws}
 use Rattle.refinement.specs.Relation.{port_at}
-use Rattle.refinement.specs.Links.{SparesRegister}
-use Rattle.refinement.specs.Noted.{SparesReading, LeavesNotes}
+use Rattle.refinement.specs.Links.{DoesNotWrite}
+use Rattle.refinement.specs.Noted.{DoesNotRead, LeavesNotes}
 use Rattle.refinement.proofs.device.HealthyPort.{at_port}
 
 -- ---- what is noted
@@ -73,14 +73,14 @@ module _ (access : Access) (port : Port) (first : Notes) where
   -- the fields of `LeavesNotes`
   abbrev Leaves : DevicePort → Type 0
   Leaves p =
-      (SparesReading (Px port Cmd) access → (p.notes.last_cmd ≡ first.last_cmd) × (p.notes.engine_count ≡ first.engine_count))
-      × (SparesReading (Px port Ssts) access → (p.notes.last_ssts ≡ first.last_ssts) × (SparesRegister (Px port Sctl) access → p.notes.link_count ≡ first.link_count))
-      × (SparesReading (Px port Tfd) access → (p.notes.last_tfd ≡ first.last_tfd) × (SparesRegister (Px port Sctl) access → p.notes.busy_count ≡ first.busy_count))
-      × (SparesReading (Px port Ci) access → (p.notes.last_ci ≡ first.last_ci) × (SparesRegister (Px port Sctl) access → p.notes.command_count ≡ first.command_count))
-      × (SparesReading (Px port Sact) access → p.notes.last_sact ≡ first.last_sact)
-      × (SparesReading (Px port Sig) access → p.notes.last_sig ≡ first.last_sig)
+      (DoesNotRead (Px port Cmd) access → (p.notes.last_cmd ≡ first.last_cmd) × (p.notes.engine_count ≡ first.engine_count))
+      × (DoesNotRead (Px port Ssts) access → (p.notes.last_ssts ≡ first.last_ssts) × (DoesNotWrite (Px port Sctl) access → p.notes.link_count ≡ first.link_count))
+      × (DoesNotRead (Px port Tfd) access → (p.notes.last_tfd ≡ first.last_tfd) × (DoesNotWrite (Px port Sctl) access → p.notes.busy_count ≡ first.busy_count))
+      × (DoesNotRead (Px port Ci) access → (p.notes.last_ci ≡ first.last_ci) × (DoesNotWrite (Px port Sctl) access → p.notes.command_count ≡ first.command_count))
+      × (DoesNotRead (Px port Sact) access → p.notes.last_sact ≡ first.last_sact)
+      × (DoesNotRead (Px port Sig) access → p.notes.last_sig ≡ first.last_sig)
 
-  noted_leaves : (r : PortReg) (v : ℕ) (p : DevicePort) → (SparesReading (Px port r) access → ⊥) → Leaves p → Leaves (record p { notes = note r v p })
+  noted_leaves : (r : PortReg) (v : ℕ) (p : DevicePort) → (DoesNotRead (Px port r) access → ⊥) → Leaves p → Leaves (record p { notes = note r v p })
   noted_leaves Cmd v p here h = (λ s. absurd (here s), h.1, h.2, h.3, h.4, h.5)
   noted_leaves Ssts v p here h = (h.0, λ s. absurd (here s), h.2, h.3, h.4, h.5)
   noted_leaves Tfd v p here h = (h.0, h.1, λ s. absurd (here s), h.3, h.4, h.5)
@@ -97,7 +97,7 @@ module _ (access : Access) (port : Port) (first : Notes) where
       by true true is = subst (λ (x : DevicePort). Leaves (with_fre (bit v 4) x)) (sym (cond-true p.st p _ is)) h
       by true false is = subst (λ (x : DevicePort). Leaves (with_fre (bit v 4) x)) (sym (cond-false p.st p _ is)) h
 
-  written_leaves : (r : PortReg) (v tape : ℕ) (p : DevicePort) → (SparesRegister (Px port r) access → ⊥) → Leaves p → Leaves (port_written r v tape p)
+  written_leaves : (r : PortReg) (v tape : ℕ) (p : DevicePort) → (DoesNotWrite (Px port r) access → ⊥) → Leaves p → Leaves (port_written r v tape p)
   written_leaves Cmd v tape p here h = command_leaves v tape p h
   written_leaves Sctl v tape p here h = (
     h.0,
@@ -138,7 +138,7 @@ writing_leaves port first (Px p r) v d h = at_port (Leaves (Writing (Px p r) v) 
     (λ ne x. x)
 writing_leaves port first adapter.Is v d h = by (bit v port.0)
   where
-    by : (b : Bool) → Leaves (Writing adapter.Is v) port first (if b then unacknowledged (d.port port.0) else d.port port.0)
+    by : (b : Bool) → Leaves (Writing adapter.Is v) port first (if b then with_is_cleared (d.port port.0) else d.port port.0)
     by true = h
     by false = h
 writing_leaves port first Cap v d h = h

@@ -9,13 +9,13 @@ use Rattle.adapter.specs.Device.{Bases, Disk, Lasting, Halt, DevicePort, Device}
 use Rattle.adapter.specs.Device.Halt.{NotHalted, HaltedPlain, HaltedQueued, LogOnly}
 use Rattle.adapter.specs.Memory.{changed}
 use Rattle.adapter.specs.Rules.{InUse}
-use Rattle.adapter.specs.Steps.{DeviceTransition, Can, device_after, StepLeads, Steps, AreKeptBits, admits, halted, restarted, fault_entry}
+use Rattle.adapter.specs.Steps.{DeviceTransition, Can, device_after, StepLeads, Steps, AreBsyDrqBits, admits, halted, halt_after_start, fault_entry}
 use Rattle.adapter.specs.Steps.DeviceTransition.{Fetch, FetchFault, Move, Clear, Done, Fault, Fatal, Fall, FrFall, LinkUp, Unplug, Plug, ResetEnds, Scribble}
 use Rattle.adapter.specs.declared.command.Operation.{Operation}
 use Rattle.adapter.specs.declared.tape.Entry.{Entry}
 use Rattle.adapter.specs.declared.tape.Entry.TheVariants as entry
 use Rattle.adapter.proofs.Changed.{changed_other}
-use Rattle.refinement.specs.Facts.{IsFaulted, IsFaultOf, ShowsFault, HasFaults, IsRecorded}
+use Rattle.refinement.specs.Facts.{IsFaulted, IsFaultOf, ShowsFault, RecordsFaults, FaultsOnRecord}
 use Rattle.refinement.proofs.device.HealthyPort.{at_port}
 
 -- ---- halts
@@ -29,7 +29,7 @@ pub running_faulted : {A : Type 0} → IsFaulted NotHalted → A
 running_faulted (inl e) = absurd cc
 running_faulted (inr e) = absurd cc
 
-pub restarted_faulted : {A : Type 0} (h : Halt) → IsFaulted (restarted h) → A
+pub restarted_faulted : {A : Type 0} (h : Halt) → IsFaulted (halt_after_start h) → A
 restarted_faulted NotHalted f = running_faulted f
 restarted_faulted HaltedPlain f = running_faulted f
 restarted_faulted HaltedQueued (inl e) = absurd cc
@@ -92,9 +92,9 @@ shows_on entries p new port same s = record {
   used = same.used s.fault.slot.0 s.used;
 }
 
-pub recorded_on : (tape : List Entry) (p new : DevicePort) (port : ℕ) → SameRecord p new → IsRecorded tape p port → IsRecorded tape new port
+pub recorded_on : (tape : List Entry) (p new : DevicePort) (port : ℕ) → SameRecord p new → FaultsOnRecord tape p port → FaultsOnRecord tape new port
 recorded_on tape p new port same h st =
-    let x : HasFaults tape p port = h (sym same.st ∙ st) in
+    let x : RecordsFaults tape p port = h (sym same.st ∙ st) in
     record {
       known = subst (λ (n : ℕ). n ≤ length tape) (sym same.set_at) x.known;
       linked = same.linked ∙ x.linked;
@@ -120,9 +120,9 @@ shows_more entries e p port none s = record {
 longer : (tape : List Entry) (e : Entry) (n : ℕ) → n ≤ length tape → n ≤ length (tape ++ e ∷ [])
 longer tape e n le = let l = length-append tape (e ∷ []) in omega (arith, le, l)
 
-recorded_more : (tape : List Entry) (e : Entry) (p : DevicePort) (port : ℕ) → (IsFaultOf port e → ⊥) → IsRecorded tape p port → IsRecorded (tape ++ e ∷ []) p port
+recorded_more : (tape : List Entry) (e : Entry) (p : DevicePort) (port : ℕ) → (IsFaultOf port e → ⊥) → FaultsOnRecord tape p port → FaultsOnRecord (tape ++ e ∷ []) p port
 recorded_more tape e p port none h st =
-    let x : HasFaults tape p port = h st in
+    let x : RecordsFaults tape p port = h st in
     record {
       known = longer tape e p.notes.st_set_at x.known;
       linked = x.linked;
@@ -140,9 +140,9 @@ record Worked (o : Operation) (p new : DevicePort) : Type 0 where
   pub flag : new.is 30 ≡ true → p.is 30 ≡ true
   pub halt : IsFaulted new.halt → IsFaulted p.halt
 
-recorded_worked : (tape later : List Entry) (o : Operation) (p new : DevicePort) (port : ℕ) → length tape ≤ length later → Worked o p new → IsRecorded tape p port → IsRecorded later new port
+recorded_worked : (tape later : List Entry) (o : Operation) (p new : DevicePort) (port : ℕ) → length tape ≤ length later → Worked o p new → FaultsOnRecord tape p port → FaultsOnRecord later new port
 recorded_worked tape later o p new port more w h st =
-    let x : HasFaults tape p port = h (sym w.st ∙ st) in
+    let x : RecordsFaults tape p port = h (sym w.st ∙ st) in
     record {
       known = let k = x.known in let s = w.set_at in omega (arith, k, s, more);
       linked = w.linked ∙ x.linked;
@@ -151,15 +151,15 @@ recorded_worked tape later o p new port more w h st =
     }
 
 -- a status of ERR, DRDY and what was left of BSY and DRQ
-status_fits : (kept_bits : ℕ) → AreKeptBits kept_bits → 0x41 + kept_bits < 256
+status_fits : (kept_bits : ℕ) → AreBsyDrqBits kept_bits → 0x41 + kept_bits < 256
 status_fits kept_bits kept = let l = and_le_r kept_bits 0x88 in let k : bit_and kept_bits 0x88 ≡ kept_bits = kept in omega (arith, l, k)
 
 -- a fault
 recorded_fault : (tape : List Entry) (p new : DevicePort) (port q slot error kept_bits : ℕ) (queued : Bool) → q ≡ port → new.st ≡ p.st → new.notes.st_set_at ≡ p.notes.st_set_at → new.link_due ≡ p.link_due →
     new.halt ≡ halted p.halt queued → new.tfd ≡ 0x41 + kept_bits + 256 * error → (0x41 + kept_bits < 256) × (error < 256) → InUse new slot →
-    IsRecorded tape p port → IsRecorded (tape ++ fault_entry q slot error kept_bits ∷ []) new port
+    FaultsOnRecord tape p port → FaultsOnRecord (tape ++ fault_entry q slot error kept_bits ∷ []) new port
 recorded_fault tape p new port q slot error kept_bits queued here st set_at linked halt tfd fits used h on =
-    let x : HasFaults tape p port = h (sym st ∙ on) in
+    let x : RecordsFaults tape p port = h (sym st ∙ on) in
     let n : ℕ = p.notes.st_set_at in
     record {
       known = subst (λ (k : ℕ). k ≤ length (tape ++ fault_entry q slot error kept_bits ∷ [])) (sym set_at) (longer tape (fault_entry q slot error kept_bits) p.notes.st_set_at x.known);
@@ -179,7 +179,7 @@ recorded_fault tape p new port q slot error kept_bits queued here st set_at link
     }
 
 -- a port whose ST is 0 has nothing to record
-pub stopped_recorded : (tape : List Entry) (p : DevicePort) (port : ℕ) → p.st ≡ false → IsRecorded tape p port
+pub stopped_recorded : (tape : List Entry) (p : DevicePort) (port : ℕ) → p.st ≡ false → FaultsOnRecord tape p port
 stopped_recorded tape p port off on = absurd (both_ways _ off on)
 
 -- ---- a step
@@ -200,19 +200,19 @@ fatal_flag place (inr z) e = omega (arith, z, e)
 one_longer : (tape : List Entry) (e : Entry) → length tape ≤ length (tape ++ e ∷ [])
 one_longer tape e = longer tape e (length tape) (le_refl (length tape))
 
-module _ (port : ℕ) (d : Device) (h : IsRecorded d.tape (d.port port) port) where
+module _ (port : ℕ) (d : Device) (h : FaultsOnRecord d.tape (d.port port) port) where
   -- a step of a port with an entry
-  entered : (p : ℕ) (new : DevicePort) (e : Entry) → (IsFaultOf port e → p ≡ port) → (p ≡ port → IsRecorded d.tape (d.port p) port → IsRecorded (d.tape ++ e ∷ []) new port) →
-      IsRecorded (d.tape ++ e ∷ []) (changed d.port p new port) port
+  entered : (p : ℕ) (new : DevicePort) (e : Entry) → (IsFaultOf port e → p ≡ port) → (p ≡ port → FaultsOnRecord d.tape (d.port p) port → FaultsOnRecord (d.tape ++ e ∷ []) new port) →
+      FaultsOnRecord (d.tape ++ e ∷ []) (changed d.port p new port) port
   entered p new e own here =
-      at_port (λ x. IsRecorded d.tape x port) (λ x. IsRecorded (d.tape ++ e ∷ []) x port) d p port new h here
+      at_port (λ x. FaultsOnRecord d.tape x port) (λ x. FaultsOnRecord (d.tape ++ e ∷ []) x port) d p port new h here
       (λ ne x. recorded_more d.tape e (d.port port) port (λ f. ne (sym (own f))) x)
 
   -- and one without
-  silent : (p : ℕ) (new : DevicePort) → (p ≡ port → IsRecorded d.tape (d.port p) port → IsRecorded d.tape new port) → IsRecorded d.tape (changed d.port p new port) port
-  silent p new here = at_port (λ x. IsRecorded d.tape x port) (λ x. IsRecorded d.tape x port) d p port new h here (λ ne x. x)
+  silent : (p : ℕ) (new : DevicePort) → (p ≡ port → FaultsOnRecord d.tape (d.port p) port → FaultsOnRecord d.tape new port) → FaultsOnRecord d.tape (changed d.port p new port) port
+  silent p new here = at_port (λ x. FaultsOnRecord d.tape x port) (λ x. FaultsOnRecord d.tape x port) d p port new h here (λ ne x. x)
 
-  step_recorded : (step : DeviceTransition) → Can step d → IsRecorded (device_after step d).tape ((device_after step d).port port) port
+  step_recorded : (step : DeviceTransition) → Can step d → FaultsOnRecord (device_after step d).tape ((device_after step d).port port) port
   step_recorded (Fetch p slot c places) can = silent p _
       (λ e x. recorded_worked d.tape d.tape c.operation (d.port p) _ port (le_refl (length d.tape))
       (record { admitted = can.working.admitted; st = refl; set_at = refl; linked = refl; flag = λ f. f; halt = λ f. f }) x)
@@ -245,9 +245,9 @@ module _ (port : ℕ) (d : Device) (h : IsRecorded d.tape (d.port port) port) wh
   step_recorded ResetEnds can = stopped_recorded d.tape _ port refl
   step_recorded (Scribble p slot at bytes) can = h
 
-leads_recorded : (port : ℕ) (steps : List DeviceTransition) (old new : Device) → StepLeads steps old new → IsRecorded old.tape (old.port port) port → IsRecorded new.tape (new.port port) port
-leads_recorded port [] old new e h = subst (λ (d : Device). IsRecorded d.tape (d.port port) port) (sym e) h
+leads_recorded : (port : ℕ) (steps : List DeviceTransition) (old new : Device) → StepLeads steps old new → FaultsOnRecord old.tape (old.port port) port → FaultsOnRecord new.tape (new.port port) port
+leads_recorded port [] old new e h = subst (λ (d : Device). FaultsOnRecord d.tape (d.port port) port) (sym e) h
 leads_recorded port (step ∷ steps) old new (can, lead) h = leads_recorded port steps (device_after step old) new lead (step_recorded port old h step can)
 
-pub steps_recorded : (port : ℕ) (old new : Device) → Steps old new → IsRecorded old.tape (old.port port) port → IsRecorded new.tape (new.port port) port
+pub steps_recorded : (port : ℕ) (old new : Device) → Steps old new → FaultsOnRecord old.tape (old.port port) port → FaultsOnRecord new.tape (new.port port) port
 steps_recorded port old new s h = leads_recorded port s.steps old new s.lead h

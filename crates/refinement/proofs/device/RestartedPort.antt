@@ -9,12 +9,12 @@ use Rattle.hba_regs.specs.declared.reg.PortReg.TheVariants.{Cmd, Sctl}
 use Rattle.adapter.specs.Access.{Access, Does, port_written, with_st, with_fre}
 use Rattle.adapter.specs.Device.{Halt, DevicePort, Device}
 use Rattle.adapter.specs.Device.Halt.{NotHalted}
-use Rattle.adapter.specs.Steps.{DeviceTransition, Can, device_after, Steps, restarted}
+use Rattle.adapter.specs.Steps.{DeviceTransition, Can, device_after, Steps, halt_after_start}
 use Rattle.adapter.specs.Steps.DeviceTransition.{Fetch, FetchFault, Move, Clear, Done, Fault, Fatal, Fall, FrFall, LinkUp, Unplug, Plug, ResetEnds, Scribble}
 use Rattle.adapter.specs.declared.tape.Entry.{Entry}
 use Rattle.refinement.specs.Below.{StepLaws}
 use Rattle.refinement.specs.Facts.{IsDisturbance, Undisturbed}
-use Rattle.refinement.specs.Links.{SparesRegister}
+use Rattle.refinement.specs.Links.{DoesNotWrite}
 use Rattle.refinement.specs.Started.{IsUp, IsStarted}
 use Rattle.refinement.proofs.device.RisingLink.{Up, up_of, is_up}
 use Rattle.refinement.proofs.device.FactsOverAccesses.{access_steps, effect_keeps}
@@ -25,7 +25,7 @@ use Rattle.refinement.proofs.device.RunningPort.{leads_calmly, calm_before}
 
 -- a port that was started has its link up
 pub started_up : (p : DevicePort) → IsStarted p → p.sctl_det ≢ 1 → IsUp p
-started_up p h released = record { det = h.det; present = h.present; fresh = h.fresh; linked = h.linked; released = released; restarts = ap restarted h.running }
+started_up p h released = record { det = h.det; present = h.present; fresh = h.fresh; linked = h.linked; released = released; restarts = ap halt_after_start h.running }
 
 -- ---- steps
 
@@ -62,8 +62,8 @@ steps_stay_up laws port old new off u s h = is_up (new.port port) (on_up laws po
 -- ---- accesses
 
 -- a halt that ST ends, it ends once more
-restarted_twice : (h : Halt) → restarted h ≡ NotHalted → restarted (restarted h) ≡ NotHalted
-restarted_twice h e = ap restarted e
+restarted_twice : (h : Halt) → halt_after_start h ≡ NotHalted → halt_after_start (halt_after_start h) ≡ NotHalted
+restarted_twice h e = ap halt_after_start e
 
 command_up : (v tape : ℕ) (p : DevicePort) → Up p → Up (port_written Cmd v tape p)
 command_up v tape p h = by (bit v 0) p.st refl
@@ -78,7 +78,7 @@ written_up Cmd v tape p other h = command_up v tape p h
 written_up Sctl v tape p other h = absurd (other refl)
 written_up _ v tape p other h = h
 
-pub access_stays_up : StepLaws → (port : Port) (access : Access) (old new : Device) → old.hr ≡ false → SparesRegister (Px port Sctl) access → Undisturbed port.0 old new → Does access old new → IsUp (old.port port.0) → IsUp (new.port port.0)
+pub access_stays_up : StepLaws → (port : Port) (access : Access) (old new : Device) → old.hr ≡ false → DoesNotWrite (Px port Sctl) access → Undisturbed port.0 old new → Does access old new → IsUp (old.port port.0) → IsUp (new.port port.0)
 access_stays_up laws port access old new off spares u x h =
     let s = access_steps access old new x in
     is_up (new.port port.0)

@@ -12,13 +12,13 @@ use Rattle.adapter.specs.Access.Access.{Reading, Writing}
 use Rattle.adapter.specs.Device.{DevicePort, Device}
 use Rattle.adapter.specs.Device.Halt.{NotHalted}
 use Rattle.adapter.specs.Kept.{Keeps, KeepsPort}
-use Rattle.adapter.specs.Steps.{DeviceTransition, Can, device_after, StepLeads, Steps, restarted}
+use Rattle.adapter.specs.Steps.{DeviceTransition, Can, device_after, StepLeads, Steps, halt_after_start}
 use Rattle.adapter.specs.Steps.DeviceTransition.{Fetch, FetchFault, Move, Clear, Done, Fault, Fatal, Fall, FrFall, LinkUp, Unplug, Plug, ResetEnds, Scribble}
 use Rattle.adapter.specs.declared.tape.Entry.{Entry}
 use Rattle.adapter.proofs.Changed.{changed_same}
 use Rattle.refinement.specs.Below.{StepLaws}
-use Rattle.refinement.specs.Errors.{IsComing, NoneComes}
-use Rattle.refinement.specs.Links.{SparesRegister, PlugsNone, SameLink, ComesUp}
+use Rattle.refinement.specs.Errors.{IsDiskComing, NoDiskComes}
+use Rattle.refinement.specs.Links.{DoesNotWrite, NoPlugEvents, SameLink, ComesUp}
 use Rattle.refinement.specs.Started.{IsUp, IsComingUp, SetsNoStart}
 use Rattle.refinement.proofs.device.FactsOverAccesses.{access_steps, effect_keeps}
 use Rattle.refinement.proofs.device.ErrorBits.{comes_parts, comes_before, plugs_come}
@@ -31,7 +31,7 @@ use Rattle.refinement.proofs.device.StartConditions.{neither, not_one}
 -- ---- as facts of a port's fields
 
 abbrev pub Up : DevicePort → Type 0
-Up p = (p.ssts_det ≡ 3) × (p.present ≡ true) × (p.fresh ≡ true) × (p.link_due ≡ false) × (p.sctl_det ≢ 1) × (restarted p.halt ≡ NotHalted)
+Up p = (p.ssts_det ≡ 3) × (p.present ≡ true) × (p.fresh ≡ true) × (p.link_due ≡ false) × (p.sctl_det ≢ 1) × (halt_after_start p.halt ≡ NotHalted)
 
 abbrev Coming : DevicePort → Type 0
 Coming p = (p.cr ≡ false) × (p.ssts_det ≡ 3 → Up p)
@@ -57,7 +57,7 @@ unlinked p stands other = record { stands = stands; up = λ det. absurd (other d
 
 -- ---- a step
 
-module _ (port : ℕ) (d : Device) (gained : List Entry) (none : NoneOf (IsComing port) gained) (h : Coming (d.port port)) where
+module _ (port : ℕ) (d : Device) (gained : List Entry) (none : NoneOf (IsDiskComing port) gained) (h : Coming (d.port port)) where
   -- a step of an engine that runs
   works : {Q : Type 0} (p : ℕ) → (d.port p).cr ≡ true → p ≡ port → Q
   works p runs e = absurd (both_ways _ (ap (λ (k : ℕ). (d.port k).cr) e ∙ h.0) runs)
@@ -76,11 +76,11 @@ module _ (port : ℕ) (d : Device) (gained : List Entry) (none : NoneOf (IsComin
       (λ e x. (x.0, λ _. (refl, can.present, refl, refl, λ one. absurd (let z = can.det in omega (arith, one, z)), refl))) (λ ne x. x)
   step_coming (Unplug p) can is = at_port Coming Coming d p port _ h (λ e x. (x.0, λ det. not_three det)) (λ ne x. x)
   step_coming (Plug p disk) can is = at_port Coming Coming d p port _ h
-      (λ e x. absurd (gained_none (IsComing port) d.tape _ gained is none e)) (λ ne x. x)
+      (λ e x. absurd (gained_none (IsDiskComing port) d.tape _ gained is none e)) (λ ne x. x)
   step_coming ResetEnds can is = (refl, λ det. not_three det)
   step_coming (Scribble p slot at bytes) can is = h
 
-leads_coming : StepLaws → (port : ℕ) (steps : List DeviceTransition) (old new : Device) → StepLeads steps old new → NoneComes port old new → Coming (old.port port) → Coming (new.port port)
+leads_coming : StepLaws → (port : ℕ) (steps : List DeviceTransition) (old new : Device) → StepLeads steps old new → NoDiskComes port old new → Coming (old.port port) → Coming (new.port port)
 leads_coming laws port [] old new e none h = subst (λ (d : Device). Coming (d.port port)) (sym e) h
 leads_coming laws port (step ∷ steps) old new (can, lead) none h =
     let k : Keeps old (device_after step old) = laws.step step _ can in
@@ -88,7 +88,7 @@ leads_coming laws port (step ∷ steps) old new (can, lead) none h =
     let parts = comes_parts port old (device_after step old) new k.gained l.gained k.tape l.tape none in
     leads_coming laws port steps (device_after step old) new lead parts.1 (step_coming port old parts.0.gained parts.0.none h step can parts.0.tape)
 
-pub steps_coming : StepLaws → (port : ℕ) (old new : Device) → NoneComes port old new → Steps old new → IsComingUp (old.port port) → IsComingUp (new.port port)
+pub steps_coming : StepLaws → (port : ℕ) (old new : Device) → NoDiskComes port old new → Steps old new → IsComingUp (old.port port) → IsComingUp (new.port port)
 steps_coming laws port old new none s h = is_coming (new.port port) (leads_coming laws port s.steps old new s.lead none (coming_of (old.port port) h))
 
 -- ---- an access
@@ -120,7 +120,7 @@ written_coming Sctl v tape p off h = control_coming v tape p (v % 16) h
 written_coming _ v tape p off h = h
 
 module _ (laws : StepLaws) (port : Port) (access : Access) (old new : Device) (off : SetsNoStart port access) (x : Does access old new) where
-  pub access_coming : NoneComes port.0 old new → IsComingUp (old.port port.0) → IsComingUp (new.port port.0)
+  pub access_coming : NoDiskComes port.0 old new → IsComingUp (old.port port.0) → IsComingUp (new.port port.0)
   access_coming none h =
       let s = access_steps access old new x in
       let c = leads_coming laws port.0 s.1.steps old s.0 s.1.lead (comes_before port.0 old s.0 new s.2 none) (coming_of (old.port port.0) h) in
@@ -136,7 +136,7 @@ comreset_comes laws port v old new stands one call =
     subst IsComingUp (sym (ap (λ (d : Device). d.port port.0) call.effect ∙ changed_same call.mid.port port.0 _))
     (is_coming _ (subst (λ (n : ℕ). Coming (with_det n (length call.mid.tape) (call.mid.port port.0))) (sym one) (k.cr stands, λ det. not_three det)))
 
-pub reset_comes : StepLaws → (v : ℕ) (old new : Device) → old.hr ≡ true → Reads Ghc v old new → bit v 0 ≡ false → (port : ℕ) → NoneComes port old new → IsComingUp (new.port port)
+pub reset_comes : StepLaws → (v : ℕ) (old new : Device) → old.hr ≡ true → Reads Ghc v old new → bit v 0 ≡ false → (port : ℕ) → NoDiskComes port old new → IsComingUp (new.port port)
 reset_comes laws v old new on call clear port none =
     let s = reset_read v old new on call clear in
     let a : Keeps old (device_after ResetEnds s.0) = laws.keeps _ _ s.2 in
@@ -146,7 +146,7 @@ reset_comes laws v old new on call clear port none =
 
 -- ---- it is found up
 
-pub up_is_found : StepLaws → (port : Port) (v : ℕ) (old new : Device) → NoneComes port.0 old new → Reads (Px port Ssts) v old new → v % 16 ≡ 3 → IsComingUp (old.port port.0) → IsUp (new.port port.0)
+pub up_is_found : StepLaws → (port : Port) (v : ℕ) (old new : Device) → NoDiskComes port.0 old new → Reads (Px port Ssts) v old new → v % 16 ≡ 3 → IsComingUp (old.port port.0) → IsUp (new.port port.0)
 up_is_found laws port v old new none call three h =
     (access_coming laws port (Reading (Px port Ssts) v) old new (λ w e. absurd (let z : Reading (Px port Ssts) v ≡ Writing (Px port Cmd) w = e in cc)) call none h).up
     (ap (λ (d : Device). (d.port port.0).ssts_det) call.effect ∙ ap (λ (p : DevicePort). p.ssts_det) (changed_same call.mid.port port.0 _) ∙ sym call.shows ∙ three)
@@ -157,12 +157,12 @@ up_is_found laws port v old new none call three h =
 still_three : (p new : DevicePort) → p.ssts_det ≡ 3 → SameLink p new ⊎ ComesUp p new → new.ssts_det ≡ 3
 still_three p new three = ⊎_elim (λ (s : SameLink p new). s.det ∙ three) (λ (c : ComesUp p new). c.det)
 
-pub steps_up : StepLaws → (port : ℕ) (old new : Device) → old.hr ≡ false → (old.port port).cr ≡ false → PlugsNone port old new → Steps old new → IsUp (old.port port) → IsUp (new.port port)
+pub steps_up : StepLaws → (port : ℕ) (old new : Device) → old.hr ≡ false → (old.port port).cr ≡ false → NoPlugEvents port old new → Steps old new → IsUp (old.port port) → IsUp (new.port port)
 steps_up laws port old new off stands none s u =
     (steps_coming laws port old new (plugs_come port old new none) s (record { stands = stands; up = λ _. u })).up
     (still_three (old.port port) (new.port port) u.det (steps_link laws port old new off s none))
 
-pub access_up : StepLaws → (port : Port) (access : Access) (old new : Device) → old.hr ≡ false → (old.port port.0).cr ≡ false → SetsNoStart port access → SparesRegister (Px port Sctl) access → PlugsNone port.0 old new → Does access old new →
+pub access_up : StepLaws → (port : Port) (access : Access) (old new : Device) → old.hr ≡ false → (old.port port.0).cr ≡ false → SetsNoStart port access → DoesNotWrite (Px port Sctl) access → NoPlugEvents port.0 old new → Does access old new →
     IsUp (old.port port.0) → IsUp (new.port port.0)
 access_up laws port access old new off stands sets spares none x u =
     (access_coming laws port access old new sets x (plugs_come port.0 old new none) (record { stands = stands; up = λ _. u })).up

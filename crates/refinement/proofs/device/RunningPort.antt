@@ -19,7 +19,7 @@ use Rattle.refinement.specs.Below.{StepLaws}
 use Rattle.refinement.specs.Relation.{port_at}
 use Rattle.refinement.specs.Errors.{ChangesByDisks, StaysClear}
 use Rattle.refinement.specs.Facts.{RunsWell, IsDisturbance, Undisturbed, ShowsNoTrouble}
-use Rattle.refinement.specs.Links.{SparesRegister}
+use Rattle.refinement.specs.Links.{DoesNotWrite}
 use Rattle.refinement.specs.Started.{IsStarted, ClearsNoStart}
 use Rattle.refinement.proofs.device.FactsOverAccesses.{access_steps, effect_keeps}
 use Rattle.refinement.proofs.device.ErrorBits.{plugs_come, steps_change, access_change}
@@ -107,7 +107,7 @@ written_started Cmd v tape p on other h = command_started v tape p (on refl) h
 written_started Sctl v tape p on other h = absurd (other refl)
 written_started _ v tape p on other h = h
 
-pub access_started : StepLaws → (port : Port) (access : Access) (old new : Device) → old.hr ≡ false → ClearsNoStart port access → SparesRegister (Px port Sctl) access → Undisturbed port.0 old new → Does access old new →
+pub access_started : StepLaws → (port : Port) (access : Access) (old new : Device) → old.hr ≡ false → ClearsNoStart port access → DoesNotWrite (Px port Sctl) access → Undisturbed port.0 old new → Does access old new →
     IsStarted (old.port port.0) → IsStarted (new.port port.0)
 access_started laws port access old new off keeps spares u x h =
     let s = access_steps access old new x in
@@ -167,7 +167,7 @@ law_healthy_stays laws port old new off s u h =
     well_of (new.port port) (steps_started laws port old new off u s (started_well (old.port port) h))
     (shows_still (old.port port) (new.port port) (steps_clear laws port old new off h.linked u s) h.quiet)
 
-healthy_access : StepLaws → (port : Port) (access : Access) (old new : Device) → old.hr ≡ false → ClearsNoStart port access → SparesRegister (Px port Sctl) access → Undisturbed port.0 old new → Does access old new →
+healthy_access : StepLaws → (port : Port) (access : Access) (old new : Device) → old.hr ≡ false → ClearsNoStart port access → DoesNotWrite (Px port Sctl) access → Undisturbed port.0 old new → Does access old new →
     RunsWell (old.port port.0) → RunsWell (new.port port.0)
 healthy_access laws port access old new off keeps spares u x h =
     well_of (new.port port.0) (access_started laws port access old new off keeps spares u x (started_well (old.port port.0) h))

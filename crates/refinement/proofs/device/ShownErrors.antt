@@ -16,7 +16,7 @@ use Rattle.adapter.specs.declared.tape.Entry.{Entry}
 use Rattle.adapter.specs.declared.tape.Entry.TheVariants as entry
 use Rattle.refinement.specs.Errors.{IsFatalOf, NoneFatal, NoneFails}
 use Rattle.refinement.specs.Facts.{IsFaultOf}
-use Rattle.refinement.specs.Links.{SparesRegister}
+use Rattle.refinement.specs.Links.{DoesNotWrite}
 use Rattle.refinement.proofs.relation.OneSlot.{changed_at}
 use Rattle.refinement.proofs.device.FactsOverAccesses.{access_steps, effect_keeps}
 use Rattle.refinement.proofs.device.ErrorBits.{command_beside}
@@ -107,7 +107,7 @@ module _ (keeps : (old new : Device) → Steps old new → Keeps old new) (low h
   written_bits first Cmd v tape p other h = λ place. ap (λ (f : ℕ → Bool). f place) (command_beside v tape p).0 ∙ h place
   written_bits first _ v tape p other h = h
 
-  access_untold : (at : Port) (access : Access) (old new : Device) → at.0 ≡ port → old.hr ≡ false → SparesRegister (Px at Is) access → Does access old new → Untold (new.port port) →
+  access_untold : (at : Port) (access : Access) (old new : Device) → at.0 ≡ port → old.hr ≡ false → DoesNotWrite (Px at Is) access → Does access old new → Untold (new.port port) →
       Untold (old.port port) × GainsNone IsKind old new
   access_untold at access old new here off spares x h =
       let s = access_steps access old new x in
@@ -147,7 +147,7 @@ module _ (keeps : (old new : Device) → Steps old new → Keeps old new) where
   pub steps_fault : (port : ℕ) (old new : Device) → old.hr ≡ false → Steps old new → (new.port port).is 30 ≡ false → ((old.port port).is 30 ≡ false) × NoneFails port old new
   steps_fault port old new off s clear = as_fails port old new (steps_untold keeps 30 30 (IsFaultOf port) port (fault_only port) old new off s (alone (new.port port) clear))
 
-  pub access_fault : (port : Port) (access : Access) (old new : Device) → old.hr ≡ false → SparesRegister (Px port Is) access → Does access old new → (new.port port.0).is 30 ≡ false →
+  pub access_fault : (port : Port) (access : Access) (old new : Device) → old.hr ≡ false → DoesNotWrite (Px port Is) access → Does access old new → (new.port port.0).is 30 ≡ false →
       ((old.port port.0).is 30 ≡ false) × NoneFails port.0 old new
   access_fault port access old new off spares x clear =
       as_fails port.0 old new (access_untold keeps 30 30 (IsFaultOf port.0) port.0 (fault_only port.0) port access old new refl off spares x (alone (new.port port.0) clear))
@@ -158,7 +158,7 @@ module _ (keeps : (old new : Device) → Steps old new → Keeps old new) where
   pub steps_fatal : (port : ℕ) (old new : Device) → old.hr ≡ false → Steps old new → ShowsNoFatal (new.port port) → ShowsNoFatal (old.port port) × NoneFatal port old new
   steps_fatal port old new off s clear = as_fatal port old new (steps_untold keeps 27 29 (IsFatalOf port) port (fatal_only port) old new off s clear)
 
-  pub access_fatal : (port : Port) (access : Access) (old new : Device) → old.hr ≡ false → SparesRegister (Px port Is) access → Does access old new → ShowsNoFatal (new.port port.0) →
+  pub access_fatal : (port : Port) (access : Access) (old new : Device) → old.hr ≡ false → DoesNotWrite (Px port Is) access → Does access old new → ShowsNoFatal (new.port port.0) →
       ShowsNoFatal (old.port port.0) × NoneFatal port.0 old new
   access_fatal port access old new off spares x clear =
       as_fatal port.0 old new (access_untold keeps 27 29 (IsFatalOf port.0) port.0 (fatal_only port.0) port access old new refl off spares x clear)

@@ -13,7 +13,7 @@ use Rattle.adapter.specs.Steps.DeviceTransition.{Fetch, FetchFault, Move, Clear,
 use Rattle.adapter.specs.declared.tape.Entry.{Entry}
 use Rattle.refinement.specs.Below.{StepLaws}
 use Rattle.refinement.specs.Relation.{port_at}
-use Rattle.refinement.specs.Errors.{IsComing, NoneComes, IsWork}
+use Rattle.refinement.specs.Errors.{IsDiskComing, NoDiskComes, IsWork}
 use Rattle.refinement.proofs.device.FactsOverAccesses.{access_steps, effect_keeps}
 use Rattle.refinement.proofs.device.ErrorBits.{comes_parts, comes_before, command_beside}
 use Rattle.refinement.proofs.device.TapeGains.{NoneOf, GainsNone, gains_nothing, gains_more, gained_none}
@@ -69,7 +69,7 @@ module _ (laws : StepLaws) (disk : Disk) where
   abbrev Rests : DevicePort → Type 0
   Rests p = (p.cr ≡ false) × (p.disk ≡ disk)
 
-  step_rests : (port : ℕ) (d : Device) (gained : List Entry) → NoneOf (IsComing port) gained → (step : DeviceTransition) → Can step d → (device_after step d).tape ≡ d.tape ++ gained → Rests (d.port port) → Rests ((device_after step d).port port)
+  step_rests : (port : ℕ) (d : Device) (gained : List Entry) → NoneOf (IsDiskComing port) gained → (step : DeviceTransition) → Can step d → (device_after step d).tape ≡ d.tape ++ gained → Rests (d.port port) → Rests ((device_after step d).port port)
   step_rests port d gained none (Fetch p slot c places) can is h = at_port Rests Rests d p port _ h (λ e x. x) (λ ne x. x)
   step_rests port d gained none (FetchFault p slot queued kept_bits) can is h = at_port Rests Rests d p port _ h (λ e x. x) (λ ne x. x)
   step_rests port d gained none (Move p slot t bytes) can is h = at_port Rests Rests d p port _ h (λ e x. absurd (both_ways _ x.0 can.works.working.running)) (λ ne x. x)
@@ -81,11 +81,11 @@ module _ (laws : StepLaws) (disk : Disk) where
   step_rests port d gained none (FrFall p) can is h = at_port Rests Rests d p port _ h (λ e x. x) (λ ne x. x)
   step_rests port d gained none (LinkUp p sig n) can is h = at_port Rests Rests d p port _ h (λ e x. x) (λ ne x. x)
   step_rests port d gained none (Unplug p) can is h = at_port Rests Rests d p port _ h (λ e x. x) (λ ne x. x)
-  step_rests port d gained none (Plug p disk) can is h = at_port Rests Rests d p port _ h (λ e x. absurd (gained_none (IsComing port) d.tape _ gained is none e)) (λ ne x. x)
+  step_rests port d gained none (Plug p disk) can is h = at_port Rests Rests d p port _ h (λ e x. absurd (gained_none (IsDiskComing port) d.tape _ gained is none e)) (λ ne x. x)
   step_rests port d gained none ResetEnds can is h = (refl, h.1)
   step_rests port d gained none (Scribble p slot at bytes) can is h = h
 
-  leads_rest : (port : ℕ) (steps : List DeviceTransition) (old new : Device) → StepLeads steps old new → NoneComes port old new → Rests (old.port port) → Rests (new.port port)
+  leads_rest : (port : ℕ) (steps : List DeviceTransition) (old new : Device) → StepLeads steps old new → NoDiskComes port old new → Rests (old.port port) → Rests (new.port port)
   leads_rest port [] old new e comes h = subst (λ (d : Device). Rests (d.port port)) (sym e) h
   leads_rest port (step ∷ steps) old new (can, lead) comes h =
       let k : Keeps old (device_after step old) = laws.step step _ can in
@@ -100,10 +100,10 @@ module _ (laws : StepLaws) (disk : Disk) where
   written_disk Cmd v tape p h = (command_beside v tape p).5 ∙ h
   written_disk _ v tape p h = h
 
-pub steps_hold : StepLaws → (port : ℕ) (old new : Device) → (old.port port).cr ≡ false → Steps old new → NoneComes port old new → (new.port port).disk ≡ (old.port port).disk
+pub steps_hold : StepLaws → (port : ℕ) (old new : Device) → (old.port port).cr ≡ false → Steps old new → NoDiskComes port old new → (new.port port).disk ≡ (old.port port).disk
 steps_hold laws port old new cr s comes = (leads_rest laws (old.port port).disk port s.steps old new s.lead comes (cr, refl)).1
 
-pub access_hold : StepLaws → (port : ℕ) (access : Access) (old new : Device) → (old.port port).cr ≡ false → Does access old new → NoneComes port old new → (new.port port).disk ≡ (old.port port).disk
+pub access_hold : StepLaws → (port : ℕ) (access : Access) (old new : Device) → (old.port port).cr ≡ false → Does access old new → NoDiskComes port old new → (new.port port).disk ≡ (old.port port).disk
 access_hold laws port access old new cr x comes =
     let s = access_steps access old new x in
     effect_keeps (Holds laws (old.port port).disk) (port_at port) (λ p r v h. h) (λ p h. h) access old new x

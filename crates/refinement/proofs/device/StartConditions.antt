@@ -18,7 +18,7 @@ use Rattle.adapter.specs.Steps.DeviceTransition.{Fetch, FetchFault, Move, Clear,
 use Rattle.adapter.proofs.Changed.{changed_same}
 use Rattle.refinement.specs.Below.{StepLaws}
 use Rattle.refinement.specs.Relation.{port_at}
-use Rattle.refinement.specs.Facts.{IsAwaited, IsUnflagged, IsQuiet}
+use Rattle.refinement.specs.Facts.{ShowsDrqTillLink, StoppedTfesClear, IsCleanToStart}
 use Rattle.refinement.proofs.device.FactsOverAccesses.{noted_on, written_on}
 use Rattle.refinement.proofs.device.AwaitedLink.{leads_keep, steps_awaited, steps_unflagged}
 use Rattle.refinement.proofs.device.HealthyPort.{at_port}
@@ -54,28 +54,28 @@ step_linked d port (Scribble p slot at bytes) can h = h
 steps_linked : (port : ℕ) (old new : Device) → Steps old new → IsLinked (old.port port) → IsLinked (new.port port)
 steps_linked port old new s h = leads_keep IsLinked step_linked port s.steps old new s.lead h
 
-pub steps_quiet : (port : ℕ) (old new : Device) → Steps old new → IsQuiet (old.port port) → IsQuiet (new.port port)
+pub steps_quiet : (port : ℕ) (old new : Device) → Steps old new → IsCleanToStart (old.port port) → IsCleanToStart (new.port port)
 steps_quiet port old new s q =
     let l : IsLinked (new.port port) = steps_linked port old new s (q.linked, q.no_comreset) in
     record { unflagged = steps_unflagged port old new s q.unflagged; linked = l.0; no_comreset = l.1 }
 
 -- ---- TFES over readings and writes
 
-pub reads_unflagged : (port : ℕ) (r : Reg) (v : ℕ) (old new : Device) → Reads r v old new → IsUnflagged (old.port port) → IsUnflagged (new.port port)
+pub reads_unflagged : (port : ℕ) (r : Reg) (v : ℕ) (old new : Device) → Reads r v old new → StoppedTfesClear (old.port port) → StoppedTfesClear (new.port port)
 reads_unflagged port r v old new x h =
-    subst (λ (d : Device). IsUnflagged (d.port port)) (sym x.effect) (noted_on IsUnflagged (port_at port) (λ p q w y. y) r v x.mid (steps_unflagged port old x.mid x.steps h))
+    subst (λ (d : Device). StoppedTfesClear (d.port port)) (sym x.effect) (noted_on StoppedTfesClear (port_at port) (λ p q w y. y) r v x.mid (steps_unflagged port old x.mid x.steps h))
 
 -- PxIS is written with bit 30
-pub clearing_unflags : StepLaws → (port : Port) (v : ℕ) (old new : Device) → (old.port port.0).cr ≡ false → bit v 30 ≡ true → Writes (Px port Is) v old new → IsUnflagged (new.port port.0)
+pub clearing_unflags : StepLaws → (port : Port) (v : ℕ) (old new : Device) → (old.port port.0).cr ≡ false → bit v 30 ≡ true → Writes (Px port Is) v old new → StoppedTfesClear (new.port port.0)
 clearing_unflags laws port v old new cr set call =
     let k : KeepsPort (old.port port.0) (call.mid.port port.0) = (laws.keeps _ _ call.steps).port port.0 in
-    subst IsUnflagged (sym (ap (λ (d : Device). d.port port.0) call.effect ∙ changed_same call.mid.port port.0 _))
+    subst StoppedTfesClear (sym (ap (λ (d : Device). d.port port.0) call.effect ∙ changed_same call.mid.port port.0 _))
     (k.cr cr, and_right ((call.mid.port port.0).is 30) (not (bit v 30)) (ap not set))
 
-stopped_unflagged : (p : DevicePort) (v tape : ℕ) → bit v 0 ≡ false → IsUnflagged p → IsUnflagged (port_written Cmd v tape p)
-stopped_unflagged p v tape off h = subst (λ (b : Bool). IsUnflagged (with_fre (bit v 4) (with_st b tape p))) (sym off) h
+stopped_unflagged : (p : DevicePort) (v tape : ℕ) → bit v 0 ≡ false → StoppedTfesClear p → StoppedTfesClear (port_written Cmd v tape p)
+stopped_unflagged p v tape off h = subst (λ (b : Bool). StoppedTfesClear (with_fre (bit v 4) (with_st b tape p))) (sym off) h
 
-port_unflagged : (r : PortReg) (v tape : ℕ) (p : DevicePort) → (r ≡ Cmd → bit v 0 ≡ false) → IsUnflagged p → IsUnflagged (port_written r v tape p)
+port_unflagged : (r : PortReg) (v tape : ℕ) (p : DevicePort) → (r ≡ Cmd → bit v 0 ≡ false) → StoppedTfesClear p → StoppedTfesClear (port_written r v tape p)
 port_unflagged Cmd v tape p off h = stopped_unflagged p v tape (off refl) h
 port_unflagged Is v tape p off h = (h.0, and_left (p.is 30) (not (bit v 30)) h.1)
 port_unflagged Clb v tape p off h = h
@@ -91,16 +91,16 @@ port_unflagged Serr v tape p off h = h
 port_unflagged Sact v tape p off h = h
 port_unflagged Ci v tape p off h = h
 
-pub writes_unflagged : (port : Port) (r : Reg) (v : ℕ) (old new : Device) → (r ≡ Px port Cmd → bit v 0 ≡ false) → Writes r v old new → IsUnflagged (old.port port.0) → IsUnflagged (new.port port.0)
+pub writes_unflagged : (port : Port) (r : Reg) (v : ℕ) (old new : Device) → (r ≡ Px port Cmd → bit v 0 ≡ false) → Writes r v old new → StoppedTfesClear (old.port port.0) → StoppedTfesClear (new.port port.0)
 writes_unflagged port r v old new off x h =
-    subst (λ (d : Device). IsUnflagged (d.port port.0)) (sym x.effect)
-    (written_on IsUnflagged port (λ p q w y. y) (λ p y. y) r v x.mid
+    subst (λ (d : Device). StoppedTfesClear (d.port port.0)) (sym x.effect)
+    (written_on StoppedTfesClear port (λ p q w y. y) (λ p y. y) r v x.mid
     (λ q is. port_unflagged q v (length x.mid.tape) (x.mid.port port.0) (λ c. off (is ∙ ap (Px port) c)))
     (steps_unflagged port.0 old x.mid x.steps h))
 
 -- ---- no link is due, over readings and writes
 
-linked_quiet : (p : DevicePort) → IsUnflagged p → IsLinked p → IsQuiet p
+linked_quiet : (p : DevicePort) → StoppedTfesClear p → IsLinked p → IsCleanToStart p
 linked_quiet p u l = record { unflagged = u; linked = l.0; no_comreset = l.1 }
 
 stopped_linked : (p : DevicePort) (v tape : ℕ) → bit v 0 ≡ false → IsLinked p → IsLinked (port_written Cmd v tape p)
@@ -122,12 +122,12 @@ port_linked Serr v tape p off sends h = h
 port_linked Sact v tape p off sends h = h
 port_linked Ci v tape p off sends h = h
 
-pub reads_quiet : (port : ℕ) (r : Reg) (v : ℕ) (old new : Device) → Reads r v old new → IsQuiet (old.port port) → IsQuiet (new.port port)
+pub reads_quiet : (port : ℕ) (r : Reg) (v : ℕ) (old new : Device) → Reads r v old new → IsCleanToStart (old.port port) → IsCleanToStart (new.port port)
 reads_quiet port r v old new x q =
     linked_quiet (new.port port) (reads_unflagged port r v old new x q.unflagged)
     (subst (λ (d : Device). IsLinked (d.port port)) (sym x.effect) (noted_on IsLinked (port_at port) (λ p z w y. y) r v x.mid (steps_linked port old x.mid x.steps (q.linked, q.no_comreset))))
 
-pub writes_quiet : (port : Port) (r : Reg) (v : ℕ) (old new : Device) → (r ≡ Px port Cmd → bit v 0 ≡ false) → (r ≡ Px port Sctl → v % 16 ≢ 1) → Writes r v old new → IsQuiet (old.port port.0) → IsQuiet (new.port port.0)
+pub writes_quiet : (port : Port) (r : Reg) (v : ℕ) (old new : Device) → (r ≡ Px port Cmd → bit v 0 ≡ false) → (r ≡ Px port Sctl → v % 16 ≢ 1) → Writes r v old new → IsCleanToStart (old.port port.0) → IsCleanToStart (new.port port.0)
 writes_quiet port r v old new off sends x q =
     linked_quiet (new.port port.0) (writes_unflagged port r v old new off x q.unflagged)
     (subst (λ (d : Device). IsLinked (d.port port.0)) (sym x.effect)
@@ -145,15 +145,15 @@ drq_read v tfd e = ap (λ (n : ℕ). n == 1) (ap (λ (n : ℕ). bit_at n 3) (sym
     low = omega arith
 
 -- without DRQ the link isn't awaited
-pub law_quiet_is_found : (port : Port) (v : ℕ) (old new : Device) → IsAwaited (old.port port.0) → IsUnflagged (old.port port.0) → Reads (Px port Tfd) v old new → bit v 3 ≡ false → IsQuiet (new.port port.0)
+pub law_quiet_is_found : (port : Port) (v : ℕ) (old new : Device) → ShowsDrqTillLink (old.port port.0) → StoppedTfesClear (old.port port.0) → Reads (Px port Tfd) v old new → bit v 3 ≡ false → IsCleanToStart (new.port port.0)
 law_quiet_is_found port v old new awaited unflagged call clear =
-    let u : IsUnflagged (call.mid.port port.0) = steps_unflagged port.0 old call.mid call.steps unflagged in
-    let w : IsAwaited (call.mid.port port.0) = steps_awaited port.0 old call.mid call.steps awaited in
+    let u : StoppedTfesClear (call.mid.port port.0) = steps_unflagged port.0 old call.mid call.steps unflagged in
+    let w : ShowsDrqTillLink (call.mid.port port.0) = steps_awaited port.0 old call.mid call.steps awaited in
     let none : ((call.mid.port port.0).link_due ≡ true) ⊎ ((call.mid.port port.0).sctl_det ≡ 1) → ⊥ = λ due. absurd (both_ways _ clear (sym (drq_read v (call.mid.port port.0).tfd call.shows) ∙ (w due).1)) in
-    let q : IsQuiet (call.mid.port port.0) = record {
+    let q : IsCleanToStart (call.mid.port port.0) = record {
       unflagged = u;
       linked = ⊎_elim (λ (t : (call.mid.port port.0).link_due ≡ true). absurd (none (inl t))) (λ (f : (call.mid.port port.0).link_due ≡ false). f) (cases_Bool (call.mid.port port.0).link_due);
       no_comreset = λ e. none (inr e);
     } in
     let is : new.port port.0 ≡ record (call.mid.port port.0) { notes = note Tfd v (call.mid.port port.0) } = ap (λ (d : Device). d.port port.0) call.effect ∙ changed_same call.mid.port port.0 _ in
-    subst IsQuiet (sym is) (record { unflagged = q.unflagged; linked = q.linked; no_comreset = q.no_comreset })
+    subst IsCleanToStart (sym is) (record { unflagged = q.unflagged; linked = q.linked; no_comreset = q.no_comreset })

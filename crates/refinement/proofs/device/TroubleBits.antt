@@ -10,14 +10,14 @@ use Rattle.hba_regs.specs.declared.reg.Reg.TheVariants.{Cap, Ghc, Pi, Vs, Cap2, 
 use Rattle.hba_regs.specs.declared.reg.Reg.TheVariants as adapter
 use Rattle.hba_regs.specs.declared.reg.PortReg.{PortReg}
 use Rattle.hba_regs.specs.declared.reg.PortReg.TheVariants.{Clb, Clbu, Fb, Fbu, Is, Ie, Cmd, Tfd, Sig, Ssts, Sctl, Serr, Sact, Ci}
-use Rattle.adapter.specs.Access.{PortShows, Reads, Writes, Stores, noted, written, port_written, with_fre, unacknowledged}
+use Rattle.adapter.specs.Access.{PortShows, Reads, Writes, Stores, noted, written, port_written, with_fre, with_is_cleared}
 use Rattle.adapter.specs.Device.{DevicePort, Device}
-use Rattle.adapter.specs.Kept.{Keeps, KeepsOn, KeepsControls}
+use Rattle.adapter.specs.Kept.{Keeps, KeepsOutsideReset, KeepsControls}
 use Rattle.adapter.specs.Memory.{changed}
 use Rattle.adapter.specs.Steps.{DeviceTransition, Can, device_after, StepLeads, Steps}
 use Rattle.adapter.specs.Steps.DeviceTransition.{Fetch, FetchFault, Move, Clear, Done, Fault, Fatal, Fall, FrFall, LinkUp, Unplug, Plug, ResetEnds, Scribble}
 use Rattle.adapter.specs.declared.tape.Entry.{Entry}
-use Rattle.adapter.specs.Seen.{SeenAt}
+use Rattle.adapter.specs.Seen.{PortRegisterRead}
 use Rattle.adapter.proofs.Changed.{changed_same}
 use Rattle.refinement.specs.Below.{StepLaws}
 use Rattle.refinement.specs.Relation.{port_at}
@@ -114,13 +114,13 @@ leads_calm laws port [] old new off e h = subst (Undisturbed port old) (sym e) (
 leads_calm laws port (step ∷ steps) old new off (can, lead) h =
     let k : Keeps old (device_after step old) = laws.step step _ can in
     let l : Keeps (device_after step old) new = laws.keeps _ _ (record { steps = steps; lead = lead }) in
-    let on : KeepsOn old (device_after step old) = k.on off in
+    let on : KeepsOutsideReset old (device_after step old) = k.on off in
     let mid : ShowsNoTrouble ((device_after step old).port port) = shown_before ((device_after step old).port port) (new.port port) ((l.on on.no_reset).controls port) h in
     undisturbed_more port old (device_after step old) new (step_calm port old step off can mid) (leads_calm laws port steps (device_after step old) new on.no_reset lead h)
 
 pub steps_show : StepLaws → (port : ℕ) (old new : Device) → old.hr ≡ false → Steps old new → ShowsNoTrouble (new.port port) → ShowsNoTrouble (old.port port) × Undisturbed port old new
 steps_show laws port old new off s h =
-    let on : KeepsOn old new = (laws.keeps _ _ s).on off in
+    let on : KeepsOutsideReset old new = (laws.keeps _ _ s).on off in
     (shown_before (old.port port) (new.port port) (on.controls port) h, leads_calm laws port s.steps old new off s.lead h)
 
 -- ---- an access
@@ -191,7 +191,7 @@ written_before port (Px p r) v d keep =
     (λ e. port_before p r v (length d.tape) (d.port p.0) (subst (λ (q : Port). ClearsNoTrouble q (Px p r) v) (sym (ap port_at e)) keep))
     (λ k _ _ h. h) port.0 refl
 written_before port adapter.Is v d keep =
-    either ShowsNoTrouble (bit v port.0) (unacknowledged (d.port port.0)) (d.port port.0) (shows_alike (d.port port.0) _ refl refl (λ place. refl)) (λ h. h)
+    either ShowsNoTrouble (bit v port.0) (with_is_cleared (d.port port.0)) (d.port port.0) (shows_alike (d.port port.0) _ refl refl (λ place. refl)) (λ h. h)
 written_before port Cap v d keep = λ h. h
 written_before port Ghc v d keep = λ h. h
 written_before port Pi v d keep = λ h. h
@@ -221,7 +221,7 @@ pub shown_place : (v : ℕ) (p : DevicePort) → PortShows Is v p → (place : �
 shown_place v p shows = four (λ place. bit v place ≡ p.is place) (shows 27 refl) (shows 28 refl) (shows 29 refl) (shows 30 refl)
 
 module _ (laws : StepLaws) (port : Port) (v : ℕ) (old new : Device) (off : old.hr ≡ false) (call : Reads (Px port Is) v old new) where
-  here : SeenAt port.0 Is v old new
+  here : PortRegisterRead port.0 Is v old new
   here = laws.seen port Is v old new call off
 
   pub told_calm : TellsNoTrouble v → ShowsNoTrouble (new.port port.0)
@@ -254,8 +254,8 @@ healthy_shows p h = h.quiet
 pub pair_is_found : StepLaws → (port : Port) (v errors : ℕ) (old mid new : Device) → old.hr ≡ false → Reads (Px port Is) v old mid → Reads (Px port Serr) errors mid new →
     ((place : ℕ) → 27 ≤ place → place ≤ 30 → bit v place ≡ false) → bit errors 16 ≡ false → bit errors 26 ≡ false → RunsWell (old.port port.0) → Undisturbed port.0 old mid × RunsWell (mid.port port.0)
 pair_is_found laws port v errors old mid new off one two quiet n x healthy =
-    let a : SeenAt port.0 Is v old mid = laws.seen port Is v old mid one off in
-    let b : SeenAt port.0 Serr errors mid new = laws.seen port Serr errors mid new two a.keeps.on.no_reset in
+    let a : PortRegisterRead port.0 Is v old mid = laws.seen port Is v old mid one off in
+    let b : PortRegisterRead port.0 Serr errors mid new = laws.seen port Serr errors mid new two a.keeps.on.no_reset in
     let c : KeepsControls (mid.port port.0) (new.port port.0) = b.keeps.on.controls port.0 in
     let shows : ShowsNoTrouble (mid.port port.0) = record {
       serr_n = was_false (mid.port port.0).serr_n (new.port port.0).serr_n c.serr_n (sym b.shows.0 ∙ n);

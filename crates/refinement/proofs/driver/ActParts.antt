@@ -15,9 +15,9 @@ use Rattle.block_machine.specs.Steps.{Step}
 use Rattle.block_machine.proofs.EventLemmas.{after-append}
 use Rattle.refinement.specs.Below.{StepLaws}
 use Rattle.refinement.specs.Acts.{Act, AccessLeads, IsActDone, AreActsDone, with_access, accesses_of, act_steps}
-use Rattle.refinement.specs.Driven.{SendsNone}
+use Rattle.refinement.specs.Driven.{GainsNoMove}
 use Rattle.refinement.specs.Driver.{DriverState, DriverRelation, DriverAdvances}
-use Rattle.refinement.specs.Links.{SparesRegister}
+use Rattle.refinement.specs.Links.{DoesNotWrite}
 use Rattle.refinement.specs.Recovering.{WorksPlainly}
 use Rattle.refinement.specs.Slots.{SlotState, Own, IsMove, op_of}
 use Rattle.refinement.proofs.driver.ComposedMoves.{goes_none, goes_more, going_reaches}
@@ -97,16 +97,16 @@ acts_of_kind May (act ∷ acts) all = let x = apart act.access (accesses_of acts
 
 -- A port for whose disk slot 0 has no command of this operation, before any of the acts, is sent no page by it.
 module _ (laws : StepLaws) (port : ℕ) (o : Operation) (own : op_of o ≡ None) where
-  act_silent : (k : DriverState) (m : Machine) (act : Act) → IsReachable m → DriverRelation m k → IsActDone k m act → (k.uses port 0 ≡ Own o → ⊥) → SendsNone port o k.device act.later.device
+  act_silent : (k : DriverState) (m : Machine) (act : Act) → IsReachable m → DriverRelation m k → IsActDone k m act → (k.uses port 0 ≡ Own o → ⊥) → GainsNoMove port o k.device act.later.device
   act_silent k m act reached x done none = over act.access done.leads
     where
-      over : (access : Option Access) → AccessLeads access k.device act.later.device → SendsNone port o k.device act.later.device
-      over None same = subst (λ (d : Device). SendsNone port o k.device d) (sym same) (gains_nothing (IsMove port o) k.device)
+      over : (access : Option Access) → AccessLeads access k.device act.later.device → GainsNoMove port o k.device act.later.device
+      over None same = subst (λ (d : Device). GainsNoMove port o k.device d) (sym same) (gains_nothing (IsMove port o) k.device)
       over (Some access) does = access_sends_none laws k.uses m access k.device act.later.device port o reached x.agrees does own none
 
   pub done_silent : (acts : List Act) (k later : DriverState) (m : Machine) → IsReachable m → DriverRelation m k → (k.uses port 0 ≡ Own o → ⊥) →
-      All (λ act. act.later.uses port 0 ≡ Own o → ⊥) acts → AreActsDone acts k m later → SendsNone port o k.device later.device
-  done_silent [] k later m reached x none all done = subst (λ (end : DriverState). SendsNone port o k.device end.device) (sym done) (gains_nothing (IsMove port o) k.device)
+      All (λ act. act.later.uses port 0 ≡ Own o → ⊥) acts → AreActsDone acts k m later → GainsNoMove port o k.device later.device
+  done_silent [] k later m reached x none all done = subst (λ (end : DriverState). GainsNoMove port o k.device end.device) (sym done) (gains_nothing (IsMove port o) k.device)
   done_silent (act ∷ acts) k later m reached x none all done =
       let Q = λ (act : Act). act.later.uses port 0 ≡ Own o → ⊥ in
       gains_more (IsMove port o) k.device act.later.device later.device (act_silent k m act reached x done.0 none)
@@ -114,12 +114,12 @@ module _ (laws : StepLaws) (port : ℕ) (o : Operation) (own : op_of o ≡ None)
       (All-head Q act acts all) (All-tail Q act acts all) done.1)
 
 -- a port that works on plain commands alone goes on so, where none of the accesses writes its PxSACT
-pub done_plain : StepLaws → (acts : List Act) (k later : DriverState) (m : Machine) (port : Port) → IsReachable m → DriverRelation m k → All (SparesRegister (Px port Sact)) (accesses_of acts) → AreActsDone acts k m later →
+pub done_plain : StepLaws → (acts : List Act) (k later : DriverState) (m : Machine) (port : Port) → IsReachable m → DriverRelation m k → All (DoesNotWrite (Px port Sact)) (accesses_of acts) → AreActsDone acts k m later →
     WorksPlainly (k.device.port port.0) → WorksPlainly (later.device.port port.0)
-done_plain laws acts k later m port reached x all done = done_keeps (λ (z : DriverState). WorksPlainly (z.device.port port.0)) (λ act. IsOfKind (SparesRegister (Px port Sact)) act.access)
-    (λ z n act r knows is spares. over z n act r knows act.access is.leads spares) acts k later m reached x (acts_of_kind (SparesRegister (Px port Sact)) acts all) done
+done_plain laws acts k later m port reached x all done = done_keeps (λ (z : DriverState). WorksPlainly (z.device.port port.0)) (λ act. IsOfKind (DoesNotWrite (Px port Sact)) act.access)
+    (λ z n act r knows is spares. over z n act r knows act.access is.leads spares) acts k later m reached x (acts_of_kind (DoesNotWrite (Px port Sact)) acts all) done
   where
-    over : (z : DriverState) (n : Machine) (act : Act) → IsReachable n → DriverRelation n z → (access : Option Access) → AccessLeads access z.device act.later.device → IsOfKind (SparesRegister (Px port Sact)) access →
+    over : (z : DriverState) (n : Machine) (act : Act) → IsReachable n → DriverRelation n z → (access : Option Access) → AccessLeads access z.device act.later.device → IsOfKind (DoesNotWrite (Px port Sact)) access →
         WorksPlainly (z.device.port port.0) → WorksPlainly (act.later.device.port port.0)
     over z n act r knows None same spares here = subst (λ (d : Device). WorksPlainly (d.port port.0)) (sym same) here
     over z n act r knows (Some access) does spares here = access_plain laws z.uses n port access z.device act.later.device r knows.agrees spares does here

@@ -10,38 +10,38 @@ use Rattle.adapter.specs.declared.tape.Entry.{Entry}
 use Rattle.block_machine.specs.State.{Machine}
 use Rattle.block_machine.specs.Steps.{Step}
 use Rattle.block_machine.specs.Left as left
-use Rattle.block_machine.specs.Left.{AllTellSectors}
+use Rattle.block_machine.specs.Left.{AllStepsFaithful}
 use Rattle.block_machine.specs.Histories.{IsReachable, IsSimulatedBySteps}
 use Rattle.block_machine.proofs.EventLemmas.{after-append}
 use Rattle.refinement.specs.Slots.{SlotStates}
 use Rattle.refinement.specs.Relation.{StateRelation}
 use Rattle.refinement.specs.Driver.{MayStore, LeavesUses, DriverState, DriverRelation, IsBacked, ByDevice}
 use Rattle.refinement.specs.Follows.{SimulatesSteps}
-use Rattle.refinement.specs.Tape.{TellsEntry, TapeTells, TellsAmong, AllOwn}
+use Rattle.refinement.specs.Tape.{TellsEntry, TapeTells, TellsDeviceSteps, NoneByDevice}
 use Rattle.refinement.proofs.steps.AdapterCalls.{read_follows, load_follows, store_follows}
 use Rattle.refinement.proofs.steps.FollowedSteps.{steps_follow, told_append, puts_append}
 use Rattle.refinement.proofs.steps.WaitingRequests.{follows_have, tells_device, device_append}
 use Rattle.refinement.proofs.steps.RegisterWrites.{write_follows}
 
 -- what a tape tells, it tells with none of the driver's steps among them
-pub tells_among : (m : Machine) (entries : List Entry) (steps : List Step) → TapeTells m entries steps → TellsAmong m entries steps
-tells_among m [] steps t = subst AllOwn (sym t) tt
+pub tells_among : (m : Machine) (entries : List Entry) (steps : List Step) → TapeTells m entries steps → TellsDeviceSteps m entries steps
+tells_among m [] steps t = subst NoneByDevice (sym t) tt
 tells_among m (entry ∷ entries) steps t = (
   [],
   t.0,
   t.1,
   tt,
   t.2,
-  subst (λ (first : List Step). TellsAmong (left.after m first) entries t.1) (sym (append-nil t.0)) (tells_among (left.after m t.0) entries t.1 t.3),
+  subst (λ (first : List Step). TellsDeviceSteps (left.after m first) entries t.1) (sym (append-nil t.0)) (tells_among (left.after m t.0) entries t.1 t.3),
   t.4 ∙ ap (λ (first : List Step). t.1 ++ first) (sym (append-nil t.0)),
 )
 
-own_append : (late early : List Step) → AllOwn late → AllOwn early → AllOwn (late ++ early)
+own_append : (late early : List Step) → NoneByDevice late → NoneByDevice early → NoneByDevice (late ++ early)
 own_append [] early a b = b
 own_append (step ∷ late) early a b = (own_append late early a.0 b, a.1)
 
 -- one part of a call, and then another
-among_append : (m : Machine) (first then : List Entry) (early late : List Step) → TellsAmong m first early → TellsAmong (left.after m early) then late → TellsAmong m (first ++ then) (late ++ early)
+among_append : (m : Machine) (first then : List Entry) (early late : List Step) → TellsDeviceSteps m first early → TellsDeviceSteps (left.after m early) then late → TellsDeviceSteps m (first ++ then) (late ++ early)
 among_append m [] [] early late a b = own_append late early b a
 among_append m [] (entry ∷ entries) early late a b = (
   b.0 ++ early,
@@ -49,7 +49,7 @@ among_append m [] (entry ∷ entries) early late a b = (
   b.2,
   own_append b.0 early b.3 a,
   subst (λ (n : Machine). TellsEntry n entry b.1) (sym (after-append m b.0 early)) b.4,
-  subst (λ (n : Machine). TellsAmong n entries b.2) (sym (after-append m (b.1 ++ b.0) early) ∙ ap (left.after m) (append_assoc b.1 b.0 early)) b.5,
+  subst (λ (n : Machine). TellsDeviceSteps n entries b.2) (sym (after-append m (b.1 ++ b.0) early) ∙ ap (left.after m) (append_assoc b.1 b.0 early)) b.5,
   ap (λ (steps : List Step). steps ++ early) b.6 ∙ append_assoc b.2 (b.1 ++ b.0) early ∙ ap (λ (steps : List Step). b.2 ++ steps) (append_assoc b.1 b.0 early),
 )
 among_append m (entry ∷ entries) then early late a b = (
@@ -59,7 +59,7 @@ among_append m (entry ∷ entries) then early late a b = (
   a.3,
   a.4,
   among_append (left.after m (a.1 ++ a.0)) entries then a.2 late a.5
-      (subst (λ (n : Machine). TellsAmong n then late) (ap (left.after m) a.6 ∙ after-append m a.2 (a.1 ++ a.0)) b),
+      (subst (λ (n : Machine). TellsDeviceSteps n then late) (ap (left.after m) a.6 ∙ after-append m a.2 (a.1 ++ a.0)) b),
   ap (λ (steps : List Step). late ++ steps) a.6 ∙ sym (append_assoc late a.2 (a.1 ++ a.0)),
 )
 

@@ -13,7 +13,7 @@ use Rattle.adapter.specs.Access.{Access, Does, Reads, Writes, Loads, port_writte
 use Rattle.adapter.specs.Access.Access.{Writing}
 use Rattle.adapter.specs.Commands.{Meaning, is_queued}
 use Rattle.adapter.specs.Device.{FetchedCommand, DevicePort, Device}
-use Rattle.adapter.specs.Kept.{Keeps, KeepsOn}
+use Rattle.adapter.specs.Kept.{Keeps, KeepsOutsideReset}
 use Rattle.adapter.specs.Memory.{changed}
 use Rattle.adapter.specs.Decoding.{DecodesTo}
 use Rattle.adapter.specs.Steps.{DeviceTransition, Can, device_after, StepLeads, Steps, begun, move_of}
@@ -217,7 +217,7 @@ longer tape gained new n is le = let l = length-append tape gained in let same :
 step_waits : StepLaws → (uses : SlotStates) (m : Machine) (port : ℕ) (o : Operation) (since : ℕ) (step : DeviceTransition) (d : Device) → StateRelation uses m d → Can step d → AwaitsPage uses port o since d → AwaitsPage uses port o since (device_after step d)
 step_waits laws uses m port o since step d a can w =
     let k : Keeps d (device_after step d) = laws.step step _ can in
-    let on : KeepsOn d (device_after step d) = k.on w.off in
+    let on : KeepsOutsideReset d (device_after step d) = k.on w.off in
     record {
       off = on.no_reset;
       st = (on.controls port).st ∙ w.st;

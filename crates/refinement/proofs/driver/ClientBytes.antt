@@ -13,14 +13,14 @@ use Rattle.adapter.proofs.MemoryLemmas.{bytes_index}
 use Rattle.block_machine.specs.Histories.{IsReachable}
 use Rattle.block_machine.specs.Left as left
 use Rattle.block_machine.specs.Left.{IsInitial}
-use Rattle.block_machine.specs.Refusals.{IsOpen}
+use Rattle.block_machine.specs.Refusals.{MayAccessFrame}
 use Rattle.block_machine.specs.State.{Machine}
 use Rattle.block_machine.specs.Steps.{Store, Load, May, after_step}
 use Rattle.block_machine.proofs.Configured.{owners_stay}
 use Rattle.block_machine.proofs.Limits.{owned}
 use Rattle.refinement.specs.Below.{StepLaws}
 use Rattle.refinement.specs.Relation.{StateRelation}
-use Rattle.refinement.specs.Driver.{DriverState, DriverRelation, IsBacked, EndsWith}
+use Rattle.refinement.specs.Driver.{DriverState, DriverRelation, IsBacked, EndsInStep}
 use Rattle.refinement.specs.Follows.{SimulatesSteps}
 use Rattle.refinement.specs.Slots.{SlotStates}
 use Rattle.refinement.proofs.driver.AddedSteps.{backed, backed_then}
@@ -34,15 +34,15 @@ use Rattle.refinement.proofs.steps.WaitingRequests.{tells_device, follows_have}
 
 -- ---- loans and owners stay while the device goes on
 
-pub open_stays : (uses : SlotStates) (m : Machine) (old new : Device) (f : SimulatesSteps uses m old new) (client : ClientId) (frame : Frame) (offset n : ℕ) → IsOpen m.owner m.lent client frame offset n →
-    IsOpen (left.after m f.steps).owner (left.after m f.steps).lent client frame offset n
+pub open_stays : (uses : SlotStates) (m : Machine) (old new : Device) (f : SimulatesSteps uses m old new) (client : ClientId) (frame : Frame) (offset n : ℕ) → MayAccessFrame m.owner m.lent client frame offset n →
+    MayAccessFrame (left.after m f.steps).owner (left.after m f.steps).lent client frame offset n
 open_stays uses m old new f client frame offset n opens =
     let s = follows_spare uses m old new f in
-    subst (λ (o : Frame → Option ClientId). IsOpen o (left.after m f.steps).lent client frame offset n) (sym s.owner)
-    (subst (λ (l : Frame → Option RequestId). IsOpen m.owner l client frame offset n) (sym s.lent) opens)
+    subst (λ (o : Frame → Option ClientId). MayAccessFrame o (left.after m f.steps).lent client frame offset n) (sym s.owner)
+    (subst (λ (l : Frame → Option RequestId). MayAccessFrame m.owner l client frame offset n) (sym s.lent) opens)
 
 -- the frame is a client's, and the bytes are in it
-pub open_in : (m : Machine) → IsReachable m → (client : ClientId) (frame : Frame) (offset n : ℕ) → IsOpen m.owner m.lent client frame offset n → (DRIVER_FRAMES ≤ frame.0) × (offset + n ≤ 4096)
+pub open_in : (m : Machine) → IsReachable m → (client : ClientId) (frame : Frame) (offset n : ℕ) → MayAccessFrame m.owner m.lent client frame offset n → (DRIVER_FRAMES ≤ frame.0) × (offset + n ≤ 4096)
 open_in m r client frame offset n opens = (
   (r.starts.owned frame client (sym (owners_stay r.first r.past frame) ∙ ap (λ (x : Machine). x.owner frame) (sym r.is) ∙ owned (m.owner frame) client (opens FrameForeign))).2,
   ⊎_elim (λ (l : 4096 < offset + n). absurd (opens OutsideFrame l)) (λ (g : offset + n ≤ 4096). g) (cases_lt 4096 (offset + n)),
@@ -50,7 +50,7 @@ open_in m r client frame offset n opens = (
 
 -- ---- a store
 
-stored_on : (uses : SlotStates) (m : Machine) (d : Device) → IsReachable m → StateRelation uses m d → (client : ClientId) (frame : Frame) (offset : ℕ) (bytes : List ℕ) → IsOpen m.owner m.lent client frame offset (length bytes) →
+stored_on : (uses : SlotStates) (m : Machine) (d : Device) → IsReachable m → StateRelation uses m d → (client : ClientId) (frame : Frame) (offset : ℕ) (bytes : List ℕ) → MayAccessFrame m.owner m.lent client frame offset (length bytes) →
     StateRelation uses (after_step m (Store client frame offset bytes)) (record d { memory = patched d.memory (4096 * frame.0 + offset) bytes })
 stored_on uses m d reached a client frame offset bytes opens =
     let x = open_in m reached client frame offset (length bytes) opens in
@@ -67,7 +67,7 @@ stored_on uses m d reached a client frame offset bytes opens =
     }
 
 pub client_stores : StepLaws → (k : DriverState) (m : Machine) (client : ClientId) (frame : Frame) (offset : ℕ) (bytes : List ℕ) (new : Device) → IsReachable m → DriverRelation m k → May m (Store client frame offset bytes) →
-    Stores (4096 * frame.0 + offset) bytes k.device new → EndsWith k m (Store client frame offset bytes) (record k { device = new })
+    Stores (4096 * frame.0 + offset) bytes k.device new → EndsInStep k m (Store client frame offset bytes) (record k { device = new })
 client_stores laws k m client frame offset bytes new r knows may call =
     let f : SimulatesSteps k.uses m k.device call.mid = steps_follow k.uses m k.device call.mid r knows.agrees call.steps in
     let later : IsReachable (left.after m f.steps) = laws.reached m f.steps r f.may in
@@ -89,8 +89,8 @@ client_stores laws k m client frame offset bytes new r knows may call =
 
 -- ---- a load
 
-pub client_loads : StepLaws → (k : DriverState) (m : Machine) (client : ClientId) (frame : Frame) (offset : ℕ) (bytes : List ℕ) (new : Device) → IsReachable m → DriverRelation m k → IsOpen m.owner m.lent client frame offset (length bytes) →
-    Loads (4096 * frame.0 + offset) bytes k.device new → EndsWith k m (Load client frame offset bytes) (record k { device = new })
+pub client_loads : StepLaws → (k : DriverState) (m : Machine) (client : ClientId) (frame : Frame) (offset : ℕ) (bytes : List ℕ) (new : Device) → IsReachable m → DriverRelation m k → MayAccessFrame m.owner m.lent client frame offset (length bytes) →
+    Loads (4096 * frame.0 + offset) bytes k.device new → EndsInStep k m (Load client frame offset bytes) (record k { device = new })
 client_loads laws k m client frame offset bytes new r knows may call =
     let f : SimulatesSteps k.uses m k.device new = steps_follow k.uses m k.device new r knows.agrees call.steps in
     let later : IsReachable (left.after m f.steps) = laws.reached m f.steps r f.may in

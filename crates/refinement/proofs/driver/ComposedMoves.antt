@@ -1,14 +1,14 @@
 -- A driver's moves, in the one form that composes.
 use Rattle.std.proofs.Common.{◌≡◌, ◌++◌, List, [], ◌∷◌, sym, subst}
 use Rattle.adapter.specs.Device.{Device}
-use Rattle.block_machine.specs.Events.{IsByDevice, AllDevices, AllMay}
+use Rattle.block_machine.specs.Events.{IsByDevice, AllByDevice, AllMay}
 use Rattle.block_machine.specs.Histories.{IsReachable, IsSimulatedBySteps}
 use Rattle.block_machine.specs.Left.{after}
 use Rattle.block_machine.specs.State.{Machine}
 use Rattle.block_machine.specs.Steps.{Step, May, after_step}
 use Rattle.block_machine.proofs.EventLemmas.{after-append}
 use Rattle.block_machine.proofs.HistoryLemmas.{may-append, reached_more}
-use Rattle.refinement.specs.Driver.{DriverState, DriverRelation, IsBacked, ByDevice, EndsWith, DriverAdvances}
+use Rattle.refinement.specs.Driver.{DriverState, DriverRelation, IsBacked, ByDevice, EndsInStep, DriverAdvances}
 use Rattle.refinement.specs.Follows.{SimulatesSteps}
 use Rattle.refinement.proofs.driver.AddedSteps.{backed_then, nothing_backed, knowing_goes_on}
 use Rattle.refinement.proofs.driver.IssueWrite.{own_backed}
@@ -39,10 +39,10 @@ goes_device k later m steps may by x = record { may = may; backed = by.backed; k
 pub goes_following : (k : DriverState) (m : Machine) (new : Device) → DriverRelation m k → (f : SimulatesSteps k.uses m k.device new) → DriverAdvances k m f.steps (record k { device = new })
 goes_following k m new x f = let y = knowing_goes_on k m new x f in goes_device k (record k { device = new }) m f.steps f.may y.1 y.0
 
-pub goes_ending : (k later : DriverState) (m : Machine) (step : Step) → (e : EndsWith k m step later) → DriverAdvances k m (step ∷ e.steps) later
+pub goes_ending : (k later : DriverState) (m : Machine) (step : Step) → (e : EndsInStep k m step later) → DriverAdvances k m (step ∷ e.steps) later
 goes_ending k later m step e = record { may = e.may; backed = e.backed; knows = e.knows }
 
-pub goes_access : (k later : DriverState) (m : Machine) → IsSimulatedBySteps DriverRelation k later (ByDevice k.device later.device) → IsReachable m → DriverRelation m k → (steps : List Step) × AllDevices steps × DriverAdvances k m steps later
+pub goes_access : (k later : DriverState) (m : Machine) → IsSimulatedBySteps DriverRelation k later (ByDevice k.device later.device) → IsReachable m → DriverRelation m k → (steps : List Step) × AllByDevice steps × DriverAdvances k m steps later
 goes_access k later m adds reached x = let y = adds.adds m reached x in (y.0, y.3.only, goes_device k later m y.0 y.1 y.3 y.2)
 
 pub goes_part : (k later : DriverState) (m : Machine) → IsSimulatedBySteps DriverRelation k later (IsBacked k.device later.device) → IsReachable m → DriverRelation m k → (steps : List Step) × DriverAdvances k m steps later

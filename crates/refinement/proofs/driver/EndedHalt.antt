@@ -25,7 +25,7 @@ use Rattle.refinement.specs.Relation.{StateRelation}
 use Rattle.refinement.specs.Driver.{IsOwnPrepared}
 use Rattle.refinement.specs.Facts.{RunsWell, TellsNoTrouble}
 use Rattle.refinement.specs.Follows.{SimulatesSteps}
-use Rattle.refinement.specs.Links.{SparesRegister}
+use Rattle.refinement.specs.Links.{DoesNotWrite}
 use Rattle.refinement.proofs.device.ClearSactBits.{free_unarmed, steps_clear}
 use Rattle.refinement.specs.Slots.{SlotState, Free, Armed, Own, Serves, SlotStates, put, Stage, OwnWaits, OwnTaken, OwnOver, IsEmptySlot, IsOver, RelatesSlot}
 use Rattle.refinement.specs.Started.{ClearsNoStart}
@@ -151,7 +151,7 @@ written_ends Sact v tape p on other h = absurd (other refl)
 written_ends Ci v tape p on other h = (h.0, h.1, ⊎_elim (λ (i : p.ci 0 ≡ true). inl (or_left (p.ci 0) (bit v 0) i)) (λ (r : p.halt ≡ NotHalted). inr r) h.2)
 written_ends _ v tape p on other h = h
 
-pub access_ends : StepLaws → (uses : SlotStates) (m : Machine) (port : Port) (access : Access) (old new : Device) → IsReachable m → StateRelation uses m old → ClearsNoStart port access → SparesRegister (Px port Sact) access → new.hr ≡ false → Does access old new →
+pub access_ends : StepLaws → (uses : SlotStates) (m : Machine) (port : Port) (access : Access) (old new : Device) → IsReachable m → StateRelation uses m old → ClearsNoStart port access → DoesNotWrite (Px port Sact) access → new.hr ≡ false → Does access old new →
     EndsHalt uses port.0 old → EndsHalt uses port.0 new
 access_ends laws uses m port access old new r a keeps spares off x h =
     let s = access_steps access old new x in

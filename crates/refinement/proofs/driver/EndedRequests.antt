@@ -10,10 +10,10 @@ use Rattle.hba_regs.specs.declared.reg.PortReg.TheVariants.{Ci}
 use Rattle.adapter.specs.Access.{Reads, Loads}
 use Rattle.adapter.specs.Commands.{is_queued}
 use Rattle.adapter.specs.Device.{Device}
-use Rattle.adapter.specs.Kept.{Keeps, KeepsOn}
+use Rattle.adapter.specs.Kept.{Keeps, KeepsOutsideReset}
 use Rattle.adapter.specs.Memory.{bytes_at}
 use Rattle.adapter.specs.declared.command.Operation.{Operation}
-use Rattle.adapter.specs.Seen.{SeenAt}
+use Rattle.adapter.specs.Seen.{PortRegisterRead}
 use Rattle.block_machine.specs.Left.{after}
 use Rattle.block_machine.specs.Histories.{IsReachable}
 use Rattle.block_machine.specs.State.{Pending, Machine}
@@ -111,7 +111,7 @@ pub page_is_read : StepLaws → (uses : SlotStates) (m : Machine) (port : Port) 
     uses port.0 0 ≡ Own o → Reads (Px port Ci) v old new → bit v 0 ≡ false → FindsOwnPage uses m port.0 o old new
 page_is_read laws uses m port o v old new reached a h st u call clear =
     let f : SimulatesSteps uses m old new = read_follows uses m (Px port Ci) v old new reached a call in
-    let s : SeenAt port.0 Ci v old new = laws.seen port Ci v old new call h in
+    let s : PortRegisterRead port.0 Ci v old new = laws.seen port Ci v old new call h in
     let now : (new.port port.0).st ≡ true = (s.keeps.on.controls port.0).st ∙ st in
     let none : (new.port port.0).ci 0 ≡ false = sym (s.shows 0 (omega arith)) ∙ clear in
     record {
@@ -126,7 +126,7 @@ pub page_is_loaded : StepLaws → (uses : SlotStates) (m : Machine) (port : ℕ)
 page_is_loaded laws uses m port o bytes old new reached a h st u over call size =
     let f : SimulatesSteps uses m old new = load_follows uses m (scratch_of port) bytes old new reached a call in
     let k : Keeps old new = laws.keeps _ _ call.steps in
-    let on : KeepsOn old new = k.on h in
+    let on : KeepsOutsideReset old new = k.on h in
     let now : (new.port port).st ≡ true = (on.controls port).st ∙ st in
     let none : (new.port port).ci 0 ≡ false = (k.port port).ci 0 over.issued in
     let b : Brought new.memory new.tape port o (new.port port).notes.st_set_at = own_brought uses (after m f.steps) new port o f.agrees u now none in (

@@ -13,10 +13,10 @@ use Rattle.adapter.specs.Access.Access.{Writing}
 use Rattle.adapter.specs.Device.{DevicePort, Device}
 use Rattle.adapter.specs.Kept.{KeepsPort}
 use Rattle.adapter.specs.Steps.{Steps}
-use Rattle.block_machine.specs.Events.{AllDevices}
+use Rattle.block_machine.specs.Events.{AllByDevice}
 use Rattle.block_machine.specs.Left.{after}
 use Rattle.block_machine.specs.State.{Accepted, Pending, Machine}
-use Rattle.block_machine.specs.Steps.{Step, MayStillMove, NoneKept}
+use Rattle.block_machine.specs.Steps.{Step, MayStillMove, NoneQuarantined}
 use Rattle.refinement.specs.Below.{StepLaws}
 use Rattle.refinement.specs.Facts.{EndedIn, IsSlotClear}
 use Rattle.refinement.specs.Slots.{IsOver}
@@ -94,13 +94,13 @@ access_clear laws port slot access old new ci sact x h =
 
 -- ---- its request
 
-pub ended_stays : (m : Machine) (steps : List Step) (port : Port) (id : RequestId) → AllDevices steps → EndedIn m port id → EndedIn (after m steps) port id
+pub ended_stays : (m : Machine) (steps : List Step) (port : Port) (id : RequestId) → AllByDevice steps → EndedIn m port id → EndedIn (after m steps) port id
 ended_stays m steps port id is h = ⊎_elim booked kept h.moves
   where
     spares : SparesBook m (after m steps)
     spares = steps_spare m steps is
 
-    ended : (x : Pending) → IsFurther h.pending x → MayStillMove (after m steps) x → (NoneKept (after m steps) port → Contains (after m steps).book x) → EndedIn (after m steps) port id
+    ended : (x : Pending) → IsFurther h.pending x → MayStillMove (after m steps) x → (NoneQuarantined (after m steps) port → Contains (after m steps).book x) → EndedIn (after m steps) port id
     ended x f moves booked = record {
       pending = x;
       moves = moves;

@@ -10,12 +10,12 @@ use Rattle.block_machine.specs.State.{Machine}
 use Rattle.block_machine.proofs.Members.{contains_none, contains_here, contains_there, contains_cases}
 use Rattle.refinement.specs.Relation.{StateRelation, ServeApart}
 use Rattle.refinement.specs.Driver.{DriverState, DriverRelation, AllFree, HasNoSlot}
-use Rattle.refinement.specs.Facts.{IsHalted}
+use Rattle.refinement.specs.Facts.{IsEngineStopped}
 use Rattle.refinement.specs.Slots.{SlotState, Free, Armed, Own, Serves, SlotStates, ServesRequest, IsEmptySlot, RelatesSlot}
 use Rattle.refinement.proofs.relation.OneSlot.{changed_at}
 use Rattle.refinement.proofs.driver.PutSlot.{serves_not_free, serves_same}
 use Rattle.refinement.proofs.device.ClearSactBits.{over_unarmed}
-use Rattle.refinement.specs.GivingUp.{IsPortOver, with_served, served_ids, parking_all}
+use Rattle.refinement.specs.GivingUp.{AreSlotsOver, with_served, served_ids, parking_all}
 
 -- ---- the requests that are served
 
@@ -100,7 +100,7 @@ module _ (k : DriverState) (port : ℕ) where
   pub parking_leaves_all : (id : RequestId) → HasNoSlot k.uses id → HasNoSlot (parking_all k port).uses id
   parking_leaves_all id none q s v = none q s (still q s id v).1
 
-  module _ (m : Machine) (over : IsPortOver k.uses (k.device.port port) port) where
+  module _ (m : Machine) (over : AreSlotsOver k.uses (k.device.port port) port) where
     is_free : StateRelation k.uses m k.device → (slot : ℕ) → IsEmptySlot (k.device.port port) slot
     is_free a slot = record { issued = (over slot).0.issued; free = (over slot).0.free; unarmed = by (k.uses port slot) refl (a.slot port slot) }
       where
@@ -140,8 +140,8 @@ module _ (k : DriverState) (port : ℕ) where
             (λ (ne : q ≡ port → ⊥). inr (slot, ap (λ (f : ℕ → SlotState). f slot) (changed_other k.uses port (λ s. Free) q ne) ∙ u))
             (cases_eq q port)
 
-pub given_up_over : (k : DriverState) (m : Machine) (port : ℕ) → DriverRelation m k → IsPortOver k.uses (k.device.port port) port → DriverRelation m (parking_all k port)
+pub given_up_over : (k : DriverState) (m : Machine) (port : ℕ) → DriverRelation m k → AreSlotsOver k.uses (k.device.port port) port → DriverRelation m (parking_all k port)
 given_up_over k m port x over = all_given_up k port m over x
 
-pub given_up_halted : (k : DriverState) (m : Machine) (port : ℕ) → DriverRelation m k → IsHalted (k.device.port port) → DriverRelation m (parking_all k port)
+pub given_up_halted : (k : DriverState) (m : Machine) (port : ℕ) → DriverRelation m k → IsEngineStopped (k.device.port port) → DriverRelation m (parking_all k port)
 given_up_halted k m port x h = all_given_up k port m (λ slot. (record { issued = h.ci slot; free = h.taken slot }, λ _. h.st)) x

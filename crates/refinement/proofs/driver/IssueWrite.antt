@@ -9,25 +9,25 @@ use Rattle.hba_regs.specs.declared.reg.PortReg.TheVariants as px
 use Rattle.adapter.specs.Access.{Writes}
 use Rattle.adapter.specs.Device as device
 use Rattle.adapter.specs.Device.{Device}
-use Rattle.adapter.specs.Kept.{Keeps, KeepsOn}
+use Rattle.adapter.specs.Kept.{Keeps, KeepsOutsideReset}
 use Rattle.adapter.specs.Steps.{Steps}
 use Rattle.adapter.specs.declared.command.Operation.{Operation}
 use Rattle.adapter.specs.declared.tape.Entry.{Entry}
-use Rattle.adapter.proofs.KeptLemmas.{law_steps_keep}
+use Rattle.adapter.proofs.KeptLemmas.{law_steps_guarantee}
 use Rattle.block_machine.specs.Due.{is_plain}
 use Rattle.block_machine.specs.declared.due.QueueMode.{QueueMode}
 use Rattle.block_machine.specs.State.{Pending, Machine}
 use Rattle.block_machine.specs.Steps.{Step, Accept, Issue, Touch, End, Age, Again, Answer, Revoke, Release, Unplug, Replace, Store, Load, after_step}
 use Rattle.block_machine.specs.Events.{IsByDevice}
 use Rattle.block_machine.specs.Left as left
-use Rattle.block_machine.specs.Left.{TellsSectors}
+use Rattle.block_machine.specs.Left.{StepIsFaithful}
 use Rattle.refinement.specs.Tape.{PutsInDisks}
 use Rattle.block_machine.specs.Histories.{IsReachable, IsSimulatedBySteps}
 use Rattle.block_machine.proofs.HistoryLemmas.{reached_more}
 use Rattle.refinement.specs.Places.{scratch_of}
 use Rattle.refinement.specs.Slots.{SlotState, Free, Own, Serves, SlotStates, put, Armed}
 use Rattle.refinement.specs.Relation.{StateRelation}
-use Rattle.refinement.specs.Driver.{DriverState, DriverRelation, IsBacked, ByDevice, IsPrepared, IsOwnPrepared, EndsWith, serving, LeavesFree}
+use Rattle.refinement.specs.Driver.{DriverState, DriverRelation, IsBacked, ByDevice, IsPrepared, IsOwnPrepared, EndsInStep, serving, KeepsTables}
 use Rattle.refinement.specs.Follows.{SimulatesSteps}
 use Rattle.refinement.proofs.driver.AddedSteps.{backed, backed_then}
 use Rattle.refinement.proofs.steps.FollowedSteps.{steps_follow}
@@ -46,10 +46,10 @@ not_own {A} {o} false e = absurd (let z : Own o ≡ Armed = e in cc)
 pub prepared_stays : (uses : SlotStates) (m : Machine) (old mid : Device) (port slot : ℕ) (mode : QueueMode) (e : Pending) (v : ℕ) → IsReachable m → StateRelation uses m old → old.hr ≡ false →
     Steps old mid → (f : SimulatesSteps uses m old mid) → IsPrepared uses m old port slot mode e v → IsPrepared uses (left.after m f.steps) mid port slot mode e v
 prepared_stays uses m old mid port slot mode e v r a calm s f x =
-    let k : Keeps old mid = law_steps_keep s in
-    let c : KeepsOn old mid = k.on calm in
+    let k : Keeps old mid = law_steps_guarantee s in
+    let c : KeepsOutsideReset old mid = k.on calm in
     let list : (mid.port port).bases.clb ≡ (old.port port).bases.clb = ap (λ (b : device.Bases). b.clb) (k.port port).bases in
-    let l : LeavesFree uses old mid = steps_leave uses m old mid r a calm s in
+    let l : KeepsTables uses old mid = steps_leave uses m old mid r a calm s in
     record {
       may = law_due_stays uses m old mid r f mode e x.may;
       port_is = x.port_is;
@@ -72,10 +72,10 @@ prepared_stays uses m old mid port slot mode e v r a calm s f x =
 pub own_prepared_stays : (uses : SlotStates) (m : Machine) (old mid : Device) (port : ℕ) (o : Operation) (v : ℕ) → IsReachable m → StateRelation uses m old → old.hr ≡ false →
     Steps old mid → IsOwnPrepared uses old port o v → IsOwnPrepared uses mid port o v
 own_prepared_stays uses m old mid port o v r a calm s x =
-    let k : Keeps old mid = law_steps_keep s in
-    let c : KeepsOn old mid = k.on calm in
+    let k : Keeps old mid = law_steps_guarantee s in
+    let c : KeepsOutsideReset old mid = k.on calm in
     let list : (mid.port port).bases.clb ≡ (old.port port).bases.clb = ap (λ (b : device.Bases). b.clb) (k.port port).bases in
-    let l : LeavesFree uses old mid = steps_leave uses m old mid r a calm s in
+    let l : KeepsTables uses old mid = steps_leave uses m old mid r a calm s in
     record {
       own = x.own;
       free = x.free;
@@ -101,7 +101,7 @@ own_backed d m step own = record {
   plugged = λ q. ([], sym (append-nil (d.port q).plugged), puts step own q);
 }
   where
-    told : (s : Step) → (IsByDevice s → ⊥) → TellsSectors m s
+    told : (s : Step) → (IsByDevice s → ⊥) → StepIsFaithful m s
     told (Touch e i block) o = absurd (o tt)
     told (End e) o = tt
     told (Unplug port) o = tt
@@ -132,7 +132,7 @@ own_backed d m step own = record {
     puts (Load client frame offset bytes) o q = refl
 
 pub issue_follows : (k : DriverState) (m : Machine) (port : Port) (slot : ℕ) (mode : QueueMode) (e : Pending) (v : ℕ) (new : Device) → IsReachable m → DriverRelation m k → k.device.hr ≡ false →
-    IsPrepared k.uses m k.device port.0 slot mode e v → Writes (Px port px.Ci) v k.device new → EndsWith k m (Issue mode e) (serving k port.0 slot e.request.id new)
+    IsPrepared k.uses m k.device port.0 slot mode e v → Writes (Px port px.Ci) v k.device new → EndsInStep k m (Issue mode e) (serving k port.0 slot e.request.id new)
 issue_follows k m port slot mode e v new r knows calm x call =
     let f : SimulatesSteps k.uses m k.device call.mid = steps_follow k.uses m k.device call.mid r knows.agrees call.steps in
     let y : IsPrepared k.uses (left.after m f.steps) call.mid port.0 slot mode e v = prepared_stays k.uses m k.device call.mid port.0 slot mode e v r knows.agrees calm call.steps f x in
@@ -185,7 +185,7 @@ pub arming_adds : (k : DriverState) (port : Port) (slot v : ℕ) (new : Device) 
 arming_adds k port slot v new calm free st here alone call = record {
   adds = λ m r knows.
       let f : SimulatesSteps k.uses m k.device call.mid = steps_follow k.uses m k.device call.mid r knows.agrees call.steps in
-      let started : (call.mid.port port.0).st ≡ true = (((law_steps_keep call.steps).on calm).controls port.0).st ∙ st in
+      let started : (call.mid.port port.0).st ≡ true = (((law_steps_guarantee call.steps).on calm).controls port.0).st ∙ st in
       let g : SimulatesSteps (put k.uses port.0 slot Armed) m k.device new = write_effect k.uses (put k.uses port.0 slot Armed) m (Px port px.Sact) v k.device new call f (arming_agrees k.uses (left.after m f.steps) call.mid f.agrees port.0 slot v free started here alone) in (
         g.steps,
         g.may,

@@ -22,7 +22,7 @@ use Rattle.block_machine.proofs.Sound.{Sound}
 use Rattle.block_machine.proofs.Standing.{standing}
 use Rattle.refinement.specs.Slots.{SlotState, Free, Own, Serves, SlotStates, put, Progress, Stage, IsOver, RelatesSlot, Armed, IsArmed}
 use Rattle.refinement.specs.Relation.{StateRelation, port_at}
-use Rattle.refinement.specs.Driver.{DriverState, DriverRelation, HasNoSlot, ForgetsRequest, ForgetsKept, parking, freeing}
+use Rattle.refinement.specs.Driver.{DriverState, DriverRelation, HasNoSlot, ForgetsAtMost, ForgetsAtMostKept, parking, freeing}
 use Rattle.refinement.proofs.relation.LastingSectors.{gains_none, keeps_same, lasting_on}
 use Rattle.refinement.proofs.relation.OneSlot.{sectors_on, changed_at}
 use Rattle.refinement.proofs.device.ClearSactBits.{over_unarmed}
@@ -178,7 +178,7 @@ record Leaves (m m' : Machine) (id : RequestId) : Type 0 where
   moves : (e : Pending) → e.request.id ≢ id → MayStillMove m e → MayStillMove m' e
   back : (e : Pending) → MayStillMove m' e → MayStillMove m e × (e.request.id ≢ id)
 
-leaves_knows : (k : DriverState) (m m' : Machine) (id : RequestId) (later : ℕ → List RequestId) → DriverRelation m k → HasNoSlot k.uses id → ForgetsRequest id k.parked later → Leaves m m' id → DriverRelation m' (record k { parked = later })
+leaves_knows : (k : DriverState) (m m' : Machine) (id : RequestId) (later : ℕ → List RequestId) → DriverRelation m k → HasNoSlot k.uses id → ForgetsAtMost id k.parked later → Leaves m m' id → DriverRelation m' (record k { parked = later })
 leaves_knows k m m' id later x none forgets l = record {
   agrees = agrees_on k.uses m m' k.device x.agrees l.world
       (λ q s other u e is may. goes_on_same m m' e (l.moves e (λ same. none q s (u ∙ ap Serves (sym is ∙ same))) may));
@@ -225,12 +225,12 @@ again_leaves m e s here = record {
 }
 
 pub answer_knows : (k : DriverState) (m : Machine) (e : Pending) (outcome : Outcome) (later : ℕ → List RequestId) → IsReachable m → DriverRelation m k → Contains m.book e → stays e outcome ≡ false →
-    HasNoSlot k.uses e.request.id → ForgetsRequest e.request.id k.parked later → DriverRelation (after_step m (Answer e outcome)) (record k { parked = later })
+    HasNoSlot k.uses e.request.id → ForgetsAtMost e.request.id k.parked later → DriverRelation (after_step m (Answer e outcome)) (record k { parked = later })
 answer_knows k m e outcome later r x here gives none forgets =
     leaves_knows k m (after_step m (Answer e outcome)) e.request.id later x none forgets (answer_leaves m e outcome (standing m r).sound here gives)
 
 pub again_knows : (k : DriverState) (m : Machine) (e : Pending) (later : ℕ → List RequestId) → IsReachable m → DriverRelation m k → Contains m.book e →
-    HasNoSlot k.uses e.request.id → ForgetsRequest e.request.id k.parked later → DriverRelation (after_step m (Again e)) (record k { parked = later })
+    HasNoSlot k.uses e.request.id → ForgetsAtMost e.request.id k.parked later → DriverRelation (after_step m (Again e)) (record k { parked = later })
 again_knows k m e later r x here none forgets =
     leaves_knows k m (after_step m (Again e)) e.request.id later x none forgets (again_leaves m e (standing m r).sound here)
 
@@ -272,7 +272,7 @@ keeping_knows k m e outcome r x here stay = record {
 -- ---- the frames of kept requests are given back
 
 pub release_knows : (k : DriverState) (m : Machine) (later : ℕ → List RequestId) → IsReachable m → DriverRelation m k → ((e : Pending) → Contains m.kept e → HasNoSlot k.uses e.request.id) →
-    ForgetsKept m k.parked later →
+    ForgetsAtMostKept m k.parked later →
     DriverRelation (after_step m Release) (record k { parked = later })
 release_knows k m later r x none forgets = record {
   agrees = agrees_on k.uses m (after_step m Release) k.device x.agrees (record { present = refl; ids = refl; sizes = refl; disks = refl; aside = refl; memory = refl })

@@ -2,12 +2,12 @@
 use Rattle.std.proofs.Common.{ℕ, ◌++◌, List, [], ◌∷◌, None, refl, sym, ◌∙◌, ap, subst, inl}
 use Rattle.adapter.specs.Access.{Access, DoesAll}
 use Rattle.adapter.specs.Device.{Device}
-use Rattle.block_machine.specs.Events.{AllDevices}
+use Rattle.block_machine.specs.Events.{AllByDevice}
 use Rattle.block_machine.specs.Left.{after}
-use Rattle.refinement.specs.Acts.{Act, ByDeviceAlone, InSlots, IsActDone, Performs, accesses_of, at_slots, act_steps}
+use Rattle.refinement.specs.Acts.{Act, ByDeviceAlone, DriverSlots, IsActDone, Performs, accesses_of, driver_state, act_steps}
 use Rattle.refinement.specs.Driven.{IsSimulated, IsSimulatedTo}
 use Rattle.refinement.specs.Driver.{AllFree}
-use Rattle.refinement.specs.Facts.{IsHalted}
+use Rattle.refinement.specs.Facts.{IsEngineStopped}
 use Rattle.refinement.specs.GivingUp.{given_up}
 use Rattle.refinement.specs.Slots.{SlotStates}
 use Rattle.refinement.proofs.driver.ComposedMoves.{goes_still, going_reaches}
@@ -16,7 +16,7 @@ use Rattle.refinement.proofs.driver.ActParts.{accesses_append, done_goes, done_m
 use Rattle.refinement.proofs.steps.WaitingRequests.{device_append}
 
 -- what is in the slots then
-abbrev after_next : (SlotStates → SlotStates) → InSlots → InSlots
+abbrev after_next : (SlotStates → SlotStates) → DriverSlots → DriverSlots
 after_next next s = record s { uses = next s.uses }
 
 pub performs_one : (May : Access → Type 0) (Fits : SlotStates → Type 0) (next : SlotStates → SlotStates) (old new : Device) → (a : IsSimulatedTo May Fits next old new) →
@@ -27,26 +27,26 @@ performs_one May Fits next old new a = record {
       let c = a.comes s m reached x fits in record { acts = c.acts; done = c.done; accesses_are = c.accesses_are; tells = c.tells.only };
 }
 
-pub performs_giving_up : ((early late : List Access) (old mid new : Device) → DoesAll early old mid → DoesAll late mid new → DoesAll (early ++ late) old new) → (May Then : Access → Type 0) (Fits Less : SlotStates → Type 0) (next : SlotStates → SlotStates) (port : ℕ) (old mid new : Device) → (a : IsSimulated May Fits old mid) → IsHalted (mid.port port) →
+pub performs_giving_up : ((early late : List Access) (old mid new : Device) → DoesAll early old mid → DoesAll late mid new → DoesAll (early ++ late) old new) → (May Then : Access → Type 0) (Fits Less : SlotStates → Type 0) (next : SlotStates → SlotStates) (port : ℕ) (old mid new : Device) → (a : IsSimulated May Fits old mid) → IsEngineStopped (mid.port port) →
     ((uses : SlotStates) → AllFree uses port → Less uses) → (b : IsSimulatedTo Then Less next mid new) →
     Performs (a.driven.accesses ++ b.driven.accesses) (λ s m. Fits s.uses) (λ s. after_next next (given_up port s)) ByDeviceAlone old new
 performs_giving_up append May Then Fits Less next port old mid new a halted less b = record {
   does = append a.driven.accesses b.driven.accesses old mid new a.driven.all b.driven.all;
   comes = λ s m reached x fits.
       let c = a.comes s m reached x fits in
-      let g = done_goes c.acts (at_slots s old) (at_slots s mid) m x c.done in
-      let parked = at_slots (given_up port s) mid in
-      let there = given_up_halted (at_slots s mid) (after m (act_steps c.acts)) port g.knows halted in
+      let g = done_goes c.acts (driver_state s old) (driver_state s mid) m x c.done in
+      let parked = driver_state (given_up port s) mid in
+      let there = given_up_halted (driver_state s mid) (after m (act_steps c.acts)) port g.knows halted in
       let park : Act = record { access = None; steps = []; later = parked } in
-      let gives : IsActDone (at_slots s mid) (after m (act_steps c.acts)) park =
-      record { leads = refl; one = inl refl; goes = goes_still (at_slots s mid) parked (after m (act_steps c.acts)) refl there } in
-      let e = b.comes (given_up port s) (after m (act_steps c.acts)) (going_reaches (at_slots s old) (at_slots s mid) m (act_steps c.acts) reached g) there
-      (less (given_up port s).uses (all_free (at_slots s mid) port)) in
+      let gives : IsActDone (driver_state s mid) (after m (act_steps c.acts)) park =
+      record { leads = refl; one = inl refl; goes = goes_still (driver_state s mid) parked (after m (act_steps c.acts)) refl there } in
+      let e = b.comes (given_up port s) (after m (act_steps c.acts)) (going_reaches (driver_state s old) (driver_state s mid) m (act_steps c.acts) reached g) there
+      (less (given_up port s).uses (all_free (driver_state s mid) port)) in
       record {
         acts = c.acts ++ (park ∷ e.acts);
-        done = done_more c.acts (park ∷ e.acts) (at_slots s old) (at_slots s mid) (at_slots (after_next next (given_up port s)) new) m c.done (gives, e.done);
+        done = done_more c.acts (park ∷ e.acts) (driver_state s old) (driver_state s mid) (driver_state (after_next next (given_up port s)) new) m c.done (gives, e.done);
         accesses_are = accesses_append c.acts (park ∷ e.acts)
             ∙ (ap (λ (early : List Access). early ++ accesses_of e.acts) c.accesses_are ∙ ap (λ (late : List Access). a.driven.accesses ++ late) e.accesses_are);
-        tells = subst AllDevices (sym (steps_append c.acts (park ∷ e.acts))) (device_append (act_steps e.acts ++ []) (act_steps c.acts) (device_append (act_steps e.acts) [] e.tells.only tt) c.tells.only);
+        tells = subst AllByDevice (sym (steps_append c.acts (park ∷ e.acts))) (device_append (act_steps e.acts ++ []) (act_steps c.acts) (device_append (act_steps e.acts) [] e.tells.only tt) c.tells.only);
       };
 }

@@ -9,7 +9,7 @@ use Rattle.hba_regs.specs.declared.reg.Reg.TheVariants.{Px}
 use Rattle.hba_regs.specs.declared.reg.PortReg.TheVariants as px
 use Rattle.adapter.specs.Commands.{Meaning, is_queued}
 use Rattle.adapter.specs.Device.{Device}
-use Rattle.adapter.specs.Kept.{Keeps, KeepsOn}
+use Rattle.adapter.specs.Kept.{Keeps, KeepsOutsideReset}
 use Rattle.adapter.specs.Rules.{InUse, IsUnowned, IsOn, HasPort, MayWrite, IsStable}
 use Rattle.adapter.specs.Decoding.{DecodesTo}
 use Rattle.adapter.specs.declared.command.Operation.{Operation}
@@ -18,7 +18,7 @@ use Rattle.block_machine.specs.Due.{is_plain}
 use Rattle.block_machine.specs.declared.due.QueueMode.{QueueMode}
 use Rattle.block_machine.specs.Histories.{IsReachable}
 use Rattle.block_machine.specs.Left as left
-use Rattle.block_machine.specs.Refusals.{IsOpen}
+use Rattle.block_machine.specs.Refusals.{MayAccessFrame}
 use Rattle.block_machine.specs.State.{Pending, Machine}
 use Rattle.refinement.specs.Below.{StepLaws}
 use Rattle.refinement.specs.Places.{scratch_of}
@@ -82,7 +82,7 @@ module _ (laws : StepLaws) (uses : SlotStates) (m : Machine) (old : Device) (rea
 
   -- ---- a client's bytes
 
-  pub clients_are_free : (client : ClientId) (frame : Frame) (offset n : ℕ) → 4096 * frame.0 + 4096 ≤ old.size → IsOpen m.owner m.lent client frame offset n → IsStable (IsUnowned (4096 * frame.0 + offset) n) old
+  pub clients_are_free : (client : ClientId) (frame : Frame) (offset n : ℕ) → 4096 * frame.0 + 4096 ≤ old.size → MayAccessFrame m.owner m.lent client frame offset n → IsStable (IsUnowned (4096 * frame.0 + offset) n) old
   clients_are_free client frame offset n inside opens =
       let x = open_in m reached client frame offset n opens in
       still_is_free old frame offset n (unlent_is_still uses m old frame reached a (open_unlent m client frame offset n opens) x.0) inside x.1
@@ -97,7 +97,7 @@ module _ (laws : StepLaws) (uses : SlotStates) (m : Machine) (old : Device) (rea
       let f : SimulatesSteps uses m old mid = steps_follow uses m old mid reached a s in
       let y : IsPrepared uses (left.after m f.steps) mid port.0 slot mode e v = prepared_stays uses m old mid port.0 slot mode e v reached a on.no_reset s f x in
       let k : Keeps old mid = laws.keeps _ _ s in
-      let c : KeepsOn old mid = k.on on.no_reset in
+      let c : KeepsOutsideReset old mid = k.on on.no_reset in
       let over : IsOver (mid.port port.0) slot = (readied_slot uses (left.after m f.steps) mid f.agrees port.0 slot (is_plain mode e.request.asked.op) y.free y.started).0 in (
         record { ae = c.ae ∙ on.ae; no_reset = c.no_reset },
         (there.0, ap (λ (n : ℕ). bit n port.0) k.pi ∙ there.1),
@@ -118,7 +118,7 @@ module _ (laws : StepLaws) (uses : SlotStates) (m : Machine) (old : Device) (rea
       let f : SimulatesSteps uses m old mid = steps_follow uses m old mid reached a s in
       let y : IsOwnPrepared uses mid port.0 o v = own_prepared_stays uses m old mid port.0 o v reached a on.no_reset s x in
       let k : Keeps old mid = laws.keeps _ _ s in
-      let c : KeepsOn old mid = k.on on.no_reset in
+      let c : KeepsOutsideReset old mid = k.on on.no_reset in
       let over : IsOver (mid.port port.0) 0 = own_over uses (left.after m f.steps) mid f.agrees port.0 o v y in (
         record { ae = c.ae ∙ on.ae; no_reset = c.no_reset },
         (there.0, ap (λ (n : ℕ). bit n port.0) k.pi ∙ there.1),

@@ -8,16 +8,16 @@ use Rattle.hba_regs.specs.declared.reg.Reg.TheVariants.{Cap, Ghc, Is, Pi, Vs, Ca
 use Rattle.adapter.specs.Access.{Access, Does, DoesAll}
 use Rattle.adapter.specs.Access.Access.{Reading, Writing, Loading, Storing}
 use Rattle.adapter.specs.Device.{DevicePort, Device}
-use Rattle.adapter.specs.Kept.{Keeps, KeepsOn}
+use Rattle.adapter.specs.Kept.{Keeps, KeepsOutsideReset}
 use Rattle.adapter.specs.Rules.{IsOn}
 use Rattle.adapter.specs.declared.tape.Entry.{Entry}
-use Rattle.adapter.proofs.KeptLemmas.{law_steps_keep, KeepsPort-refl, KeepsPort-trans, KeepsControls-refl, KeepsControls-trans}
+use Rattle.adapter.proofs.KeptLemmas.{law_steps_guarantee, KeepsPort-refl, KeepsPort-trans, KeepsControls-refl, KeepsControls-trans}
 use Rattle.block_machine.proofs.HistoryLemmas.{reached_more}
 use Rattle.block_machine.specs.Left.{after}
 pub use Rattle.refinement.specs.Driven.{Grows}
-use Rattle.refinement.specs.Driven.{IsRelated, IsControl, IsDrivenBy, IsSimulated, IsSimulatedTo, IsOf, LeavesPort, NoneWrites}
-use Rattle.refinement.specs.Facts.{IsRecorded}
-use Rattle.refinement.specs.Links.{SparesRegister, SameAdapter}
+use Rattle.refinement.specs.Driven.{IsRelated, OnPortWriting, IsDrivenBy, IsSimulated, IsSimulatedTo, SparesOtherPorts, LeavesPort, NoneWrites}
+use Rattle.refinement.specs.Facts.{FaultsOnRecord}
+use Rattle.refinement.specs.Links.{DoesNotWrite, SameAdapter}
 use Rattle.refinement.specs.Slots.{SlotStates}
 use Rattle.refinement.proofs.device.FactsOverAccesses.{access_steps, beside_same}
 use Rattle.refinement.proofs.driver.Stretches.{followed_adds, along, over}
@@ -26,7 +26,7 @@ use Rattle.refinement.proofs.device.RecordedFaults.{steps_recorded}
 
 -- ---- accesses that touch no register of another port
 
-of_spares : (port : Port) (r : Reg) → ((s : PortReg) → Px port s ≢ r) → Is ≢ r → NoneWrites (IsOf port) r
+of_spares : (port : Port) (r : Reg) → ((s : PortReg) → Px port s ≢ r) → Is ≢ r → NoneWrites (SparesOtherPorts port) r
 of_spares port r never apart (Writing (Px p s) v) is = λ e. never s (ap (λ (q : Port). Px q s) (sym is) ∙ e)
 of_spares port r never apart (Writing Cap v) is = absurd is
 of_spares port r never apart (Writing Ghc v) is = absurd is
@@ -39,10 +39,10 @@ of_spares port r never apart (Reading s v) is = tt
 of_spares port r never apart (Loading at bytes) is = tt
 of_spares port r never apart (Storing at bytes) is = tt
 
-pub of_spares_ghc : (port : Port) → NoneWrites (IsOf port) Ghc
+pub of_spares_ghc : (port : Port) → NoneWrites (SparesOtherPorts port) Ghc
 of_spares_ghc port = of_spares port Ghc (λ s e. absurd (let z : Px port s ≡ Ghc = e in cc)) (λ e. absurd (let z : Is ≡ Ghc = e in cc))
 
-pub of_spares_others : (port q : Port) (r : PortReg) → q.0 ≢ port.0 → NoneWrites (IsOf port) (Px q r)
+pub of_spares_others : (port q : Port) (r : PortReg) → q.0 ≢ port.0 → NoneWrites (SparesOtherPorts port) (Px q r)
 of_spares_others port q r other = of_spares port (Px q r) (λ s e. let z : Px port s ≡ Px q r = e in let same : port ≡ q = cc in other (ap (λ (x : Port). x.0) (sym same))) (λ e. absurd (let z : Is ≡ Px q r = e in cc))
 
 -- ---- controls
@@ -54,7 +54,7 @@ module _ (Written : PortReg → Type 0) (port : Port) where
   abbrev IsWriting : Access → Type 0
   IsWriting access = (r : PortReg) × (v : ℕ) × (access ≡ Writing (Px port r) v) × Written r
 
-  pub is_control : (access : Access) → IsControl Written port access → IsReading access ⊎ IsWriting access
+  pub is_control : (access : Access) → OnPortWriting Written port access → IsReading access ⊎ IsWriting access
   is_control (Reading (Px at r) v) is = inl (r, v, ap (λ (p : Port). Reading (Px p r) v) is)
   is_control (Writing (Px at r) v) is = inr (r, v, ap (λ (p : Port). Writing (Px p r) v) is.0, is.1)
   is_control (Reading Cap v) is = absurd is
@@ -75,46 +75,46 @@ module _ (Written : PortReg → Type 0) (port : Port) where
   is_control (Storing at bytes) is = absurd is
 
   -- it doesn't write what the kind has not
-  control_spares_at : (at : Port) (spared : PortReg) → (Written spared → ⊥) → NoneWrites (IsControl Written port) (Px at spared)
+  control_spares_at : (at : Port) (spared : PortReg) → (Written spared → ⊥) → NoneWrites (OnPortWriting Written port) (Px at spared)
   control_spares_at at spared not access is =
       elim (is_control access is) [
-        | inl (r, v, e) ↦ subst (SparesRegister (Px at spared)) (sym e) tt
-        | inr (r, v, e, w) ↦ subst (SparesRegister (Px at spared)) (sym e) (λ (z : Px port r ≡ Px at spared). let same : r ≡ spared = cc in not (subst Written same w))
+        | inl (r, v, e) ↦ subst (DoesNotWrite (Px at spared)) (sym e) tt
+        | inr (r, v, e, w) ↦ subst (DoesNotWrite (Px at spared)) (sym e) (λ (z : Px port r ≡ Px at spared). let same : r ≡ spared = cc in not (subst Written same w))
       ]
 
-  pub control_spares : (spared : PortReg) → (Written spared → ⊥) → NoneWrites (IsControl Written port) (Px port spared)
+  pub control_spares : (spared : PortReg) → (Written spared → ⊥) → NoneWrites (OnPortWriting Written port) (Px port spared)
   control_spares = control_spares_at port
 
   -- where more registers may be written
-  pub control_wider : (More : PortReg → Type 0) → ((r : PortReg) → Written r → More r) → (access : Access) → IsControl Written port access → IsControl More port access
+  pub control_wider : (More : PortReg → Type 0) → ((r : PortReg) → Written r → More r) → (access : Access) → OnPortWriting Written port access → OnPortWriting More port access
   control_wider More wider access is =
       elim (is_control access is) [
-        | inl (r, v, e) ↦ subst (IsControl More port) (sym e) refl
-        | inr (r, v, e, w) ↦ subst (IsControl More port) (sym e) (refl, wider r w)
+        | inl (r, v, e) ↦ subst (OnPortWriting More port) (sym e) refl
+        | inr (r, v, e, w) ↦ subst (OnPortWriting More port) (sym e) (refl, wider r w)
       ]
 
-  pub control_is_of : (access : Access) → IsControl Written port access → IsOf port access
+  pub control_is_of : (access : Access) → OnPortWriting Written port access → SparesOtherPorts port access
   control_is_of access is =
       elim (is_control access is) [
-        | inl (r, v, e) ↦ subst (IsOf port) (sym e) refl
-        | inr (r, v, e, w) ↦ subst (IsOf port) (sym e) refl
+        | inl (r, v, e) ↦ subst (SparesOtherPorts port) (sym e) refl
+        | inr (r, v, e, w) ↦ subst (SparesOtherPorts port) (sym e) refl
       ]
 
 -- ---- a port that isn't theirs
 
 module _ (port : Port) (q : ℕ) (other : q ≢ port.0) where
-  beside_left : (access : Access) (old new : Device) → old.hr ≡ false → IsOf port access → Does access old new → LeavesPort (old.port q) (new.port q)
+  beside_left : (access : Access) (old new : Device) → old.hr ≡ false → SparesOtherPorts port access → Does access old new → LeavesPort (old.port q) (new.port q)
   beside_left access old new off is x =
       let s = access_steps access old new x in
-      let k : Keeps old s.0 = law_steps_keep s.1 in
-      let c : KeepsOn old s.0 = k.on off in
+      let k : Keeps old s.0 = law_steps_guarantee s.1 in
+      let c : KeepsOutsideReset old s.0 = k.on off in
       subst (LeavesPort (old.port q)) (sym (beside_same port q other access old new x is)) (record { keeps = k.port q; controls = c.controls q; notes = k.notes q })
 
-  beside_recorded : (access : Access) (old new : Device) → IsOf port access → Does access old new → IsRecorded old.tape (old.port q) q → IsRecorded new.tape (new.port q) q
+  beside_recorded : (access : Access) (old new : Device) → SparesOtherPorts port access → Does access old new → FaultsOnRecord old.tape (old.port q) q → FaultsOnRecord new.tape (new.port q) q
   beside_recorded access old new is x h =
       let s = access_steps access old new x in
-      subst (λ (p : DevicePort). IsRecorded new.tape p q) (sym (beside_same port q other access old new x is))
-      (subst (λ (tape : List Entry). IsRecorded tape (s.0.port q) q) (sym s.2) (steps_recorded q old s.0 s.1 h))
+      subst (λ (p : DevicePort). FaultsOnRecord new.tape p q) (sym (beside_same port q other access old new x is))
+      (subst (λ (tape : List Entry). FaultsOnRecord tape (s.0.port q) q) (sym s.2) (steps_recorded q old s.0 s.1 h))
 
 pub leaves_none : (p : DevicePort) → LeavesPort p p
 leaves_none p = record { keeps = KeepsPort-refl p; controls = KeepsControls-refl p; notes = refl }
@@ -131,14 +131,14 @@ pub grows_more : (a b c : Device) → Grows a b → Grows b c → Grows a c
 grows_more a b c x y = (x.0 ++ y.0, y.1 ∙ (ap (λ (t : List Entry). t ++ y.0) x.1 ∙ append_assoc a.tape x.0 y.0))
 
 pub access_grows : (access : Access) (old new : Device) → Does access old new → Grows old new
-access_grows access old new does = let s = access_steps access old new does in let k : Keeps old s.0 = law_steps_keep s.1 in (k.gained, s.2 ∙ k.tape)
+access_grows access old new does = let s = access_steps access old new does in let k : Keeps old s.0 = law_steps_guarantee s.1 in (k.gained, s.2 ∙ k.tape)
 
 -- ---- stretches
 
 -- the adapter stays on where GHC isn't written
-pub on_all : (accesses : List Access) (old new : Device) → IsOn old → All (SparesRegister Ghc) accesses → DoesAll accesses old new → IsOn new
+pub on_all : (accesses : List Access) (old new : Device) → IsOn old → All (DoesNotWrite Ghc) accesses → DoesAll accesses old new → IsOn new
 on_all accesses old new on spares all =
-    (over (λ a b. Unit {0}) (λ d. tt) (λ a b c x y. tt) (SparesRegister Ghc) (λ access is. is) (λ access a b here may does. tt) accesses old new on spares all).1
+    (over (λ a b. Unit {0}) (λ d. tt) (λ a b c x y. tt) (DoesNotWrite Ghc) (λ access is. is) (λ access a b here may does. tt) accesses old new on spares all).1
 
 module _ (May : Access → Type 0) (old new : Device) (driven : IsDrivenBy May old new) where
   pub same_over : SameAdapter old new
@@ -151,16 +151,16 @@ module _ (May : Access → Type 0) (old new : Device) (driven : IsDrivenBy May o
   on_over spares on =
       (over (λ a b. Unit {0}) (λ d. tt) (λ a b c x y. tt) May spares (λ access a b here may does. tt) driven.accesses old new on driven.only driven.all).1
 
-module _ (port : Port) (old new : Device) (driven : IsDrivenBy (IsOf port) old new) (q : ℕ) (other : q ≢ port.0) where
+module _ (port : Port) (old new : Device) (driven : IsDrivenBy (SparesOtherPorts port) old new) (q : ℕ) (other : q ≢ port.0) where
   pub other_left : IsOn old → LeavesPort (old.port q) (new.port q)
   other_left on =
-      (over (λ a b. LeavesPort (a.port q) (b.port q)) (λ d. leaves_none (d.port q)) (λ a b c x y. leaves_more (a.port q) (b.port q) (c.port q) x y) (IsOf port) (of_spares_ghc port)
+      (over (λ a b. LeavesPort (a.port q) (b.port q)) (λ d. leaves_none (d.port q)) (λ a b c x y. leaves_more (a.port q) (b.port q) (c.port q) x y) (SparesOtherPorts port) (of_spares_ghc port)
       (λ access a b here may does. beside_left port q other access a b here.no_reset may does)
       driven.accesses old new on driven.only driven.all).0
 
-  pub other_recorded : IsRecorded old.tape (old.port q) q → IsRecorded new.tape (new.port q) q
+  pub other_recorded : FaultsOnRecord old.tape (old.port q) q → FaultsOnRecord new.tape (new.port q) q
   other_recorded =
-      along (λ a b. IsRecorded a.tape (a.port q) q → IsRecorded b.tape (b.port q) q) (λ d h. h) (λ a b c x y h. y (x h)) (IsOf port)
+      along (λ a b. FaultsOnRecord a.tape (a.port q) q → FaultsOnRecord b.tape (b.port q) q) (λ d h. h) (λ a b c x y h. y (x h)) (SparesOtherPorts port)
       (λ access a b may does. beside_recorded port q other access a b may does)
       driven.accesses old new driven.only driven.all
 
@@ -183,5 +183,5 @@ pub agreed_on : (May : Access → Type 0) (Fits : SlotStates → Type 0) (uses :
 agreed_on May Fits uses old new = agreed_to May Fits (λ uses. uses) uses old new
 
 pub law_agreeing_goes_on : (Written : PortReg → Type 0) (Fits : SlotStates → Type 0) (port : Port) (uses : SlotStates) (old new : Device) → Fits uses →
-    IsSimulated (IsControl Written port) Fits old new → IsRelated uses old → IsRelated uses new
-law_agreeing_goes_on Written Fits port uses old new = agreed_on (IsControl Written port) Fits uses old new
+    IsSimulated (OnPortWriting Written port) Fits old new → IsRelated uses old → IsRelated uses new
+law_agreeing_goes_on Written Fits port uses old new = agreed_on (OnPortWriting Written port) Fits uses old new

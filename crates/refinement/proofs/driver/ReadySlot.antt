@@ -10,7 +10,7 @@ use Rattle.adapter.specs.Access.{Access, Does, Writes, port_written, with_st, wi
 use Rattle.adapter.specs.Access.Access.{Reading, Writing, Loading, Storing}
 use Rattle.adapter.specs.Commands.{Meaning, is_queued}
 use Rattle.adapter.specs.Device.{Bases, DevicePort, Device}
-use Rattle.adapter.specs.Kept.{Keeps, KeepsOn}
+use Rattle.adapter.specs.Kept.{Keeps, KeepsOutsideReset}
 use Rattle.adapter.specs.Rules.{IsOn, HasPort, MayWrite, IsStable}
 use Rattle.adapter.specs.Decoding.{DecodesTo}
 use Rattle.adapter.specs.Steps.{Steps}
@@ -24,9 +24,9 @@ use Rattle.block_machine.specs.Steps.{Issue, May}
 use Rattle.block_machine.specs.declared.due.QueueMode.{QueueMode}
 use Rattle.refinement.specs.Below.{StepLaws}
 use Rattle.refinement.specs.Relation.{StateRelation}
-use Rattle.refinement.specs.Driver.{IsPrepared, LeavesFree, MissesTable}
+use Rattle.refinement.specs.Driver.{IsPrepared, KeepsTables, MissesTable}
 use Rattle.refinement.specs.Follows.{SimulatesSteps}
-use Rattle.refinement.specs.Links.{SparesRegister}
+use Rattle.refinement.specs.Links.{DoesNotWrite}
 use Rattle.refinement.specs.Places.{IsTableByte}
 use Rattle.refinement.specs.Slots.{SlotState, Free, Armed, SlotStates, put, Means, HasTrimBlock, IsArmed, IsEmptySlot, IsOver, RelatesSlot}
 use Rattle.refinement.specs.Started.{ClearsNoStart}
@@ -51,7 +51,7 @@ stored_on old new port slot c places st list same x = record {
 -- ---- the device's steps
 
 module _ (laws : StepLaws) (uses : SlotStates) (m : Machine) (port slot : ℕ) (c : Meaning) (places : List ℕ) (old new : Device) (reached : IsReachable m) (a : StateRelation uses m old) (off : old.hr ≡ false) (s : Steps old new) where
-  leaves : LeavesFree uses old new
+  leaves : KeepsTables uses old new
   leaves = steps_leave uses m old new reached a off s
 
   pub steps_stored : IsStored old port slot c places → IsStored new port slot c places
@@ -86,7 +86,7 @@ written_on_still list Clb v tape p on other h = absurd (other refl)
 written_on_still list _ v tape p on other h = h
 
 module _ (laws : StepLaws) (uses : SlotStates) (m : Machine) (port : Port) (slot : ℕ) (c : Meaning) (places : List ℕ) (access : Access) (old new : Device) (reached : IsReachable m) (a : StateRelation uses m old) (off : old.hr ≡ false)
-    (keeps : ClearsNoStart port access) (spares : SparesRegister (Px port Clb) access) where
+    (keeps : ClearsNoStart port access) (spares : DoesNotWrite (Px port Clb) access) where
   started_by : (r : PortReg) (v : ℕ) → access ≡ Writing (Px port r) v → r ≡ Cmd → bit v 0 ≡ true
   started_by r v is e = keeps v (is ∙ ap (λ (w : PortReg). Writing (Px port w) v) e)
 
@@ -144,7 +144,7 @@ readied_permitted laws uses m d port slot c places v reached a on there usable x
     let f : SimulatesSteps uses m d mid = steps_follow uses m d mid reached a s in
     let y : IsStored mid port.0 slot c places = steps_stored laws uses m port.0 slot c places d mid reached a on.no_reset s x.stored in
     let k : Keeps d mid = laws.keeps _ _ s in
-    let w : KeepsOn d mid = k.on on.no_reset in
+    let w : KeepsOutsideReset d mid = k.on on.no_reset in
     let h : ReadyTo (is_queued c.operation) (mid.port port.0) slot =
     served_ready (left.after m f.steps) mid port.0 slot (is_queued c.operation) (uses port.0 slot) x.used y.started (f.agrees.slot port.0 slot) in (
       record { ae = w.ae ∙ on.ae; no_reset = w.no_reset },

@@ -22,9 +22,9 @@ use Rattle.block_machine.specs.Left as left
 use Rattle.block_machine.specs.State.{Machine}
 use Rattle.refinement.specs.Below.{StepLaws}
 use Rattle.refinement.specs.Relation.{StateRelation}
-use Rattle.refinement.specs.Facts.{RunsWell, IsFaulted, IsQuiet}
+use Rattle.refinement.specs.Facts.{RunsWell, IsFaulted, IsCleanToStart}
 use Rattle.refinement.specs.Follows.{SimulatesSteps}
-use Rattle.refinement.specs.Links.{SparesRegister}
+use Rattle.refinement.specs.Links.{DoesNotWrite}
 use Rattle.refinement.specs.Slots.{SlotState, Free, SlotStates, put, IsEmptySlot, IsOver, RelatesSlot}
 use Rattle.refinement.specs.Started.{ClearsNoStart}
 use Rattle.refinement.proofs.device.FactsOverAccesses.{access_steps, effect_keeps}
@@ -35,7 +35,7 @@ use Rattle.refinement.proofs.driver.PutSlot.{put_other}
 use Rattle.refinement.proofs.device.RunningPort.{well_of}
 use Rattle.refinement.proofs.device.StartConditions.{steps_quiet}
 use Rattle.refinement.proofs.steps.TakenCommand.{never_refused}
-use Rattle.refinement.specs.Recovering.{RunsLinked, FailsOpenly}
+use Rattle.refinement.specs.Recovering.{RunsLinked, FaultLeavesIssued}
 use Rattle.refinement.proofs.device.LinkOverFaults.{running_started}
 use Rattle.refinement.proofs.driver.EndedHalt.{taken_issued, fallen_zero}
 use Rattle.refinement.proofs.device.PlainPort.{fetched_plain}
@@ -148,7 +148,7 @@ leads_open laws uses m port alone (step ∷ steps) old new r a off (can, lead) h
     leads_open laws uses (left.after m f.steps) port alone steps (device_after step old) new (laws.reached m f.steps r f.may) f.agrees ((laws.step step _ can).on off).no_reset lead
     (step_opens uses m old a port alone off h step can)
 
-pub steps_open : StepLaws → (uses : SlotStates) (m : Machine) (port : ℕ) (old new : Device) → IsReachable m → StateRelation uses m old → Steps old new → FailsOpenly uses port old → FailsOpenly uses port new
+pub steps_open : StepLaws → (uses : SlotStates) (m : Machine) (port : ℕ) (old new : Device) → IsReachable m → StateRelation uses m old → Steps old new → FaultLeavesIssued uses port old → FaultLeavesIssued uses port new
 steps_open laws uses m port old new r a s h =
     let x = leads_open laws uses m port h.alone s.steps old new r a h.off s.lead (h.st, h.plain, h.undue, h.told) in
     record { off = x.0; st = x.1.0; plain = x.1.1; undue = x.1.2; alone = h.alone; told = x.1.3 }
@@ -179,8 +179,8 @@ written_opens Is v tape p on other control h = (
 )
 written_opens _ v tape p on other control h = h
 
-pub access_opens : StepLaws → (uses : SlotStates) (m : Machine) (port : Port) (access : Access) (old new : Device) → IsReachable m → StateRelation uses m old → ClearsNoStart port access → SparesRegister (Px port Sact) access → SparesRegister (Px port Sctl) access →
-    new.hr ≡ false → Does access old new → FailsOpenly uses port.0 old → FailsOpenly uses port.0 new
+pub access_opens : StepLaws → (uses : SlotStates) (m : Machine) (port : Port) (access : Access) (old new : Device) → IsReachable m → StateRelation uses m old → ClearsNoStart port access → DoesNotWrite (Px port Sact) access → DoesNotWrite (Px port Sctl) access →
+    new.hr ≡ false → Does access old new → FaultLeavesIssued uses port.0 old → FaultLeavesIssued uses port.0 new
 access_opens laws uses m port access old new r a keeps spares controls off x h =
     let s = access_steps access old new x in
     let c = leads_open laws uses m port.0 h.alone s.1.steps old s.0 r a h.off s.1.lead (h.st, h.plain, h.undue, h.told) in
@@ -192,11 +192,11 @@ access_opens laws uses m port access old new r a keeps spares controls off x h =
 
 -- ---- where it begins
 
-pub start_opens : StepLaws → (uses : SlotStates) (port : Port) (v : ℕ) (old new : Device) → old.hr ≡ false → bit v 0 ≡ true → ((slot : ℕ) → uses port.0 slot ≡ Free) → (old.port port.0).sact 0 ≡ false → IsQuiet (old.port port.0) →
-    (old.port port.0).st ≡ false → Writes (Px port Cmd) v old new → FailsOpenly uses port.0 new
+pub start_opens : StepLaws → (uses : SlotStates) (port : Port) (v : ℕ) (old new : Device) → old.hr ≡ false → bit v 0 ≡ true → ((slot : ℕ) → uses port.0 slot ≡ Free) → (old.port port.0).sact 0 ≡ false → IsCleanToStart (old.port port.0) →
+    (old.port port.0).st ≡ false → Writes (Px port Cmd) v old new → FaultLeavesIssued uses port.0 new
 start_opens laws uses port v old new off on free clear quiet stopped call =
     let k = laws.keeps _ _ call.steps in
-    let q : IsQuiet (call.mid.port port.0) = steps_quiet port.0 old call.mid call.steps quiet in
+    let q : IsCleanToStart (call.mid.port port.0) = steps_quiet port.0 old call.mid call.steps quiet in
     let w : Open (with_fre (bit v 4) (with_st (bit v 0) (length call.mid.tape) (call.mid.port port.0))) =
     subst (λ (b : Bool). Open (with_fre (bit v 4) (with_st b (length call.mid.tape) (call.mid.port port.0)))) (sym on)
     (subst (λ (x : DevicePort). Open (with_fre (bit v 4) x)) (sym (cond-false (call.mid.port port.0).st (call.mid.port port.0) _ ((k.port port.0).st stopped)))
@@ -211,7 +211,7 @@ start_opens laws uses port v old new off on free clear quiet stopped call =
       told = e.3;
     }
 
-pub used_opens : (uses : SlotStates) (port : ℕ) (u : SlotState) (d : Device) → FailsOpenly uses port d → FailsOpenly (put uses port 0 u) port d
+pub used_opens : (uses : SlotStates) (port : ℕ) (u : SlotState) (d : Device) → FaultLeavesIssued uses port d → FaultLeavesIssued (put uses port 0 u) port d
 used_opens uses port u d h = record {
   off = h.off;
   st = h.st;
@@ -223,9 +223,9 @@ used_opens uses port u d h = record {
 
 -- ---- PxCI is read
 
-pub unfailed : StepLaws → (uses : SlotStates) (m : Machine) (port : Port) (v : ℕ) (old new : Device) → IsReachable m → StateRelation uses m old → FailsOpenly uses port.0 old → Reads (Px port Ci) v old new → bit v 0 ≡ false → (new.port port.0).is 30 ≡ false
+pub unfailed : StepLaws → (uses : SlotStates) (m : Machine) (port : Port) (v : ℕ) (old new : Device) → IsReachable m → StateRelation uses m old → FaultLeavesIssued uses port.0 old → Reads (Px port Ci) v old new → bit v 0 ≡ false → (new.port port.0).is 30 ≡ false
 unfailed laws uses m port v old new r a h call clear =
-    let mid : FailsOpenly uses port.0 call.mid = steps_open laws uses m port.0 old call.mid r a call.steps h in
+    let mid : FaultLeavesIssued uses port.0 call.mid = steps_open laws uses m port.0 old call.mid r a call.steps h in
     let shown : (call.mid.port port.0).ci 0 ≡ false = sym (call.shows 0 (omega arith)) ∙ clear in
     ap (λ (d : Device). (d.port port.0).is 30) call.effect ∙ (ap (λ (p : DevicePort). p.is 30) (changed_same call.mid.port port.0 _) ∙ ⊎_elim
     (λ (n : (call.mid.port port.0).is 30 ≡ false). n)

@@ -12,7 +12,7 @@ use Rattle.block_machine.specs.State.{Machine}
 use Rattle.refinement.specs.Below.{StepLaws}
 use Rattle.refinement.specs.Acts.{Act, AccessLeads, AreActsDone, accesses_of}
 use Rattle.refinement.specs.Driver.{DriverState, DriverRelation}
-use Rattle.refinement.specs.Links.{SparesRegister}
+use Rattle.refinement.specs.Links.{DoesNotWrite}
 use Rattle.refinement.specs.Readying.{IsStored, LeavesStored}
 use Rattle.refinement.proofs.device.AdapterOverAccesses.{access_on}
 use Rattle.refinement.proofs.driver.ActParts.{IsOfKind, acts_of_kind, done_keeps}
@@ -32,6 +32,6 @@ module _ (laws : StepLaws) (port : Port) (slot : ℕ) (c : Meaning) (places : Li
           Holds z.device → Holds act.later.device
       over z n act r knows None same leaves here = subst Holds (sym same) here
       over z n act r knows (Some access) does leaves here = (
-        access_on access z.device act.later.device here.0 (λ v e. absurd (subst (SparesRegister Ghc) e leaves.host refl)) does,
+        access_on access z.device act.later.device here.0 (λ v e. absurd (subst (DoesNotWrite Ghc) e leaves.host refl)) does,
         (access_stored laws) z.uses n port slot c places access z.device act.later.device r knows.agrees here.0.no_reset leaves.start leaves.list leaves.table does here.1,
       )

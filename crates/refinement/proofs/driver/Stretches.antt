@@ -15,15 +15,15 @@ use Rattle.adapter.specs.Rules.{IsOn, MayWrite, IsStable}
 use Rattle.adapter.specs.declared.command.Operation.{Operation}
 use Rattle.adapter.proofs.Calls.{does_append}
 use Rattle.adapter.proofs.Changed.{changed_other}
-use Rattle.block_machine.specs.Events.{AllDevices}
+use Rattle.block_machine.specs.Events.{AllByDevice}
 use Rattle.block_machine.specs.Histories.{IsReachable, IsSimulatedBySteps}
 use Rattle.block_machine.specs.Left.{after}
 use Rattle.block_machine.specs.State.{Machine}
 use Rattle.refinement.specs.Below.{StepLaws}
-use Rattle.refinement.specs.Acts.{Act, InSlots, IsActDone, at_slots, accesses_of, act_steps}
+use Rattle.refinement.specs.Acts.{Act, DriverSlots, IsActDone, driver_state, accesses_of, act_steps}
 use Rattle.refinement.specs.Driver.{DriverRelation, ByDevice, LeavesUses, MayStore, IsOwnPrepared}
-use Rattle.refinement.specs.Driven.{known, AnyUse, IsDrivenBy, IsSimulated, IsSimulatedTo, IsSimulatedAlong, IsSimulatedAlongTo, NoneWrites, SendsNone}
-use Rattle.refinement.specs.Links.{SparesRegister}
+use Rattle.refinement.specs.Driven.{known, AnyUse, IsDrivenBy, IsSimulated, IsSimulatedTo, IsSimulatedAlong, IsSimulatedAlongTo, NoneWrites, GainsNoMove}
+use Rattle.refinement.specs.Links.{DoesNotWrite}
 use Rattle.refinement.specs.Recovering.{WorksPlainly}
 use Rattle.refinement.specs.Relation.{port_at}
 use Rattle.refinement.specs.Slots.{SlotState, Own, SlotStates, put, op_of}
@@ -59,12 +59,12 @@ along Keeps none more May each [] old new all is = subst (Keeps old) (sym is) (n
 along Keeps none more May each (access ∷ accesses) old new all (mid, does, rest) =
     more old mid new (each access old mid (All-head May access accesses all) does) (along Keeps none more May each accesses mid new (All-tail May access accesses all) rest)
 
-pub written_ghc : (access : Access) → SparesRegister Ghc access → (v : ℕ) → access ≡ Writing Ghc v → (bit v 31 ≡ true) × (bit v 0 ≡ false)
-written_ghc access spares v is = absurd (subst (SparesRegister Ghc) is spares refl)
+pub written_ghc : (access : Access) → DoesNotWrite Ghc access → (v : ℕ) → access ≡ Writing Ghc v → (bit v 31 ≡ true) × (bit v 0 ≡ false)
+written_ghc access spares v is = absurd (subst (DoesNotWrite Ghc) is spares refl)
 
 -- over accesses of which each keeps so much of an adapter that is on; and it stays on
 pub over : (Keeps : Device → Device → Type 0) → ((d : Device) → Keeps d d) → ((a b c : Device) → Keeps a b → Keeps b c → Keeps a c) → (May : Access → Type 0)
-    → ((access : Access) → May access → SparesRegister Ghc access) → ((access : Access) (old new : Device) → IsOn old → May access → Does access old new → Keeps old new)
+    → ((access : Access) → May access → DoesNotWrite Ghc access) → ((access : Access) (old new : Device) → IsOn old → May access → Does access old new → Keeps old new)
     → (accesses : List Access) (old new : Device) → IsOn old → All May accesses → DoesAll accesses old new → Keeps old new × IsOn new
 over Keeps none more May spares each accesses old new on all does =
     along (λ a b. IsOn a → Keeps a b × IsOn b) (λ d here. (none d, here))
@@ -86,7 +86,7 @@ none_writes May More r kind none access may = none access (kind access may)
 -- ---- one stretch that is followed after another
 
 -- what was put into the slots after a stretch
-abbrev then : (SlotStates → SlotStates) → InSlots → InSlots
+abbrev then : (SlotStates → SlotStates) → DriverSlots → DriverSlots
 then next s = record s { uses = next s.uses }
 
 module _ (May : Access → Type 0) (Fits Less : SlotStates → Type 0) (first second : SlotStates → SlotStates) (on : (uses : SlotStates) → Fits uses → Less (first uses)) where
@@ -96,17 +96,17 @@ module _ (May : Access → Type 0) (Fits Less : SlotStates → Type 0) (first se
     driven = by_then a.driven b.driven;
     comes = λ s m reached x fits.
         let c = a.comes s m reached x fits in
-        let g = done_goes c.acts (at_slots s old) (at_slots (then first s) mid) m x c.done in
-        let e = b.comes (then first s) (after m (act_steps c.acts)) (going_reaches (at_slots s old) (at_slots (then first s) mid) m (act_steps c.acts) reached g) g.knows (on s.uses fits) in
+        let g = done_goes c.acts (driver_state s old) (driver_state (then first s) mid) m x c.done in
+        let e = b.comes (then first s) (after m (act_steps c.acts)) (going_reaches (driver_state s old) (driver_state (then first s) mid) m (act_steps c.acts) reached g) g.knows (on s.uses fits) in
         record {
           acts = c.acts ++ e.acts;
-          done = done_more c.acts e.acts (at_slots s old) (at_slots (then first s) mid) (at_slots (then second (then first s)) new) m c.done e.done;
+          done = done_more c.acts e.acts (driver_state s old) (driver_state (then first s) mid) (driver_state (then second (then first s)) new) m c.done e.done;
           accesses_are = accesses_append c.acts e.acts ∙ (ap (λ (early : List Access). early ++ accesses_of e.acts) c.accesses_are ∙ ap (λ (late : List Access). a.driven.accesses ++ late) e.accesses_are);
           tells = record {
-            only = subst AllDevices (sym (steps_append c.acts e.acts)) (device_append (act_steps e.acts) (act_steps c.acts) e.tells.only c.tells.only);
+            only = subst AllByDevice (sym (steps_append c.acts e.acts)) (device_append (act_steps e.acts) (act_steps c.acts) e.tells.only c.tells.only);
             kept = λ port issues arms.
                 let early = c.tells.kept port issues arms in
-                let mids : first s.uses port.0 ≡ s.uses port.0 = done_uses port.0 (s.uses port.0) c.acts (at_slots s old) (at_slots (then first s) mid) m refl early c.done in
+                let mids : first s.uses port.0 ≡ s.uses port.0 = done_uses port.0 (s.uses port.0) c.acts (driver_state s old) (driver_state (then first s) mid) m refl early c.done in
                 All-append (λ (act : Act). act.later.uses port.0 ≡ s.uses port.0) c.acts e.acts early
                 (all_acts (λ act. act.later.uses port.0 ≡ first s.uses port.0) (λ act. act.later.uses port.0 ≡ s.uses port.0) e.acts (λ act y. y ∙ mids) (e.tells.kept port issues arms));
           };
@@ -193,16 +193,16 @@ module _ (May : Access → Type 0) (Fits : SlotStates → Type 0) (next later : 
     comes = λ s m reached x fits.
         let c = a.comes s m reached x fits in
         let mid : Machine = after m (act_steps c.acts) in
-        let goes = done_goes c.acts (at_slots s old) (at_slots (then next s) new) m x c.done in
-        let is : DriverRelation mid (at_slots (then later s) new) = knows s.uses s.parked mid fits goes.knows in
-        let act : Act = record { access = None; steps = []; later = at_slots (then later s) new } in
-        let last : IsActDone (at_slots (then next s) new) mid act = record { leads = refl; one = inl refl; goes = goes_still (at_slots (then next s) new) (at_slots (then later s) new) mid refl is } in
+        let goes = done_goes c.acts (driver_state s old) (driver_state (then next s) new) m x c.done in
+        let is : DriverRelation mid (driver_state (then later s) new) = knows s.uses s.parked mid fits goes.knows in
+        let act : Act = record { access = None; steps = []; later = driver_state (then later s) new } in
+        let last : IsActDone (driver_state (then next s) new) mid act = record { leads = refl; one = inl refl; goes = goes_still (driver_state (then next s) new) (driver_state (then later s) new) mid refl is } in
         record {
           acts = c.acts ++ act ∷ [];
-          done = done_more c.acts (act ∷ []) (at_slots s old) (at_slots (then next s) new) (at_slots (then later s) new) m c.done (last, refl);
+          done = done_more c.acts (act ∷ []) (driver_state s old) (driver_state (then next s) new) (driver_state (then later s) new) m c.done (last, refl);
           accesses_are = accesses_append c.acts (act ∷ []) ∙ (append-nil (accesses_of c.acts) ∙ c.accesses_are);
           tells = record {
-            only = subst AllDevices (sym (steps_append c.acts (act ∷ []))) c.tells.only;
+            only = subst AllByDevice (sym (steps_append c.acts (act ∷ []))) c.tells.only;
             kept = λ port issues arms.
                 let Q = λ (x : Act). x.later.uses port.0 ≡ s.uses port.0 in
                 All-append Q c.acts (act ∷ []) (c.tells.kept port issues arms) (All-cons Q act [] (stays s.uses port issues arms) (All-nil Q));
@@ -233,7 +233,7 @@ followed_adds {May} {Fits} {next} {old} {new} a uses parked fits = record {
 -- no page of a port that issues nothing and whose slot 0 has no such command
 pub followed_silent : StepLaws → {May : Access → Type 0} {Fits : SlotStates → Type 0} {next : SlotStates → SlotStates} {old new : Device} → IsSimulatedTo May Fits next old new →
     (uses : SlotStates) (parked : ℕ → List RequestId) (m : Machine) → Fits uses → IsReachable m → DriverRelation m (known uses parked old) → (port : Port) (o : Operation) → op_of o ≡ None →
-    NoneWrites May (Px port Ci) → NoneWrites May (Px port Sact) → (uses port.0 0 ≡ Own o → ⊥) → SendsNone port.0 o old new
+    NoneWrites May (Px port Ci) → NoneWrites May (Px port Sact) → (uses port.0 0 ≡ Own o → ⊥) → GainsNoMove port.0 o old new
 followed_silent laws {May} {Fits} {next} {old} {new} a uses parked m fits reached x port o own issues arms none =
     let c = a.comes (record { uses = uses; parked = parked }) m reached x fits in
     (done_silent laws) port.0 o own c.acts (known uses parked old) (known (next uses) parked new) m reached x none
@@ -246,8 +246,8 @@ pub followed_plain : StepLaws → {May : Access → Type 0} {Fits : SlotStates �
     WorksPlainly (old.port port.0) → WorksPlainly (new.port port.0)
 followed_plain laws {May} {Fits} {next} {old} {new} a uses parked m fits reached x port arms =
     let c = a.comes (record { uses = uses; parked = parked }) m reached x fits in
-    let spares = All-weaker May (SparesRegister (Px port Sact)) arms a.driven.accesses a.driven.only in
-    (done_plain laws) c.acts (known uses parked old) (known (next uses) parked new) m port reached x (subst (All (SparesRegister (Px port Sact))) (sym c.accesses_are) spares) c.done
+    let spares = All-weaker May (DoesNotWrite (Px port Sact)) arms a.driven.accesses a.driven.only in
+    (done_plain laws) c.acts (known uses parked old) (known (next uses) parked new) m port reached x (subst (All (DoesNotWrite (Px port Sact))) (sym c.accesses_are) spares) c.done
 
 -- ---- one access
 
@@ -259,7 +259,7 @@ module _ (May : Access → Type 0) (Fits : SlotStates → Type 0) (next : SlotSt
     driven = by_one May access old new kind does;
     comes = λ s m reached x fits.
         let later = known (next s.uses) s.parked new in
-        let y = goes_access (at_slots s old) later m (adds s.uses s.parked fits) reached x in
+        let y = goes_access (driver_state s old) later m (adds s.uses s.parked fits) reached x in
         let act : Act = record { access = Some access; steps = y.0; later = later } in
         record {
           acts = act ∷ [];
@@ -277,14 +277,14 @@ pub followed_read : (May : Access → Type 0) (r : Reg) (v : ℕ) (old new : Dev
 followed_read May r v old new kind call =
     followed_by May AnyUse (λ uses. uses) (Reading r v) old new kind call (λ uses parked is. read_adds (known uses parked old) r v new call) (λ uses q issues arms. refl)
 
-pub followed_load : (May : Access → Type 0) (at_slots : ℕ) (bytes : List ℕ) (old new : Device) → May (Loading at_slots bytes) → Loads at_slots bytes old new → IsSimulated May AnyUse old new
-followed_load May at_slots bytes old new kind call =
-    followed_by May AnyUse (λ uses. uses) (Loading at_slots bytes) old new kind call (λ uses parked is. load_adds (known uses parked old) at_slots bytes new call) (λ uses q issues arms. refl)
+pub followed_load : (May : Access → Type 0) (driver_state : ℕ) (bytes : List ℕ) (old new : Device) → May (Loading driver_state bytes) → Loads driver_state bytes old new → IsSimulated May AnyUse old new
+followed_load May driver_state bytes old new kind call =
+    followed_by May AnyUse (λ uses. uses) (Loading driver_state bytes) old new kind call (λ uses parked is. load_adds (known uses parked old) driver_state bytes new call) (λ uses q issues arms. refl)
 
-pub followed_store : (May : Access → Type 0) (Fits : SlotStates → Type 0) (at_slots : ℕ) (bytes : List ℕ) (old new : Device) → May (Storing at_slots bytes) →
-    ((uses : SlotStates) → Fits uses → MayStore uses at_slots (length bytes)) → Stores at_slots bytes old new → IsSimulated May Fits old new
-followed_store May Fits at_slots bytes old new kind may call =
-    followed_by May Fits (λ uses. uses) (Storing at_slots bytes) old new kind call (λ uses parked is. store_adds (known uses parked old) at_slots bytes new (may uses is) call) (λ uses q issues arms. refl)
+pub followed_store : (May : Access → Type 0) (Fits : SlotStates → Type 0) (driver_state : ℕ) (bytes : List ℕ) (old new : Device) → May (Storing driver_state bytes) →
+    ((uses : SlotStates) → Fits uses → MayStore uses driver_state (length bytes)) → Stores driver_state bytes old new → IsSimulated May Fits old new
+followed_store May Fits driver_state bytes old new kind may call =
+    followed_by May Fits (λ uses. uses) (Storing driver_state bytes) old new kind call (λ uses parked is. store_adds (known uses parked old) driver_state bytes new (may uses is) call) (λ uses q issues arms. refl)
 
 pub followed_write : (May : Access → Type 0) (Fits : SlotStates → Type 0) (r : Reg) (v : ℕ) (old new : Device) → May (Writing r v) → IsStable (MayWrite r v) old →
     ((uses : SlotStates) → Fits uses → LeavesUses uses r v old) → Writes r v old new → IsSimulated May Fits old new
@@ -292,10 +292,10 @@ followed_write May Fits r v old new kind may leaves call =
     followed_by May Fits (λ uses. uses) (Writing r v) old new kind call (λ uses parked is. write_adds (known uses parked old) r v new may (leaves uses is) call) (λ uses q issues arms. refl)
 
 -- the list of one reading, of one write, or of one load
-module _ (May : Access → Type 0) (at_slots : ℕ) (bytes : List ℕ) (old new : Device) where
-  pub told_load : May (Loading at_slots bytes) → Loads at_slots bytes old new → IsSimulatedAlong (λ accesses. accesses ≡ Loading at_slots bytes ∷ []) May AnyUse old new
+module _ (May : Access → Type 0) (driver_state : ℕ) (bytes : List ℕ) (old new : Device) where
+  pub told_load : May (Loading driver_state bytes) → Loads driver_state bytes old new → IsSimulatedAlong (λ accesses. accesses ≡ Loading driver_state bytes ∷ []) May AnyUse old new
   unfolding followed_load followed_by by_one
-  told_load kind call = record { followed = followed_load May at_slots bytes old new kind call; tells = refl }
+  told_load kind call = record { followed = followed_load May driver_state bytes old new kind call; tells = refl }
 
 module _ (May : Access → Type 0) (Fits : SlotStates → Type 0) (r : Reg) (v : ℕ) (old new : Device) where
   pub told_read : May (Reading r v) → Reads r v old new → IsSimulatedAlong (λ accesses. accesses ≡ Reading r v ∷ []) May AnyUse old new
@@ -315,4 +315,4 @@ followed_asking May Fits port o v old new kind off prepared call =
     (λ uses parked is. own_adds (known uses parked old) port o v new off (prepared uses is) call) (λ uses q issues arms. changed_other uses port.0 _ q.0 (elsewhere q issues))
   where
     elsewhere : (q : Port) → NoneWrites May (Px q Ci) → q.0 ≢ port.0
-    elsewhere q issues e = issues (Writing (Px port Ci) v) kind (ap (λ (at_slots : Port). Px at_slots Ci) (sym (ap port_at e)))
+    elsewhere q issues e = issues (Writing (Px port Ci) v) kind (ap (λ (driver_state : Port). Px driver_state Ci) (sym (ap port_at e)))

@@ -16,7 +16,7 @@ use Rattle.adapter.specs.declared.command.Operation.{Operation}
 use Rattle.adapter.specs.declared.tape.Entry.{Entry}
 use Rattle.adapter.proofs.Absurd.{some-none}
 use Rattle.refinement.specs.Below.{StepLaws}
-use Rattle.refinement.specs.Driven.{HasNoCommand, IsControl, IsDrivenBy}
+use Rattle.refinement.specs.Driven.{HasNoCommand, OnPortWriting, IsDrivenBy}
 use Rattle.refinement.specs.Slots.{IsMove}
 use Rattle.refinement.proofs.device.FactsOverAccesses.{access_steps}
 use Rattle.refinement.proofs.driver.Stretches.{along}
@@ -71,13 +71,13 @@ abbrev Unmoving : ℕ → Operation → Device → Device → Type 0
 Unmoving port o old new = HasNoCommand (old.port port) → GainsNone (IsMove port o) old new × HasNoCommand (new.port port)
 
 module _ (laws : StepLaws) (Written : PortReg → Type 0) (quiet : Written Ci → ⊥) (port : Port) (o : Operation) where
-  issues_none : (access : Access) → IsControl Written port access → (slot v : ℕ) → access ≡ Writing (Px port Ci) v → bit v slot ≡ false
-  issues_none access may slot v is = absurd (quiet (subst (IsControl Written port) is may).1)
+  issues_none : (access : Access) → OnPortWriting Written port access → (slot v : ℕ) → access ≡ Writing (Px port Ci) v → bit v slot ≡ false
+  issues_none access may slot v is = absurd (quiet (subst (OnPortWriting Written port) is may).1)
 
-  pub controls_unmoving : (old new : Device) → IsDrivenBy (IsControl Written port) old new → HasNoCommand (old.port port.0) → GainsNone (IsMove port.0 o) old new × HasNoCommand (new.port port.0)
+  pub controls_unmoving : (old new : Device) → IsDrivenBy (OnPortWriting Written port) old new → HasNoCommand (old.port port.0) → GainsNone (IsMove port.0 o) old new × HasNoCommand (new.port port.0)
   controls_unmoving old new a none =
       along (Unmoving port.0 o) (λ d h. (nothing laws port.0 o d, h))
       (λ x y z p q h. let u = p h in let w = q u.1 in (gains_more (IsMove port.0 o) x y z u.0 w.0, w.1))
-      (IsControl Written port)
+      (OnPortWriting Written port)
       (λ access x y may does h. (access_unmoving laws port.0 o access x y h does, λ slot. access_over laws port slot access x y (issues_none access may slot) does (h slot)))
       a.accesses old new a.only a.all none

@@ -14,31 +14,31 @@ use Rattle.block_machine.specs.State.{Block, DiskBytes, Machine}
 use Rattle.block_machine.specs.Left.{IsInitial}
 use Rattle.refinement.specs.Slots.{Free, Serves}
 use Rattle.refinement.specs.Relation.{IsDiskOf, SameMemory, SameSectors, port_at}
-use Rattle.refinement.specs.Returning.{block_if, blocks_put, may_return}
+use Rattle.refinement.specs.Returning.{optional_block, blocks_put, replug_candidates}
 use Rattle.refinement.specs.Driven.{IsRelated}
 use Rattle.refinement.specs.Driver.{DriverRelation, idle}
 use Rattle.refinement.proofs.relation.OtherSlots.{true_false}
 
 -- the list has all that may come back
-in_block : (o : Option (List ℕ)) (bytes : List ℕ) → o ≡ Some bytes → Contains (block_if o) (slice_index bytes)
-in_block o bytes is = subst (λ (x : Option (List ℕ)). Contains (block_if x) (slice_index bytes)) (sym is) (0, omega arith, refl)
+in_block : (o : Option (List ℕ)) (bytes : List ℕ) → o ≡ Some bytes → Contains (optional_block o) (slice_index bytes)
+in_block o bytes is = subst (λ (x : Option (List ℕ)). Contains (optional_block x) (slice_index bytes)) (sym is) (0, omega arith, refl)
 
 in_blocks : (port k : ℕ) (entries : List Entry) (entry : Entry) (bytes : List ℕ) → Contains entries entry → put_into port k entry ≡ Some bytes → Contains (blocks_put port k entries) (slice_index bytes)
 in_blocks port k [] entry bytes here is = let lt = here.1 in absurd (omega (arith, lt))
 in_blocks port k (e ∷ es) entry bytes here is = by (λ (c : Contains es entry). in_blocks port k es entry bytes c is) here.0 here.1 here.2
   where
-    by : (Contains es entry → Contains (blocks_put port k es) (slice_index bytes)) → (i : ℕ) → i < suc (length es) → get_or (e ∷ es) i entry ≡ entry → Contains (block_if (put_into port k e) ++ blocks_put port k es) (slice_index bytes)
-    by rest zero lt at = Contains-append_left (block_if (put_into port k e)) (blocks_put port k es) (slice_index bytes) (in_block (put_into port k e) bytes (ap (put_into port k) at ∙ is))
-    by rest (suc i) lt at = Contains-append_right (block_if (put_into port k e)) (blocks_put port k es) (slice_index bytes) (rest (i, omega (arith, lt), at))
+    by : (Contains es entry → Contains (blocks_put port k es) (slice_index bytes)) → (i : ℕ) → i < suc (length es) → get_or (e ∷ es) i entry ≡ entry → Contains (optional_block (put_into port k e) ++ blocks_put port k es) (slice_index bytes)
+    by rest zero lt at = Contains-append_left (optional_block (put_into port k e)) (blocks_put port k es) (slice_index bytes) (in_block (put_into port k e) bytes (ap (put_into port k) at ∙ is))
+    by rest (suc i) lt at = Contains-append_right (optional_block (put_into port k e)) (blocks_put port k es) (slice_index bytes) (rest (i, omega (arith, lt), at))
 
-returns : (tape : List Entry) (lasting : Lasting) (port k : ℕ) (bytes : List ℕ) → WereHeld tape lasting port k bytes → Contains (may_return tape lasting port k) (slice_index bytes)
-returns tape lasting port k bytes (inl is) = Contains-append_left (block_if (option_map (λ (sectors : ℕ → List ℕ). sectors k) lasting.sectors)) (blocks_put port k (drop lasting.since tape)) (slice_index bytes)
+returns : (tape : List Entry) (lasting : Lasting) (port k : ℕ) (bytes : List ℕ) → WereHeld tape lasting port k bytes → Contains (replug_candidates tape lasting port k) (slice_index bytes)
+returns tape lasting port k bytes (inl is) = Contains-append_left (optional_block (option_map (λ (sectors : ℕ → List ℕ). sectors k) lasting.sectors)) (blocks_put port k (drop lasting.since tape)) (slice_index bytes)
     (in_block (option_map (λ (sectors : ℕ → List ℕ). sectors k) lasting.sectors) bytes is)
-returns tape lasting port k bytes (inr (entry, here, is)) = Contains-append_right (block_if (option_map (λ (sectors : ℕ → List ℕ). sectors k) lasting.sectors)) (blocks_put port k (drop lasting.since tape)) (slice_index bytes)
+returns tape lasting port k bytes (inr (entry, here, is)) = Contains-append_right (optional_block (option_map (λ (sectors : ℕ → List ℕ). sectors k) lasting.sectors)) (blocks_put port k (drop lasting.since tape)) (slice_index bytes)
     (in_blocks port k (drop lasting.since tape) entry bytes here is)
 
 pub idle_knows : (m : Machine) (d : Device) → IsInitial m → IsIdle d → ((port : ℕ) → IsDiskOf m (d.port port) port) → SameMemory m d.memory →
-    (d.telling ≡ true → (port : ℕ) → SameSectors m (d.port port).disk port) → (d.telling ≡ true → (port k : ℕ) → m.aside (port_at port) k ≡ may_return d.tape (d.port port).lasting port k) → DriverRelation m (idle d)
+    (d.telling ≡ true → (port : ℕ) → SameSectors m (d.port port).disk port) → (d.telling ≡ true → (port k : ℕ) → m.aside (port_at port) k ≡ replug_candidates d.tape (d.port port).lasting port k) → DriverRelation m (idle d)
 idle_knows m d s i disk memory sectors aside = record {
   agrees = record {
     slot = λ q k. record { issued = (i.port q).ci k; free = (i.port q).taken k; unarmed = (i.port q).sact k };
@@ -69,7 +69,7 @@ machine_of d rows owner = record {
   disk_ids = λ port. (d.port port.0).disk.name;
   sizes = λ port. (d.port port.0).disk.size;
   disks = λ port. told_bytes (d.port port.0).disk.sectors;
-  aside = λ port k. may_return d.tape (d.port port.0).lasting port.0 k;
+  aside = λ port k. replug_candidates d.tape (d.port port.0).lasting port.0 k;
   book = [];
   kept = [];
   lent = λ frame. None;

@@ -16,7 +16,7 @@ use Rattle.adapter.specs.declared.command.Operation.TheVariants as operation
 use Rattle.adapter.specs.declared.tape.Entry.{Entry}
 use Rattle.adapter.specs.declared.tape.Entry.TheVariants as entry
 use Rattle.block_machine.specs.State as state
-use Rattle.block_machine.specs.State.{Block, Pending, Machine, sector_of, written_by}
+use Rattle.block_machine.specs.State.{Block, Pending, Machine, sector_of, block_written}
 use Rattle.block_machine.specs.Due.{is_flush, changes_sectors}
 use Rattle.block_machine.specs.Left as left
 use Rattle.block_machine.specs.Steps.{Touch, End, Replace, SameBytes, HasHeld, after_step, put_sector}
@@ -40,7 +40,7 @@ held_touched : (m : Machine) (e : Pending) (i : ℕ) (block : Block) (port : Por
 held_touched m e i block port k b h = by_op (changes_sectors e.request.asked.op)
   where
     written : Block
-    written = written_by e.request.asked.op e.request.held i
+    written = block_written e.request.asked.op e.request.held i
 
     by_place : (here : Bool) → Holds (cond here written (m.disks port k)) (cond here (m.disks port k ∷ m.aside port k) (m.aside port k)) b
     by_place true = put_aside (m.disks port k) written b (m.aside port k) h

@@ -11,7 +11,7 @@ use Rattle.adapter.proofs.MemoryLemmas.{patched_apart}
 use Rattle.block_machine.specs.State.{Pending, Machine}
 use Rattle.block_machine.specs.Steps.{MayStillMove}
 use Rattle.refinement.specs.Slots.{Serves, SlotStates, RelatesSlot}
-use Rattle.refinement.specs.Relation.{StateRelation, port_at, IsDiskOf, SameSectors, HasLasting, SameMemory, IsReceiving, ServeApart}
+use Rattle.refinement.specs.Relation.{StateRelation, port_at, IsDiskOf, SameSectors, HasLasting, SameMemory, HasReceivedArea, ServeApart}
 use Rattle.refinement.proofs.relation.SlotRelation.{SameSlot, SameFixed, slots_after}
 use Rattle.refinement.proofs.relation.TouchesAndEnds.{Goes}
 
@@ -50,7 +50,7 @@ pub acted : (Except : ℕ → Type 0) (uses : SlotStates) (m m' : Machine) (d : 
 acted Except uses m m' d a memory' later port slot new x = record {
   slot = slots_after Except uses m m' d a memory' later x.fixed port slot new x.others x.only x.moves x.here;
   apart = a.apart;
-  received = changed_at d.port port new (λ q p. p.fre ≡ true → IsReceiving p q)
+  received = changed_at d.port port new (λ q p. p.fre ≡ true → HasReceivedArea p q)
       (λ f. let r = a.received port (sym x.fre ∙ f) in record { below = r.below; area = x.received_at ∙ r.area }) (λ q _. a.received q);
   disk = changed_at d.port port new (λ q p. IsDiskOf m' p q)
       (record {

@@ -6,8 +6,8 @@ use Rattle.std.proofs.lemmas.Bool.{cond-true, cond-false}
 use Rattle.adapter.specs.Memory.{patched, changed}
 use Rattle.adapter.specs.Commands.{is_queued}
 use Rattle.adapter.specs.Device as device
-use Rattle.adapter.specs.Device.{TellsItsSectors, Lasting, FetchedCommand, DevicePort, Device}
-use Rattle.adapter.specs.Steps.{device_after, MayScribble, with_reset, IsThatDisk, WereHeld, lasting_plugged}
+use Rattle.adapter.specs.Device.{HasKnownSectors, Lasting, FetchedCommand, DevicePort, Device}
+use Rattle.adapter.specs.Steps.{device_after, MayScribble, with_reset, IsReplugOf, WereHeld, lasting_plugged}
 use Rattle.adapter.specs.Steps.DeviceTransition.{Fault, Fatal, Fall, FrFall, LinkUp, Unplug, Plug, ResetEnds, Scribble}
 use Rattle.adapter.specs.declared.command.Operation.{Operation}
 use Rattle.adapter.specs.declared.tape.Entry.{Entry}
@@ -16,7 +16,7 @@ use Rattle.block_machine.specs.State.{DiskBytes, Machine}
 use Rattle.block_machine.specs.Steps as machine
 use Rattle.block_machine.specs.Steps.{HasHeld, after_step}
 use Rattle.refinement.specs.Slots.{SlotState, Free, Own, Serves, SlotStates, Stage, IsMove, OwnWaits, OwnTaken, OwnOver, IsOver, IsPlaced, RelatesSlot, Armed}
-use Rattle.refinement.specs.Relation.{StateRelation, port_at, IsDiskOf, SameSectors, HasLasting, IsReceiving}
+use Rattle.refinement.specs.Relation.{StateRelation, port_at, IsDiskOf, SameSectors, HasLasting, HasReceivedArea}
 use Rattle.refinement.specs.Tape.{PutsInDisks}
 use Rattle.refinement.specs.Follows.{SimulatesSteps}
 use Rattle.refinement.proofs.relation.SlotRelation.{SameSlot, SameSlot-refl, GainsNone, SameFixed, SameFixed-refl, NoPort, slot_on, slots_quiet, placed_on}
@@ -72,7 +72,7 @@ module _ (uses : SlotStates) (m : Machine) (d : Device) (a : StateRelation uses 
   empty_port port new later fixed gains q = record {
     slot = slots_quiet uses m m d a d.memory later fixed port new q.slots (λ id e _ r. r);
     apart = a.apart;
-    received = changed_at d.port port new (λ k p. p.fre ≡ true → IsReceiving p k)
+    received = changed_at d.port port new (λ k p. p.fre ≡ true → HasReceivedArea p k)
         (λ f. let r = a.received port (sym q.fre ∙ f) in record { below = r.below; area = q.received_at ∙ r.area }) (λ k _. a.received k);
     disk = changed_at d.port port new (λ k p. IsDiskOf m p k)
         (record {
@@ -231,7 +231,7 @@ module _ (uses : SlotStates) (m : Machine) (d : Device) (a : StateRelation uses 
   fall_follows port st = silent _ refl refl (same_plugged d port _ refl) (record {
     slot = λ q k. changed_at d.port port _ (λ x p. RelatesSlot m d.memory d.tape p x k (uses x k)) (fall_slot port k (uses port k) st (a.slot port k)) (λ x _. a.slot x k) q;
     apart = a.apart;
-    received = changed_at d.port port _ (λ k p. p.fre ≡ true → IsReceiving p k) (λ f. let r = a.received port f in record { below = r.below; area = r.area }) (λ k _. a.received k);
+    received = changed_at d.port port _ (λ k p. p.fre ≡ true → HasReceivedArea p k) (λ f. let r = a.received port f in record { below = r.below; area = r.area }) (λ k _. a.received k);
     disk = changed_at d.port port _ (λ k p. IsDiskOf m p k) (let x = a.disk port in record { present = x.present; id = x.id; size = x.size }) (λ k _. a.disk k);
     memory = a.memory;
     sectors = λ t. changed_at d.port port _ (λ k p. SameSectors m p.disk k) (a.sectors t port) (λ k _. a.sectors t k);
@@ -303,7 +303,7 @@ module _ (uses : SlotStates) (m : Machine) (d : Device) (a : StateRelation uses 
         agrees = record {
           slot = slots_quiet uses m m' d a d.memory _ (fixed_more uses d.memory d.tape _ (λ q o u x. x)) port _ (λ k. record { issued = refl; sact = refl; taken = refl; st = refl; cr = refl; since = refl; list = refl }) (λ id e _ r. r);
           apart = a.apart;
-          received = changed_at d.port port _ (λ k p. p.fre ≡ true → IsReceiving p k) (λ f. let r = a.received port f in record { below = r.below; area = r.area }) (λ k _. a.received k);
+          received = changed_at d.port port _ (λ k p. p.fre ≡ true → HasReceivedArea p k) (λ f. let r = a.received port f in record { below = r.below; area = r.area }) (λ k _. a.received k);
           disk = changed_at d.port port _ (λ k p. IsDiskOf m' p k)
               (record {
                 present = cond-true (port == port) false (m.present (port_at port)) (eq-eqb port port refl);
@@ -328,7 +328,7 @@ module _ (uses : SlotStates) (m : Machine) (d : Device) (a : StateRelation uses 
   content_of (Some told) k b = slice_index (told k) b
   content_of None k b = 0
 
-  pub plug_follows : (port : ℕ) (disk : device.Disk) → (d.port port).present ≡ false → (d.telling ≡ true → TellsItsSectors disk) → (disk.name ≡ (d.port port).disk.name → IsThatDisk d port disk) → SimulatesSteps uses m d (device_after (Plug port disk) d)
+  pub plug_follows : (port : ℕ) (disk : device.Disk) → (d.port port).present ≡ false → (d.telling ≡ true → HasKnownSectors disk) → (disk.name ≡ (d.port port).disk.name → IsReplugOf d port disk) → SimulatesSteps uses m d (device_after (Plug port disk) d)
   unfolding content_of
   plug_follows port disk gone tells known =
       let content : DiskBytes = content_of disk.sectors in
@@ -340,7 +340,7 @@ module _ (uses : SlotStates) (m : Machine) (d : Device) (a : StateRelation uses 
             ap (λ (o : Option (ℕ → List ℕ)). content_of o k b) (sym (tells t).1)
             ∙ ap (λ (f : DiskBytes). f k b) (sym (cond-true (port == port) content (m.disks (port_at port)) (eq-eqb port port refl)));
       }) in
-      let comes_back : (d.telling ≡ true → IsThatDisk d port disk → (k : ℕ) → k < disk.size → HasHeld m (port_at port) k (content k)) = (λ t that k inside.
+      let comes_back : (d.telling ≡ true → IsReplugOf d port disk → (k : ℕ) → k < disk.size → HasHeld m (port_at port) k (content k)) = (λ t that k inside.
       let s = a.sectors t port in
       let told = tells t in
       subst (λ (o : Option (ℕ → List ℕ)). HasHeld m (port_at port) k (content_of o k)) (sym told.1)
@@ -362,7 +362,7 @@ module _ (uses : SlotStates) (m : Machine) (d : Device) (a : StateRelation uses 
         agrees = record {
           slot = slots_quiet uses m m' d a d.memory _ (fixed_more uses d.memory d.tape _ (λ q o u x. x)) port _ (λ k. record { issued = refl; sact = refl; taken = refl; st = refl; cr = refl; since = refl; list = refl }) (λ id e _ r. r);
           apart = a.apart;
-          received = changed_at d.port port _ (λ k p. p.fre ≡ true → IsReceiving p k) (λ f. let r = a.received port f in record { below = r.below; area = r.area }) (λ k _. a.received k);
+          received = changed_at d.port port _ (λ k p. p.fre ≡ true → HasReceivedArea p k) (λ f. let r = a.received port f in record { below = r.below; area = r.area }) (λ k _. a.received k);
           disk = changed_at d.port port _ (λ k p. IsDiskOf m' p k)
               (record {
                 present = cond-true (port == port) true (m.present (port_at port)) (eq-eqb port port refl);

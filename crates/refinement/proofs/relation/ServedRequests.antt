@@ -11,7 +11,7 @@ use Rattle.block_machine.specs.declared.due.Unanswered.{Unanswered}
 use Rattle.block_machine.specs.Due.{IsInOrder, is_plain, issued_count}
 use Rattle.block_machine.specs.Histories.{IsReachable}
 use Rattle.block_machine.specs.State.{Pending, Machine, unanswered}
-use Rattle.block_machine.specs.Steps.{Issue, May, NoneKept}
+use Rattle.block_machine.specs.Steps.{Issue, May, NoneQuarantined}
 use Rattle.block_machine.proofs.Counting.{count_cons, count_eq, count_none, count_least}
 use Rattle.block_machine.proofs.Limits.{law_book_in_order, finds_slot}
 use Rattle.block_machine.proofs.Members.{map_in, into_map, contains_none}
@@ -90,7 +90,7 @@ unserving uses port (suc n) lt = go (is_serving (uses port n)) refl (unserving u
 -- ---- requests that are issued, by slot
 
 -- where none is kept on the port, a slot that serves a request serves one that is issued in the book
-pub issued_one : (uses : SlotStates) (m : Machine) (d : Device) → StateRelation uses m d → (port : Port) → NoneKept m port → (slot : ℕ) (id : RequestId) → uses port.0 slot ≡ Serves id →
+pub issued_one : (uses : SlotStates) (m : Machine) (d : Device) → StateRelation uses m d → (port : Port) → NoneQuarantined m port → (slot : ℕ) (id : RequestId) → uses port.0 slot ≡ Serves id →
     (e : Pending) × Contains m.book e × (e.issued ≡ true) × (e.request.id ≡ id) × (e.request.port ≡ port)
 issued_one uses m d a port none slot id u =
     let h : ServesRequest m d.memory (d.port port.0) port.0 slot id = subst (λ (v : SlotState). RelatesSlot m d.memory d.tape (d.port port.0) port.0 slot v) u (a.slot port.0 slot) in
@@ -100,7 +100,7 @@ issued_one uses m d a port none slot id u =
     (λ (r : Contains m.kept h.pending). absurd (none h.pending r here))
     h.moves
 
-module _ (uses : SlotStates) (m : Machine) (d : Device) (reached : IsReachable m) (a : StateRelation uses m d) (port : Port) (none : NoneKept m port) where
+module _ (uses : SlotStates) (m : Machine) (d : Device) (reached : IsReachable m) (a : StateRelation uses m d) (port : Port) (none : NoneQuarantined m port) where
   abbrev book : List Unanswered
   book = map unanswered m.book
 

@@ -14,12 +14,12 @@ use Rattle.adapter.specs.Trim.{consecutive}
 use Rattle.adapter.specs.Steps.{device_after, MayClear, disk_cleared, clear_entry}
 use Rattle.adapter.specs.Steps.DeviceTransition.{Clear}
 use Rattle.adapter.proofs.Changed.{changed_same, changed_other}
-use Rattle.block_machine.specs.State.{Accepted, Block, Memory, Pending, Machine, frame_at, sector_of, is_reader, written_by}
+use Rattle.block_machine.specs.State.{Accepted, Block, Memory, Pending, Machine, frame_at, sector_of, is_reader, block_written}
 use Rattle.block_machine.specs.State as state
 use Rattle.block_machine.specs.Due.{changes_sectors}
 use Rattle.block_machine.specs.Steps.{Touch, MayStillMove, after_step, put_sector, put_bytes}
 use Rattle.block_machine.specs.Left as left
-use Rattle.block_machine.specs.Left.{AllTellSectors}
+use Rattle.block_machine.specs.Left.{AllStepsFaithful}
 use Rattle.block_machine.specs.Events.{AllMay}
 use Rattle.refinement.specs.Places.{scratch_of}
 use Rattle.refinement.specs.Slots.{SlotState, Free, Own, Serves, SlotStates, Means, MeansRange, ArePlaces, TouchedUpTo, Progress, ServesRequest, OwnWaits, OwnTaken, OwnOver, RelatesSlot, op_of, Armed}
@@ -109,7 +109,7 @@ touches_put e from (suc n) q = touches_put e from n q
 -- what n touches of a trim leave
 record Swept (m : Machine) (e : Pending) (from n : ℕ) : Type 0 where
   may : AllMay m (touch_steps e from n)
-  told : AllTellSectors m (touch_steps e from n)
+  told : AllStepsFaithful m (touch_steps e from n)
   goes : Goes m (left.after m (touch_steps e from n)) e.request.id
   moves : MayStillMove (left.after m (touch_steps e from n)) (touched_by e from n)
   memory : (left.after m (touch_steps e from n)).memory ≡ m.memory
@@ -149,8 +149,8 @@ swept m e from (suc n) op r there fits inside =
     disks_now : (q : Port) (k b : ℕ) → (after_step (left.after m (touch_steps e from n)) (Touch (touched_by e from n) (from + n) (λ b. 0))).disks q k b
         ≡ put_sector e.request.port (e.request.asked.first.0 + (from + n)) (λ _. 0) (left.after m (touch_steps e from n)).disks q k b
     disks_now q k b =
-        ap (λ (f : Port → state.DiskBytes). f q k b) (cond-true (changes_sectors (touched_by e from n).request.asked.op) (put_sector (touched_by e from n).request.port (sector_of (touched_by e from n).request (from + n)) (written_by (touched_by e from n).request.asked.op (touched_by e from n).request.held (from + n)) (left.after m (touch_steps e from n)).disks) (left.after m (touch_steps e from n)).disks (ap changes_sectors is_trim))
-        ∙ ap (λ (o : Op). put_sector (touched_by e from n).request.port (sector_of (touched_by e from n).request (from + n)) (written_by o (touched_by e from n).request.held (from + n)) (left.after m (touch_steps e from n)).disks q k b) is_trim
+        ap (λ (f : Port → state.DiskBytes). f q k b) (cond-true (changes_sectors (touched_by e from n).request.asked.op) (put_sector (touched_by e from n).request.port (sector_of (touched_by e from n).request (from + n)) (block_written (touched_by e from n).request.asked.op (touched_by e from n).request.held (from + n)) (left.after m (touch_steps e from n)).disks) (left.after m (touch_steps e from n)).disks (ap changes_sectors is_trim))
+        ∙ ap (λ (o : Op). put_sector (touched_by e from n).request.port (sector_of (touched_by e from n).request (from + n)) (block_written o (touched_by e from n).request.held (from + n)) (left.after m (touch_steps e from n)).disks q k b) is_trim
         ∙ ap (λ (j : Accepted). put_sector j.port (j.asked.first.0 + (from + n)) (λ _. 0) (left.after m (touch_steps e from n)).disks q k b) request
 
     memory_now : (after_step (left.after m (touch_steps e from n)) (Touch (touched_by e from n) (from + n) (λ b. 0))).memory ≡ (left.after m (touch_steps e from n)).memory

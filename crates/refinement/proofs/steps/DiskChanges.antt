@@ -17,9 +17,9 @@ use Rattle.block_machine.specs.Steps.{Step, Unplug, Replace}
 use Rattle.block_machine.specs.Left.{after}
 use Rattle.block_machine.specs.Events.{IsByDevice, changes_disk}
 use Rattle.block_machine.proofs.Members.{contains_none, contains_here, contains_there, contains_cases}
-use Rattle.refinement.specs.Links.{IsPlugging}
+use Rattle.refinement.specs.Links.{IsPlugEvent}
 use Rattle.refinement.specs.Slots.{op_of}
-use Rattle.refinement.specs.Tape.{TellsMove, TellsDone, TellsEntry, TellsAmong, AllOwn, touch_steps}
+use Rattle.refinement.specs.Tape.{TellsMove, TellsDone, TellsEntry, TellsDeviceSteps, NoneByDevice, touch_steps}
 
 module _ (port : Port) where
   abbrev Changes : List Step → Bool
@@ -33,7 +33,7 @@ module _ (port : Port) where
   own_step (Replace p name size content) own = absurd (own tt)
   own_step _ own = refl
 
-  own_steps : (steps : List Step) → AllOwn steps → Changes steps ≡ false
+  own_steps : (steps : List Step) → NoneByDevice steps → Changes steps ≡ false
   own_steps [] own = refl
   own_steps (step ∷ steps) own = ap (λ (b : Bool). b || Changes steps) (own_step step own.1) ∙ own_steps steps own.0
 
@@ -45,7 +45,7 @@ module _ (port : Port) where
 
   -- it is of a disk of the port that goes or comes, and so are its steps, or neither is
   abbrev Alike : Entry → List Step → Type 0
-  Alike e steps = (IsPlugging port.0 e × (Changes steps ≡ true)) ⊎ ((IsPlugging port.0 e → ⊥) × (Changes steps ≡ false))
+  Alike e steps = (IsPlugEvent port.0 e × (Changes steps ≡ true)) ⊎ ((IsPlugEvent port.0 e → ⊥) × (Changes steps ≡ false))
 
   none_of : (all steps : List Step) → steps ≡ all → Changes all ≡ false → Changes steps ≡ false
   none_of all steps e none = ap Changes e ∙ none
@@ -81,34 +81,34 @@ module _ (port : Port) where
   -- ---- entries
 
   abbrev HasOne : List Entry → Type 0
-  HasOne entries = (e : Entry) × Contains entries e × IsPlugging port.0 e
+  HasOne entries = (e : Entry) × Contains entries e × IsPlugEvent port.0 e
 
   abbrev HasNone : List Entry → Type 0
-  HasNone entries = ((e : Entry) → Contains entries e → IsPlugging port.0 e → ⊥) × All (λ e. IsPlugging port.0 e → ⊥) entries
+  HasNone entries = ((e : Entry) → Contains entries e → IsPlugEvent port.0 e → ⊥) × All (λ e. IsPlugEvent port.0 e → ⊥) entries
 
   -- the entries and the steps
   abbrev AllAlike : List Entry → List Step → Type 0
   AllAlike entries steps = (HasOne entries × (Changes steps ≡ true)) ⊎ (HasNone entries × (Changes steps ≡ false))
 
   -- the oldest steps are the driver's, then come the entry's
-  parted : (rest first own steps : List Step) → AllOwn own → steps ≡ rest ++ (first ++ own) → Changes steps ≡ (Changes rest || (Changes first || false))
+  parted : (rest first own steps : List Step) → NoneByDevice own → steps ≡ rest ++ (first ++ own) → Changes steps ≡ (Changes rest || (Changes first || false))
   parted rest first own steps alone is =
       ap Changes is ∙ list_any-append (changes_disk port) rest (first ++ own)
       ∙ ap (λ (b : Bool). Changes rest || b) (list_any-append (changes_disk port) first own ∙ ap (λ (b : Bool). Changes first || b) (own_steps own alone))
 
-  entries_alike : (m : Machine) (entries : List Entry) (steps : List Step) → TellsAmong m entries steps → AllAlike entries steps
-  entries_alike m [] steps t = inr ((λ e here x. contains_none e here, All-nil (λ e. IsPlugging port.0 e → ⊥)), own_steps steps t)
+  entries_alike : (m : Machine) (entries : List Entry) (steps : List Step) → TellsDeviceSteps m entries steps → AllAlike entries steps
+  entries_alike m [] steps t = inr ((λ e here x. contains_none e here, All-nil (λ e. IsPlugEvent port.0 e → ⊥)), own_steps steps t)
   entries_alike m (entry ∷ entries) steps t = ⊎_elim
       (λ (late : HasOne entries × (Changes t.2 ≡ true)).
       inl ((late.0.0, contains_there entry entries late.0.0 late.0.1, late.0.2), same ∙ ap (λ (b : Bool). b || (Changes t.1 || false)) late.1))
       (λ (late : HasNone entries × (Changes t.2 ≡ false)). ⊎_elim
-      (λ (here : IsPlugging port.0 entry × (Changes t.1 ≡ true)).
+      (λ (here : IsPlugEvent port.0 entry × (Changes t.1 ≡ true)).
       inl ((entry, contains_here entry entries entry refl, here.0), same ∙ or_right (Changes t.2) (Changes t.1 || false) (ap (λ (b : Bool). b || false) here.1)))
-      (λ (here : (IsPlugging port.0 entry → ⊥) × (Changes t.1 ≡ false)).
+      (λ (here : (IsPlugEvent port.0 entry → ⊥) × (Changes t.1 ≡ false)).
       inr (
         (
-          λ e in_them x. ⊎_elim (λ (z : e ≡ entry). here.0 (subst (IsPlugging port.0) z x)) (λ i. late.0.0 e i x) (contains_cases entry entries e in_them),
-          All-cons (λ e. IsPlugging port.0 e → ⊥) entry entries here.0 late.0.1,
+          λ e in_them x. ⊎_elim (λ (z : e ≡ entry). here.0 (subst (IsPlugEvent port.0) z x)) (λ i. late.0.0 e i x) (contains_cases entry entries e in_them),
+          All-cons (λ e. IsPlugEvent port.0 e → ⊥) entry entries here.0 late.0.1,
         ),
         same ∙ ap (λ (b : Bool). b || (Changes t.1 || false)) late.1 ∙ ap (λ (b : Bool). b || false) here.1,
       ))
@@ -118,19 +118,19 @@ module _ (port : Port) where
       same : Changes steps ≡ (Changes t.2 || (Changes t.1 || false))
       same = parted t.2 t.1 t.0 steps t.3 t.6
 
-  pub steps_told : (m : Machine) (entries : List Entry) (steps : List Step) → TellsAmong m entries steps → (e : Entry) → Contains entries e → IsPlugging port.0 e → Changes steps ≡ true
+  pub steps_told : (m : Machine) (entries : List Entry) (steps : List Step) → TellsDeviceSteps m entries steps → (e : Entry) → Contains entries e → IsPlugEvent port.0 e → Changes steps ≡ true
   steps_told m entries steps t e here x = ⊎_elim
       (λ (has : HasOne entries × (Changes steps ≡ true)). has.1)
       (λ (none : HasNone entries × (Changes steps ≡ false)). absurd (none.0.0 e here x))
       (entries_alike m entries steps t)
 
-  pub entry_told : (m : Machine) (entries : List Entry) (steps : List Step) → TellsAmong m entries steps → Changes steps ≡ true → (e : Entry) × Contains entries e × IsPlugging port.0 e
+  pub entry_told : (m : Machine) (entries : List Entry) (steps : List Step) → TellsDeviceSteps m entries steps → Changes steps ≡ true → (e : Entry) × Contains entries e × IsPlugEvent port.0 e
   entry_told m entries steps t changes = ⊎_elim
       (λ (has : HasOne entries × (Changes steps ≡ true)). has.0)
       (λ (none : HasNone entries × (Changes steps ≡ false)). absurd (both_ways _ none.1 changes))
       (entries_alike m entries steps t)
 
-  pub none_told : (m : Machine) (entries : List Entry) (steps : List Step) → TellsAmong m entries steps → Changes steps ≡ false → All (λ e. IsPlugging port.0 e → ⊥) entries
+  pub none_told : (m : Machine) (entries : List Entry) (steps : List Step) → TellsDeviceSteps m entries steps → Changes steps ≡ false → All (λ e. IsPlugEvent port.0 e → ⊥) entries
   none_told m entries steps t changes = ⊎_elim
       (λ (has : HasOne entries × (Changes steps ≡ true)). absurd (both_ways _ changes has.1))
       (λ (none : HasNone entries × (Changes steps ≡ false)). none.0.1)

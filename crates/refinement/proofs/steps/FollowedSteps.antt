@@ -10,7 +10,7 @@ use Rattle.adapter.specs.declared.tape.Entry.{Entry}
 use Rattle.block_machine.specs.State.{Machine}
 use Rattle.block_machine.specs.Steps as machine
 use Rattle.block_machine.specs.Left as left
-use Rattle.block_machine.specs.Left.{AllTellSectors, TellsSectors}
+use Rattle.block_machine.specs.Left.{AllStepsFaithful, StepIsFaithful}
 use Rattle.block_machine.specs.Histories.{IsReachable}
 use Rattle.block_machine.proofs.EventLemmas.{after-append}
 use Rattle.block_machine.proofs.HistoryLemmas.{may-append, reached_more}
@@ -58,9 +58,9 @@ tells_append m (entry ∷ entries) then early late a b = (
   ap (λ (steps : List machine.Step). late ++ steps) a.4 ∙ sym (append_assoc late a.1 a.0),
 )
 
-pub told_append : (m : Machine) (late early : List machine.Step) → AllTellSectors m early → AllTellSectors (left.after m early) late → AllTellSectors m (late ++ early)
+pub told_append : (m : Machine) (late early : List machine.Step) → AllStepsFaithful m early → AllStepsFaithful (left.after m early) late → AllStepsFaithful m (late ++ early)
 told_append m [] early a b = a
-told_append m (step ∷ late) early a b = (told_append m late early a b.0, subst (λ (x : Machine). TellsSectors x step) (sym (after-append m late early)) b.1)
+told_append m (step ∷ late) early a b = (told_append m late early a b.0, subst (λ (x : Machine). StepIsFaithful x step) (sym (after-append m late early)) b.1)
 
 -- the disks of the earlier steps come first
 pub puts_append : (q : ℕ) (first then : List device.Disk) (early late : List machine.Step) → PutsInDisks q first early → PutsInDisks q then late → PutsInDisks q (first ++ then) (late ++ early)

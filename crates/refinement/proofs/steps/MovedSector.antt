@@ -16,7 +16,7 @@ use Rattle.adapter.specs.declared.tape.Entry.{Entry}
 use Rattle.adapter.specs.declared.tape.Entry.TheVariants as entry
 use Rattle.adapter.proofs.Changed.{changed_same, changed_other}
 use Rattle.adapter.proofs.MemoryLemmas.{bytes_index}
-use Rattle.block_machine.specs.State.{Block, Pending, Machine, is_reader, written_by, block_of, frame_at, sector_of}
+use Rattle.block_machine.specs.State.{Block, Pending, Machine, is_reader, block_written, block_of, frame_at, sector_of}
 use Rattle.block_machine.specs.State as state
 use Rattle.block_machine.specs.Due.{changes_sectors}
 use Rattle.block_machine.specs.Confined.{MovesBytes}
@@ -202,7 +202,7 @@ module _ (uses : SlotStates) (m : Machine) (d : Device) (a : StateRelation uses 
           ∙ ap (λ (k : ℕ). m.disks h.pending.request.port k b) sector
 
       disks_same : (q : Port) (k b : ℕ) → (after_step m (Touch h.pending t.moved (slice_index bytes))).disks q k b ≡ m.disks q k b
-      disks_same q k b = ap (λ (f : Port → state.DiskBytes). f q k b) (cond-false (changes_sectors h.pending.request.asked.op) (put_sector h.pending.request.port (sector_of h.pending.request t.moved) (written_by h.pending.request.asked.op h.pending.request.held t.moved) m.disks) m.disks (ap changes_sectors reads))
+      disks_same q k b = ap (λ (f : Port → state.DiskBytes). f q k b) (cond-false (changes_sectors h.pending.request.asked.op) (put_sector h.pending.request.port (sector_of h.pending.request t.moved) (block_written h.pending.request.asked.op h.pending.request.held t.moved) m.disks) m.disks (ap changes_sectors reads))
 
       memory_is : (after_step m (Touch h.pending t.moved (slice_index bytes))).memory ≡ put_bytes (frame_at h.pending.request.asked.frames.items (t.moved / 8)) (512 * (t.moved % 8)) 512 (slice_index bytes) m.memory
       memory_is = cond-true (is_reader h.pending.request.asked.op) _ m.memory (ap is_reader reads)
@@ -287,9 +287,9 @@ module _ (uses : SlotStates) (m : Machine) (d : Device) (a : StateRelation uses 
 
       now : (q : Port) (k b : ℕ) → (after_step m (Touch h.pending t.moved (slice_index bytes))).disks q k b ≡ put_sector (port_at port) (sector_of h.pending.request t.moved) (h.pending.request.held t.moved) m.disks q k b
       now q k b =
-          ap (λ (f : Port → state.DiskBytes). f q k b) (cond-true (changes_sectors h.pending.request.asked.op) (put_sector h.pending.request.port (sector_of h.pending.request t.moved) (written_by h.pending.request.asked.op h.pending.request.held t.moved) m.disks) m.disks (ap changes_sectors writes))
-          ∙ ap (λ (r : Port). put_sector r (sector_of h.pending.request t.moved) (written_by h.pending.request.asked.op h.pending.request.held t.moved) m.disks q k b) here_port
-          ∙ ap (λ (w : Op). put_sector (port_at port) (sector_of h.pending.request t.moved) (written_by w h.pending.request.held t.moved) m.disks q k b) writes
+          ap (λ (f : Port → state.DiskBytes). f q k b) (cond-true (changes_sectors h.pending.request.asked.op) (put_sector h.pending.request.port (sector_of h.pending.request t.moved) (block_written h.pending.request.asked.op h.pending.request.held t.moved) m.disks) m.disks (ap changes_sectors writes))
+          ∙ ap (λ (r : Port). put_sector r (sector_of h.pending.request t.moved) (block_written h.pending.request.asked.op h.pending.request.held t.moved) m.disks q k b) here_port
+          ∙ ap (λ (w : Op). put_sector (port_at port) (sector_of h.pending.request t.moved) (block_written w h.pending.request.held t.moved) m.disks q k b) writes
 
       memory_kept : (after_step m (Touch h.pending t.moved (slice_index bytes))).memory ≡ m.memory
       memory_kept = cond-false (is_reader h.pending.request.asked.op) (put_bytes (frame_at h.pending.request.asked.frames.items (t.moved / 8)) (512 * (t.moved % 8)) 512 (slice_index bytes) m.memory) m.memory (ap is_reader writes)

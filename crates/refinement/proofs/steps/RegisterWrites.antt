@@ -7,21 +7,21 @@ use Rattle.hba_regs.specs.declared.reg.Reg.{Reg}
 use Rattle.hba_regs.specs.declared.reg.Reg.TheVariants.{Cap, Ghc, Is, Pi, Vs, Cap2, Bohc, Px}
 use Rattle.hba_regs.specs.declared.reg.PortReg.{PortReg}
 use Rattle.hba_regs.specs.declared.reg.PortReg.TheVariants as px
-use Rattle.adapter.specs.Access.{Writes, written, port_written, with_st, with_fre, unacknowledged}
+use Rattle.adapter.specs.Access.{Writes, written, port_written, with_st, with_fre, with_is_cleared}
 use Rattle.adapter.specs.Commands.{is_queued}
 use Rattle.adapter.specs.Device as device
 use Rattle.adapter.specs.Device.{Lasting, DevicePort, Device}
 use Rattle.adapter.specs.Kept.{Keeps}
 use Rattle.adapter.specs.Rules.{MayWrite, IsStable}
-use Rattle.adapter.specs.Steps.{Steps, with_port, restarted}
-use Rattle.adapter.proofs.KeptLemmas.{law_steps_keep}
+use Rattle.adapter.specs.Steps.{Steps, with_port, halt_after_start}
+use Rattle.adapter.proofs.KeptLemmas.{law_steps_guarantee}
 use Rattle.block_machine.specs.State.{Machine}
 use Rattle.block_machine.specs.Left as left
 use Rattle.block_machine.specs.Histories.{IsReachable}
 use Rattle.refinement.specs.Places.{list_of, received_of}
 use Rattle.refinement.specs.Slots.{SlotState, Free, Own, Serves, SlotStates, Stage, OwnWaits, OwnTaken, OwnOver, RelatesSlot, Armed, IsEmptySlot}
-use Rattle.refinement.specs.Relation.{StateRelation, IsDiskOf, SameSectors, HasLasting, IsReceiving}
-use Rattle.refinement.specs.Driver.{AllFree, IsCommand, LeavesUses}
+use Rattle.refinement.specs.Relation.{StateRelation, IsDiskOf, SameSectors, HasLasting, HasReceivedArea}
+use Rattle.refinement.specs.Driver.{AllFree, IsSafeCmdWrite, LeavesUses}
 use Rattle.refinement.specs.Follows.{SimulatesSteps}
 use Rattle.refinement.proofs.relation.SlotRelation.{SameSlot, SameSlot-refl, served_on, own_free, serves_free, GainsNone-refl, placed_on}
 use Rattle.refinement.proofs.relation.LastingSectors.{disk_of, lasting_same}
@@ -32,11 +32,11 @@ use Rattle.refinement.proofs.steps.FollowedSteps.{steps_follow}
 
 -- one port is another now, with the same disk
 pub port_agrees : (uses : SlotStates) (m : Machine) (d : Device) → StateRelation uses m d → (port : ℕ) (new : DevicePort) → ((k : ℕ) → RelatesSlot m d.memory d.tape new port k (uses port k)) →
-    (new.fre ≡ true → IsReceiving new port) → new.present ≡ (d.port port).present → disk_of new ≡ disk_of (d.port port) → StateRelation uses m (with_port d port new)
+    (new.fre ≡ true → HasReceivedArea new port) → new.present ≡ (d.port port).present → disk_of new ≡ disk_of (d.port port) → StateRelation uses m (with_port d port new)
 port_agrees uses m d a port new slots receives present disk = record {
   slot = λ q k. changed_at d.port port new (λ x p. RelatesSlot m d.memory d.tape p x k (uses x k)) (slots k) (λ x _. a.slot x k) q;
   apart = a.apart;
-  received = changed_at d.port port new (λ k p. p.fre ≡ true → IsReceiving p k) receives (λ k _. a.received k);
+  received = changed_at d.port port new (λ k p. p.fre ≡ true → HasReceivedArea p k) receives (λ k _. a.received k);
   disk = changed_at d.port port new (λ k p. IsDiskOf m p k)
       (record {
         present = (a.disk port).present ∙ sym present;
@@ -59,7 +59,7 @@ or_false true = refl
 or_false false = refl
 
 module _ (uses : SlotStates) (m : Machine) (d : Device) (a : StateRelation uses m d) (port : ℕ) where
-  received_on : (new : DevicePort) → new.fre ≡ (d.port port).fre → new.bases.fb ≡ (d.port port).bases.fb → new.fre ≡ true → IsReceiving new port
+  received_on : (new : DevicePort) → new.fre ≡ (d.port port).fre → new.bases.fb ≡ (d.port port).bases.fb → new.fre ≡ true → HasReceivedArea new port
   received_on new fre fb f = let r = a.received port (sym fre ∙ f) in record { below = r.below; area = fb ∙ r.area }
 
   -- a port that looks the same
@@ -180,10 +180,10 @@ module _ (uses : SlotStates) (m : Machine) (d : Device) (a : StateRelation uses 
         unended = x.unended;
       })))
 
-  receives : (v tape : ℕ) (b : Bool) → (bit v 4 ≡ true → (port < 4) × ((d.port port).bases.fb ≡ received_of port)) → (new : DevicePort) → new.fre ≡ bit v 4 → new.bases.fb ≡ (d.port port).bases.fb → new.fre ≡ true → IsReceiving new port
+  receives : (v tape : ℕ) (b : Bool) → (bit v 4 ≡ true → (port < 4) × ((d.port port).bases.fb ≡ received_of port)) → (new : DevicePort) → new.fre ≡ bit v 4 → new.bases.fb ≡ (d.port port).bases.fb → new.fre ≡ true → HasReceivedArea new port
   receives v tape b area new fre fb f = let r = area (sym fre ∙ f) in record { below = r.0; area = fb ∙ r.1 }
 
-  commanded_by : (v tape : ℕ) → IsCommand uses port v (d.port port) → (b : Bool) → bit v 0 ≡ b → StateRelation uses m (with_port d port (with_fre (bit v 4) (with_st b tape (d.port port))))
+  commanded_by : (v tape : ℕ) → IsSafeCmdWrite uses port v (d.port port) → (b : Bool) → bit v 0 ≡ b → StateRelation uses m (with_port d port (with_fre (bit v 4) (with_st b tape (d.port port))))
   commanded_by v tape c false e =
       port_agrees uses m d a port (with_fre (bit v 4) (with_st false tape (d.port port))) (λ k. stopped_slot tape k (bit v 4) (uses port k) (a.slot port k))
       (receives v tape false c.receive _ refl refl) refl refl
@@ -201,16 +201,16 @@ module _ (uses : SlotStates) (m : Machine) (d : Device) (a : StateRelation uses 
       over k f = subst (λ (u : SlotState). RelatesSlot m d.memory d.tape (d.port port) port k u) f (a.slot port k)
 
       started : DevicePort
-      started = record (d.port port) { st = true; cr = true; broken = false; halt = restarted (d.port port).halt; notes = record (d.port port).notes { st_set_at = tape } }
+      started = record (d.port port) { st = true; cr = true; broken = false; halt = halt_after_start (d.port port).halt; notes = record (d.port port).notes { st_set_at = tape } }
 
       starting : (d.port port).st ≡ false → StateRelation uses m (with_port d port (with_fre (bit v 4) (with_st true tape (d.port port))))
       starting s =
           let free : AllFree uses port = ⊎_elim (λ (t : (d.port port).st ≡ true). true_false t s) (λ (f : AllFree uses port). f) (c.start e) in
-          let same : with_st true tape (d.port port) ≡ record (d.port port) { st = true; cr = true; broken = false; halt = restarted (d.port port).halt; notes = record (d.port port).notes { st_set_at = tape } } = cond-false (d.port port).st _ _ s in
+          let same : with_st true tape (d.port port) ≡ record (d.port port) { st = true; cr = true; broken = false; halt = halt_after_start (d.port port).halt; notes = record (d.port port).notes { st_set_at = tape } } = cond-false (d.port port).st _ _ s in
           subst (λ (p : DevicePort). StateRelation uses m (with_port d port (with_fre (bit v 4) p))) (sym same)
           (port_agrees uses m d a port
-          (with_fre (bit v 4) (record (d.port port) { st = true; cr = true; broken = false; halt = restarted (d.port port).halt; notes = record (d.port port).notes { st_set_at = tape } }))
-          (λ k. subst (λ (u : SlotState). RelatesSlot m d.memory d.tape (with_fre (bit v 4) (record (d.port port) { st = true; cr = true; broken = false; halt = restarted (d.port port).halt; notes = record (d.port port).notes { st_set_at = tape } })) port k u) (sym (free k))
+          (with_fre (bit v 4) (record (d.port port) { st = true; cr = true; broken = false; halt = halt_after_start (d.port port).halt; notes = record (d.port port).notes { st_set_at = tape } }))
+          (λ k. subst (λ (u : SlotState). RelatesSlot m d.memory d.tape (with_fre (bit v 4) (record (d.port port) { st = true; cr = true; broken = false; halt = halt_after_start (d.port port).halt; notes = record (d.port port).notes { st_set_at = tape } })) port k u) (sym (free k))
           (let o = over k (free k) in record { issued = o.issued; free = o.free; unarmed = o.unarmed }))
           (receives v tape true c.receive _ refl refl) refl refl)
 
@@ -218,7 +218,7 @@ module _ (uses : SlotStates) (m : Machine) (d : Device) (a : StateRelation uses 
       running true s = going s
       running false s = starting s
 
-  commanded : (v tape : ℕ) → IsCommand uses port v (d.port port) → StateRelation uses m (with_port d port (with_fre (bit v 4) (with_st (bit v 0) tape (d.port port))))
+  commanded : (v tape : ℕ) → IsSafeCmdWrite uses port v (d.port port) → StateRelation uses m (with_port d port (with_fre (bit v 4) (with_st (bit v 0) tape (d.port port))))
   commanded v tape c = commanded_by v tape c (bit v 0) refl
 
   -- ---- each register of the port
@@ -263,26 +263,26 @@ module _ (uses : SlotStates) (m : Machine) (d : Device) (a : StateRelation uses 
   }
 
   told_on : (v : ℕ) → StateRelation uses m (written Is v d)
-  told_on v = all_alike (λ q. if bit v q then unacknowledged (d.port q) else d.port q)
+  told_on v = all_alike (λ q. if bit v q then with_is_cleared (d.port q) else d.port q)
       (λ q k. same q k (bit v q)) (λ q. fre q (bit v q)) (λ q. bases q (bit v q)) (λ q. present q (bit v q)) (λ q. disk q (bit v q))
     where
-      same : (q k : ℕ) (b : Bool) → SameSlot (d.port q) (if b then unacknowledged (d.port q) else d.port q) k
+      same : (q k : ℕ) (b : Bool) → SameSlot (d.port q) (if b then with_is_cleared (d.port q) else d.port q) k
       same q k true = record { issued = refl; sact = refl; taken = refl; st = refl; cr = refl; since = refl; list = refl }
       same q k false = SameSlot-refl (d.port q) k
 
-      fre : (q : ℕ) (b : Bool) → (if b then unacknowledged (d.port q) else d.port q).fre ≡ (d.port q).fre
+      fre : (q : ℕ) (b : Bool) → (if b then with_is_cleared (d.port q) else d.port q).fre ≡ (d.port q).fre
       fre q true = refl
       fre q false = refl
 
-      bases : (q : ℕ) (b : Bool) → (if b then unacknowledged (d.port q) else d.port q).bases ≡ (d.port q).bases
+      bases : (q : ℕ) (b : Bool) → (if b then with_is_cleared (d.port q) else d.port q).bases ≡ (d.port q).bases
       bases q true = refl
       bases q false = refl
 
-      present : (q : ℕ) (b : Bool) → (if b then unacknowledged (d.port q) else d.port q).present ≡ (d.port q).present
+      present : (q : ℕ) (b : Bool) → (if b then with_is_cleared (d.port q) else d.port q).present ≡ (d.port q).present
       present q true = refl
       present q false = refl
 
-      disk : (q : ℕ) (b : Bool) → disk_of (if b then unacknowledged (d.port q) else d.port q) ≡ disk_of (d.port q)
+      disk : (q : ℕ) (b : Bool) → disk_of (if b then with_is_cleared (d.port q) else d.port q) ≡ disk_of (d.port q)
       disk q true = refl
       disk q false = refl
 
@@ -305,7 +305,7 @@ module _ (uses : SlotStates) (m : Machine) (d : Device) (a : StateRelation uses 
 -- what is asked of the write stays so, whatever the device does first
 leaves_on : (uses : SlotStates) (r : Reg) (v : ℕ) (old mid : Device) → IsStable (MayWrite r v) old → Steps old mid → LeavesUses uses r v old → LeavesUses uses r v mid
 leaves_on uses (Px port px.Cmd) v old mid may s x =
-    let k : Keeps old mid = law_steps_keep s in
+    let k : Keeps old mid = law_steps_guarantee s in
     let hr : old.hr ≡ false = (may old (record { steps = []; lead = refl })).0.no_reset in
     record {
       start = λ b. ⊎_elim (λ (t : (old.port port.0).st ≡ true). inl (((k.on hr).controls port.0).st ∙ t)) (λ (f : AllFree uses port.0). inr f) (x.start b);
@@ -378,7 +378,7 @@ pub written_plugged : (r : Reg) (v : ℕ) (d : Device) (q : ℕ) → ((written r
 written_plugged (Px port r) v d q = same_plugged d port.0 _ (port_plugged r v (length d.tape) (d.port port.0)) q
 written_plugged Is v d q = by (bit v q)
   where
-    by : (b : Bool) → (if b then unacknowledged (d.port q) else d.port q).plugged ≡ (d.port q).plugged
+    by : (b : Bool) → (if b then with_is_cleared (d.port q) else d.port q).plugged ≡ (d.port q).plugged
     by true = refl
     by false = refl
 written_plugged Ghc v d q = refl

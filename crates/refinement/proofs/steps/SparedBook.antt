@@ -7,9 +7,9 @@ use Rattle.ata_types.specs.declared.request.Frame.{Frame}
 use Rattle.ata_types.specs.declared.request.RequestId.{RequestId}
 use Rattle.adapter.specs.Device.{Device}
 use Rattle.block_machine.specs.State.{Accepted, Block, Memory, Pending, Machine, frame_at, unanswered, is_reader}
-use Rattle.block_machine.specs.Steps.{Step, Accept, Issue, Touch, End, Age, Again, Answer, Revoke, Release, Unplug, Replace, Store, Load, May, MayStillMove, NoneKept, after_step, at, touch, mark_ended, put_bytes, memory_after}
+use Rattle.block_machine.specs.Steps.{Step, Accept, Issue, Touch, End, Age, Again, Answer, Revoke, Release, Unplug, Replace, Store, Load, May, MayStillMove, NoneQuarantined, after_step, at, touch, mark_ended, put_bytes, memory_after}
 use Rattle.block_machine.specs.Left.{after}
-use Rattle.block_machine.specs.Events.{IsByDevice, AllDevices, AllMay}
+use Rattle.block_machine.specs.Events.{IsByDevice, AllByDevice, AllMay}
 use Rattle.block_machine.specs.Histories.{IsReachable}
 use Rattle.block_machine.proofs.HistoryLemmas.{reached_more}
 use Rattle.block_machine.proofs.Members.{contains_none, contains_here, contains_there, contains_cases, at_cases}
@@ -107,7 +107,7 @@ step_spares m Release is = absurd is
 step_spares m (Store client frame offset bytes) is = absurd is
 step_spares m (Load client frame offset bytes) is = absurd is
 
-pub steps_spare : (m : Machine) (steps : List Step) → AllDevices steps → SparesBook m (after m steps)
+pub steps_spare : (m : Machine) (steps : List Step) → AllByDevice steps → SparesBook m (after m steps)
 steps_spare m [] is = spares_refl m
 steps_spare m (step ∷ before) is =
     spares_more m (after m before) (after m (step ∷ before)) (steps_spare m before is.0) (step_spares (after m before) step is.1)
@@ -185,7 +185,7 @@ step_frames m s Release is may frame none b = absurd is
 step_frames m s (Store client f offset bytes) is may frame none b = absurd is
 step_frames m s (Load client f offset bytes) is may frame none b = absurd is
 
-pub frames_stay : (m : Machine) (steps : List Step) (frame : Frame) → IsReachable m → AllDevices steps → AllMay m steps → IsUnmoved m frame → (b : ℕ) → (after m steps).memory frame b ≡ m.memory frame b
+pub frames_stay : (m : Machine) (steps : List Step) (frame : Frame) → IsReachable m → AllByDevice steps → AllMay m steps → IsUnmoved m frame → (b : ℕ) → (after m steps).memory frame b ≡ m.memory frame b
 frames_stay m [] frame r is may none b = refl
 frames_stay m (step ∷ before) frame r is may none b =
     step_frames (after m before) (standing (after m before) (reached_more m before r may.0)).sound step is.1 may.1 frame
@@ -198,10 +198,10 @@ pub follows_spare : (uses : SlotStates) (m : Machine) (old new : Device) → (f 
 follows_spare uses m old new f = steps_spare m f.steps (tells_device m f.gained f.steps f.tells)
 
 -- where no request of the port is kept, none is later
-pub none_kept_on : (m n : Machine) (port : Port) → SparesBook m n → NoneKept m port → NoneKept n port
+pub none_kept_on : (m n : Machine) (port : Port) → SparesBook m n → NoneQuarantined m port → NoneQuarantined n port
 none_kept_on m n port s none e i is =
     let q = found_before m.kept n.kept e s.kept i in
     none q.0 q.1 (ap (λ (r : Accepted). r.port) (sym q.2.request) ∙ is)
 
-pub none_kept_after : (m : Machine) (steps : List Step) (port : Port) → AllDevices steps → NoneKept m port → NoneKept (after m steps) port
+pub none_kept_after : (m : Machine) (steps : List Step) (port : Port) → AllByDevice steps → NoneQuarantined m port → NoneQuarantined (after m steps) port
 none_kept_after m steps port device none = none_kept_on m (after m steps) port (steps_spare m steps device) none

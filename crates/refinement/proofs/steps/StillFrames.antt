@@ -13,7 +13,7 @@ use Rattle.adapter.specs.Idle.{IsIdle, IsIdlePort}
 use Rattle.adapter.specs.Kept.{KeepsPort}
 use Rattle.adapter.specs.Rules.{InDataBlocks, InUse, InCommand, IsUnowned, IsStable}
 use Rattle.adapter.specs.Rules as rules
-use Rattle.adapter.proofs.KeptLemmas.{law_steps_keep}
+use Rattle.adapter.proofs.KeptLemmas.{law_steps_guarantee}
 use Rattle.adapter.proofs.SaysLemmas.{says_table, says_prds, says_places}
 use Rattle.block_machine.specs.Confined.{MovesBytes}
 use Rattle.block_machine.specs.Histories.{IsReachable}
@@ -131,7 +131,7 @@ still_stays uses m d frame reached a high over mid s =
     let f : SimulatesSteps uses m d mid = steps_follow uses m d mid reached a s in
     let spares : SparesBook m (left.after m f.steps) = follows_spare uses m d mid f in
     still_now uses (left.after m f.steps) mid f.agrees (reached_more m f.steps reached f.may) frame high (λ id lent port slot u.
-    let k : KeepsPort (d.port port) (mid.port port) = (law_steps_keep s).port port in
+    let k : KeepsPort (d.port port) (mid.port port) = (law_steps_guarantee s).port port in
     let o : IsOver (d.port port) slot = over id (ap (λ (lent : Frame → Option RequestId). lent frame) (sym spares.lent) ∙ lent) port slot u in
     record { issued = k.ci slot o.issued; free = k.free slot o.issued o.free })
 
@@ -147,7 +147,7 @@ unlent_is_still uses m d frame reached a none high = still_stays uses m d frame 
 -- an idle device, which has nothing in use whatever it does, uses no byte
 pub idle_is_still : (d : Device) (frame : Frame) → IsIdle d → IsStable (DeviceSparesFrame frame) d
 idle_is_still d frame idle mid s port slot at from to x =
-    let k : KeepsPort (d.port port) (mid.port port) = (law_steps_keep s).port port in
+    let k : KeepsPort (d.port port) (mid.port port) = (law_steps_guarantee s).port port in
     let i : IsIdlePort (d.port port) = idle.port port in
     let none : IsOver (mid.port port) slot = record { issued = k.ci slot (i.ci slot); free = k.free slot (i.ci slot) (i.taken slot) } in
     ⊎_elim
@@ -161,7 +161,7 @@ idle_is_still d frame idle mid s port slot at from to x =
 -- the bytes of a still frame are free
 pub still_is_free : (d : Device) (frame : Frame) (offset n : ℕ) → IsStable (DeviceSparesFrame frame) d → 4096 * frame.0 + 4096 ≤ d.size → offset + n ≤ 4096 → IsStable (IsUnowned (4096 * frame.0 + offset) n) d
 still_is_free d frame offset n still inside within mid s = record {
-  inside = let same : mid.size ≡ d.size = (law_steps_keep s).size in omega (arith, same, inside, within);
+  inside = let same : mid.size ≡ d.size = (law_steps_guarantee s).size in omega (arith, same, inside, within);
   unused = λ port slot byte from to u. still mid s port slot byte (omega (arith, from)) (omega (arith, to, within)) u;
 }
 

@@ -16,7 +16,7 @@ use Rattle.block_machine.specs.State.{Accepted, Pending, Machine, unanswered}
 use Rattle.block_machine.specs.Due.{IsDue}
 use Rattle.block_machine.specs.Steps.{Step, Accept, Issue, Touch, End, Age, Again, Answer, Revoke, Release, Unplug, Replace, Store, Load, HasGrant, May, MayStillMove, after_step, at, touch, mark_ended}
 use Rattle.block_machine.specs.Left as left
-use Rattle.block_machine.specs.Events.{AllMay, IsByDevice, AllDevices}
+use Rattle.block_machine.specs.Events.{AllMay, IsByDevice, AllByDevice}
 use Rattle.block_machine.specs.Histories.{IsReachable}
 use Rattle.block_machine.proofs.Members.{map_in, into_map, at_cases}
 use Rattle.block_machine.proofs.Keeps.{at_keeps}
@@ -32,29 +32,29 @@ use Rattle.refinement.proofs.relation.OtherSlots.{true_false}
 
 -- ---- what an entry tells is the device's
 
-pub device_append : (late early : List Step) → AllDevices late → AllDevices early → AllDevices (late ++ early)
+pub device_append : (late early : List Step) → AllByDevice late → AllByDevice early → AllByDevice (late ++ early)
 device_append [] early a b = b
 device_append (step ∷ late) early a b = (device_append late early a.0 b, a.1)
 
-touches_device : (e : Pending) (from n : ℕ) → AllDevices (touch_steps e from n)
+touches_device : (e : Pending) (from n : ℕ) → AllByDevice (touch_steps e from n)
 touches_device e from zero = tt
 touches_device e from (suc n) = (touches_device e from n, tt)
 
-from_steps : {steps all : List Step} → steps ≡ all → AllDevices all → AllDevices steps
-from_steps e a = subst AllDevices (sym e) a
+from_steps : {steps all : List Step} → steps ≡ all → AllByDevice all → AllByDevice steps
+from_steps e a = subst AllByDevice (sym e) a
 
-move_device : (o : Option Op) (m : Machine) (move : tape_move.Move) (steps : List Step) → TellsMove o m move steps → AllDevices steps
+move_device : (o : Option Op) (m : Machine) (move : tape_move.Move) (steps : List Step) → TellsMove o m move steps → AllByDevice steps
 move_device None m move steps t = from_steps t.1 tt
 move_device (Some Read) m move steps t = from_steps t.step (tt, tt)
 move_device (Some Write) m move steps t = from_steps t.step (tt, tt)
 move_device (Some Trim) m move steps t = from_steps t.1 tt
 move_device (Some Flush) m move steps t = absurd t
 
-done_device : (o : Option Op) (m : Machine) (done : tape_done.Done) (steps : List Step) → TellsDone o m done steps → AllDevices steps
+done_device : (o : Option Op) (m : Machine) (done : tape_done.Done) (steps : List Step) → TellsDone o m done steps → AllByDevice steps
 done_device None m done steps t = from_steps t tt
 done_device (Some op) m done steps t = from_steps t.step (tt, tt)
 
-pub entry_device : (m : Machine) (e : Entry) (steps : List Step) → TellsEntry m e steps → AllDevices steps
+pub entry_device : (m : Machine) (e : Entry) (steps : List Step) → TellsEntry m e steps → AllByDevice steps
 entry_device m (entry.Move move) steps t = move_device (op_of move.operation) m move steps t
 entry_device m (entry.Clear clear) steps t = from_steps t.step (touches_device t.pending t.from clear.count)
 entry_device m (entry.Done done) steps t = done_device (op_of done.operation) m done steps t
@@ -63,7 +63,7 @@ entry_device m (entry.Fatal port) steps t = from_steps t tt
 entry_device m (entry.Unplug port) steps t = from_steps t (tt, tt)
 entry_device m (entry.Plug port name) steps t = from_steps t.2 (tt, tt)
 
-pub tells_device : (m : Machine) (entries : List Entry) (steps : List Step) → TapeTells m entries steps → AllDevices steps
+pub tells_device : (m : Machine) (entries : List Entry) (steps : List Step) → TapeTells m entries steps → AllByDevice steps
 tells_device m [] steps t = from_steps t tt
 tells_device m (e ∷ entries) steps t =
     from_steps t.4 (device_append t.1 t.0 (tells_device (left.after m t.0) entries t.1 t.3) (entry_device m e t.0 t.2))
@@ -90,7 +90,7 @@ step_have uses m Release is port parked had = absurd is
 step_have uses m (Store client frame offset bytes) is port parked had = absurd is
 step_have uses m (Load client frame offset bytes) is port parked had = absurd is
 
-steps_have : (uses : SlotStates) (m : Machine) (steps : List Step) → AllDevices steps → (port : ℕ) (parked : List RequestId) → HaveSlots uses m port parked → HaveSlots uses (left.after m steps) port parked
+steps_have : (uses : SlotStates) (m : Machine) (steps : List Step) → AllByDevice steps → (port : ℕ) (parked : List RequestId) → HaveSlots uses m port parked → HaveSlots uses (left.after m steps) port parked
 steps_have uses m [] is port parked had = had
 steps_have uses m (step ∷ before) is port parked had = step_have uses (left.after m before) step is.1 port parked (steps_have uses m before is.0 port parked had)
 
@@ -147,7 +147,7 @@ module _ (m : Machine) (s : Sound m) (mode : QueueMode) (e : Pending) (may : May
   step_may (Store client frame offset bytes) is can = absurd is
   step_may (Load client frame offset bytes) is can = absurd is
 
-pub steps_may : (m : Machine) (steps : List Step) → IsReachable m → AllDevices steps → AllMay m steps → (mode : QueueMode) (e : Pending) → May m (Issue mode e) → May (left.after m steps) (Issue mode e)
+pub steps_may : (m : Machine) (steps : List Step) → IsReachable m → AllByDevice steps → AllMay m steps → (mode : QueueMode) (e : Pending) → May m (Issue mode e) → May (left.after m steps) (Issue mode e)
 steps_may m [] r is all mode e may = may
 steps_may m (step ∷ before) r is all mode e may =
     step_may (left.after m before) (standing (left.after m before) (reached_more m before r all.0)).sound mode e (steps_may m before r is.0 all.0 mode e may) step is.1 all.1

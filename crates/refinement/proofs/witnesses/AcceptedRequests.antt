@@ -15,7 +15,7 @@ use Rattle.ata_types.specs.declared.refusal.Rule.TheVariants.{NoGrant, NoRight, 
 use Rattle.ata_types.specs.Grant.{Allows, Covers}
 use Rattle.block_machine.specs.Rules.{IsNamed, BreaksNone, HasRow}
 use Rattle.block_machine.specs.State.{Accepted, Machine, block_of, frame_at}
-use Rattle.block_machine.specs.Steps.{MayAccept, unanswered_of}
+use Rattle.block_machine.specs.Steps.{MayAccept, unanswered_count}
 use Rattle.block_machine.proofs.Setting.{client, port, frame, row, request, two_rows, granted, its_row, IsFit, acceptable}
 use Rattle.refinement.specs.Places.{place_in}
 
@@ -24,7 +24,7 @@ abbrev pub accepted_of : Machine → Request → Accepted
 accepted_of m r = record { id = record { 0 = m.next }; port = port; asked = r; held = block_of m.memory r.frames.items }
 
 -- it breaks no rule, and names the row of port 0
-pub new_of : (m : Machine) (r : Request) → m.rows ≡ two_rows → r.grant ≡ 0 → BreaksNone m.rows m.owner m.lent r → unanswered_of m.book r.client < 16 → m.next < 2 ^ 64 → MayAccept m (accepted_of m r)
+pub new_of : (m : Machine) (r : Request) → m.rows ≡ two_rows → r.grant ≡ 0 → BreaksNone m.rows m.owner m.lent r → unanswered_count m.book r.client < 16 → m.next < 2 ^ 64 → MayAccept m (accepted_of m r)
 new_of m r rows grant unbroken few ids = record {
   id = refl;
   id_left = ids;
@@ -76,7 +76,7 @@ read_fits m first n rows mine free low high = record {
   ids = omega arith;
 }
 
-pub read_is_new : (m : Machine) (first n : ℕ) → m.rows ≡ two_rows → m.owner (frame n) ≡ Some client → m.lent (frame n) ≡ None → 100 ≤ first → first + 8 ≤ 164 → unanswered_of m.book client < 16 → m.next < 2 ^ 64 →
+pub read_is_new : (m : Machine) (first n : ℕ) → m.rows ≡ two_rows → m.owner (frame n) ≡ Some client → m.lent (frame n) ≡ None → 100 ≤ first → first + 8 ≤ 164 → unanswered_count m.book client < 16 → m.next < 2 ^ 64 →
     MayAccept m (accepted_of m (read_into first n))
 read_is_new m first n rows mine free low high few ids =
     new_of m (read_into first n) rows refl (λ rule h. acceptable 0 (situation_of m) (read_into first n) (read_fits m first n rows mine free low high) (refused.Rule rule) h) few ids
@@ -108,5 +108,5 @@ trim_breaks_none m first rows low high = none
     none (Frames (FrameTwice i)) h = no_frame i h.0 h.4
     none (Frames (FrameLent i)) h = no_frame i h.0 h.1
 
-pub trim_is_new : (m : Machine) (first : ℕ) → m.rows ≡ two_rows → 100 ≤ first → first + 8 ≤ 164 → unanswered_of m.book client < 16 → m.next < 2 ^ 64 → MayAccept m (accepted_of m (trim_of first))
+pub trim_is_new : (m : Machine) (first : ℕ) → m.rows ≡ two_rows → 100 ≤ first → first + 8 ≤ 164 → unanswered_count m.book client < 16 → m.next < 2 ^ 64 → MayAccept m (accepted_of m (trim_of first))
 trim_is_new m first rows low high few ids = new_of m (trim_of first) rows refl (trim_breaks_none m first rows low high) few ids

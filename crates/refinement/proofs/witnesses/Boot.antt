@@ -20,10 +20,10 @@ use Rattle.adapter.specs.Steps.{Can, device_after}
 use Rattle.adapter.specs.Steps.DeviceTransition.{LinkUp}
 use Rattle.refinement.specs.Below.{StepLaws}
 use Rattle.refinement.specs.Relation.{port_at}
-use Rattle.refinement.specs.Booted.{waking, BootIsFound}
-use Rattle.refinement.specs.Errors.{IsComing, NoneComes}
+use Rattle.refinement.specs.Booted.{waking, BootWitness}
+use Rattle.refinement.specs.Errors.{IsDiskComing, NoDiskComes}
 use Rattle.refinement.specs.Facts.{TellsNoTrouble}
-use Rattle.refinement.specs.Links.{IsPlugging, PlugsNone}
+use Rattle.refinement.specs.Links.{IsPlugEvent, NoPlugEvents}
 use Rattle.refinement.specs.Started.{IsUp, IsComingUp, SetsNoStart}
 use Rattle.refinement.proofs.device.AllowedWrites.{write_stays}
 use Rattle.refinement.proofs.device.BootedPort.{well_is_found}
@@ -132,11 +132,11 @@ may_start = permitted Cmd 0x11 ready (λ p e. cc) refl refl refl (record {
 -- ---- what is known of it
 
 -- the tape stays empty
-none_comes : (old new : Device) → new.tape ≡ old.tape ++ [] → NoneComes 0 old new
-none_comes old new same = record { gained = []; tape = same; none = All-nil (λ e. IsComing 0 e → ⊥) }
+none_comes : (old new : Device) → new.tape ≡ old.tape ++ [] → NoDiskComes 0 old new
+none_comes old new same = record { gained = []; tape = same; none = All-nil (λ e. IsDiskComing 0 e → ⊥) }
 
-plugs_none : (old new : Device) → new.tape ≡ old.tape ++ [] → PlugsNone 0 old new
-plugs_none old new same = record { gained = []; tape = same; none = All-nil (λ e. IsPlugging 0 e → ⊥) }
+plugs_none : (old new : Device) → new.tape ≡ old.tape ++ [] → NoPlugEvents 0 old new
+plugs_none old new same = record { gained = []; tape = same; none = All-nil (λ e. IsPlugEvent 0 e → ⊥) }
 
 -- no write of PxCMD
 no_start : (r : PortReg) (v : ℕ) → (r ≡ Cmd → ⊥) → SetsNoStart (port_at 0) (Writing (port_reg r) v)
@@ -160,7 +160,7 @@ is_quieted laws = access_up laws (port_at 0) (Writing (port_reg Is) 0xffffffff) 
 is_ready : StepLaws → IsUp (ready.port 0)
 is_ready laws = access_up laws (port_at 0) (Reading (port_reg Tfd) 0x77) quieted ready refl stands.3 (λ w e. absurd (let z : Reading (port_reg Tfd) 0x77 ≡ Writing (port_reg Cmd) w = e in cc)) tt (plugs_none quieted ready refl) waits (is_quieted laws)
 
-pub boot_is_found : StepLaws → BootIsFound
+pub boot_is_found : StepLaws → BootWitness
 boot_is_found laws = record {
   sent = sent;
   may_send = may_send;

@@ -13,7 +13,7 @@ use Rattle.adapter.proofs.FirstRead.{first_done}
 use Rattle.block_machine.specs.Histories.{IsReachable}
 use Rattle.block_machine.specs.Left.{after}
 use Rattle.block_machine.specs.State.{Pending, Machine}
-use Rattle.block_machine.specs.Steps.{NoneKept}
+use Rattle.block_machine.specs.Steps.{NoneQuarantined}
 use Rattle.refinement.specs.Below.{StepLaws}
 use Rattle.refinement.specs.Relation.{port_at}
 use Rattle.refinement.specs.Driver.{DriverState, DriverRelation}
@@ -33,7 +33,7 @@ module _ (laws : StepLaws) (k : DriverState) (m : Machine) (reached : IsReachabl
   follows : SimulatesSteps k.uses m k.device new
   follows = steps_follow k.uses m k.device new reached knows.agrees s
 
-  none_kept : NoneKept m (port_at 0)
+  none_kept : NoneQuarantined m (port_at 0)
   none_kept e kept is = All-contains (λ _. ⊥) [] e (All-nil (λ _. ⊥)) (subst (λ (es : List Pending). Contains es e) none kept)
 
   pub done_is_known : k.device.hr ≡ false → (k.device.port 0).st ≡ true → (new.port 0).ci 0 ≡ false → (new.port 0).sact 0 ≡ false → DoneIsKnown k id

@@ -29,9 +29,9 @@ use Rattle.block_machine.specs.Steps.{Accept, Issue, May, MayAccept, MayStillMov
 use Rattle.block_machine.proofs.Setting.{empty, filled_starts}
 use Rattle.refinement.specs.Below.{StepLaws}
 use Rattle.refinement.specs.Slots.{Free, Serves, SlotDecodesTo, IsEmptySlot}
-use Rattle.refinement.specs.Relation.{StateRelation, port_at, IsDiskOf, SameSectors, HasLasting, IsReceiving}
+use Rattle.refinement.specs.Relation.{StateRelation, port_at, IsDiskOf, SameSectors, HasLasting, HasReceivedArea}
 use Rattle.refinement.specs.Driver.{DriverRelation, IsPrepared, idle}
-use Rattle.refinement.specs.Witness.{first_uses, first_known, ready_port, ready_with, prepared_read, PreparedIsKnown, FirstIsKnown}
+use Rattle.refinement.specs.Witness.{first_uses, first_known, ready_port, ready_with, prepared_read, PreparedReadWitness, FirstReadWitness}
 use Rattle.refinement.proofs.relation.OneSlot.{changed_at}
 use Rattle.refinement.proofs.witnesses.AcceptedRequests.{accepted_of, has_its_grant, read_into, read_is_new, read_no_trim, places_in}
 use Rattle.refinement.proofs.driver.PutSlot.{issued_port, issue_agrees, issue_have}
@@ -122,7 +122,7 @@ ready_knows memory = record {
   agrees = record {
     slot = λ q k. changed_at (λ _. empty_port) 0 ready_port (λ n p. IsEmptySlot p k) (record { issued = refl; free = refl; unarmed = refl }) (λ n ne. record { issued = refl; free = refl; unarmed = refl }) q;
     apart = λ q k q' k' id u v. absurd (let z : Free ≡ Serves id = u in cc);
-    received = changed_at (λ _. empty_port) 0 ready_port (λ n p. p.fre ≡ true → IsReceiving p n) (λ _. record { below = omega arith; area = refl }) (λ n ne f. true_false f refl);
+    received = changed_at (λ _. empty_port) 0 ready_port (λ n p. p.fre ≡ true → HasReceivedArea p n) (λ _. record { below = omega arith; area = refl }) (λ n ne f. true_false f refl);
     disk = changed_at (λ _. empty_port) 0 ready_port (λ n p. IsDiskOf (start_with memory) p n) (record { present = refl; id = refl; size = refl })
         (λ n ne. record { present = ne_eqb n 0 ne; id = refl; size = cond-false (n == 0) 256 0 (ne_eqb n 0 ne) });
     memory = λ f b from small. refl;
@@ -191,7 +191,7 @@ issues =
     ap (λ (ports : ℕ → DevicePort). record first_read_device { port = ports })
     (sym issued_ports ∙ ap (λ (p : DevicePort). changed (changed (λ _. empty_port) 0 ready_port) 0 (issued_port p 1)) (sym (changed_same (λ _. empty_port) 0 ready_port)))
 
-pub prepared_is_known : StepLaws → PreparedIsKnown
+pub prepared_is_known : StepLaws → PreparedReadWitness
 prepared_is_known laws = record {
   machine = accepting;
   reached = accepting_reached;
@@ -212,5 +212,5 @@ first_knows = record {
   have = λ q. issue_have (idle prepared_read).uses accepting prepared_read accepting_reached accepting_knows.agrees 0 0 plain waits 1 prepared q [] (accepting_knows.have q);
 }
 
-pub first_is_known : StepLaws → FirstIsKnown
+pub first_is_known : StepLaws → FirstReadWitness
 first_is_known laws = record { machine = issued; reached = (reached laws); knows = first_knows; request = newly_issued waits; moves = moves; id_is = refl }

@@ -9,7 +9,7 @@ use Rattle.hba_regs.specs.declared.reg.Reg.TheVariants.{Px}
 use Rattle.hba_regs.specs.declared.reg.PortReg.TheVariants.{Cmd}
 use Rattle.adapter.specs.Device.{Notes}
 use Rattle.adapter.specs.FirstRead.{first_read_device}
-use Rattle.adapter.specs.Kept.{Keeps, KeepsOn}
+use Rattle.adapter.specs.Kept.{Keeps, KeepsOutsideReset}
 use Rattle.adapter.specs.Memory.{changed}
 use Rattle.adapter.specs.Rules.{MayWrite, IsStable}
 use Rattle.adapter.specs.Steps.{Can}
@@ -20,9 +20,9 @@ use Rattle.block_machine.proofs.Members.{contains_here, contains_cases, contains
 use Rattle.refinement.specs.Below.{StepLaws}
 use Rattle.refinement.specs.Relation.{StateRelation, port_at}
 use Rattle.refinement.specs.Driver.{DriverRelation, HasNoSlot, LeavesUses}
-use Rattle.refinement.specs.Facts.{IsHalted}
+use Rattle.refinement.specs.Facts.{IsEngineStopped}
 use Rattle.refinement.specs.Slots.{Free, Serves, put}
-use Rattle.refinement.specs.Witness.{first_id, first_uses, first_known, KeptIsKnown, stopping_read, stopped_read, parked_known, ParkedIsKnown}
+use Rattle.refinement.specs.Witness.{first_id, first_uses, first_known, KeptIsKnown, stopping_read, stopped_read, parked_known, ParkedReadWitness}
 use Rattle.refinement.proofs.driver.OwnSteps.{keeping_knows, park_knows}
 use Rattle.refinement.proofs.steps.FollowedSteps.{silent_agrees}
 use Rattle.refinement.proofs.driver.PutSlot.{put_same, put_cases}
@@ -42,7 +42,7 @@ permitted : StepLaws → IsStable (MayWrite (Px (port_at 0) Cmd) 0x10) first_rea
 unfolding changed
 permitted laws mid s =
     let k : Keeps first_read_device mid = laws.keeps _ _ s in
-    let on : KeepsOn first_read_device mid = k.on refl in (
+    let on : KeepsOutsideReset first_read_device mid = k.on refl in (
       record { ae = on.ae; no_reset = on.no_reset },
       (omega arith, ap (λ (v : ℕ). bit v 0) k.pi),
       record {
@@ -70,7 +70,7 @@ stopped_agrees : StepLaws → StateRelation first_uses issued stopped_read
 stopped_agrees laws =
     silent_agrees first_uses issued stopping_read stopped_read (fall_follows first_uses issued stopping_read (stopping_agrees laws) 0 can_fall.0) refl
 
-stopped_halted : IsHalted (stopped_read.port 0)
+stopped_halted : IsEngineStopped (stopped_read.port 0)
 unfolding changed
 stopped_halted = record { st = refl; cr = refl; ci = λ slot. refl; taken = λ slot. refl }
 
@@ -94,7 +94,7 @@ parked_knows laws =
     park_knows (record first_known { device = stopped_read }) issued (record { agrees = (stopped_agrees laws); have = first_knows.have }) 0 0
     (record { issued = stopped_halted.ci 0; free = stopped_halted.taken 0 }) first_id (put_same (λ _ _. Free) 0 0 (Serves first_id))
 
-pub parked_is_known : StepLaws → ParkedIsKnown
+pub parked_is_known : StepLaws → ParkedReadWitness
 parked_is_known laws = record {
   permitted = (permitted laws);
   writes = record { mid = first_read_device; steps = record { steps = []; lead = refl }; effect = refl };

@@ -13,7 +13,7 @@ use Rattle.adapter.specs.FirstRead.{first_memory}
 use Rattle.adapter.specs.Memory.{patched, bytes_at, changed}
 use Rattle.adapter.specs.Rules.{MayWrite}
 use Rattle.adapter.specs.Decoding.{piece_addresses}
-use Rattle.adapter.specs.Steps.{Can, device_after, begun, Steps, restarted}
+use Rattle.adapter.specs.Steps.{Can, device_after, begun, Steps, halt_after_start}
 use Rattle.adapter.specs.Steps.DeviceTransition.{Fetch, Fault}
 use Rattle.adapter.specs.declared.command.Operation.TheVariants.{ReadQueued}
 use Rattle.adapter.specs.declared.command.Prd.{Prd}
@@ -23,7 +23,7 @@ use Rattle.refinement.specs.Below.{StepLaws}
 use Rattle.refinement.specs.Relation.{StateRelation, port_at}
 use Rattle.refinement.specs.Driver.{LeavesUses}
 use Rattle.refinement.specs.Places.{table_of}
-use Rattle.refinement.specs.Served.{queued_read, two_memory, two_issued, one_taken, two_known, TwoAreKnown}
+use Rattle.refinement.specs.Served.{queued_read, two_memory, two_issued, one_taken, two_known, TwoReadsWitness}
 use Rattle.refinement.specs.Slots.{SlotStates, SlotDecodesTo}
 use Rattle.refinement.specs.Witness.{ready_with}
 use Rattle.refinement.proofs.witnesses.QueuedReads.{two_are_known}
@@ -40,13 +40,13 @@ none_taken : AreTakenPlainly two_issued 0
 unfolding changed
 none_taken slot t is = absurd (none-some _ is)
 
-issued_runs : restarted (two_issued.port 0).halt ≡ NotHalted
+issued_runs : halt_after_start (two_issued.port 0).halt ≡ NotHalted
 unfolding changed
 issued_runs = refl
 
-pub needs_unarmed : StepLaws → ((uses : SlotStates) (m : Machine) (port : ℕ) (old new : Device) → IsReachable m → StateRelation uses m old → Steps old new → restarted (old.port port).halt ≡ NotHalted → AreTakenPlainly old port → AreTakenPlainly new port) → ⊥
+pub needs_unarmed : StepLaws → ((uses : SlotStates) (m : Machine) (port : ℕ) (old new : Device) → IsReachable m → StateRelation uses m old → Steps old new → halt_after_start (old.port port).halt ≡ NotHalted → AreTakenPlainly old port → AreTakenPlainly new port) → ⊥
 needs_unarmed laws law =
-    let w : TwoAreKnown = two_are_known laws in
+    let w : TwoReadsWitness = two_are_known laws in
     absurd (both_ways _ (law (two_known two_issued).uses w.machine 0 two_issued one_taken w.reached w.issued.agrees w.takes issued_runs none_taken 0 w.command w.taken) w.queued)
 
 -- ---- one was taken before ST was cleared
@@ -78,18 +78,18 @@ can_fail : Can (Fault 0 0 0x40 0 queued_taken) stopping
 unfolding changed
 can_fail = record { taken = refl; running = refl; is_byte = omega arith; kept = refl }
 
-stopping_is : (restarted (stopping.port 0).halt ≡ NotHalted) × ((slot : ℕ) → (stopping.port 0).sact slot ≡ false)
+stopping_is : (halt_after_start (stopping.port 0).halt ≡ NotHalted) × ((slot : ℕ) → (stopping.port 0).sact slot ≡ false)
 unfolding changed
 stopping_is = (refl, λ slot. refl)
 
-log_only : restarted ((device_after (Fault 0 0 0x40 0 queued_taken) stopping).port 0).halt ≡ LogOnly
+log_only : halt_after_start ((device_after (Fault 0 0 0x40 0 queued_taken) stopping).port 0).halt ≡ LogOnly
 unfolding changed
 log_only = refl
 
-pub needs_plain : StepLaws → ((uses : SlotStates) (m : Machine) (port : ℕ) (old new : Device) → IsReachable m → StateRelation uses m old → Steps old new → restarted (old.port port).halt ≡ NotHalted → ((slot : ℕ) → (old.port port).sact slot ≡ false) →
-    restarted (new.port port).halt ≡ NotHalted) → ⊥
+pub needs_plain : StepLaws → ((uses : SlotStates) (m : Machine) (port : ℕ) (old new : Device) → IsReachable m → StateRelation uses m old → Steps old new → halt_after_start (old.port port).halt ≡ NotHalted → ((slot : ℕ) → (old.port port).sact slot ≡ false) →
+    halt_after_start (new.port port).halt ≡ NotHalted) → ⊥
 needs_plain laws law =
-    let w : TwoAreKnown = two_are_known laws in
+    let w : TwoReadsWitness = two_are_known laws in
     let a : StateRelation (two_known one_taken).uses w.machine stopping = written_agrees (two_known one_taken).uses w.machine one_taken w.knows.agrees (Px (port_at 0) Cmd) 0x10 may_stop leaves in
     let z : LogOnly ≡ NotHalted = sym log_only ∙ law (two_known one_taken).uses w.machine 0 stopping (device_after (Fault 0 0 0x40 0 queued_taken) stopping) w.reached a
     (record { steps = (Fault 0 0 0x40 0 queued_taken) ∷ []; lead = (can_fail, refl) }) stopping_is.0 stopping_is.1 in

@@ -11,10 +11,10 @@ use Rattle.adapter.specs.Decoding.{piece_addresses}
 use Rattle.adapter.specs.Steps.{Can, device_after, begun, Steps}
 use Rattle.adapter.specs.Steps.DeviceTransition.{Fetch, Fault}
 use Rattle.adapter.proofs.FirstRead.{first_says}
-use Rattle.refinement.specs.Facts.{HasFaults, IsQuiet}
+use Rattle.refinement.specs.Facts.{RecordsFaults, IsCleanToStart}
 use Rattle.refinement.proofs.device.RecordedFaults.{running_faulted, steps_recorded}
 
-pub first_recorded : HasFaults first_read_device.tape (first_read_device.port 0) 0
+pub first_recorded : RecordsFaults first_read_device.tape (first_read_device.port 0) 0
 unfolding changed
 first_recorded = record {
   known = omega arith;
@@ -24,7 +24,7 @@ first_recorded = record {
 }
 
 -- the port beside it has no device
-pub second_quiet : IsQuiet (first_read_device.port 1)
+pub second_quiet : IsCleanToStart (first_read_device.port 1)
 unfolding changed
 second_quiet = record { unflagged = (refl, refl); linked = refl; no_comreset = λ (e : 0 ≡ 1). omega (arith, e) }
 
@@ -58,5 +58,5 @@ failed_halted : ((failed.port 0).halt ≡ HaltedPlain) × ((failed.port 0).st �
 unfolding changed
 failed_halted = (refl, refl)
 
-pub first_failed : (new : Device) × Steps first_read_device new × ((new.port 0).halt ≡ HaltedPlain) × HasFaults new.tape (new.port 0) 0
+pub first_failed : (new : Device) × Steps first_read_device new × ((new.port 0).halt ≡ HaltedPlain) × RecordsFaults new.tape (new.port 0) 0
 first_failed = (failed, failing, failed_halted.0, steps_recorded 0 first_read_device failed failing (λ st. first_recorded) failed_halted.1)

@@ -29,7 +29,7 @@ use Rattle.refinement.specs.Below.{StepLaws}
 use Rattle.refinement.specs.Relation.{StateRelation, port_at, HaveSlots}
 use Rattle.refinement.specs.Driver.{DriverRelation, IsPrepared, idle}
 use Rattle.refinement.specs.Places.{table_of}
-use Rattle.refinement.specs.Served.{queued_read, two_memory, two_armed, armed_uses, one_issued, two_issued, one_taken, two_known, TwoAreKnown}
+use Rattle.refinement.specs.Served.{queued_read, two_memory, two_armed, armed_uses, one_issued, two_issued, one_taken, two_known, TwoReadsWitness}
 use Rattle.refinement.specs.Slots.{Free, Serves, SlotStates, put, SlotDecodesTo, Armed}
 use Rattle.refinement.specs.Witness.{first_id, ready_with}
 use Rattle.refinement.proofs.witnesses.AcceptedRequests.{accepted_of, has_its_grant, read_into, read_is_new, read_no_trim, places_in}
@@ -242,7 +242,7 @@ frames_apart f a b = ⊎_elim
     (λ x. contains_none f x)
     (contains_cases (frame 100) [] f a)
 
-pub two_are_known : StepLaws → TwoAreKnown
+pub two_are_known : StepLaws → TwoReadsWitness
 two_are_known laws = record {
   before = accepted;
   reached_before = accepted_reached;

@@ -36,7 +36,7 @@ use Rattle.refinement.proofs.relation.SlotRelation.{SameFixed-refl}
 use Rattle.refinement.proofs.witnesses.SpeltSlot.{page_told, zeros_from}
 use Rattle.refinement.proofs.witnesses.FirstRead.{start_with, starts_with, ready_knows, bit_one_other}
 use Rattle.refinement.specs.Logged.{log_memory, log_port, logging, log_uses, LogIsEnded}
-use Rattle.refinement.specs.Recovering.{RunsLinked, EndsHalt, FailsOpenly}
+use Rattle.refinement.specs.Recovering.{RunsLinked, EndsHalt, FaultLeavesIssued}
 use Rattle.refinement.proofs.driver.EndedHalt.{issued_ends, ended_well}
 
 -- ---- what the bytes say
@@ -99,7 +99,7 @@ writes = record { mid = logging; steps = record { steps = []; lead = refl }; eff
 ends : StepLaws → EndsHalt log_uses 0 issued
 ends laws = issued_ends laws (idle logging).uses machine (port_at 0) ReadLog 1 logging issued reached halt_agrees refl (λ slot ne. refl) prepared writes
 
-opens : FailsOpenly log_uses 0 issued
+opens : FaultLeavesIssued log_uses 0 issued
 unfolding changed
 opens = record { off = refl; st = refl; plain = refl; undue = refl; alone = λ slot ne. put_other (λ _ _. Free) 0 0 (Own ReadLog) 0 slot (λ _ z. ne z); told = inl refl }
 

@@ -25,9 +25,9 @@ use Rattle.adapter.proofs.Changed.{changed_other}
 use Rattle.adapter.proofs.FirstRead.{first_says}
 use Rattle.refinement.specs.Below.{StepLaws}
 use Rattle.refinement.specs.Relation.{port_at}
-use Rattle.refinement.specs.Facts.{IsHalted, TellsNoTrouble}
+use Rattle.refinement.specs.Facts.{IsEngineStopped, TellsNoTrouble}
 use Rattle.refinement.proofs.device.AllowedWrites.{write_stays}
-use Rattle.refinement.specs.Recovered.{FaultIsSeen, RecoveryIsFound}
+use Rattle.refinement.specs.Recovered.{FaultIsSeen, RecoveredWitness}
 use Rattle.refinement.specs.Recovering.{IsLinked, WorksPlainly}
 use Rattle.refinement.specs.Served.{queued_read, two_issued}
 use Rattle.refinement.proofs.device.PlainPort.{plainly_well}
@@ -196,11 +196,11 @@ unfolding changed
 states = (refl, refl, refl)
 
 -- the command was taken when ST was cleared, and isn't any more
-stands : IsHalted (stopped.port 0)
+stands : IsEngineStopped (stopped.port 0)
 unfolding changed
 stands = record { st = refl; cr = refl; ci = λ slot. refl; taken = λ slot. refl }
 
-pub recovery_is_found : StepLaws → RecoveryIsFound
+pub recovery_is_found : StepLaws → RecoveredWitness
 recovery_is_found laws = record {
   plain = first_plain;
   linked = first_linked;

@@ -20,7 +20,7 @@ use Rattle.refinement.specs.Relation.{port_at}
 use Rattle.refinement.specs.Driver.{DriverRelation, IsPrepared, idle}
 use Rattle.refinement.specs.Places.{scratch_of}
 use Rattle.refinement.specs.Slots.{Free, Serves, SlotDecodesTo}
-use Rattle.refinement.specs.Trimmed.{trim, trim_block, trim_memory, prepared_trim, issued_trim, taken_trim, trim_known, TrimIsKnown}
+use Rattle.refinement.specs.Trimmed.{trim, example_trim_block, trim_memory, prepared_trim, issued_trim, taken_trim, trim_known, TrimIsKnown}
 use Rattle.refinement.specs.Witness.{first_id, first_uses}
 use Rattle.refinement.proofs.witnesses.AcceptedRequests.{accepted_of, has_its_grant, trim_of, trim_is_new}
 use Rattle.refinement.proofs.driver.OwnSteps.{accept_knows}
@@ -39,11 +39,11 @@ unfolding trim_memory first_memory patched bytes_at zeros_from
 told = page_told trim_memory Trim refl refl (refl, refl, refl) (refl, refl, refl, refl, refl, refl, refl, refl) (refl, refl, refl)
 
 -- the block stands in the scratch frame, and names eight sectors
-block_is : bytes_at trim_memory (scratch_of 0) 512 ≡ trim_block
+block_is : bytes_at trim_memory (scratch_of 0) 512 ≡ example_trim_block
 unfolding trim_memory
-block_is = patched_bytes _ (scratch_of 0) trim_block
+block_is = patched_bytes _ (scratch_of 0) example_trim_block
 
-block_means : trim_sectors trim_block ≡ consecutive 100 8
+block_means : trim_sectors example_trim_block ≡ consecutive 100 8
 block_means = refl
 
 -- ---- the machine
@@ -118,13 +118,13 @@ can_fetch = can_take trim_memory trim (scratch_of 0 ∷ []) told.says
 -- ---- and done
 
 abbrev brought : FetchedCommand
-brought = record (begun trim (scratch_of 0 ∷ [])) { moved = 1; block = trim_block }
+brought = record (begun trim (scratch_of 0 ∷ [])) { moved = 1; block = example_trim_block }
 
 abbrev cleared : FetchedCommand
 cleared = record brought { cleared = 8 }
 
 abbrev moved : Device
-moved = device_after (Move 0 0 (begun trim (scratch_of 0 ∷ [])) trim_block) taken_trim
+moved = device_after (Move 0 0 (begun trim (scratch_of 0 ∷ [])) example_trim_block) taken_trim
 
 abbrev zeroed : Device
 zeroed = device_after (Clear 0 0 brought 100 8) moved
@@ -142,11 +142,11 @@ unfolding are_small
 all_small [] h = All-nil (λ b. b < 256)
 all_small (b ∷ bytes) h = let x = and_parts _ _ h in All-cons (λ b. b < 256) b bytes (ltb-true b 256 x.0) (all_small bytes x.1)
 
-small : All (λ b. b < 256) trim_block
+small : All (λ b. b < 256) example_trim_block
 unfolding are_small
-small = all_small trim_block refl
+small = all_small example_trim_block refl
 
-can_move : Can (Move 0 0 (begun trim (scratch_of 0 ∷ [])) trim_block) taken_trim
+can_move : Can (Move 0 0 (begun trim (scratch_of 0 ∷ [])) example_trim_block) taken_trim
 unfolding changed
 can_move = record {
   works = record { taken = refl; working = record { running = refl; present = refl; fresh = refl; admitted = refl; whole = refl } };
@@ -176,7 +176,7 @@ can_end = record {
 
 comes : Steps issued_trim ended
 comes = record {
-  steps = Fetch 0 0 trim (scratch_of 0 ∷ []) ∷ Move 0 0 (begun trim (scratch_of 0 ∷ [])) trim_block ∷ Clear 0 0 brought 100 8 ∷ Done 0 0 0 cleared ∷ [];
+  steps = Fetch 0 0 trim (scratch_of 0 ∷ []) ∷ Move 0 0 (begun trim (scratch_of 0 ∷ [])) example_trim_block ∷ Clear 0 0 brought 100 8 ∷ Done 0 0 0 cleared ∷ [];
   lead = (can_fetch, (can_move, (can_clear, (can_end, refl))));
 }
 

@@ -14,24 +14,24 @@ use Rattle.adapter.specs.Access.Access.{Reading, Writing, Loading, Storing}
 use Rattle.adapter.specs.Device.{Device}
 use Rattle.adapter.specs.Rules.{IsOn}
 use Rattle.adapter.specs.declared.tape.Entry.{Entry}
-use Rattle.refinement.specs.Driven.{IsDrivenBy, IsOf}
+use Rattle.refinement.specs.Driven.{IsDrivenBy, SparesOtherPorts}
 use Rattle.refinement.specs.Errors.{IsFatalOf}
 use Rattle.refinement.specs.Facts.{IsFaultOf, ShowsNoTrouble}
-use Rattle.refinement.specs.Links.{IsPlugging, SparesRegister}
+use Rattle.refinement.specs.Links.{IsPlugEvent, DoesNotWrite}
 use Rattle.server_history.proofs.state.DrivenAccesses.{by_none, by_then, driven_as}
 use Rattle.block_machine.specs.Histories.{JointState}
 use Rattle.block_machine.specs.Ports.{Evidence, Ports}
 use Rattle.driver_history.specs.Evidence.{Gains, ShowsChange, ShowsFailure}
 use Rattle.driver_history.specs.Histories.{LosesNoPortError}
-use Rattle.error_recovery.specs.Evidence.{GainsRunning, ShowsFatal}
-use Rattle.commands.specs.Masks.{IsFinding}
+use Rattle.error_recovery.specs.Evidence.{GainsSinceStart, ShowsFatal}
+use Rattle.commands.specs.Masks.{ReadsCiOrSact}
 use Rattle.commands.specs.Tasks.{IsIssuing}
 use Rattle.port_control.specs.Looks.{IsLooking}
-use Rattle.port_control.specs.Services.{IsOrdinary}
+use Rattle.port_control.specs.Services.{LeavesCauses}
 use Rattle.port_control.specs.declared.events.PortEvent.TheVariants.{NoEvent}
 use Rattle.slots.specs.Uses.{PortSlots}
 use Rattle.server_history.specs.Below.{LawsBelow}
-use Rattle.server_history.specs.Served.{ChecksUsed, HasNone, HasTurnWithoutError, IssuesIn}
+use Rattle.server_history.specs.Served.{PollsUsedSlots, IsEmptyMask, HasTurnWithoutError, IsIssuingAnySlot}
 use Rattle.server_history.proofs.state.TurnAccesses.{none_or_some}
 use Rattle.server_history.proofs.state.TransferAccesses.{issues_serve}
 use Rattle.server_history.proofs.any_turn.ShownTrouble.{fatal_unless, set_unless}
@@ -45,7 +45,7 @@ gains_none Such old new gained tape none g =
     All-contains (λ e. Such e → ⊥) gained g.entry none (subst (λ (xs : List Entry). Contains xs g.entry) same g.here) g.is
 
 -- what was gained since ST was set was gained
-pub gained_running : (Such : Entry → Type 0) (port : ℕ) (old new : Device) → GainsRunning Such port old new → Gains Such old new
+pub gained_running : (Such : Entry → Type 0) (port : ℕ) (old new : Device) → GainsSinceStart Such port old new → Gains Such old new
 gained_running Such port old new g = record {
   gained = g.before ++ (g.entry ∷ g.later);
   tape = g.tape;
@@ -56,13 +56,13 @@ gained_running Such port old new g = record {
 
 -- ---- accesses that are ordinary
 
-finding_ordinary : (port : Port) (access : Access) → IsFinding port access → IsOrdinary port access
+finding_ordinary : (port : Port) (access : Access) → ReadsCiOrSact port access → LeavesCauses port access
 finding_ordinary port (Reading r v) here = (tt, tt)
 finding_ordinary port (Writing r v) here = absurd here
 finding_ordinary port (Loading at bytes) here = absurd here
 finding_ordinary port (Storing at bytes) here = absurd here
 
-issuing_spares : (port : Port) (slot : ℕ) (access : Access) → IsIssuing port slot access → SparesRegister (Px port Is) access
+issuing_spares : (port : Port) (slot : ℕ) (access : Access) → IsIssuing port slot access → DoesNotWrite (Px port Is) access
 issuing_spares port slot (Writing r v) here = ⊎_elim
     (λ (is : r ≡ Px port Sact). λ q. let z : Px port Sact ≡ Px port Is = sym is ∙ q in absurd cc)
     (λ (is : r ≡ Px port Ci). λ q. let z : Px port Ci ≡ Px port Is = sym is ∙ q in absurd cc)
@@ -71,26 +71,26 @@ issuing_spares port slot (Storing at bytes) here = tt
 issuing_spares port slot (Loading at bytes) here = tt
 issuing_spares port slot (Reading r v) here = tt
 
-issuing_ordinary : (port : Port) (access : Access) → IssuesIn port access → IsOrdinary port access
+issuing_ordinary : (port : Port) (access : Access) → IsIssuingAnySlot port access → LeavesCauses port access
 issuing_ordinary port access here = (issues_serve port access here, issuing_spares port here.0 access here.2)
 
 module _ (laws : LawsBelow) where
   module _ (port : Port) (slots : PortSlots) (replies : List Reply) (old : JointState Device) (new : Device) (turn : HasTurnWithoutError port slots replies old.device new) (on : IsOn old.device) where
     -- what comes after a look that told nothing
-    pub later_driven : turn.look ≡ NoEvent → IsDrivenBy (IsOrdinary port) turn.seen new
+    pub later_driven : turn.look ≡ NoEvent → IsDrivenBy (LeavesCauses port) turn.seen new
     later_driven calm = ⊎_elim
-        (λ (none : HasNone c.mask). subst (IsDrivenBy (IsOrdinary port) turn.seen) (sym (c.idle none).1) (by_none (IsOrdinary port) turn.seen))
+        (λ (none : IsEmptyMask c.mask). subst (IsDrivenBy (LeavesCauses port) turn.seen) (sym (c.idle none).1) (by_none (LeavesCauses port) turn.seen))
         (λ some.
         let k = c.checks (λ none. false≢true (sym (none some.0 some.1) ∙ some.2)) in
-        by_then laws (driven_as (IsFinding port) (IsOrdinary port) turn.seen k.read (finding_ordinary port) k.reads.driven)
-        (driven_as (IssuesIn port) (IsOrdinary port) k.read new (issuing_ordinary port) k.over))
+        by_then laws (driven_as (ReadsCiOrSact port) (LeavesCauses port) turn.seen k.read (finding_ordinary port) k.reads.driven)
+        (driven_as (IsIssuingAnySlot port) (LeavesCauses port) k.read new (issuing_ordinary port) k.over))
         (none_or_some 32 c.mask)
       where
-        c : ChecksUsed port slots replies turn.seen new
+        c : PollsUsedSlots port slots replies turn.seen new
         c = turn.checked
 
     seen_on : IsOn turn.seen
-    seen_on = laws.of_on port old.device turn.seen on (driven_as (IsLooking port) (IsOf port) old.device turn.seen (laws.looking.looking_of port) (laws.looking.looks_driven port turn.look old.device turn.seen turn.looks))
+    seen_on = laws.of_on port old.device turn.seen on (driven_as (IsLooking port) (SparesOtherPorts port) old.device turn.seen (laws.looking.looking_of port) (laws.looking.looks_driven port turn.look old.device turn.seen turn.looks))
 
     module _ (calm : turn.look ≡ NoEvent) where
       -- it showed no trouble, then
@@ -118,12 +118,12 @@ module _ (laws : LawsBelow) where
           gains_none (IsFatalOf port.0) old.device new none.gained none.tape none.none g)
 
       -- and so is a disk that went or came
-      disk_shown : Gains (IsPlugging port.0) old.device new → (new.port port.0).serr_n ≡ true
+      disk_shown : Gains (IsPlugEvent port.0) old.device new → (new.port port.0).serr_n ≡ true
       disk_shown g = set_unless (new.port port.0).serr_n (λ clear.
           let late = laws.looking.ordinary_disks port turn.seen new seen_on (later_driven calm) clear in
           let early = laws.looking.looks_disk port turn.look old.device turn.seen on turn.looks late.0 in
           let none = laws.looks.tape.plugs_more port.0 old.device turn.seen new early.1 late.1 in
-          gains_none (IsPlugging port.0) old.device new none.gained none.tape none.none g)
+          gains_none (IsPlugEvent port.0) old.device new none.gained none.tape none.none g)
 
       -- no failure was shown when it began
       pub never_failed : ShowsFailure (old.device.port port.0) → ⊥
@@ -141,5 +141,5 @@ module _ (laws : LawsBelow) where
         changes = λ tended port_error. inr (⊎_elim (λ shows. absurd (never_changed shows)) (λ g. inl (disk_shown g)) port_error);
         fault = λ ready g. fault_shown (gained_running (IsFaultOf port.0) port.0 old.device new g);
         fatal = λ ready g. fatal_shown (gained_running (IsFatalOf port.0) port.0 old.device new g);
-        disk = λ ready g. disk_shown (gained_running (IsPlugging port.0) port.0 old.device new g);
+        disk = λ ready g. disk_shown (gained_running (IsPlugEvent port.0) port.0 old.device new g);
       }

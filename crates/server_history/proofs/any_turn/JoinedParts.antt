@@ -14,13 +14,13 @@ use Rattle.ata_types.specs.declared.request.Outcome.{Outcome}
 use Rattle.ata_types.specs.declared.request.Outcome.TheVariants.{Aborted, DeviceError, Ok, PortDead, Revoked, Unplugged}
 use Rattle.ata_types.specs.declared.request.Reply.{Reply}
 use Rattle.refinement.specs.Relation.{port_at}
-use Rattle.block_machine.specs.Events.{IsLawful, IsToldBefore, AbstractState, Tells, WasIssued, answers_of, reply_of}
+use Rattle.block_machine.specs.Events.{IsLawful, IsToldBefore, AbstractState, RepliesMatch, WasIssued, answers_of, reply_of}
 use Rattle.block_machine.specs.Ports.{Evidence, RequestFault, IsServiced, Ports, SameDisk, SamePort}
 use Rattle.block_machine.specs.State.{Pending}
 use Rattle.block_machine.specs.Steps.{Step, Answer}
 use Rattle.host_boot.specs.Taken.{probe_result_of}
 use Rattle.host_boot.specs.declared.ProbeResult.{ProbeResult}
-use Rattle.driver_history.specs.Parts.{NamesAlike}
+use Rattle.driver_history.specs.Parts.{EvidenceAgreesOn}
 use Rattle.server_history.specs.Turns.{NamesOnly}
 use Rattle.server_history.specs.Server.{ServerState, last_disk_in, last_disk_of, is_served, mode_in, ports_of, remembered_at, last_sectors_of, last_serial_of, state_of, trims_of}
 use Rattle.server_history.proofs.state.FirstMembers.{nowhere}
@@ -68,7 +68,7 @@ pub record AreToldBelow (n : ℕ) (steps : List Step) (replies : List Reply) : T
   pub told : replies ≡ map reply_of answers
 
 -- and then the next port's answers are told
-pub told_then : (n : ℕ) (early late : List Step) (before its : List Reply) → AreToldBelow n early before → Tells late its → ((e : Pending) (o : Outcome) → Contains late (Answer e o) → e.request.port ≡ port_at n)
+pub told_then : (n : ℕ) (early late : List Step) (before its : List Reply) → AreToldBelow n early before → RepliesMatch late its → ((e : Pending) (o : Outcome) → Contains late (Answer e o) → e.request.port ≡ port_at n)
     → AreToldBelow (n + 1) (late ++ early) (before ++ its)
 told_then n early late before its p x own = record {
   answers = p.answers ++ x.answers;
@@ -149,7 +149,7 @@ list_alike_right port one other none = (
   (λ here. ⊎_elim (λ a. absurd (none a)) (λ b. b) (Contains-append_cases one other port here)),
 )
 
-pub alike_first : (Such : Port → Type 0) (port : Port) → (Such port → ⊥) → (one other : Evidence) → NamesSome Such other → NamesAlike port one (joined one other)
+pub alike_first : (Such : Port → Type 0) (port : Port) → (Such port → ⊥) → (one other : Evidence) → NamesSome Such other → EvidenceAgreesOn port one (joined one other)
 alike_first Such port not one other n = record {
   lost = list_alike port one.lost other.lost (λ here. not (All-contains Such other.lost port n.lost here));
   gone = list_alike port one.gone other.gone (λ here. not (All-contains Such other.gone port n.gone here));
@@ -159,7 +159,7 @@ alike_first Such port not one other n = record {
   stuck = list_alike port one.stuck other.stuck (λ here. not (All-contains Such other.stuck port n.stuck here));
 }
 
-pub alike_then : (Such : Port → Type 0) (port : Port) → (Such port → ⊥) → (one other : Evidence) → NamesSome Such one → NamesAlike port other (joined one other)
+pub alike_then : (Such : Port → Type 0) (port : Port) → (Such port → ⊥) → (one other : Evidence) → NamesSome Such one → EvidenceAgreesOn port other (joined one other)
 alike_then Such port not one other n = record {
   lost = list_alike_right port one.lost other.lost (λ here. not (All-contains Such one.lost port n.lost here));
   gone = list_alike_right port one.gone other.gone (λ here. not (All-contains Such one.gone port n.gone here));
@@ -199,7 +199,7 @@ pub same_disk : (a b c d : Ports) (q : Port) → SamePort a b q → SamePort c d
 same_disk a b c d q x y z = (y.2 ∙ z.0 ∙ x.2, y.3 ∙ z.1 ∙ x.3)
 
 -- what a service made of the port it made of it too where the port was the same before and is the same after, and the evidence names it alike
-pub serviced_lift : (a b c d : Ports) (one other : Evidence) (q : Port) → SamePort a b q → SamePort c d q → NamesAlike q one other → IsServiced b one c q → IsServiced a other d q
+pub serviced_lift : (a b c d : Ports) (one other : Evidence) (q : Port) → SamePort a b q → SamePort c d q → EvidenceAgreesOn q one other → IsServiced b one c q → IsServiced a other d q
 serviced_lift a b c d one other q x y alike i = (
   (λ dead. same_then a c d q (same_then a b c q x (i.0 (x.1 ∙ dead))) y),
   (λ lives. let w = i.1 (λ dead. lives (sym x.1 ∙ dead)) in (

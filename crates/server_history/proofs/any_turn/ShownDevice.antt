@@ -16,8 +16,8 @@ use Rattle.adapter.specs.declared.tape.Entry.{Entry}
 use Rattle.adapter.specs.declared.tape.Entry.TheVariants as entry
 use Rattle.refinement.specs.Driven.{Grows}
 use Rattle.refinement.specs.Driver.{IsBacked}
-use Rattle.refinement.specs.Errors.{IsComing, NoneComes}
-use Rattle.refinement.specs.Links.{IsPlugging, PlugsNone, SparesRegister}
+use Rattle.refinement.specs.Errors.{IsDiskComing, NoDiskComes}
+use Rattle.refinement.specs.Links.{IsPlugEvent, NoPlugEvents, DoesNotWrite}
 use Rattle.block_machine.specs.Events.{changes_disk}
 use Rattle.block_machine.specs.State.{Machine}
 use Rattle.block_machine.specs.Steps.{Step}
@@ -25,13 +25,13 @@ use Rattle.port_control.specs.Looks.{LooksAt}
 use Rattle.port_control.specs.declared.events.PortEvent.{PortEvent}
 use Rattle.server_history.specs.Below.{LawsBelow}
 use Rattle.server_history.proofs.any_turn.ShownTrouble.{grows_over}
-use Rattle.server_history.specs.Server.{ServerState, IsMachineOf}
+use Rattle.server_history.specs.Server.{ServerState, MachineRelation}
 use Rattle.server_history.proofs.any_turn.ToldTrouble.{one_or_none, shows_link}
 use Rattle.port_control.specs.declared.events.PortEvent.TheVariants.{LinkChanged}
 
 -- ---- disks that come
 
-is_coming : (port : ℕ) (e : Entry) → IsComing port e ⊎ (IsComing port e → ⊥)
+is_coming : (port : ℕ) (e : Entry) → IsDiskComing port e ⊎ (IsDiskComing port e → ⊥)
 is_coming port (entry.Plug at name) = cases_eq at.0 port
 is_coming port (entry.Unplug at) = inr (λ is. is)
 is_coming port (entry.Move x) = inr (λ is. is)
@@ -40,7 +40,7 @@ is_coming port (entry.Done x) = inr (λ is. is)
 is_coming port (entry.Fault x) = inr (λ is. is)
 is_coming port (entry.Fatal x) = inr (λ is. is)
 
-coming_plugs : (port : ℕ) (e : Entry) → IsComing port e → IsPlugging port e
+coming_plugs : (port : ℕ) (e : Entry) → IsDiskComing port e → IsPlugEvent port e
 coming_plugs port (entry.Plug at name) is = is
 coming_plugs port (entry.Unplug at) is = absurd is
 coming_plugs port (entry.Move x) is = absurd is
@@ -50,18 +50,18 @@ coming_plugs port (entry.Fault x) is = absurd is
 coming_plugs port (entry.Fatal x) is = absurd is
 
 -- where no disk goes or comes, none comes
-pub none_comes : (port : ℕ) (old new : Device) → PlugsNone port old new → NoneComes port old new
+pub none_comes : (port : ℕ) (old new : Device) → NoPlugEvents port old new → NoDiskComes port old new
 none_comes port old new none = record {
   gained = none.gained;
   tape = none.tape;
-  none = All-weaker (λ e. IsPlugging port e → ⊥) (λ e. IsComing port e → ⊥) (λ e plugs is. plugs (coming_plugs port e is)) none.gained none.none;
+  none = All-weaker (λ e. IsPlugEvent port e → ⊥) (λ e. IsDiskComing port e → ⊥) (λ e plugs is. plugs (coming_plugs port e is)) none.gained none.none;
 }
 
 -- where none comes, this goes on
 StaysSo : (DevicePort → Type 0) → Port → Device → Device → Type 0
-StaysSo P port old new = Grows old new × (NoneComes port.0 old new → P (old.port port.0) → P (new.port port.0))
+StaysSo P port old new = Grows old new × (NoDiskComes port.0 old new → P (old.port port.0) → P (new.port port.0))
 
-module _ (laws : LawsBelow) (port : Port) (P : DevicePort → Type 0) (one : (access : Access) (old new : Device) → NoneComes port.0 old new → Does access old new → P (old.port port.0) → P (new.port port.0)) where
+module _ (laws : LawsBelow) (port : Port) (P : DevicePort → Type 0) (one : (access : Access) (old new : Device) → NoDiskComes port.0 old new → Does access old new → P (old.port port.0) → P (new.port port.0)) where
   so_over : (access : Access) (old new : Device) → Does access old new → StaysSo P port old new
   unfolding StaysSo
   so_over access old new does = (laws.looks.tape.access_grows access old new does, λ none so. one access old new none does so)
@@ -78,14 +78,14 @@ module _ (laws : LawsBelow) (port : Port) (P : DevicePort → Type 0) (one : (ac
   so_all [] old new is = subst (StaysSo P port old) (sym is) (laws.looks.tape.grows_none old, λ none so. so)
   so_all (access ∷ accesses) old new (mid, does, rest) = so_more old mid new (so_over access old mid does) (so_all accesses mid new rest)
 
-  pub stays_so : (accesses : List Access) (old new : Device) → DoesAll accesses old new → NoneComes port.0 old new → P (old.port port.0) → P (new.port port.0)
+  pub stays_so : (accesses : List Access) (old new : Device) → DoesAll accesses old new → NoDiskComes port.0 old new → P (old.port port.0) → P (new.port port.0)
   unfolding StaysSo
   stays_so accesses old new does = (so_all accesses old new does).1
 
 module _ (laws : LawsBelow) (port : Port) where
   module _ (old seen : Device) (look : PortEvent) (l : LooksAt port look old seen) (on : IsOn old) (not_lost : look ≢ LinkChanged) where
-    on_over : (access : Access) (a b : Device) → SparesRegister Ghc access → Does access a b → IsOn a → IsOn b
-    on_over access a b spares does here = laws.looks.access_on access a b here (λ v is. absurd (subst (SparesRegister Ghc) is spares refl)) does
+    on_over : (access : Access) (a b : Device) → DoesNotWrite Ghc access → Does access a b → IsOn a → IsOn b
+    on_over access a b spares does here = laws.looks.access_on access a b here (λ v is. absurd (subst (DoesNotWrite Ghc) is spares refl)) does
 
     -- a device shows at its end
     pub shows_device : (seen.port port.0).ssts_det ≡ 3
@@ -96,7 +96,7 @@ module _ (laws : LawsBelow) (port : Port) where
         sym (laws.looks.shown_after port Ssts l.status l.acknowledged seen acknowledged.no_reset l.shows) ∙ shows_link laws port look old seen l on not_lost
 
   -- where a disk is in at a moment, one was in before, or the tape tells that one came
-  was_in : (accesses : List Access) (old seen : Device) → DoesAll accesses old seen → (seen.port port.0).present ≡ true → ((old.port port.0).present ≡ true) ⊎ ((gained : List Entry) × (seen.tape ≡ old.tape ++ gained) × ((e : Entry) × Contains gained e × IsComing port.0 e))
+  was_in : (accesses : List Access) (old seen : Device) → DoesAll accesses old seen → (seen.port port.0).present ≡ true → ((old.port port.0).present ≡ true) ⊎ ((gained : List Entry) × (seen.tape ≡ old.tape ++ gained) × ((e : Entry) × Contains gained e × IsDiskComing port.0 e))
   was_in accesses old seen does own = let grows = grows_over laws accesses old seen does in ⊎_elim
       (λ (is : (old.port port.0).present ≡ true). inl is)
       (λ (out : (old.port port.0).present ≡ false). inr (
@@ -105,14 +105,14 @@ module _ (laws : LawsBelow) (port : Port) where
         ⊎_elim
             (λ found. found)
             (λ none. absurd (false≢true (sym (stays_so laws port (λ p. p.present ≡ false) (laws.out_on port) accesses old seen does (record { gained = grows.0; tape = grows.1; none = none }) out) ∙ own)))
-            (one_or_none (IsComing port.0) (is_coming port.0) grows.0),
+            (one_or_none (IsDiskComing port.0) (is_coming port.0) grows.0),
       ))
       (cases_Bool ((old.port port.0).present))
 
 -- Steps that the device backs, from the beginning of the turn to any moment after one at which a disk is in: the machine had a disk in the port before them, or one of them takes
 -- its disk out or puts one in.
 pub had_disk : (laws : LawsBelow) (port : Port) (s : ServerState) (seen new : Device) (m : Machine) (accesses : List Access) → DoesAll accesses s.device seen → (seen.port port.0).present ≡ true
-    → IsMachineOf s m → Grows seen new → (steps : List Step) → IsBacked s.device new m steps → (m.present port ≡ true) ⊎ (list_any (changes_disk port) steps ≡ true)
+    → MachineRelation s m → Grows seen new → (steps : List Step) → IsBacked s.device new m steps → (m.present port ≡ true) ⊎ (list_any (changes_disk port) steps ≡ true)
 had_disk laws port s seen new m accesses does own is later steps backed = ⊎_elim
     (λ was. inl ((is.knows.agrees.disk port.0).present ∙ was))
     (λ came. inr (

@@ -17,8 +17,8 @@ use Rattle.adapter.specs.declared.tape.Entry.{Entry}
 use Rattle.refinement.specs.Driven.{Grows}
 use Rattle.refinement.specs.Errors.{IsFatalOf, NoneFails, NoneFatal}
 use Rattle.refinement.specs.Facts.{IsFaultOf}
-use Rattle.refinement.specs.Links.{IsPlugging, PlugsNone, SparesRegister}
-use Rattle.error_recovery.specs.Evidence.{GainsRunning, ShowsFatal, ShowsTrouble}
+use Rattle.refinement.specs.Links.{IsPlugEvent, NoPlugEvents, DoesNotWrite}
+use Rattle.error_recovery.specs.Evidence.{GainsSinceStart, ShowsFatal, HidesNoTrouble}
 use Rattle.server_history.specs.Below.{LawsBelow}
 
 -- ---- lists
@@ -57,7 +57,7 @@ grows_over laws (access ∷ accesses) old new (mid, does, rest) = laws.looks.tap
 
 module _ (Such : Entry → Type 0) (port : ℕ) where
   -- it came after a moment that wasn't later
-  pub since_then : (old start new : Device) → Grows start new → length start.tape ≤ (new.port port).notes.st_set_at → GainsRunning Such port old new → GainsRunning Such port start new
+  pub since_then : (old start new : Device) → Grows start new → length start.tape ≤ (new.port port).notes.st_set_at → GainsSinceStart Such port old new → GainsSinceStart Such port start new
   since_then old start new grows set g =
       let at : (old.tape ++ g.before) ++ (g.entry ∷ g.later) ≡ start.tape ++ grows.0 = append_assoc old.tape g.before (g.entry ∷ g.later) ∙ sym g.tape ∙ grows.1 in
       let long = length-append old.tape g.before in
@@ -68,7 +68,7 @@ module _ (Such : Entry → Type 0) (port : ℕ) where
 
   -- and by a moment after which none came
   pub until_then : (start mid new : Device) → Grows start mid → (later : List Entry) → new.tape ≡ mid.tape ++ later → All (λ e. Such e → ⊥) later → (new.port port).notes.st_set_at ≡ (mid.port port).notes.st_set_at
-      → GainsRunning Such port start new → GainsRunning Such port start mid
+      → GainsSinceStart Such port start new → GainsSinceStart Such port start mid
   until_then start mid new grows later is none same g =
       let at : g.before ++ (g.entry ∷ g.later) ≡ grows.0 ++ later = cancel start.tape (sym g.tape ∙ is ∙ ap (λ (list : List Entry). list ++ later) grows.1 ∙ append_assoc start.tape grows.0 later) in
       let since = g.since in
@@ -82,7 +82,7 @@ module _ (Such : Entry → Type 0) (port : ℕ) where
       cancel (f ∷ first) {xs} {ys} e = cancel first (let z : f ∷ (first ++ xs) ≡ f ∷ (first ++ ys) = e in cc)
 
   -- none has come where the stretch has none
-  pub none_came : (start new : Device) (later : List Entry) → new.tape ≡ start.tape ++ later → All (λ e. Such e → ⊥) later → GainsRunning Such port start new → ⊥
+  pub none_came : (start new : Device) (later : List Entry) → new.tape ≡ start.tape ++ later → All (λ e. Such e → ⊥) later → GainsSinceStart Such port start new → ⊥
   none_came start new later is none g =
       let here = split [] g.entry g.later [] (g.entry ∷ g.later) refl in
       let m = behind start.tape later (start.tape ++ g.before) (g.entry ∷ g.later) (append_assoc start.tape g.before (g.entry ∷ g.later) ∙ sym g.tape ∙ is) (let long = length-append start.tape g.before in omega (arith, long)) in
@@ -94,12 +94,12 @@ module _ (Such : Entry → Type 0) (port : ℕ) where
 abbrev pub StaysOn : Access → Type 0
 StaysOn access = (v : ℕ) → access ≡ Writing Ghc v → (bit v 31 ≡ true) × (bit v 0 ≡ false)
 
-pub stays_on : (access : Access) → SparesRegister Ghc access → StaysOn access
-stays_on access spares v is = absurd (subst (SparesRegister Ghc) is spares refl)
+pub stays_on : (access : Access) → DoesNotWrite Ghc access → StaysOn access
+stays_on access spares v is = absurd (subst (DoesNotWrite Ghc) is spares refl)
 
 -- it writes neither PxIS nor PxSERR, nor PxCMD or PxSCTL, and leaves the adapter on
 abbrev pub LeavesTrouble : Port → Access → Type 0
-LeavesTrouble port access = SparesRegister (Px port Is) access × SparesRegister (Px port Serr) access × SparesRegister (Px port Cmd) access × SparesRegister (Px port Sctl) access × StaysOn access
+LeavesTrouble port access = DoesNotWrite (Px port Is) access × DoesNotWrite (Px port Serr) access × DoesNotWrite (Px port Cmd) access × DoesNotWrite (Px port Sctl) access × StaysOn access
 
 abbrev ShowsNoFatal : DevicePort → Type 0
 ShowsNoFatal p = (place : ℕ) → 27 ≤ place → place ≤ 29 → p.is place ≡ false
@@ -109,7 +109,7 @@ pub record ShowsAll (port : ℕ) (old new : Device) : Type 0 where
   pub grows : Grows old new
   pub fault : (new.port port).is 30 ≡ false → ((old.port port).is 30 ≡ false) × NoneFails port old new
   pub fatal : ShowsNoFatal (new.port port) → ShowsNoFatal (old.port port) × NoneFatal port old new
-  pub disk : (new.port port).serr_n ≡ false → ((old.port port).serr_n ≡ false) × PlugsNone port old new
+  pub disk : (new.port port).serr_n ≡ false → ((old.port port).serr_n ≡ false) × NoPlugEvents port old new
   pub same : (new.port port).notes.st_set_at ≡ (old.port port).notes.st_set_at
 
 -- where a bit isn't clear, it is set
@@ -139,7 +139,7 @@ on_over laws (access ∷ accesses) old new on all (mid, does, rest) =
     on_over laws accesses mid new (laws.looks.access_on access old mid on (All-head StaysOn access accesses all) does) (All-tail StaysOn access accesses all) rest
 
 module _ (laws : LawsBelow) (port : Port) where
-  pub on_one : (access : Access) (old new : Device) → IsOn old → SparesRegister Ghc access → Does access old new → IsOn new
+  pub on_one : (access : Access) (old new : Device) → IsOn old → DoesNotWrite Ghc access → Does access old new → IsOn new
   on_one access old new on spares does = laws.looks.access_on access old new on (stays_on access spares) does
 
   pub shows_over : (accesses : List Access) (old new : Device) → IsOn old → All (LeavesTrouble port) accesses → DoesAll accesses old new → ShowsAll port.0 old new
@@ -168,18 +168,18 @@ module _ (laws : LawsBelow) (port : Port) where
       }
 
 -- where ST was set before the stretch, at its beginning
-pub shown_since : (port : ℕ) (old start new : Device) → ShowsAll port start new → (start.port port).notes.st_set_at ≡ length start.tape → ShowsTrouble port old new
+pub shown_since : (port : ℕ) (old start new : Device) → ShowsAll port start new → (start.port port).notes.st_set_at ≡ length start.tape → HidesNoTrouble port old new
 shown_since port old start new a set = record {
   fault = λ g. set_unless ((new.port port).is 30) (λ clear. let n = (a.fault clear).1 in none_came (IsFaultOf port) port start new n.gained n.tape n.none (since_then (IsFaultOf port) port old start new a.grows early g));
   fatal = λ g. fatal_unless (new.port port) (λ clear. let n = (a.fatal clear).1 in none_came (IsFatalOf port) port start new n.gained n.tape n.none (since_then (IsFatalOf port) port old start new a.grows early g));
-  disk = λ g. set_unless (new.port port).serr_n (λ clear. let n = (a.disk clear).1 in none_came (IsPlugging port) port start new n.gained n.tape n.none (since_then (IsPlugging port) port old start new a.grows early g));
+  disk = λ g. set_unless (new.port port).serr_n (λ clear. let n = (a.disk clear).1 in none_came (IsPlugEvent port) port start new n.gained n.tape n.none (since_then (IsPlugEvent port) port old start new a.grows early g));
 }
   where
     early : length start.tape ≤ (new.port port).notes.st_set_at
     early = let same = a.same in omega (arith, same, set)
 
 -- where it was shown when the stretch began, ST having been set after another moment
-pub shown_more : (port : ℕ) (old start mid new : Device) → ShowsTrouble port start mid → Grows start mid → length start.tape ≤ (mid.port port).notes.st_set_at → ShowsAll port mid new → ShowsTrouble port old new
+pub shown_more : (port : ℕ) (old start mid new : Device) → HidesNoTrouble port start mid → Grows start mid → length start.tape ≤ (mid.port port).notes.st_set_at → ShowsAll port mid new → HidesNoTrouble port old new
 shown_more port old start mid new shown grows set a = record {
   fault = λ g. set_unless ((new.port port).is 30) (λ clear.
       let n = a.fault clear in
@@ -192,7 +192,7 @@ shown_more port old start mid new shown grows set a = record {
       let z : false ≡ true = sym (n.0 f.place f.from f.to) ∙ f.set in absurd cc);
   disk = λ g. set_unless (new.port port).serr_n (λ clear.
       let n = a.disk clear in
-      let before = until_then (IsPlugging port) port start mid new grows n.1.gained n.1.tape n.1.none a.same (since_then (IsPlugging port) port old start new whole early g) in
+      let before = until_then (IsPlugEvent port) port start mid new grows n.1.gained n.1.tape n.1.none a.same (since_then (IsPlugEvent port) port old start new whole early g) in
       let z : false ≡ true = sym n.0 ∙ shown.disk before in absurd cc);
 }
   where

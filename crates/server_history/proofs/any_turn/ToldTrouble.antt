@@ -15,15 +15,15 @@ use Rattle.adapter.specs.Rules.{IsOn}
 use Rattle.adapter.specs.declared.tape.Entry.{Entry}
 use Rattle.adapter.specs.declared.tape.Entry.TheVariants as entry
 use Rattle.refinement.specs.Driven.{Grows}
-use Rattle.refinement.specs.Errors.{IsFatalOf, NoneComes}
+use Rattle.refinement.specs.Errors.{IsFatalOf, NoDiskComes}
 use Rattle.refinement.specs.Facts.{IsFaultOf}
-use Rattle.refinement.specs.Links.{IsPlugging, SparesRegister}
+use Rattle.refinement.specs.Links.{IsPlugEvent, DoesNotWrite}
 use Rattle.server_history.proofs.state.ListMembers.{contains_there}
 use Rattle.driver_history.specs.Evidence.{Gains, ShowsChange, ShowsFailure}
 use Rattle.error_recovery.specs.Evidence.{ShowsFatal}
 use Rattle.error_recovery.specs.declared.Recovered.{Recovered}
 use Rattle.port_boot.specs.States.{RunsOn}
-use Rattle.port_control.specs.Looks.{LooksAt, look_of}
+use Rattle.port_control.specs.Looks.{LooksAt, port_event_of}
 use Rattle.port_control.specs.declared.events.PortEvent.{PortEvent}
 use Rattle.port_control.specs.declared.events.PortEvent.TheVariants.{FatalError, TaskFileError, LinkChanged, NoEvent}
 use Rattle.server_history.specs.Below.{LawsBelow}
@@ -53,7 +53,7 @@ is_fatal port (entry.Move x) = inr (λ is. is)
 is_fatal port (entry.Clear x) = inr (λ is. is)
 is_fatal port (entry.Done x) = inr (λ is. is)
 
-pub is_plugging : (port : ℕ) (e : Entry) → IsPlugging port e ⊎ (IsPlugging port e → ⊥)
+pub is_plugging : (port : ℕ) (e : Entry) → IsPlugEvent port e ⊎ (IsPlugEvent port e → ⊥)
 is_plugging port (entry.Unplug at) = cases_eq at.0 port
 is_plugging port (entry.Plug at name) = cases_eq at.0 port
 is_plugging port (entry.Fatal x) = inr (λ is. is)
@@ -102,7 +102,7 @@ lost_or_not kinds.TimedOut = inr (λ e. let z : kinds.TimedOut ≡ kinds.LinkCha
 -- ---- what a look saw
 
 module _ (laws : LawsBelow) (port : Port) (look : PortEvent) (old seen : Device) (l : LooksAt port look old seen) (on : IsOn old) where
-  its : (told : PortEvent) → look ≡ told → look_of l.causes l.status ≡ told
+  its : (told : PortEvent) → look ≡ told → port_event_of l.causes l.status ≡ told
   its told is = sym l.tells ∙ is
 
   -- a bit that was set when the turn began
@@ -123,8 +123,8 @@ module _ (laws : LawsBelow) (port : Port) (look : PortEvent) (old seen : Device)
   grows = laws.looks.tape.access_grows (Reading (Px port Is) l.causes) old l.seen l.reads
 
   goes : RunsOn port.0 old l.seen
-  goes = laws.runs_on port (Reading (Px port Is) l.causes ∷ []) old l.seen on (l.seen, l.reads, refl) (All-cons (SparesRegister Ghc) (Reading (Px port Is) l.causes) [] tt (All-nil (SparesRegister Ghc)))
-      (All-cons (SparesRegister (Px port Sctl)) (Reading (Px port Is) l.causes) [] tt (All-nil (SparesRegister (Px port Sctl)))) (All-cons (SparesRegister (Px port Cmd)) (Reading (Px port Is) l.causes) [] tt (All-nil (SparesRegister (Px port Cmd))))
+  goes = laws.runs_on port (Reading (Px port Is) l.causes ∷ []) old l.seen on (l.seen, l.reads, refl) (All-cons (DoesNotWrite Ghc) (Reading (Px port Is) l.causes) [] tt (All-nil (DoesNotWrite Ghc)))
+      (All-cons (DoesNotWrite (Px port Sctl)) (Reading (Px port Is) l.causes) [] tt (All-nil (DoesNotWrite (Px port Sctl)))) (All-cons (DoesNotWrite (Px port Cmd)) (Reading (Px port Is) l.causes) [] tt (All-nil (DoesNotWrite (Px port Cmd))))
 
   -- ---- a command had failed
 
@@ -179,7 +179,7 @@ module _ (laws : LawsBelow) (port : Port) (look : PortEvent) (old seen : Device)
     no_change change = not_lost (laws.looking.looks_changed port look old seen on l change)
 
     -- nor was a device missing, unless a disk came
-    pub not_missing : (new : Device) → Grows seen new → (old.port port.0).link_due ≡ false → (old.port port.0).ssts_det ≢ 3 → NoneComes port.0 old new → ⊥
+    pub not_missing : (new : Device) → Grows seen new → (old.port port.0).link_due ≡ false → (old.port port.0).ssts_det ≢ 3 → NoDiskComes port.0 old new → ⊥
     not_missing new later undue missing none =
         not_lost (laws.looking.looks_unlinked port look old seen on l missing undue (laws.looks.tape.comes_parts port.0 old seen new looked.0 later.0 looked.1 later.1 none).0)
 
@@ -203,11 +203,11 @@ module _ (laws : LawsBelow) (port : Port) (look : PortEvent) (old seen : Device)
   -- ---- a loss
 
   -- it was there to tell when the turn began, or a disk went or came
-  pub loss_shown : look ≡ LinkChanged → (old.port port.0).link_due ≡ false → (new : Device) → Grows seen new → ShowsChange (old.port port.0) ⊎ (((old.port port.0).ssts_det ≢ 3) ⊎ Gains (IsPlugging port.0) old new)
+  pub loss_shown : look ≡ LinkChanged → (old.port port.0).link_due ≡ false → (new : Device) → Grows seen new → ShowsChange (old.port port.0) ⊎ (((old.port port.0).ssts_det ≢ 3) ⊎ Gains (IsPlugEvent port.0) old new)
   loss_shown lost undue new later = ⊎_elim
       (λ change. inl change)
       (λ more. inr (⊎_elim (λ out. inl out) (λ some. inr (⊎_elim
-      (λ found. gains_more (IsPlugging port.0) old seen new later (record { gained = looked.0; tape = looked.1; entry = found.0; here = found.1; is = found.2 }))
+      (λ found. gains_more (IsPlugEvent port.0) old seen new later (record { gained = looked.0; tape = looked.1; entry = found.0; here = found.1; is = found.2 }))
       (λ none. absurd (some (record { gained = looked.0; tape = looked.1; none = none })))
-      (one_or_none (IsPlugging port.0) (is_plugging port.0) looked.0))) more))
+      (one_or_none (IsPlugEvent port.0) (is_plugging port.0) looked.0))) more))
       (laws.looking.looks_loss port old seen on (subst (λ (told : PortEvent). LooksAt port told old seen) lost l) undue)

@@ -9,7 +9,7 @@ use Rattle.ata_types.specs.declared.request.Outcome.TheVariants.{Ok, DeviceError
 use Rattle.ata_types.specs.declared.request.RequestId.{RequestId}
 use Rattle.adapter.specs.declared.access.DeviceStep.{DeviceStep}
 use Rattle.refinement.specs.Relation.{port_at}
-use Rattle.block_machine.specs.Events.{Ask, AbstractState, AllLawful, AllMay, AreStepsOfCall, IsIssuedIn, IsLawful, IssuesLast, UnplugsAll, changes_disk}
+use Rattle.block_machine.specs.Events.{AbstractCall, AbstractState, AllLawful, AllMay, AreStepsOfCall, IsIssuedIn, IsLawful, IssuesLast, AnswersAllUnplugged, changes_disk}
 use Rattle.block_machine.specs.Histories.{IsReachable}
 use Rattle.block_machine.specs.Left.{after}
 use Rattle.block_machine.specs.Ports.{Evidence, Ports}
@@ -41,7 +41,7 @@ answered_of Such steps all e o here = All-contains (IsStepOf Such) steps (Answer
 pub again_of : (Such : Port → Type 0) (steps : List Step) → All (IsStepOf Such) steps → (e : Pending) → Contains steps (Again e) → Such e.request.port
 again_of Such steps all e here = All-contains (IsStepOf Such) steps (Again e) all here
 
-pub belong_join : (ask : Ask DeviceStep) (ports : Ports) (late early : List Step) → AreStepsOfCall ask ports late → AreStepsOfCall ask ports early → AreStepsOfCall ask ports (late ++ early)
+pub belong_join : (ask : AbstractCall DeviceStep) (ports : Ports) (late early : List Step) → AreStepsOfCall ask ports late → AreStepsOfCall ask ports early → AreStepsOfCall ask ports (late ++ early)
 belong_join ask ports [] early a b = b
 belong_join ask ports (step ∷ late) early a b = (belong_join ask ports late early a.0 b, a.1)
 
@@ -218,7 +218,7 @@ module _ (laws : LawsBelow) (old : AbstractState) (reached : IsReachable old.mac
     }
 
     -- who is left of what was answered before, or stays, stays answered so
-    pub unplugs_join : UnplugsAll base (after old.machine base) → UnplugsAll late (after (after old.machine base) late) → UnplugsAll (late ++ base) (after old.machine (late ++ base))
+    pub unplugs_join : AnswersAllUnplugged base (after old.machine base) → AnswersAllUnplugged late (after (after old.machine base) late) → AnswersAllUnplugged (late ++ base) (after old.machine (late ++ base))
     unplugs_join early its = record {
       emptied = λ e other here there. ⊎_elim
           (λ i. its.emptied e other i (in_whole other there))

@@ -17,8 +17,8 @@ use Rattle.block_machine.specs.Steps.{Step, Again, Answer, Issue}
 use Rattle.block_machine.specs.declared.due.QueueMode.{QueueMode}
 use Rattle.driver_history.specs.Heeding.{OnlyFailedPortsRequeue}
 use Rattle.server_history.proofs.state.ListMembers.{contains_cases, contains_there}
-use Rattle.request_queue.specs.Entries.{Held}
-use Rattle.request_queue.specs.Dispositions.{Holdings, AreResolved, IsResolved, disposition_of, disposition_on}
+use Rattle.request_queue.specs.Entries.{BookEntry}
+use Rattle.request_queue.specs.Dispositions.{Holdings, AreResolved, IsResolved, disposition_of, disposition_of_unfailed}
 use Rattle.request_queue.specs.declared.PendingRequest.{PendingRequest}
 use Rattle.request_queue.specs.declared.disposition.FailedRequest.{FailedRequest}
 use Rattle.request_queue.specs.declared.disposition.Disposition.{Disposition}
@@ -26,8 +26,8 @@ use Rattle.request_queue.specs.declared.disposition.Disposition.TheVariants.{Com
 use Rattle.request_queue.specs.declared.disposition.Revalidation.{Revalidation}
 use Rattle.request_queue.specs.declared.disposition.Revalidation.TheVariants.{SameDisk, DiskLost, Dead as NoEnd}
 use Rattle.server_history.specs.Below.{LawsBelow}
-use Rattle.server_history.specs.Dispositions.{DecidesOn}
-use Rattle.server_history.specs.Served.{AnswersEach, IssuesOnly}
+use Rattle.server_history.specs.Dispositions.{IsResolveStep}
+use Rattle.server_history.specs.Served.{AnswersEach, AllByDeviceOrIssue}
 use Rattle.server_history.specs.Server.{ServerState}
 use Rattle.server_history.specs.Turns.{IsOfTurn}
 use Rattle.server_history.proofs.state.FirstMembers.{nowhere, first_here}
@@ -43,7 +43,7 @@ Why failed revalidation e o =
     ⊎ (((revalidation ≡ NoEnd) × (o ≡ outcome.PortDead))
     ⊎ ((revalidation ≡ SameDisk) × (e.issued ≡ true) × (e.revoked ≡ true) × (o ≡ outcome.Revoked)))))
 
-why_on : (failed : Option FailedRequest) (revalidation : Revalidation) (e : PendingRequest) (o : Outcome) → disposition_on revalidation e ≡ Complete o → Why failed revalidation e o
+why_on : (failed : Option FailedRequest) (revalidation : Revalidation) (e : PendingRequest) (o : Outcome) → disposition_of_unfailed revalidation e ≡ Complete o → Why failed revalidation e o
 why_on failed SameDisk e o is = by e.issued e.revoked (e.issues == 4) refl refl refl is
   where
     by : (a b c : Bool) → e.issued ≡ a → e.revoked ≡ b → (e.issues == 4) ≡ c
@@ -61,10 +61,10 @@ why (Some its) revalidation e o is = by (its.id.0 == e.id.0) refl
   where
     by : (b : Bool) → (its.id.0 == e.id.0) ≡ b → Why (Some its) revalidation e o
     by true x =
-        let w : Complete (outcome.DeviceError its.status its.error) ≡ Complete o = sym (λ i. if x i then Complete (outcome.DeviceError its.status its.error) else disposition_on revalidation e) ∙ is in
+        let w : Complete (outcome.DeviceError its.status its.error) ≡ Complete o = sym (λ i. if x i then Complete (outcome.DeviceError its.status its.error) else disposition_of_unfailed revalidation e) ∙ is in
         let told : o ≡ outcome.DeviceError its.status its.error = cc in
         inl (its, refl, eqb-true its.id.0 e.id.0 x, told)
-    by false x = why_on (Some its) revalidation e o (sym (λ i. if x i then Complete (outcome.DeviceError its.status its.error) else disposition_on revalidation e) ∙ is)
+    by false x = why_on (Some its) revalidation e o (sym (λ i. if x i then Complete (outcome.DeviceError its.status its.error) else disposition_of_unfailed revalidation e) ∙ is)
 
 pub ok_or_not : (o : Outcome) → (o ≡ outcome.Ok) ⊎ (o ≢ outcome.Ok)
 ok_or_not outcome.Ok = inl refl
@@ -75,7 +75,7 @@ ok_or_not outcome.PortDead = inr (λ e. let z : outcome.PortDead ≡ outcome.Ok 
 ok_or_not outcome.Revoked = inr (λ e. let z : outcome.Revoked ≡ outcome.Ok = e in absurd cc)
 
 -- one goes again only on the disk that it had
-again_on : (revalidation : Revalidation) (e : PendingRequest) → disposition_on revalidation e ≡ Requeue → revalidation ≡ SameDisk
+again_on : (revalidation : Revalidation) (e : PendingRequest) → disposition_of_unfailed revalidation e ≡ Requeue → revalidation ≡ SameDisk
 again_on SameDisk e is = refl
 again_on DiskLost e is = let w : Complete outcome.Unplugged ≡ Requeue = is in absurd cc
 again_on NoEnd e is = let w : Complete outcome.PortDead ≡ Requeue = is in absurd cc
@@ -86,11 +86,11 @@ why_again (Some its) revalidation e is = by (its.id.0 == e.id.0) refl
   where
     by : (b : Bool) → (its.id.0 == e.id.0) ≡ b → revalidation ≡ SameDisk
     by true x =
-        let w : Complete (outcome.DeviceError its.status its.error) ≡ Requeue = sym (λ i. if x i then Complete (outcome.DeviceError its.status its.error) else disposition_on revalidation e) ∙ is in absurd cc
-    by false x = again_on revalidation e (sym (λ i. if x i then Complete (outcome.DeviceError its.status its.error) else disposition_on revalidation e) ∙ is)
+        let w : Complete (outcome.DeviceError its.status its.error) ≡ Requeue = sym (λ i. if x i then Complete (outcome.DeviceError its.status its.error) else disposition_of_unfailed revalidation e) ∙ is in absurd cc
+    by false x = again_on revalidation e (sym (λ i. if x i then Complete (outcome.DeviceError its.status its.error) else disposition_of_unfailed revalidation e) ∙ is)
 
 -- but with the same disk each ends
-ends_on : (revalidation : Revalidation) → revalidation ≢ SameDisk → (e : PendingRequest) → (o : Outcome) × (disposition_on revalidation e ≡ Complete o)
+ends_on : (revalidation : Revalidation) → revalidation ≢ SameDisk → (e : PendingRequest) → (o : Outcome) × (disposition_of_unfailed revalidation e ≡ Complete o)
 ends_on SameDisk other e = absurd (other refl)
 ends_on DiskLost other e = (outcome.Unplugged, refl)
 ends_on NoEnd other e = (outcome.PortDead, refl)
@@ -100,30 +100,30 @@ other_ends None revalidation other e = ends_on revalidation other e
 other_ends (Some its) revalidation other e = by (its.id.0 == e.id.0) refl
   where
     by : (b : Bool) → (its.id.0 == e.id.0) ≡ b → (o : Outcome) × (disposition_of (Some its) revalidation e ≡ Complete o)
-    by true x = (outcome.DeviceError its.status its.error, λ i. if x i then Complete (outcome.DeviceError its.status its.error) else disposition_on revalidation e)
-    by false x = let ends = ends_on revalidation other e in (ends.0, (λ i. if x i then Complete (outcome.DeviceError its.status its.error) else disposition_on revalidation e) ∙ ends.1)
+    by true x = (outcome.DeviceError its.status its.error, λ i. if x i then Complete (outcome.DeviceError its.status its.error) else disposition_of_unfailed revalidation e)
+    by false x = let ends = ends_on revalidation other e in (ends.0, (λ i. if x i then Complete (outcome.DeviceError its.status its.error) else disposition_of_unfailed revalidation e) ∙ ends.1)
 
 -- ---- what is left of the book
 
 -- where each of them ends, none of them is left
-pub none_left : LawsBelow → (disposition : PendingRequest → Disposition) → ((e : PendingRequest) → (o : Outcome) × (disposition e ≡ Complete o)) → (requests : List Held) (replies : List Reply) (old new : Holdings) → AreResolved disposition requests replies old new
-    → (x : Held) → Contains new.book x → Contains old.book x × (Contains requests x → ⊥)
+pub none_left : LawsBelow → (disposition : PendingRequest → Disposition) → ((e : PendingRequest) → (o : Outcome) × (disposition e ≡ Complete o)) → (requests : List BookEntry) (replies : List Reply) (old new : Holdings) → AreResolved disposition requests replies old new
+    → (x : BookEntry) → Contains new.book x → Contains old.book x × (Contains requests x → ⊥)
 none_left laws disposition ends [] replies old new (none, is) x here = (subst (λ (h : Holdings). Contains h.book x) is here, λ there. absurd (nowhere x there))
 none_left laws disposition ends (request ∷ requests) replies old new (mid, its, later, split, meets, more) x here =
     let w = ends request.entry in
     let m : IsResolved request (Complete w.0) its old mid = subst (λ (f : Disposition). IsResolved request f its old mid) w.1 meets in
     let rest = none_left laws disposition ends requests later mid new more x here in
-    let left = (laws.left old.book request.entry.id x).0 (subst (λ (book : List Held). Contains book x) m.1 rest.0) in
-    (left.0, λ there. ⊎_elim (λ (same : x ≡ request). left.1 (ap (λ (y : Held). y.entry.id) same)) (λ late. rest.1 late) (contains_cases request requests x there))
+    let left = (laws.left old.book request.entry.id x).0 (subst (λ (book : List BookEntry). Contains book x) m.1 rest.0) in
+    (left.0, λ there. ⊎_elim (λ (same : x ≡ request). left.1 (ap (λ (y : BookEntry). y.entry.id) same)) (λ late. rest.1 late) (contains_cases request requests x there))
 
 -- who was answered has left it
-pub answered_left : LawsBelow → (port : Port) (done : ℕ) (requests : List Held) (old new : ServerState) → AnswersEach port done requests old new → (x : Held) → Contains new.book x
-    → Contains old.book x × ((e : Held) → Contains requests e → x.entry.id ≢ e.entry.id)
+pub answered_left : LawsBelow → (port : Port) (done : ℕ) (requests : List BookEntry) (old new : ServerState) → AnswersEach port done requests old new → (x : BookEntry) → Contains new.book x
+    → Contains old.book x × ((e : BookEntry) → Contains requests e → x.entry.id ≢ e.entry.id)
 answered_left laws port done [] old new none x here = (subst (λ (s : ServerState). Contains s.book x) none here, λ e there. absurd (nowhere e there))
 answered_left laws port done (request ∷ requests) old new (mid, one, its, more) x here =
     let rest = answered_left laws port done requests mid new more x here in
     let left = (laws.left old.book request.entry.id x).0 (subst (λ (s : ServerState). Contains s.book x) one.server rest.0) in
-    (left.0, λ e there. ⊎_elim (λ (same : e ≡ request). λ is. left.1 (is ∙ ap (λ (y : Held). y.entry.id) same)) (λ late. rest.1 e late) (contains_cases request requests e there))
+    (left.0, λ e there. ⊎_elim (λ (same : e ≡ request). λ is. left.1 (is ∙ ap (λ (y : BookEntry). y.entry.id) same)) (λ late. rest.1 e late) (contains_cases request requests e there))
 
 -- ---- steps that decide
 
@@ -135,73 +135,73 @@ RestsOnFailure (outcome.DeviceError status error) = Unit {0}
 RestsOnFailure o = ⊥
 
 module _ (port : Port) where
-  pub deciding_own : (steps : List Step) → All (DecidesOn port) steps → All (IsOfTurn port) steps
-  deciding_own steps all = All-weaker (DecidesOn port) (IsOfTurn port) own steps all
+  pub deciding_own : (steps : List Step) → All (IsResolveStep port) steps → All (IsOfTurn port) steps
+  deciding_own steps all = All-weaker (IsResolveStep port) (IsOfTurn port) own steps all
     where
-      own : (step : Step) → DecidesOn port step → IsOfTurn port step
+      own : (step : Step) → IsResolveStep port step → IsOfTurn port step
       own (Again e) is = is
       own (Answer e o) is = is
       own step is = absurd is
 
-  pub deciding_belong : (ports : Ports) (steps : List Step) → All (DecidesOn port) steps → ((e : Pending) → Contains steps (Again e) → ports.state e.request.port ≡ ReadyState) → AreStepsOfCall {D = DeviceStep} Service ports steps
+  pub deciding_belong : (ports : Ports) (steps : List Step) → All (IsResolveStep port) steps → ((e : Pending) → Contains steps (Again e) → ports.state e.request.port ≡ ReadyState) → AreStepsOfCall {D = DeviceStep} Service ports steps
   deciding_belong ports [] all again = tt
   deciding_belong ports (Again e ∷ steps) all again = (
-    deciding_belong ports steps (All-tail (DecidesOn port) (Again e) steps all) (λ x there. again x (contains_there (Again e) steps (Again x) there)),
+    deciding_belong ports steps (All-tail (IsResolveStep port) (Again e) steps all) (λ x there. again x (contains_there (Again e) steps (Again x) there)),
     inr (again e (first_here (Again e) steps)),
   )
   deciding_belong ports (Answer e o ∷ steps) all again =
-      (deciding_belong ports steps (All-tail (DecidesOn port) (Answer e o) steps all) (λ x there. again x (contains_there (Answer e o) steps (Again x) there)), inr tt)
-  deciding_belong ports (step ∷ steps) all again = absurd (All-head (DecidesOn port) step steps all)
+      (deciding_belong ports steps (All-tail (IsResolveStep port) (Answer e o) steps all) (λ x there. again x (contains_there (Answer e o) steps (Again x) there)), inr tt)
+  deciding_belong ports (step ∷ steps) all again = absurd (All-head (IsResolveStep port) step steps all)
 
-  pub deciding_lawful : (old : AbstractState) (evidence : Evidence) (ports : Ports) (steps : List Step) → All (DecidesOn port) steps → ((e : Pending) (o : Outcome) → Contains steps (Answer e o) → IsLawful old evidence ports e o)
+  pub deciding_lawful : (old : AbstractState) (evidence : Evidence) (ports : Ports) (steps : List Step) → All (IsResolveStep port) steps → ((e : Pending) (o : Outcome) → Contains steps (Answer e o) → IsLawful old evidence ports e o)
       → ((e : Pending) → Contains steps (Again e) → Contains evidence.stopped e.request.port) → AllLawful old evidence ports steps
   deciding_lawful old evidence ports [] all answer again = tt
   deciding_lawful old evidence ports (Again e ∷ steps) all answer again = (
-    deciding_lawful old evidence ports steps (All-tail (DecidesOn port) (Again e) steps all) (λ x o there. answer x o (contains_there (Again e) steps (Answer x o) there)) (λ x there. again x (contains_there (Again e) steps (Again x) there)),
+    deciding_lawful old evidence ports steps (All-tail (IsResolveStep port) (Again e) steps all) (λ x o there. answer x o (contains_there (Again e) steps (Answer x o) there)) (λ x there. again x (contains_there (Again e) steps (Again x) there)),
     again e (first_here (Again e) steps),
   )
   deciding_lawful old evidence ports (Answer e o ∷ steps) all answer again = (
-    deciding_lawful old evidence ports steps (All-tail (DecidesOn port) (Answer e o) steps all) (λ x y there. answer x y (contains_there (Answer e o) steps (Answer x y) there)) (λ x there. again x (contains_there (Answer e o) steps (Again x) there)),
+    deciding_lawful old evidence ports steps (All-tail (IsResolveStep port) (Answer e o) steps all) (λ x y there. answer x y (contains_there (Answer e o) steps (Answer x y) there)) (λ x there. again x (contains_there (Answer e o) steps (Again x) there)),
     answer e o (first_here (Answer e o) steps),
   )
-  deciding_lawful old evidence ports (step ∷ steps) all answer again = absurd (All-head (DecidesOn port) step steps all)
+  deciding_lawful old evidence ports (step ∷ steps) all answer again = absurd (All-head (IsResolveStep port) step steps all)
 
   -- a request that goes again, or is aborted, told Revoked or told a fault in its place, is of a port that failed
-  pub deciding_grounded : (evidence : Evidence) (steps : List Step) → All (DecidesOn port) steps → ((e : Pending) → Contains steps (Again e) → Contains evidence.failed port)
+  pub deciding_grounded : (evidence : Evidence) (steps : List Step) → All (IsResolveStep port) steps → ((e : Pending) → Contains steps (Again e) → Contains evidence.failed port)
       → ((e : Pending) (o : Outcome) → Contains steps (Answer e o) → RestsOnFailure o → Contains evidence.failed port) → OnlyFailedPortsRequeue evidence steps
   deciding_grounded evidence [] all again answer = tt
   deciding_grounded evidence (Again e ∷ steps) all again answer = (
-    deciding_grounded evidence steps (All-tail (DecidesOn port) (Again e) steps all) (λ x there. again x (contains_there (Again e) steps (Again x) there)) (λ x o there. answer x o (contains_there (Again e) steps (Answer x o) there)),
-    subst (Contains evidence.failed) (sym (All-head (DecidesOn port) (Again e) steps all)) (again e (first_here (Again e) steps)),
+    deciding_grounded evidence steps (All-tail (IsResolveStep port) (Again e) steps all) (λ x there. again x (contains_there (Again e) steps (Again x) there)) (λ x o there. answer x o (contains_there (Again e) steps (Answer x o) there)),
+    subst (Contains evidence.failed) (sym (All-head (IsResolveStep port) (Again e) steps all)) (again e (first_here (Again e) steps)),
   )
   deciding_grounded evidence (Answer e outcome.Aborted ∷ steps) all again answer = (
-    deciding_grounded evidence steps (All-tail (DecidesOn port) (Answer e outcome.Aborted) steps all) (λ x there. again x (contains_there (Answer e outcome.Aborted) steps (Again x) there)) (λ x o there. answer x o (contains_there (Answer e outcome.Aborted) steps (Answer x o) there)),
-    subst (Contains evidence.failed) (sym (All-head (DecidesOn port) (Answer e outcome.Aborted) steps all)) (answer e outcome.Aborted (first_here (Answer e outcome.Aborted) steps) tt),
+    deciding_grounded evidence steps (All-tail (IsResolveStep port) (Answer e outcome.Aborted) steps all) (λ x there. again x (contains_there (Answer e outcome.Aborted) steps (Again x) there)) (λ x o there. answer x o (contains_there (Answer e outcome.Aborted) steps (Answer x o) there)),
+    subst (Contains evidence.failed) (sym (All-head (IsResolveStep port) (Answer e outcome.Aborted) steps all)) (answer e outcome.Aborted (first_here (Answer e outcome.Aborted) steps) tt),
   )
   deciding_grounded evidence (Answer e outcome.Revoked ∷ steps) all again answer = (
-    deciding_grounded evidence steps (All-tail (DecidesOn port) (Answer e outcome.Revoked) steps all) (λ x there. again x (contains_there (Answer e outcome.Revoked) steps (Again x) there)) (λ x o there. answer x o (contains_there (Answer e outcome.Revoked) steps (Answer x o) there)),
-    subst (Contains evidence.failed) (sym (All-head (DecidesOn port) (Answer e outcome.Revoked) steps all)) (answer e outcome.Revoked (first_here (Answer e outcome.Revoked) steps) tt),
+    deciding_grounded evidence steps (All-tail (IsResolveStep port) (Answer e outcome.Revoked) steps all) (λ x there. again x (contains_there (Answer e outcome.Revoked) steps (Again x) there)) (λ x o there. answer x o (contains_there (Answer e outcome.Revoked) steps (Answer x o) there)),
+    subst (Contains evidence.failed) (sym (All-head (IsResolveStep port) (Answer e outcome.Revoked) steps all)) (answer e outcome.Revoked (first_here (Answer e outcome.Revoked) steps) tt),
   )
   deciding_grounded evidence (Answer e (outcome.DeviceError status error) ∷ steps) all again answer = (
-    deciding_grounded evidence steps (All-tail (DecidesOn port) (Answer e (outcome.DeviceError status error)) steps all) (λ x there. again x (contains_there (Answer e (outcome.DeviceError status error)) steps (Again x) there)) (λ x o there. answer x o (contains_there (Answer e (outcome.DeviceError status error)) steps (Answer x o) there)),
-    subst (Contains evidence.failed) (sym (All-head (DecidesOn port) (Answer e (outcome.DeviceError status error)) steps all)) (answer e (outcome.DeviceError status error) (first_here (Answer e (outcome.DeviceError status error)) steps) tt),
+    deciding_grounded evidence steps (All-tail (IsResolveStep port) (Answer e (outcome.DeviceError status error)) steps all) (λ x there. again x (contains_there (Answer e (outcome.DeviceError status error)) steps (Again x) there)) (λ x o there. answer x o (contains_there (Answer e (outcome.DeviceError status error)) steps (Answer x o) there)),
+    subst (Contains evidence.failed) (sym (All-head (IsResolveStep port) (Answer e (outcome.DeviceError status error)) steps all)) (answer e (outcome.DeviceError status error) (first_here (Answer e (outcome.DeviceError status error)) steps) tt),
   )
   deciding_grounded evidence (Answer e outcome.Ok ∷ steps) all again answer =
-      deciding_grounded evidence steps (All-tail (DecidesOn port) (Answer e outcome.Ok) steps all) (λ x there. again x (contains_there (Answer e outcome.Ok) steps (Again x) there)) (λ x o there. answer x o (contains_there (Answer e outcome.Ok) steps (Answer x o) there))
+      deciding_grounded evidence steps (All-tail (IsResolveStep port) (Answer e outcome.Ok) steps all) (λ x there. again x (contains_there (Answer e outcome.Ok) steps (Again x) there)) (λ x o there. answer x o (contains_there (Answer e outcome.Ok) steps (Answer x o) there))
   deciding_grounded evidence (Answer e outcome.Unplugged ∷ steps) all again answer =
-      deciding_grounded evidence steps (All-tail (DecidesOn port) (Answer e outcome.Unplugged) steps all) (λ x there. again x (contains_there (Answer e outcome.Unplugged) steps (Again x) there)) (λ x o there. answer x o (contains_there (Answer e outcome.Unplugged) steps (Answer x o) there))
+      deciding_grounded evidence steps (All-tail (IsResolveStep port) (Answer e outcome.Unplugged) steps all) (λ x there. again x (contains_there (Answer e outcome.Unplugged) steps (Again x) there)) (λ x o there. answer x o (contains_there (Answer e outcome.Unplugged) steps (Answer x o) there))
   deciding_grounded evidence (Answer e outcome.PortDead ∷ steps) all again answer =
-      deciding_grounded evidence steps (All-tail (DecidesOn port) (Answer e outcome.PortDead) steps all) (λ x there. again x (contains_there (Answer e outcome.PortDead) steps (Again x) there)) (λ x o there. answer x o (contains_there (Answer e outcome.PortDead) steps (Answer x o) there))
-  deciding_grounded evidence (step ∷ steps) all again answer = absurd (All-head (DecidesOn port) step steps all)
+      deciding_grounded evidence steps (All-tail (IsResolveStep port) (Answer e outcome.PortDead) steps all) (λ x there. again x (contains_there (Answer e outcome.PortDead) steps (Again x) there)) (λ x o there. answer x o (contains_there (Answer e outcome.PortDead) steps (Answer x o) there))
+  deciding_grounded evidence (step ∷ steps) all again answer = absurd (All-head (IsResolveStep port) step steps all)
 
-  pub deciding_issues_none : (id : RequestId) (steps : List Step) → All (DecidesOn port) steps → list_any (issues_it id) steps ≡ false
+  pub deciding_issues_none : (id : RequestId) (steps : List Step) → All (IsResolveStep port) steps → list_any (issues_it id) steps ≡ false
   deciding_issues_none id [] all = refl
-  deciding_issues_none id (Again e ∷ steps) all = deciding_issues_none id steps (All-tail (DecidesOn port) (Again e) steps all)
-  deciding_issues_none id (Answer e o ∷ steps) all = deciding_issues_none id steps (All-tail (DecidesOn port) (Answer e o) steps all)
-  deciding_issues_none id (step ∷ steps) all = absurd (All-head (DecidesOn port) step steps all)
+  deciding_issues_none id (Again e ∷ steps) all = deciding_issues_none id steps (All-tail (IsResolveStep port) (Again e) steps all)
+  deciding_issues_none id (Answer e o ∷ steps) all = deciding_issues_none id steps (All-tail (IsResolveStep port) (Answer e o) steps all)
+  deciding_issues_none id (step ∷ steps) all = absurd (All-head (IsResolveStep port) step steps all)
 
   -- steps that issue belong to a service after which the port is ready, and takes commands so, if they issue anything
-  pub issuing_belong : (mode : QueueMode) (ports : Ports) → ports.mode port ≡ mode → (steps : List Step) → IssuesOnly mode port steps → ((id : RequestId) → IsIssuedIn id steps → ports.state port ≡ ReadyState)
+  pub issuing_belong : (mode : QueueMode) (ports : Ports) → ports.mode port ≡ mode → (steps : List Step) → AllByDeviceOrIssue mode port steps → ((id : RequestId) → IsIssuedIn id steps → ports.state port ≡ ReadyState)
       → AreStepsOfCall {D = DeviceStep} Service ports steps
   issuing_belong mode ports its [] only ready = tt
   issuing_belong mode ports its (Issue m e ∷ steps) only ready = (

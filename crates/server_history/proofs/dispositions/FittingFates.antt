@@ -3,8 +3,8 @@ use Rattle.std.proofs.Common.{◌≡◌, ◌≢◌, ◌==◌, Bool, true, false,
 use Rattle.std.specs.List.{Contains}
 use Rattle.ata_types.specs.declared.request.Outcome.{Outcome}
 use Rattle.ata_types.specs.declared.request.Outcome.TheVariants.{Aborted, DeviceError, PortDead, Revoked, Unplugged}
-use Rattle.request_queue.specs.Entries.{Held}
-use Rattle.request_queue.specs.Dispositions.{disposition_of, disposition_on}
+use Rattle.request_queue.specs.Entries.{BookEntry}
+use Rattle.request_queue.specs.Dispositions.{disposition_of, disposition_of_unfailed}
 use Rattle.request_queue.specs.declared.PendingRequest.{PendingRequest}
 use Rattle.request_queue.specs.declared.disposition.FailedRequest.{FailedRequest}
 use Rattle.request_queue.specs.declared.disposition.Disposition.{Disposition}
@@ -22,8 +22,8 @@ pub record FitsEntry (disposition : Disposition) (e : PendingRequest) : Type 0 w
   pub revoked : disposition ≡ Complete Revoked → e.revoked ≡ true
 
 -- so it is of what becomes of each of these
-abbrev pub AllFit : (PendingRequest → Disposition) → List Held → Type 0
-AllFit disposition requests = (e : Held) → Contains requests e → FitsEntry (disposition e.entry) e.entry
+abbrev pub AllFit : (PendingRequest → Disposition) → List BookEntry → Type 0
+AllFit disposition requests = (e : BookEntry) → Contains requests e → FitsEntry (disposition e.entry) e.entry
 
 -- so it is of one that ends
 pub ends_fits : (e : PendingRequest) (o : Outcome) → (o ≡ Aborted → e.revoked ≡ false) → (o ≡ Revoked → e.revoked ≡ true) → FitsEntry (Complete o) e
@@ -39,7 +39,7 @@ record Fits (revalidation : Revalidation) (disposition : Disposition) (e : Pendi
   entry : FitsEntry disposition e
   alive : revalidation ≢ Dead → keeps_frames_lent disposition e ≡ false
 
-fits_on : (revalidation : Revalidation) (e : PendingRequest) → Fits revalidation (disposition_on revalidation e) e
+fits_on : (revalidation : Revalidation) (e : PendingRequest) → Fits revalidation (disposition_of_unfailed revalidation e) e
 fits_on SameDisk e = by e.issued e.revoked (e.issues == 4) refl refl refl
   where
     by : (a b c : Bool) → e.issued ≡ a → e.revoked ≡ b → (e.issues == 4) ≡ c
@@ -71,7 +71,7 @@ fits : (failed : Option FailedRequest) (revalidation : Revalidation) (e : Pendin
 fits None revalidation e = fits_on revalidation e
 fits (Some failed) revalidation e = by (failed.id.0 == e.id.0)
   where
-    by : (b : Bool) → Fits revalidation (if b then Complete (DeviceError failed.status failed.error) else disposition_on revalidation e) e
+    by : (b : Bool) → Fits revalidation (if b then Complete (DeviceError failed.status failed.error) else disposition_of_unfailed revalidation e) e
     by true = record {
       entry = ends_fits e (DeviceError failed.status failed.error) (λ is. let w : DeviceError failed.status failed.error ≡ Aborted = is in absurd cc)
           (λ is. let w : DeviceError failed.status failed.error ≡ Revoked = is in absurd cc);
@@ -80,7 +80,7 @@ fits (Some failed) revalidation e = by (failed.id.0 == e.id.0)
     by false = fits_on revalidation e
 
 -- so it is of what becomes of requests after a recovery or a reset
-pub fits_each : (failed : Option FailedRequest) (revalidation : Revalidation) (requests : List Held) → AllFit (disposition_of failed revalidation) requests
+pub fits_each : (failed : Option FailedRequest) (revalidation : Revalidation) (requests : List BookEntry) → AllFit (disposition_of failed revalidation) requests
 fits_each failed revalidation requests e here = (fits failed revalidation e.entry).entry
 
 pub kept_dead_alone : (failed : Option FailedRequest) (revalidation : Revalidation) (e : PendingRequest) → revalidation ≢ Dead → keeps_frames_lent (disposition_of failed revalidation e) e ≡ false

@@ -12,27 +12,27 @@ use Rattle.ata_types.specs.declared.request.Outcome.TheVariants as outcome
 use Rattle.ata_types.specs.declared.request.Reply.{Reply}
 use Rattle.ata_types.specs.declared.request.RequestId.{RequestId}
 use Rattle.adapter.specs.Memory.{changed}
-use Rattle.refinement.specs.Driver.{ForgetsRequest, HasNoSlot, DriverState, DriverRelation}
-use Rattle.block_machine.specs.Events.{IsByDevice, IsToldBefore, Tells, answers_of, reply_of}
+use Rattle.refinement.specs.Driver.{ForgetsAtMost, HasNoSlot, DriverState, DriverRelation}
+use Rattle.block_machine.specs.Events.{IsByDevice, IsToldBefore, RepliesMatch, answers_of, reply_of}
 use Rattle.block_machine.specs.Histories.{IsReachable}
 use Rattle.block_machine.specs.Left.{after}
 use Rattle.block_machine.specs.State.{Machine, Pending}
 use Rattle.block_machine.specs.Steps.{Step, Again, Answer, May, after_step, stays, unlend}
 use Rattle.dma_frames.specs.Loan.{Lending}
 use Rattle.dma_frames.specs.Table.{Table, lent_to}
-use Rattle.request_queue.specs.Entries.{HasFewIssues, Held, IsAccepted, IsEarlier, BookIsInOrder, at_entry, requeued_entry, without_entry}
+use Rattle.request_queue.specs.Entries.{HasFewIssues, BookEntry, IsAccepted, IsEarlier, BookIsInOrder, update_if_id, requeued_entry, without_entry}
 use Rattle.request_queue.specs.Dispositions.{KeepsOrEndsLoan, Holdings, AreResolved, IsResolved, keeps_loan, reply_to}
-use Rattle.request_queue.specs.Machine.{IsBook, IsEntry}
+use Rattle.request_queue.specs.Machine.{BookRelation, EntryRelation}
 use Rattle.request_queue.specs.declared.PendingRequest.{PendingRequest}
 use Rattle.request_queue.specs.declared.disposition.Disposition.{Disposition}
 use Rattle.request_queue.specs.declared.disposition.Disposition.TheVariants.{Complete, Requeue, Wait}
 use Rattle.server_history.specs.Below.{LawsBelow}
-use Rattle.server_history.specs.Dispositions.{DecidesOn, IsLetGo, AreResolvable, AreResolvedInMachine, keeps_frames_lent, loan_of, loans_of}
-use Rattle.server_history.specs.Server.{AreOfTwo, TellsGrant}
+use Rattle.server_history.specs.Dispositions.{IsResolveStep, IsLetGo, AreResolvable, AreResolvedInMachine, keeps_frames_lent, loan_of, loans_of}
+use Rattle.server_history.specs.Server.{DifferInRequest, RevokedMarkAgrees}
 use Rattle.server_history.proofs.dispositions.FittingFates.{AllFit, FitsEntry}
 use Rattle.server_history.proofs.healthy_turn.OneAnswer.{given_back}
 use Rattle.server_history.proofs.any_turn.JoinedParts.{all_pairs_append, answers_append, answers_there, first_or_later}
-use Rattle.adapter.proofs.Changed.{changed_each, changed_other, changed_same}
+use Rattle.std.proofs.lemmas.Bool.Decides.{eqb_tells}
 use Rattle.server_history.proofs.state.PairedLists.{at_left}
 use Rattle.server_history.proofs.state.FirstMembers.{first_here, nowhere}
 use Rattle.server_history.proofs.state.ListMembers.{contains_there}
@@ -112,36 +112,46 @@ in_but id (y ∷ xs) x here ne = ⊎_elim
 abbrev decided : (ℕ → List RequestId) → ℕ → RequestId → ℕ → List RequestId
 decided parked port id = changed parked port (but id (parked port))
 
-forgets_it : (parked : ℕ → List RequestId) (port : ℕ) (id : RequestId) → ForgetsRequest id parked (decided parked port id)
-forgets_it parked port id =
-    changed_each parked port (but id (parked port)) (λ q ids. (other : RequestId) → Contains (parked q) other → (other ≡ id → ⊥) → Contains ids other)
-    (λ other here ne. in_but id (parked port) other here ne)
-    (λ q other here ne. here)
+forgets_it : (parked : ℕ → List RequestId) (port : ℕ) (id : RequestId) → ForgetsAtMost id parked (decided parked port id)
+unfolding changed
+forgets_it parked port id q other here ne =
+    elim (eqb_tells q port) [
+      | inl both ↦ rw both.0 (in_but id (parked port) other (subst (λ (p : ℕ). Contains (parked p) other) both.1 here) ne)
+      | inr both ↦ rw both.0 here
+    ]
+
+decided_here : (parked : ℕ → List RequestId) (port : ℕ) (id : RequestId) → decided parked port id port ≡ but id (parked port)
+unfolding changed
+decided_here parked port id = rw (eq-eqb port port refl) refl
+
+decided_elsewhere : (parked : ℕ → List RequestId) (port : ℕ) (id : RequestId) (q : ℕ) → q ≢ port → decided parked port id q ≡ parked q
+unfolding changed
+decided_elsewhere parked port id q ne = rw (ne_eqb q port ne) refl
 
 -- ---- one request
 
 module _ (laws : LawsBelow) (port : Port) (disposition : PendingRequest → Disposition) where
-  module _ (request : Held) (rest : List Held) (now mid : Holdings) (k : DriverState) (m : Machine) (may : AreResolvable port disposition (request ∷ rest) now k m) where
+  module _ (request : BookEntry) (rest : List BookEntry) (now mid : Holdings) (k : DriverState) (m : Machine) (may : AreResolvable port disposition (request ∷ rest) now k m) where
     pub here : Contains now.book request
     here = (may.here request (Contains-get_or (request ∷ rest) 0 request (omega arith))).0
 
     its_port : request.entry.port ≡ port
     its_port = (may.here request (Contains-get_or (request ∷ rest) 0 request (omega arith))).1
 
-    in_rest : (e : Held) → Contains rest e → Contains (request ∷ rest) e
+    in_rest : (e : BookEntry) → Contains rest e → Contains (request ∷ rest) e
     in_rest e there = Contains-append_right (request ∷ []) rest e there
 
-    pub later_id : (e : Held) → Contains rest e → request.entry.id.0 < e.entry.id.0
+    pub later_id : (e : BookEntry) → Contains rest e → request.entry.id.0 < e.entry.id.0
     later_id e there = All-contains (IsEarlier request) rest e (λ i d small. may.earlier 0 (suc i) d (omega arith) (omega (arith, small))) there
 
-    differs : (e : Held) → Contains rest e → e.entry.id ≢ request.entry.id
+    differs : (e : BookEntry) → Contains rest e → e.entry.id ≢ request.entry.id
     differs e there same = let lt = later_id e there in let id = ap (λ (i : RequestId). i.0) same in omega (arith, lt, id)
 
     earlier : AllPairs IsEarlier rest
     earlier i j d lt below = may.earlier (suc i) (suc j) d (omega (arith, lt)) (omega (arith, below))
 
-    abbrev pub entry : (p : Pending) × Contains m.book p × IsEntry request p
-    entry = at_left IsEntry now.book m.book may.book request here
+    abbrev pub entry : (p : Pending) × Contains m.book p × EntryRelation request p
+    entry = at_left EntryRelation now.book m.book may.book request here
 
     abbrev pub p : Pending
     p = entry.0
@@ -149,7 +159,7 @@ module _ (laws : LawsBelow) (port : Port) (disposition : PendingRequest → Disp
     id_is : p.request.id ≡ request.entry.id
     id_is = entry.2.id
 
-    its_mark : TellsGrant m.rows request.entry
+    its_mark : RevokedMarkAgrees m.rows request.entry
     its_mark = may.marked request (Contains-get_or (request ∷ rest) 0 request (omega arith))
 
     unserved : keeps_frames_lent (disposition request.entry) request.entry ≡ false → HasNoSlot k.uses p.request.id
@@ -158,30 +168,30 @@ module _ (laws : LawsBelow) (port : Port) (disposition : PendingRequest → Disp
     abbrev pub left_known : DriverState
     left_known = record k { parked = decided k.parked port.0 request.entry.id }
 
-    forgets : ForgetsRequest p.request.id k.parked (decided k.parked port.0 request.entry.id)
-    forgets = subst (λ (id : RequestId). ForgetsRequest id k.parked (decided k.parked port.0 request.entry.id)) (sym id_is) (forgets_it k.parked port.0 request.entry.id)
+    forgets : ForgetsAtMost p.request.id k.parked (decided k.parked port.0 request.entry.id)
+    forgets = subst (λ (id : RequestId). ForgetsAtMost id k.parked (decided k.parked port.0 request.entry.id)) (sym id_is) (forgets_it k.parked port.0 request.entry.id)
 
     -- what is parked then was before, and isn't this one
     left_parked : (id : RequestId) → Contains (decided k.parked port.0 request.entry.id port.0) id → Contains (k.parked port.0) id × (request.entry.id ≢ id)
     left_parked id there =
-        let b = but_in request.entry.id (k.parked port.0) id (subst (λ (list : List RequestId). Contains list id) (changed_same k.parked port.0 (but request.entry.id (k.parked port.0))) there) in
+        let b = but_in request.entry.id (k.parked port.0) id (subst (λ (list : List RequestId). Contains list id) (decided_here k.parked port.0 request.entry.id) there) in
         (b.0, λ same. b.1 (sym same))
 
     -- ---- with those that come after it
 
     -- this step decides it, by which these are kept
-    module _ (step : Step) (its later replies : List Reply) (new : Holdings) (split : replies ≡ its ++ later) (comes : May m step) (of_port : DecidesOn port step) (own : IsByDevice step → ⊥)
+    module _ (step : Step) (its later replies : List Reply) (new : Holdings) (split : replies ≡ its ++ later) (comes : May m step) (of_port : IsResolveStep port step) (own : IsByDevice step → ⊥)
         (parked : ℕ → List RequestId) (elsewhere : (q : ℕ) → q ≢ port.0 → parked q ≡ k.parked q)
         (its_still : (id : RequestId) → Contains (parked port.0) id → Contains (k.parked port.0) id × (IsLetGo disposition request → request.entry.id ≢ id))
-        (gone : List Pending) (keeps : (after_step m step).kept ≡ gone ++ m.kept) (lends : mid.kept ≡ now.kept ++ loans_of gone) (alone : AllPairs AreOfTwo (loans_of gone))
-        (its_own : (e : Pending) → Contains gone e → IsEntry request e × (keeps_frames_lent (disposition request.entry) request.entry ≡ true))
-        (told : (e : Pending) (o : Outcome) → Answer e o ≡ step → IsEntry request e × (disposition request.entry ≡ Complete o))
-        (waits : (e : Pending) → Again e ≡ step → IsEntry request e × (disposition request.entry ≡ Requeue))
+        (gone : List Pending) (keeps : (after_step m step).kept ≡ gone ++ m.kept) (lends : mid.kept ≡ now.kept ++ loans_of gone) (alone : AllPairs DifferInRequest (loans_of gone))
+        (its_own : (e : Pending) → Contains gone e → EntryRelation request e × (keeps_frames_lent (disposition request.entry) request.entry ≡ true))
+        (told : (e : Pending) (o : Outcome) → Answer e o ≡ step → EntryRelation request e × (disposition request.entry ≡ Complete o))
+        (waits : (e : Pending) → Again e ≡ step → EntryRelation request e × (disposition request.entry ≡ Requeue))
         (r : AreResolvedInMachine port disposition rest later mid new (record k { parked = parked }) (after_step m step)) where
       whole_is : after m (r.steps ++ step ∷ []) ≡ after (after_step m step) r.steps
       whole_is = laws.basic.joined m r.steps (step ∷ [])
 
-      answered_by : (e : Pending) (o : Outcome) → Contains (r.steps ++ step ∷ []) (Answer e o) → (y : Held) × Contains (request ∷ rest) y × IsEntry y e × (disposition y.entry ≡ Complete o)
+      answered_by : (e : Pending) (o : Outcome) → Contains (r.steps ++ step ∷ []) (Answer e o) → (y : BookEntry) × Contains (request ∷ rest) y × EntryRelation y e × (disposition y.entry ≡ Complete o)
       answered_by e o there = ⊎_elim
           (λ early. let w = r.answered e o early in (w.0, in_rest w.0 w.1, w.2, w.3))
           (λ last. ⊎_elim
@@ -190,7 +200,7 @@ module _ (laws : LawsBelow) (port : Port) (disposition : PendingRequest → Disp
           (first_or_later step [] (Answer e o) last))
           (Contains-append_cases r.steps (step ∷ []) (Answer e o) there)
 
-      again_by : (e : Pending) → Contains (r.steps ++ step ∷ []) (Again e) → (y : Held) × Contains (request ∷ rest) y × IsEntry y e × (disposition y.entry ≡ Requeue)
+      again_by : (e : Pending) → Contains (r.steps ++ step ∷ []) (Again e) → (y : BookEntry) × Contains (request ∷ rest) y × EntryRelation y e × (disposition y.entry ≡ Requeue)
       again_by e there = ⊎_elim
           (λ early. let w = r.again e early in (w.0, in_rest w.0 w.1, w.2, w.3))
           (λ last. ⊎_elim
@@ -199,41 +209,41 @@ module _ (laws : LawsBelow) (port : Port) (disposition : PendingRequest → Disp
           (first_or_later step [] (Again e) last))
           (Contains-append_cases r.steps (step ∷ []) (Again e) there)
 
-      kept_by : (e : Pending) → Contains (r.held ++ gone) e → (y : Held) × Contains (request ∷ rest) y × IsEntry y e × (keeps_frames_lent (disposition y.entry) y.entry ≡ true)
+      kept_by : (e : Pending) → Contains (r.held ++ gone) e → (y : BookEntry) × Contains (request ∷ rest) y × EntryRelation y e × (keeps_frames_lent (disposition y.entry) y.entry ≡ true)
       kept_by e there = ⊎_elim
           (λ late. let w = r.whose e late in (w.0, in_rest w.0 w.1, w.2, w.3))
           (λ first. let w = its_own e first in (request, Contains-get_or (request ∷ rest) 0 request (omega arith), w.0, w.1))
           (Contains-append_cases r.held gone e there)
 
-      two : AllPairs AreOfTwo (loans_of (r.held ++ gone))
-      two = subst (AllPairs AreOfTwo) (sym (loans_append r.held gone)) (all_pairs_append AreOfTwo (loans_of gone) (loans_of r.held) alone r.two (λ a b first late same.
+      two : AllPairs DifferInRequest (loans_of (r.held ++ gone))
+      two = subst (AllPairs DifferInRequest) (sym (loans_append r.held gone)) (all_pairs_append DifferInRequest (loans_of gone) (loans_of r.held) alone r.two (λ a b first late same.
           let x = loans_in gone a first in
           let y = loans_in r.held b late in
           let w = r.whose y.0 y.1 in
           differs w.0 w.1 (sym w.2.id ∙ sym (ap (λ (l : Lending). l.request) y.2) ∙ sym same ∙ ap (λ (l : Lending). l.request) x.2 ∙ (its_own x.0 x.1).0.id)))
 
-      still_by : (id : RequestId) → Contains (r.parked port.0) id → Contains (k.parked port.0) id × ((e : Held) → Contains (request ∷ rest) e → IsLetGo disposition e → e.entry.id ≢ id)
+      still_by : (id : RequestId) → Contains (r.parked port.0) id → Contains (k.parked port.0) id × ((e : BookEntry) → Contains (request ∷ rest) e → IsLetGo disposition e → e.entry.id ≢ id)
       still_by id there =
           let late = r.still id there in
           let first = its_still id late.0 in (
             first.0,
             λ e here goes. ⊎_elim
-                (λ (same : e ≡ request). subst (λ (y : Held). y.entry.id ≢ id) (sym same) (first.1 (subst (IsLetGo disposition) same goes)))
+                (λ (same : e ≡ request). subst (λ (y : BookEntry). y.entry.id ≢ id) (sym same) (first.1 (subst (IsLetGo disposition) same goes)))
                 (λ (later_on : Contains rest e). late.1 e later_on goes)
                 (first_or_later request rest e here),
           )
 
-      pub decides : Tells (r.steps ++ step ∷ []) replies → AreResolvedInMachine port disposition (request ∷ rest) replies now new k m
+      pub decides : RepliesMatch (r.steps ++ step ∷ []) replies → AreResolvedInMachine port disposition (request ∷ rest) replies now new k m
       decides tells = record {
         steps = r.steps ++ step ∷ [];
         parked = r.parked;
         may = laws.basic.may m r.steps (step ∷ []) (tt, comes) r.may;
-        own = All-append (DecidesOn port) r.steps (step ∷ []) r.own (All-cons (DecidesOn port) step [] of_port (All-nil (DecidesOn port)));
+        own = All-append (IsResolveStep port) r.steps (step ∷ []) r.own (All-cons (IsResolveStep port) step [] of_port (All-nil (IsResolveStep port)));
         backed = λ d. laws.backed_parts d d d m (step ∷ []) r.steps (laws.backed_own d m step own) (r.backed d);
         knows = subst (λ (n : Machine). DriverRelation n (record k { parked = r.parked })) (sym whole_is) r.knows;
         others = λ q ne. r.others q ne ∙ elsewhere q ne;
         still = still_by;
-        book = subst (λ (n : Machine). IsBook new.book n.book) (sym whole_is) r.book;
+        book = subst (λ (n : Machine). BookRelation new.book n.book) (sym whole_is) r.book;
         lent = λ frame. ap (λ (n : Machine). n.lent frame) whole_is ∙ r.lent frame;
         held = r.held ++ gone;
         kept = ap (λ (n : Machine). n.kept) whole_is ∙ r.kept ∙ ap (λ (kept : List Pending). r.held ++ kept) keeps ∙ sym (append_assoc r.held gone m.kept);
@@ -247,12 +257,12 @@ module _ (laws : LawsBelow) (port : Port) (disposition : PendingRequest → Disp
 
   -- ---- one that ends
 
-  module _ (request : Held) (rest : List Held) (now mid new : Holdings) (its later replies : List Reply) (k : DriverState) (m : Machine) (may : AreResolvable port disposition (request ∷ rest) now k m) (split : replies ≡ its ++ later)
+  module _ (request : BookEntry) (rest : List BookEntry) (now mid new : Holdings) (its later replies : List Reply) (k : DriverState) (m : Machine) (may : AreResolvable port disposition (request ∷ rest) now k m) (split : replies ≡ its ++ later)
       (more : (k : DriverState) (m : Machine) → AreResolvable port disposition rest mid k m → AreResolvedInMachine port disposition rest later mid new k m) (fit : FitsEntry (disposition request.entry) request.entry) (o : Outcome) (is : disposition request.entry ≡ Complete o) (meets : IsResolved request (Complete o) its now mid) where
     abbrev x : Pending
     x = p request rest now mid k m may
 
-    its_entry : IsEntry request x
+    its_entry : EntryRelation request x
     its_entry = (entry request rest now mid k m may).2
 
     comes : May m (Answer x o)
@@ -276,22 +286,22 @@ module _ (laws : LawsBelow) (port : Port) (disposition : PendingRequest → Disp
     reached : IsReachable (after_step m (Answer x o))
     reached = laws.basic.reached m (Answer x o ∷ []) may.reached (tt, comes)
 
-    book : IsBook mid.book (after_step m (Answer x o)).book
-    book = subst (λ (book : List Held). IsBook book (after_step m (Answer x o)).book) (sym meets.1)
-        (subst (λ (id : RequestId). IsBook (without_entry id now.book) (after_step m (Answer x o)).book) (id_is request rest now mid k m may) (laws.answers now.book m x o may.book))
+    book : BookRelation mid.book (after_step m (Answer x o)).book
+    book = subst (λ (book : List BookEntry). BookRelation book (after_step m (Answer x o)).book) (sym meets.1)
+        (subst (λ (id : RequestId). BookRelation (without_entry id now.book) (after_step m (Answer x o)).book) (id_is request rest now mid k m may) (laws.answers now.book m x o may.book))
 
     ordered : BookIsInOrder mid.book
     ordered = subst BookIsInOrder (sym meets.1) (laws.fewer now.book request.entry.id may.ordered)
 
-    still : (e : Held) → Contains rest e → Contains mid.book e × (e.entry.port ≡ port)
+    still : (e : BookEntry) → Contains rest e → Contains mid.book e × (e.entry.port ≡ port)
     still e there =
         let w = may.here e (in_rest request rest now mid k m may e there) in
-        (subst (λ (book : List Held). Contains book e) (sym meets.1) ((laws.left now.book request.entry.id e).1 (w.0, differs request rest now mid k m may e there)), w.1)
+        (subst (λ (book : List BookEntry). Contains book e) (sym meets.1) ((laws.left now.book request.entry.id e).1 (w.0, differs request rest now mid k m may e there)), w.1)
 
     -- what comes of it, once the rest met their fates
     module _ (parked : ℕ → List RequestId) (elsewhere : (q : ℕ) → q ≢ port.0 → parked q ≡ k.parked q)
         (its_still : (id : RequestId) → Contains (parked port.0) id → Contains (k.parked port.0) id × (IsLetGo disposition request → request.entry.id ≢ id)) (gone : List Pending) (keeps : (after_step m (Answer x o)).kept ≡ gone ++ m.kept)
-        (lends : mid.kept ≡ now.kept ++ loans_of gone) (alone : AllPairs AreOfTwo (loans_of gone)) (its_own : (e : Pending) → Contains gone e → IsEntry request e × (keeps_frames_lent (disposition request.entry) request.entry ≡ true))
+        (lends : mid.kept ≡ now.kept ++ loans_of gone) (alone : AllPairs DifferInRequest (loans_of gone)) (its_own : (e : Pending) → Contains gone e → EntryRelation request e × (keeps_frames_lent (disposition request.entry) request.entry ≡ true))
         (goes : AreResolvable port disposition rest mid (record k { parked = parked }) (after_step m (Answer x o))) where
       r : AreResolvedInMachine port disposition rest later mid new (record k { parked = parked }) (after_step m (Answer x o))
       r = more (record k { parked = parked }) (after_step m (Answer x o)) goes
@@ -311,7 +321,7 @@ module _ (laws : LawsBelow) (port : Port) (disposition : PendingRequest → Disp
           (λ e other same.
           let e_is : e ≡ x = (let z : Answer e other ≡ Answer x o = same in cc) in
           let o_is : other ≡ o = (let z : Answer e other ≡ Answer x o = same in cc) in
-          (subst (IsEntry request) (sym e_is) its_entry, is ∙ ap Complete (sym o_is)))
+          (subst (EntryRelation request) (sym e_is) its_entry, is ∙ ap Complete (sym o_is)))
           (λ e same. let z : Again e ≡ Answer x o = same in absurd cc)
           r
           (record {
@@ -324,7 +334,7 @@ module _ (laws : LawsBelow) (port : Port) (disposition : PendingRequest → Disp
 
     by : (b : Bool) → keeps_loan o request.entry ≡ b → AreResolvedInMachine port disposition (request ∷ rest) replies now new k m
     by false never =
-        answers (decided k.parked port.0 request.entry.id) (λ q ne. changed_other k.parked port.0 (but request.entry.id (k.parked port.0)) q ne)
+        answers (decided k.parked port.0 request.entry.id) (decided_elsewhere k.parked port.0 request.entry.id)
         (λ id there. let w = left_parked request rest now mid k m may id there in (w.0, λ goes. w.1)) []
         (ap (λ (b : Bool). if b then x ∷ m.kept else m.kept) (stay ∙ never)) (loan.0 ∙ sym (append-nil now.kept)) (λ i j d lt below. absurd (omega (arith, lt, below))) (λ e there. absurd (nowhere e there))
         (record {
@@ -346,7 +356,7 @@ module _ (laws : LawsBelow) (port : Port) (disposition : PendingRequest → Disp
     by true keeps =
         answers k.parked (λ q ne. refl) (λ id there. (there, λ goes. absurd (false≢true (sym goes.1 ∙ fate_is ∙ keeps)))) (x ∷ [])
         (ap (λ (b : Bool). if b then x ∷ m.kept else m.kept) (stay ∙ keeps)) (loan.0 ∙ ap (λ (l : Lending). now.kept ++ l ∷ []) loan_is) (λ i j d lt below. absurd (omega (arith, lt, below)))
-        (λ e there. ⊎_elim (λ (same : e ≡ x). (subst (IsEntry request) (sym same) its_entry, fate_is ∙ keeps)) (λ none. absurd (nowhere e none)) (first_or_later x [] e there))
+        (λ e there. ⊎_elim (λ (same : e ≡ x). (subst (EntryRelation request) (sym same) its_entry, fate_is ∙ keeps)) (λ none. absurd (nowhere e none)) (first_or_later x [] e there))
         (record {
           reached = reached;
           knows = laws.slots.kept_agrees k m x o may.reached may.knows comes.0 (stay ∙ keeps);
@@ -373,7 +383,7 @@ module _ (laws : LawsBelow) (port : Port) (disposition : PendingRequest → Disp
 
   -- ---- each fate
 
-  meet_one : (request : Held) (rest : List Held) (now mid new : Holdings) (its later replies : List Reply) (k : DriverState) (m : Machine) → AreResolvable port disposition (request ∷ rest) now k m → replies ≡ its ++ later
+  meet_one : (request : BookEntry) (rest : List BookEntry) (now mid new : Holdings) (its later replies : List Reply) (k : DriverState) (m : Machine) → AreResolvable port disposition (request ∷ rest) now k m → replies ≡ its ++ later
       → ((k : DriverState) (m : Machine) → AreResolvable port disposition rest mid k m → AreResolvedInMachine port disposition rest later mid new k m) → FitsEntry (disposition request.entry) request.entry → (f : Disposition) → disposition request.entry ≡ f → IsResolved request f its now mid
       → AreResolvedInMachine port disposition (request ∷ rest) replies now new k m
   meet_one request rest now mid new its later replies k m may split more fit Wait is meets = record {
@@ -387,7 +397,7 @@ module _ (laws : LawsBelow) (port : Port) (disposition : PendingRequest → Disp
     still = λ id there. let w = r.still id there in (
       w.0,
       λ e here goes. ⊎_elim
-          (λ (same : e ≡ request). absurd (goes.0 (ap (λ (y : Held). disposition y.entry) same ∙ is)))
+          (λ (same : e ≡ request). absurd (goes.0 (ap (λ (y : BookEntry). disposition y.entry) same ∙ is)))
           (λ (later_on : Contains rest e). w.1 e later_on goes)
           (first_or_later request rest e here),
     );
@@ -400,7 +410,7 @@ module _ (laws : LawsBelow) (port : Port) (disposition : PendingRequest → Disp
     whose = λ e here. let w = r.whose e here in (w.0, in_rest request rest now mid k m may w.0 w.1, w.2, w.3);
     answered = λ e o here. let w = r.answered e o here in (w.0, in_rest request rest now mid k m may w.0 w.1, w.2, w.3);
     again = λ e here. let w = r.again e here in (w.0, in_rest request rest now mid k m may w.0 w.1, w.2, w.3);
-    tells = subst (Tells r.steps) (sym (split ∙ ap (λ (x : List Reply). x ++ later) meets.0)) r.tells;
+    tells = subst (RepliesMatch r.steps) (sym (split ∙ ap (λ (x : List Reply). x ++ later) meets.0)) r.tells;
   }
     where
       goes : AreResolvable port disposition rest now k m
@@ -421,11 +431,11 @@ module _ (laws : LawsBelow) (port : Port) (disposition : PendingRequest → Disp
       r = more k m (subst (λ (h : Holdings). AreResolvable port disposition rest h k m) (sym meets.1) goes)
   meet_one request rest now mid new its later replies k m may split more fit Requeue is meets =
       decides request rest now mid k m may (Again x) its later replies new split comes of_port (λ none. none) (decided k.parked port.0 request.entry.id)
-      (λ q ne. changed_other k.parked port.0 (but request.entry.id (k.parked port.0)) q ne)
+      (decided_elsewhere k.parked port.0 request.entry.id)
       (λ id there. let w = left_parked request rest now mid k m may id there in (w.0, λ goes. w.1)) [] refl
       (ap (λ (h : Holdings). h.kept) meets.1 ∙ sym (append-nil now.kept)) (λ i j d lt below. absurd (omega (arith, lt, below))) (λ e there. absurd (nowhere e there))
       (λ e o same. let z : Answer e o ≡ Again x = same in absurd cc)
-      (λ e same. let e_is : e ≡ x = (let z : Again e ≡ Again x = same in cc) in (subst (IsEntry request) (sym e_is) (entry request rest now mid k m may).2, is))
+      (λ e same. let e_is : e ≡ x = (let z : Again e ≡ Again x = same in cc) in (subst (EntryRelation request) (sym e_is) (entry request rest now mid k m may).2, is))
       r
       (record {
         answers = r.tells.answers;
@@ -442,7 +452,7 @@ module _ (laws : LawsBelow) (port : Port) (disposition : PendingRequest → Disp
 
       few : request.entry.issues < 4
       few =
-          let most = (All-contains (λ (e : Held). HasFewIssues e.entry) now.book request may.ordered.issues (here request rest now mid k m may)).0 in
+          let most = (All-contains (λ (e : BookEntry). HasFewIssues e.entry) now.book request may.ordered.issues (here request rest now mid k m may)).0 in
           let other = eqb-false request.entry.issues 4 its_issue.1 in omega (arith, most, other)
 
       comes : May m (Again x)
@@ -453,11 +463,11 @@ module _ (laws : LawsBelow) (port : Port) (disposition : PendingRequest → Disp
       of_port : x.request.port ≡ port
       of_port = (entry request rest now mid k m may).2.port ∙ its_port request rest now mid k m may
 
-      goes : AreResolvable port disposition rest (record now { book = map (at_entry request.entry.id requeued_entry) now.book }) (left_known request rest now mid k m may) (after_step m (Again x))
+      goes : AreResolvable port disposition rest (record now { book = map (update_if_id request.entry.id requeued_entry) now.book }) (left_known request rest now mid k m may) (after_step m (Again x))
       goes = record {
         reached = laws.basic.reached m (Again x ∷ []) may.reached (tt, comes);
         knows = laws.slots.again_agrees k m x (decided k.parked port.0 request.entry.id) may.reached may.knows comes.0 (unserved request rest now mid k m may (ap (λ (f : Disposition). keeps_frames_lent f request.entry) is)) (forgets request rest now mid k m may);
-        book = subst (λ (id : RequestId). IsBook (map (at_entry id requeued_entry) now.book) (after_step m (Again x)).book) (id_is request rest now mid k m may) (laws.again now.book m x may.book);
+        book = subst (λ (id : RequestId). BookRelation (map (update_if_id id requeued_entry) now.book) (after_step m (Again x)).book) (id_is request rest now mid k m may) (laws.again now.book m x may.book);
         lent = may.lent;
         ordered = laws.requeued now.book request.entry.id may.ordered (request, here request rest now mid k m may, refl, its_issue.0, few);
         accepted = laws.still_requeued now.table now.book request.entry.id may.accepted;
@@ -473,18 +483,18 @@ module _ (laws : LawsBelow) (port : Port) (disposition : PendingRequest → Disp
       r = more (left_known request rest now mid k m may) (after_step m (Again x)) (subst (λ (h : Holdings). AreResolvable port disposition rest h (left_known request rest now mid k m may) (after_step m (Again x))) (sym meets.1) goes)
   meet_one request rest now mid new its later replies k m may split more fit (Complete o) is meets = meet_end request rest now mid new its later replies k m may split more fit o is meets
 
-pub meet : LawsBelow → (port : Port) (disposition : PendingRequest → Disposition) (requests : List Held) → AllFit disposition requests → (replies : List Reply) (old new : Holdings) (k : DriverState) (m : Machine)
+pub meet : LawsBelow → (port : Port) (disposition : PendingRequest → Disposition) (requests : List BookEntry) → AllFit disposition requests → (replies : List Reply) (old new : Holdings) (k : DriverState) (m : Machine)
     → AreResolvable port disposition requests old k m → AreResolved disposition requests replies old new → AreResolvedInMachine port disposition requests replies old new k m
 meet laws port disposition [] fit replies old new k m may (none, is) = record {
   steps = [];
   parked = k.parked;
   may = tt;
-  own = All-nil (DecidesOn port);
+  own = All-nil (IsResolveStep port);
   backed = λ d. laws.backed_none d m;
   knows = may.knows;
   others = λ q ne. refl;
   still = λ id here. (here, λ e none goes same. nowhere e none);
-  book = subst (λ (h : Holdings). IsBook h.book m.book) (sym is) may.book;
+  book = subst (λ (h : Holdings). BookRelation h.book m.book) (sym is) may.book;
   lent = λ frame. may.lent frame ∙ ap (λ (h : Holdings). lent_to h.table frame) (sym is);
   held = [];
   kept = refl;
@@ -501,9 +511,9 @@ meet laws port disposition (request ∷ rest) fit replies old new k m may (mid, 
     (fit request (first_here request rest)) (disposition request.entry) refl meets
 
 -- Where no loan is kept, and who was parked of the port are issued ones among these, none of the port is.
-pub none_parked : (port : Port) (disposition : PendingRequest → Disposition) (requests : List Held) → AllFit disposition requests → (replies : List Reply) (old new : Holdings) (k : DriverState) (m : Machine)
+pub none_parked : (port : Port) (disposition : PendingRequest → Disposition) (requests : List BookEntry) → AllFit disposition requests → (replies : List Reply) (old new : Holdings) (k : DriverState) (m : Machine)
     (r : AreResolvedInMachine port disposition requests replies old new k m) → ((e : PendingRequest) → keeps_frames_lent (disposition e) e ≡ false)
-    → ((id : RequestId) → Contains (k.parked port.0) id → (e : Held) × Contains requests e × (e.entry.id ≡ id) × (e.entry.issued ≡ true)) → r.parked port.0 ≡ []
+    → ((id : RequestId) → Contains (k.parked port.0) id → (e : BookEntry) × Contains requests e × (e.entry.id ≡ id) × (e.entry.issued ≡ true)) → r.parked port.0 ≡ []
 none_parked port disposition requests fit replies old new k m r quiet its = nobody (r.parked port.0) (λ id here.
     let s = r.still id here in
     let w = its id s.0 in

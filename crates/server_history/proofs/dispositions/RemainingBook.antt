@@ -13,8 +13,8 @@ use Rattle.ata_types.specs.declared.request.Reply.{Reply}
 use Rattle.ata_types.specs.declared.request.RequestId.{RequestId}
 use Rattle.server_history.proofs.state.ListMembers.{contains_cases, contains_there, map_in}
 use Rattle.dma_frames.specs.Table.{Table}
-use Rattle.request_queue.specs.Entries.{HasFewIssues, Held, IsAccepted, IsEarlier, BookIsInOrder, at_entry, has_id, is_of, requeued_entry, without_entry}
-use Rattle.request_queue.specs.Dispositions.{KeepsOrEndsLoan, Holdings, AreResolved, IsResolved, disposition_of, disposition_on, keeps_loan}
+use Rattle.request_queue.specs.Entries.{HasFewIssues, BookEntry, IsAccepted, IsEarlier, BookIsInOrder, update_if_id, has_id, is_of, requeued_entry, without_entry}
+use Rattle.request_queue.specs.Dispositions.{KeepsOrEndsLoan, Holdings, AreResolved, IsResolved, disposition_of, disposition_of_unfailed, keeps_loan}
 use Rattle.request_queue.specs.declared.PendingRequest.{PendingRequest}
 use Rattle.request_queue.specs.declared.disposition.FailedRequest.{FailedRequest}
 use Rattle.request_queue.specs.declared.disposition.Disposition.{Disposition}
@@ -23,7 +23,7 @@ use Rattle.request_queue.specs.declared.disposition.Revalidation.{Revalidation}
 use Rattle.request_queue.specs.declared.disposition.Revalidation.TheVariants.{Dead, DiskLost, SameDisk}
 use Rattle.server_history.specs.Below.{LawsBelow}
 use Rattle.server_history.specs.ErrorHandling.{holdings_of, requests_of}
-use Rattle.server_history.specs.Server.{HasTrueMark, ServerState}
+use Rattle.server_history.specs.Server.{RevokedMarkInvariant, ServerState}
 use Rattle.server_history.proofs.dispositions.FittingFates.{AllFit, FitsEntry}
 use Rattle.server_history.proofs.state.LoanCounts.{counts, fewer_issued, issued_of, kept_issued, one_fewer, requeued_issued}
 use Rattle.server_history.proofs.state.FirstMembers.{nowhere, first_here}
@@ -32,7 +32,7 @@ use Rattle.ata_types.specs.declared.grant.GrantRow.{GrantRow}
 -- ---- fates
 
 -- where the disk isn't the same, each is answered
-ends_on : (revalidation : Revalidation) → revalidation ≢ SameDisk → (e : PendingRequest) → (o : Outcome) × (disposition_on revalidation e ≡ Complete o)
+ends_on : (revalidation : Revalidation) → revalidation ≢ SameDisk → (e : PendingRequest) → (o : Outcome) × (disposition_of_unfailed revalidation e ≡ Complete o)
 ends_on SameDisk other e = absurd (other refl)
 ends_on DiskLost other e = (outcome.Unplugged, refl)
 ends_on Dead other e = (outcome.PortDead, refl)
@@ -42,16 +42,16 @@ ends_of None revalidation other e = ends_on revalidation other e
 ends_of (Some failed) revalidation other e = by (failed.id.0 == e.id.0) refl
   where
     by : (b : Bool) → (failed.id.0 == e.id.0) ≡ b → (o : Outcome) × (disposition_of (Some failed) revalidation e ≡ Complete o)
-    by true x = (outcome.DeviceError failed.status failed.error, (λ i. if x i then Complete (outcome.DeviceError failed.status failed.error) else disposition_on revalidation e))
+    by true x = (outcome.DeviceError failed.status failed.error, (λ i. if x i then Complete (outcome.DeviceError failed.status failed.error) else disposition_of_unfailed revalidation e))
     by false x =
-        let is : disposition_of (Some failed) revalidation e ≡ disposition_on revalidation e = (λ i. if x i then Complete (outcome.DeviceError failed.status failed.error) else disposition_on revalidation e) in
+        let is : disposition_of (Some failed) revalidation e ≡ disposition_of_unfailed revalidation e = (λ i. if x i then Complete (outcome.DeviceError failed.status failed.error) else disposition_of_unfailed revalidation e) in
         let e = ends_on revalidation other e in (e.0, is ∙ e.1)
 
 -- ---- what is left
 
 -- the requests are of the port in a book as a server has it, in its order
-pub record MayDecide (port : Port) (requests : List Held) (now : Holdings) : Type 0 where
-  pub here : (e : Held) → Contains requests e → Contains now.book e × (e.entry.port ≡ port)
+pub record MayDecide (port : Port) (requests : List BookEntry) (now : Holdings) : Type 0 where
+  pub here : (e : BookEntry) → Contains requests e → Contains now.book e × (e.entry.port ≡ port)
   pub earlier : AllPairs IsEarlier requests
   pub ordered : BookIsInOrder now.book
   pub accepted : All (IsAccepted now.table) now.book
@@ -60,18 +60,18 @@ pub record MayDecide (port : Port) (requests : List Held) (now : Holdings) : Typ
 pub its_requests : (port : Port) (s : ServerState) → BookIsInOrder s.book → All (IsAccepted s.table) s.book → MayDecide port (requests_of port s.book) (holdings_of port s)
 its_requests port s ordered accepted = record { here = here; earlier = AllPairs-filter IsEarlier own s.book ordered.ordered; ordered = ordered; accepted = accepted }
   where
-    own : Held → Bool
+    own : BookEntry → Bool
     own e = is_of port e.entry
 
-    here : (e : Held) → Contains (requests_of port s.book) e → Contains s.book e × (e.entry.port ≡ port)
+    here : (e : BookEntry) → Contains (requests_of port s.book) e → Contains s.book e × (e.entry.port ≡ port)
     here e there = (
       All-contains (Contains s.book) (filter own s.book) e (All-filter own (Contains s.book) s.book (All-contains_itself s.book)) there,
-      ap (λ (n : ℕ). record { 0 = n }) (eqb-true e.entry.port.0 port.0 (All-contains (λ (x : Held). own x ≡ true) (filter own s.book) e (filter_passes own s.book) there)),
+      ap (λ (n : ℕ). record { 0 = n }) (eqb-true e.entry.port.0 port.0 (All-contains (λ (x : BookEntry). own x ≡ true) (filter own s.book) e (filter_passes own s.book) there)),
     )
 
 -- it was in the book before, as another that waited or not, but for a marked one, which doesn't wait again
-pub record WasIn (book : List Held) (e : Held) : Type 0 where
-  pub was : Held
+pub record WasIn (book : List BookEntry) (e : BookEntry) : Type 0 where
+  pub was : BookEntry
   pub there : Contains book was
   pub id : e.entry.id ≡ was.entry.id
   pub client : e.entry.client ≡ was.entry.client
@@ -83,19 +83,19 @@ pub record WasIn (book : List Held) (e : Held) : Type 0 where
 
 -- The book is as a server has it still; it has no request that it hadn't, and none of these that was answered; each frame has its owner; and no more places are needed for loans
 -- of the port.
-pub record IsLeft (port : Port) (disposition : PendingRequest → Disposition) (requests : List Held) (old new : Holdings) : Type 0 where
+pub record IsLeft (port : Port) (disposition : PendingRequest → Disposition) (requests : List BookEntry) (old new : Holdings) : Type 0 where
   pub ordered : BookIsInOrder new.book
   pub accepted : All (IsAccepted new.table) new.book
   pub owners : new.table.owners ≡ old.table.owners
-  pub from : (e : Held) → Contains new.book e → WasIn old.book e
-  pub gone : (e : Held) (o : Outcome) → Contains requests e → disposition e.entry ≡ Complete o → (x : Held) → Contains new.book x → x.entry.id ≢ e.entry.id
+  pub from : (e : BookEntry) → Contains new.book e → WasIn old.book e
+  pub gone : (e : BookEntry) (o : Outcome) → Contains requests e → disposition e.entry ≡ Complete o → (x : BookEntry) → Contains new.book x → x.entry.id ≢ e.entry.id
   pub places : length new.kept + issued_of port new.book ≤ length old.kept + issued_of port old.book
   pub fewer : (q : Port) → issued_of q new.book ≤ issued_of q old.book
 
-pub was_itself : (book : List Held) (e : Held) → Contains book e → WasIn book e
+pub was_itself : (book : List BookEntry) (e : BookEntry) → Contains book e → WasIn book e
 was_itself book e here = record { was = e; there = here; id = refl; client = refl; grant = refl; port = refl; op = refl; revoked = refl; waiting = λ waits. inl waits }
 
-pub was_more : (old mid : List Held) (e : Held) → ((x : Held) → Contains mid x → WasIn old x) → WasIn mid e → WasIn old e
+pub was_more : (old mid : List BookEntry) (e : BookEntry) → ((x : BookEntry) → Contains mid x → WasIn old x) → WasIn mid e → WasIn old e
 was_more old mid e before w =
     let v = before w.was w.there in
     record {
@@ -114,7 +114,7 @@ was_more old mid e before w =
     }
 
 -- and so it is marked as it was
-pub marked_as : (rows : List GrantRow) (book : List Held) (e : Held) (w : WasIn book e) → HasTrueMark rows w.was → HasTrueMark rows e
+pub marked_as : (rows : List GrantRow) (book : List BookEntry) (e : BookEntry) (w : WasIn book e) → RevokedMarkInvariant rows w.was → RevokedMarkInvariant rows e
 marked_as rows book e w m =
     record {
       tells = (
@@ -124,26 +124,26 @@ marked_as rows book e w m =
       waiting = λ waits. ⊎_elim (λ waited. w.revoked ∙ m.waiting waited) (λ plain. plain) (w.waiting waits);
     }
 
-pub marked_from : (rows : List GrantRow) (book : List Held) → All (HasTrueMark rows) book → (e : Held) → WasIn book e → HasTrueMark rows e
-marked_from rows book all e w = marked_as rows book e w (All-contains (HasTrueMark rows) book w.was all w.there)
+pub marked_from : (rows : List GrantRow) (book : List BookEntry) → All (RevokedMarkInvariant rows) book → (e : BookEntry) → WasIn book e → RevokedMarkInvariant rows e
+marked_from rows book all e w = marked_as rows book e w (All-contains (RevokedMarkInvariant rows) book w.was all w.there)
 
 module _ (laws : LawsBelow) (port : Port) (disposition : PendingRequest → Disposition) where
   -- ---- one request
 
   -- it met its fate, and the others may meet theirs
-  record HasMet (request : Held) (rest : List Held) (old mid : Holdings) : Type 0 where
+  record HasMet (request : BookEntry) (rest : List BookEntry) (old mid : Holdings) : Type 0 where
     may : MayDecide port rest mid
     owners : mid.table.owners ≡ old.table.owners
-    from : (e : Held) → Contains mid.book e → WasIn old.book e
-    gone : (o : Outcome) → disposition request.entry ≡ Complete o → (x : Held) → Contains mid.book x → x.entry.id ≢ request.entry.id
+    from : (e : BookEntry) → Contains mid.book e → WasIn old.book e
+    gone : (o : Outcome) → disposition request.entry ≡ Complete o → (x : BookEntry) → Contains mid.book x → x.entry.id ≢ request.entry.id
     places : length mid.kept + issued_of port mid.book ≤ length old.kept + issued_of port old.book
     fewer : (q : Port) → issued_of q mid.book ≤ issued_of q old.book
 
-  module _ (request : Held) (rest : List Held) (old mid : Holdings) (may : MayDecide port (request ∷ rest) old) where
+  module _ (request : BookEntry) (rest : List BookEntry) (old mid : Holdings) (may : MayDecide port (request ∷ rest) old) where
     its : Contains old.book request
     its = (may.here request (first_here request rest)).0
 
-    differs : (e : Held) → Contains rest e → e.entry.id ≢ request.entry.id
+    differs : (e : BookEntry) → Contains rest e → e.entry.id ≢ request.entry.id
     differs e there same =
         let lt : request.entry.id.0 < e.entry.id.0 = All-contains (IsEarlier request) rest e (λ i d small. may.earlier 0 (suc i) d (omega arith) (omega (arith, small))) there in
         let id = ap (λ (i : RequestId). i.0) same in omega (arith, lt, id)
@@ -151,7 +151,7 @@ module _ (laws : LawsBelow) (port : Port) (disposition : PendingRequest → Disp
     earlier : AllPairs IsEarlier rest
     earlier i j d lt below = may.earlier (suc i) (suc j) d (omega (arith, lt)) (omega (arith, below))
 
-    of_rest : (e : Held) → Contains rest e → Contains old.book e × (e.entry.port ≡ port)
+    of_rest : (e : BookEntry) → Contains rest e → Contains old.book e × (e.entry.port ≡ port)
     of_rest e there = may.here e (contains_there request rest e there)
 
     waited : mid ≡ old → ((o : Outcome) → disposition request.entry ≡ Complete o → ⊥) → HasMet request rest old mid
@@ -165,15 +165,15 @@ module _ (laws : LawsBelow) (port : Port) (disposition : PendingRequest → Disp
     })
 
     -- it waits again
-    requeued_was : request.entry.revoked ≡ false → (e : Held) → Contains (map (at_entry request.entry.id requeued_entry) old.book) e → WasIn old.book e
+    requeued_was : request.entry.revoked ≡ false → (e : BookEntry) → Contains (map (update_if_id request.entry.id requeued_entry) old.book) e → WasIn old.book e
     requeued_was plain e there =
-        let w = map_in (at_entry request.entry.id requeued_entry) old.book e there in
+        let w = map_in (update_if_id request.entry.id requeued_entry) old.book e there in
         subst (WasIn old.book) (sym w.2) (by w.0 w.1 (has_id request.entry.id w.0) refl)
       where
-        is_it : (x : Held) → Contains old.book x → has_id request.entry.id x ≡ true → x ≡ request
+        is_it : (x : BookEntry) → Contains old.book x → has_id request.entry.id x ≡ true → x ≡ request
         is_it x here same = laws.one old.book x request may.ordered here its (ap (λ (n : ℕ). record { 0 = n }) (eqb-true x.entry.id.0 request.entry.id.0 same))
 
-        by : (x : Held) → Contains old.book x → (b : Bool) → has_id request.entry.id x ≡ b → WasIn old.book (if b then record x { entry = requeued_entry x.entry } else x)
+        by : (x : BookEntry) → Contains old.book x → (b : Bool) → has_id request.entry.id x ≡ b → WasIn old.book (if b then record x { entry = requeued_entry x.entry } else x)
         by x here true same = record {
           was = x;
           there = here;
@@ -183,11 +183,11 @@ module _ (laws : LawsBelow) (port : Port) (disposition : PendingRequest → Disp
           port = refl;
           op = refl;
           revoked = refl;
-          waiting = λ waits. inr (ap (λ (y : Held). y.entry.revoked) (is_it x here same) ∙ plain);
+          waiting = λ waits. inr (ap (λ (y : BookEntry). y.entry.revoked) (is_it x here same) ∙ plain);
         }
         by x here false same = was_itself old.book x here
 
-    goes_again : FitsEntry (disposition request.entry) request.entry → mid ≡ record old { book = map (at_entry request.entry.id requeued_entry) old.book } → disposition request.entry ≡ Requeue → HasMet request rest old mid
+    goes_again : FitsEntry (disposition request.entry) request.entry → mid ≡ record old { book = map (update_if_id request.entry.id requeued_entry) old.book } → disposition request.entry ≡ Requeue → HasMet request rest old mid
     goes_again fit is again = subst (HasMet request rest old) (sym is) (record {
       may = record {
         here = λ e there. let w = of_rest e there in (laws.others old.book request.entry.id requeued_entry e w.0 (differs e there), w.1);
@@ -207,7 +207,7 @@ module _ (laws : LawsBelow) (port : Port) (disposition : PendingRequest → Disp
 
         few : request.entry.issues < 4
         few =
-            let most = (All-contains (λ (e : Held). HasFewIssues e.entry) old.book request may.ordered.issues its).0 in
+            let most = (All-contains (λ (e : BookEntry). HasFewIssues e.entry) old.book request may.ordered.issues its).0 in
             let other = eqb-false request.entry.issues 4 issue.1 in omega (arith, most, other)
 
     -- it is answered, and its loan is kept, or ends
@@ -215,7 +215,7 @@ module _ (laws : LawsBelow) (port : Port) (disposition : PendingRequest → Disp
     loan_left true loan = (
       ap (λ (table : Table). table.owners) loan.1,
       subst (λ (table : Table). All (IsAccepted table) (without_entry request.entry.id old.book)) (sym loan.1)
-          (All-filter (λ (e : Held). not (has_id request.entry.id e)) (IsAccepted old.table) old.book may.accepted),
+          (All-filter (λ (e : BookEntry). not (has_id request.entry.id e)) (IsAccepted old.table) old.book may.accepted),
     )
     loan_left false loan = (loan.1.owners, laws.still_answered old.table mid.table old.book request its loan.1 may.accepted)
 
@@ -227,12 +227,12 @@ module _ (laws : LawsBelow) (port : Port) (disposition : PendingRequest → Disp
         let one : counts port request ≡ 1 =
         ap (λ (own : Bool). cond own (cond request.entry.issued 1 0) 0) (eq-eqb request.entry.port.0 port.0 (ap (λ (p : Port). p.0) (may.here request (first_here request rest)).1))
         ∙ ap (λ (b : Bool). cond b 1 0) (issued refl) in
-        let less = one_fewer port (λ (e : Held). not (has_id request.entry.id e)) old.book request its (ap not (eq-eqb request.entry.id.0 request.entry.id.0 refl)) in
+        let less = one_fewer port (λ (e : BookEntry). not (has_id request.entry.id e)) old.book request its (ap not (eq-eqb request.entry.id.0 request.entry.id.0 refl)) in
         let same = ap (issued_of port) book in
         omega (arith, longer, one, less, same)
     loan_placed book false issued loan =
         let as_long = ap length loan.0 in
-        let less = fewer_issued port (λ (e : Held). not (has_id request.entry.id e)) old.book in
+        let less = fewer_issued port (λ (e : BookEntry). not (has_id request.entry.id e)) old.book in
         let same = ap (issued_of port) book in
         omega (arith, as_long, less, same)
 
@@ -243,16 +243,16 @@ module _ (laws : LawsBelow) (port : Port) (disposition : PendingRequest → Disp
           may = record {
             here = λ e there.
                 let w = of_rest e there in
-                (subst (λ (list : List Held). Contains list e) (sym book) ((laws.left old.book request.entry.id e).1 (w.0, differs e there)), w.1);
+                (subst (λ (list : List BookEntry). Contains list e) (sym book) ((laws.left old.book request.entry.id e).1 (w.0, differs e there)), w.1);
             earlier = earlier;
             ordered = subst BookIsInOrder (sym book) (laws.fewer old.book request.entry.id may.ordered);
             accepted = subst (All (IsAccepted mid.table)) (sym book) l.1;
           };
           owners = l.0;
-          from = λ e there. was_itself old.book e ((laws.left old.book request.entry.id e).0 (subst (λ (list : List Held). Contains list e) book there)).0;
-          gone = λ o ends x there. ((laws.left old.book request.entry.id x).0 (subst (λ (list : List Held). Contains list x) book there)).1;
+          from = λ e there. was_itself old.book e ((laws.left old.book request.entry.id e).0 (subst (λ (list : List BookEntry). Contains list e) book there)).0;
+          gone = λ o ends x there. ((laws.left old.book request.entry.id x).0 (subst (λ (list : List BookEntry). Contains list x) book there)).1;
           places = loan_placed book kept issued loan;
-          fewer = λ q. subst (λ (list : List Held). issued_of q list ≤ issued_of q old.book) (sym book) (fewer_issued q (λ (e : Held). not (has_id request.entry.id e)) old.book);
+          fewer = λ q. subst (λ (list : List BookEntry). issued_of q list ≤ issued_of q old.book) (sym book) (fewer_issued q (λ (e : BookEntry). not (has_id request.entry.id e)) old.book);
         }
 
     meets_one : FitsEntry (disposition request.entry) request.entry → (f : Disposition) → disposition request.entry ≡ f → (told : List Reply) → IsResolved request f told old mid → HasMet request rest old mid
@@ -262,7 +262,7 @@ module _ (laws : LawsBelow) (port : Port) (disposition : PendingRequest → Disp
 
   -- ---- one after another
 
-  pub fated : (requests : List Held) → AllFit disposition requests → (replies : List Reply) (old new : Holdings) → MayDecide port requests old → AreResolved disposition requests replies old new
+  pub fated : (requests : List BookEntry) → AllFit disposition requests → (replies : List Reply) (old new : Holdings) → MayDecide port requests old → AreResolved disposition requests replies old new
       → IsLeft port disposition requests old new
   fated [] fit replies old new may (none, is) = subst (IsLeft port disposition [] old) (sym is) (record {
     ordered = may.ordered;
@@ -284,8 +284,8 @@ module _ (laws : LawsBelow) (port : Port) (disposition : PendingRequest → Disp
         gone = λ e o here ends x there. ⊎_elim
             (λ (is : e ≡ request).
             let w = rests.from x there in
-            let E : Held → Type 0 = λ y. disposition y.entry ≡ Complete o in
-            subst (λ (y : Held). x.entry.id ≢ y.entry.id) (sym is) (λ same. one.gone o (subst E is ends) w.was w.there (sym w.id ∙ same)))
+            let E : BookEntry → Type 0 = λ y. disposition y.entry ≡ Complete o in
+            subst (λ (y : BookEntry). x.entry.id ≢ y.entry.id) (sym is) (λ same. one.gone o (subst E is ends) w.was w.there (sym w.id ∙ same)))
             (λ (later_on : Contains rest e). rests.gone e o later_on ends x there)
             (contains_cases request rest e here);
         places = let first = one.places in let more_places = rests.places in omega (arith, first, more_places);

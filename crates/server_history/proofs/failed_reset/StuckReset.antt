@@ -14,10 +14,10 @@ use Rattle.adapter.specs.Rules.{IsOn}
 use Rattle.adapter.specs.declared.access.DeviceStep.{DeviceStep}
 use Rattle.refinement.specs.Driver.{IsBacked}
 use Rattle.server_history.proofs.state.FollowedAccesses.{followed_adds}
-use Rattle.block_machine.specs.Events.{AllDevices, AllMay, Reset, WasReset}
+use Rattle.block_machine.specs.Events.{AllByDevice, AllMay, Reset, WasReset}
 use Rattle.block_machine.specs.Histories.{Happening, JointState, IsReachable, now}
 use Rattle.block_machine.specs.Left.{after}
-use Rattle.block_machine.specs.Ports.{AreFit, Evidence, RequestFault, IsStuck, Ports, SameDisk}
+use Rattle.block_machine.specs.Ports.{PortsWellFormed, Evidence, RequestFault, IsStuck, Ports, SameDisk}
 use Rattle.block_machine.specs.State.{Machine}
 use Rattle.block_machine.specs.Steps.{Step}
 use Rattle.driver_history.specs.Evidence.{IsEvidencedOf}
@@ -29,15 +29,15 @@ use Rattle.host_boot.specs.declared.ProbeResult.{ProbeResult}
 use Rattle.host_boot.specs.declared.ProbeResult.TheVariants.{Ready, Unready, Unserved}
 use Rattle.identify.specs.declared.DiskInfo.{DiskInfo}
 use Rattle.std.specs.Prelude.{Option}
-use Rattle.request_queue.specs.Entries.{Held}
+use Rattle.request_queue.specs.Entries.{BookEntry}
 use Rattle.server_history.specs.Below.{LawsBelow}
 use Rattle.server_history.specs.Histories.{ExtendsStuck, LeadsToServer}
-use Rattle.server_history.specs.Server.{ServerState, IsMachineOf, last_disk_in, last_disk_of, is_served, ports_of, remembered_at, last_sectors_of, last_serial_of, state_of, use_of}
-use Rattle.server_history.specs.Stalled.{AreDead, ResetGetsStuck, BookInvariant, StuckInvariant, stuck_found}
+use Rattle.server_history.specs.Server.{ServerState, MachineRelation, last_disk_in, last_disk_of, is_served, ports_of, remembered_at, last_sectors_of, last_serial_of, state_of, slot_state_of}
+use Rattle.server_history.specs.StuckServer.{AreDead, ResetGetsStuck, ServerInvariant, StuckInvariant, stuck_found}
 use Rattle.server_history.proofs.state.DeviceSteps.{devices_belong, devices_last, devices_lawful}
 use Rattle.server_history.proofs.state.HistorySteps.{happening_with, lead_with, machine_on, with_device}
 use Rattle.server_history.proofs.state.FirstMembers.{nowhere}
-use Rattle.server_history.proofs.failed_reset.StalledInstant.{LeavesPorts, accesses_idle, booked_on, dead_fit, dead_if_served, holds_off, never_ready}
+use Rattle.server_history.proofs.failed_reset.StuckInstant.{LeavesPorts, accesses_idle, booked_on, dead_fit, dead_if_served, holds_off, never_ready}
 use Rattle.server_history.proofs.state.CallEvidence.{chosen, chosen_is, evidenced_of, four, in_four, is_chosen, told_by}
 
 -- ---- a reset's accesses
@@ -84,7 +84,7 @@ stuck_disk Unserved last = refl
 stuck_disk (Ready info) last = refl
 stuck_disk (Unready state) last = refl
 
-module _ (laws : LawsBelow) (s new : ServerState) (b : BookInvariant s) (g : ResetGetsStuck s new) where
+module _ (laws : LawsBelow) (s new : ServerState) (b : ServerInvariant s) (g : ResetGetsStuck s new) where
   -- the server then
   abbrev n : ServerState
   n = record s { device = new.device; ports = new.ports; remembered = new.remembered; modes = new.modes; slots = new.slots }
@@ -113,12 +113,12 @@ module _ (laws : LawsBelow) (s new : ServerState) (b : BookInvariant s) (g : Res
 
   -- ---- the machine that stands for it
 
-  stands_then : (m : Machine) → IsMachineOf (record s { device = new.device }) m → IsMachineOf n m
+  stands_then : (m : Machine) → MachineRelation (record s { device = new.device }) m → MachineRelation n m
   stands_then m is = record {
     uses = is.uses;
     used = λ port slot alive.
         let unserved = alive_unserved port alive in
-        is.used port slot (unserved_alive port unserved) ∙ ap use_of (b.unused port slot unserved) ∙ sym (ap use_of (g.unused port slot));
+        is.used port slot (unserved_alive port unserved) ∙ ap slot_state_of (b.unused port slot unserved) ∙ sym (ap slot_state_of (g.unused port slot));
     parked = is.parked;
     unparked = λ port alive. is.unparked port (unserved_alive port (alive_unserved port alive));
     knows = is.knows;
@@ -141,17 +141,17 @@ module _ (laws : LawsBelow) (s new : ServerState) (b : BookInvariant s) (g : Res
   -- What the reset makes of a machine that stands for the server: the device's steps lead to one that stands for the server then.
   record Follows (m : Machine) : Type 0 where
     steps : List Step
-    only : AllDevices steps
+    only : AllByDevice steps
     may : AllMay m steps
     backed : IsBacked s.device new.device m steps
-    with_device_alone : IsMachineOf (record s { device = new.device }) (after m steps)
+    with_device_alone : MachineRelation (record s { device = new.device }) (after m steps)
 
-  follows : (m : Machine) → IsReachable m → IsMachineOf s m → Follows m
+  follows : (m : Machine) → IsReachable m → MachineRelation s m → Follows m
   follows m reached is =
       let x = (followed_adds laws g.stays.followed is.uses is.parked tt).adds m reached is.knows in
       record { steps = x.0; only = x.3.only; may = x.1; backed = x.3.backed; with_device_alone = machine_on laws s new.device m x.0 is x.3.only x.2 }
 
-  booked_then : (m : Machine) → IsReachable m → IsMachineOf (record s { device = new.device }) m → BookInvariant n
+  booked_then : (m : Machine) → IsReachable m → MachineRelation (record s { device = new.device }) m → ServerInvariant n
   booked_then m reached is =
       let on = booked_on s new.device b g.stays.same
       (λ port idle. accesses_idle laws its_accesses (All-weaker IsOfReset LeavesPorts leaves_ports its_accesses g.stays.followed.driven.only) s.device new.device g.stays.followed.driven.all port idle)
@@ -173,7 +173,7 @@ module _ (laws : LawsBelow) (s new : ServerState) (b : BookInvariant s) (g : Res
         ordered = on.ordered;
         marked = on.marked;
         handed_out = on.handed_out;
-        asked = All-weaker (λ (e : Held). is_served (probe_result_of s.ports e.entry.port.0) ≡ true) (λ (e : Held). is_served (probe_result_of new.ports e.entry.port.0) ≡ true)
+        asked = All-weaker (λ (e : BookEntry). is_served (probe_result_of s.ports e.entry.port.0) ≡ true) (λ (e : BookEntry). is_served (probe_result_of new.ports e.entry.port.0) ≡ true)
             (λ e its. served_same e.entry.port.0 ∙ its) s.book b.asked;
         machine = m;
         reached = reached;
@@ -207,7 +207,7 @@ module _ (laws : LawsBelow) (s new : ServerState) (b : BookInvariant s) (g : Res
     ports_are : old.abstract.ports ≡ ports_of s
     ports_are = leads.stands.ports_are
 
-    fit : AreFit old.abstract.ports
+    fit : PortsWellFormed old.abstract.ports
     fit = laws.basic.fit s.wanted first past leads.history
 
     evidence : Evidence

@@ -18,75 +18,75 @@ use Rattle.block_machine.specs.Steps.{Step, Answer}
 use Rattle.server_history.proofs.state.ListMembers.{into_map}
 use Rattle.host_boot.specs.Taken.{probe_result_of}
 use Rattle.host_boot.specs.declared.ProbeResult.{ProbeResult}
-use Rattle.request_queue.specs.Entries.{Held, BookIsInOrder, asks, asks_of, due_ids}
+use Rattle.request_queue.specs.Entries.{BookEntry, BookIsInOrder, asks, asks_of, due_ids}
 use Rattle.server_history.specs.Below.{LawsBelow}
-use Rattle.server_history.specs.Served.{AnswersDone, AnswersEach, AnswersOne, AnswersTurn, HasEnded, HasTurnWithoutError, SameSettings, answers_in}
-use Rattle.server_history.specs.Server.{ServerState, InCallInvariant, IsMachineOf, SettledInvariant, mode_in, no_slots, slots_at, state_of}
+use Rattle.server_history.specs.Served.{AnswersDone, AnswersEach, AnswersOne, TurnAnswers, HasEnded, HasTurnWithoutError, SameSettings, ok_answers_of}
+use Rattle.server_history.specs.Server.{ServerState, InCallInvariant, MachineRelation, SettledInvariant, mode_in, no_slots, slots_at, state_of}
 use Rattle.server_history.proofs.healthy_turn.OneAnswer.{IsAnswer, answer_kept, answer_one}
 use Rattle.server_history.proofs.plain_calls.IssueRounds.{each_apart, each_settings, each_slots, settled}
 use Rattle.dma_frames.specs.Table.{Table}
 use Rattle.server_history.proofs.state.PortSlots.{AreOver}
 
 -- an answer leaves the requests of other ports
-answer_apart : LawsBelow → (port : Port) (e : Held) (old new : ServerState) → BookIsInOrder old.book → AnswersOne port e old new → (other : Port) → other ≢ port → of_port other (asks_of new.book) ≡ of_port other (asks_of old.book)
+answer_apart : LawsBelow → (port : Port) (e : BookEntry) (old new : ServerState) → BookIsInOrder old.book → AnswersOne port e old new → (other : Port) → other ≢ port → of_port other (asks_of new.book) ≡ of_port other (asks_of old.book)
 answer_apart laws port e old new order one other ne =
     ap (of_port other) (ap (λ (n : ServerState). asks_of n.book) one.server ∙ laws.asks_answered old.book e.entry.id)
-    ∙ laws.answered_apart other (asks_of old.book) (asks e.entry) (laws.asked old.book order) (into_map (λ (y : Held). asks y.entry) old.book e one.here) (λ same. ne (sym same ∙ one.port_is))
+    ∙ laws.answered_apart other (asks_of old.book) (asks e.entry) (laws.asked old.book order) (into_map (λ (y : BookEntry). asks y.entry) old.book e one.here) (λ same. ne (sym same ∙ one.port_is))
 
-answer_order : LawsBelow → (port : Port) (e : Held) (old new : ServerState) → BookIsInOrder old.book → AnswersOne port e old new → BookIsInOrder new.book
+answer_order : LawsBelow → (port : Port) (e : BookEntry) (old new : ServerState) → BookIsInOrder old.book → AnswersOne port e old new → BookIsInOrder new.book
 answer_order laws port e old new order one = subst (λ (n : ServerState). BookIsInOrder n.book) (sym one.server) (laws.fewer old.book e.entry.id order)
 
 -- These requests are answered by a machine's steps, after which the machine stands for the new server.
-pub record AreAnswered (port : Port) (requests : List Held) (old new : ServerState) (m : Machine) : Type 0 where
+pub record AreAnswered (port : Port) (requests : List BookEntry) (old new : ServerState) (m : Machine) : Type 0 where
   pub ended : List Pending
   pub each : AllZip (HasEnded port) requests ended
-  pub may : AllMay m (answers_in ended)
-  pub backed : IsBacked old.device new.device m (answers_in ended)
-  pub stands : IsMachineOf new (after m (answers_in ended))
+  pub may : AllMay m (ok_answers_of ended)
+  pub backed : IsBacked old.device new.device m (ok_answers_of ended)
+  pub stands : MachineRelation new (after m (ok_answers_of ended))
 
 module _ (laws : LawsBelow) (port : Port) (done : ℕ) where
-  pub answers_apart : (requests : List Held) (old new : ServerState) → BookIsInOrder old.book → AnswersEach port done requests old new → (other : Port) → other ≢ port
+  pub answers_apart : (requests : List BookEntry) (old new : ServerState) → BookIsInOrder old.book → AnswersEach port done requests old new → (other : Port) → other ≢ port
       → of_port other (asks_of new.book) ≡ of_port other (asks_of old.book)
   answers_apart [] old new order none other ne = ap (λ (n : ServerState). of_port other (asks_of n.book)) none
   answers_apart (e ∷ requests) old new order (mid, one, its, more) other ne =
       answers_apart requests mid new (answer_order laws port e old mid order one) more other ne ∙ answer_apart laws port e old mid order one other ne
 
-  pub answers_order : (requests : List Held) (old new : ServerState) → BookIsInOrder old.book → AnswersEach port done requests old new → BookIsInOrder new.book
+  pub answers_order : (requests : List BookEntry) (old new : ServerState) → BookIsInOrder old.book → AnswersEach port done requests old new → BookIsInOrder new.book
   answers_order [] old new order none = subst (λ (n : ServerState). BookIsInOrder n.book) (sym none) order
   answers_order (e ∷ requests) old new order (mid, one, its, more) = answers_order requests mid new (answer_order laws port e old mid order one) more
 
   -- but for the loans, the slots and the book, the server is as it was
-  pub answers_settings : (requests : List Held) (old new : ServerState) → AnswersEach port done requests old new → new ≡ record old { table = new.table; slots = new.slots; book = new.book }
+  pub answers_settings : (requests : List BookEntry) (old new : ServerState) → AnswersEach port done requests old new → new ≡ record old { table = new.table; slots = new.slots; book = new.book }
   answers_settings [] old new none = none ∙ ap (λ (n : ServerState). record old { table = n.table; slots = n.slots; book = n.book }) (sym none)
   answers_settings (e ∷ requests) old new (mid, one, its, more) =
       answers_settings requests mid new more ∙ ap (λ (n : ServerState). record n { table = new.table; slots = new.slots; book = new.book }) one.server
 
   -- and the slots of other ports as they were
-  pub answers_slots : (requests : List Held) (old new : ServerState) → AnswersEach port done requests old new → (other : ℕ) → other ≢ port.0 → slots_at new.slots other ≡ slots_at old.slots other
+  pub answers_slots : (requests : List BookEntry) (old new : ServerState) → AnswersEach port done requests old new → (other : ℕ) → other ≢ port.0 → slots_at new.slots other ≡ slots_at old.slots other
   answers_slots [] old new none other ne = ap (λ (n : ServerState). slots_at n.slots other) none
   answers_slots (e ∷ requests) old new (mid, one, its, more) other ne =
       answers_slots requests mid new more other ne ∙ ap (λ (n : ServerState). slots_at n.slots other) one.server ∙ get_or-set_other old.slots port.0 other _ no_slots ne
 
   -- what is over and ready stays so
-  pub over_on : (e : Held) (old mid : ServerState) → AnswersOne port e old mid → AreOver port done old.device → AreOver port done mid.device
+  pub over_on : (e : BookEntry) (old mid : ServerState) → AnswersOne port e old mid → AreOver port done old.device → AreOver port done mid.device
   over_on e old mid one over = subst (AreOver port done) (sym (ap (λ (n : ServerState). n.device) one.server)) over
 
-  pub ready_on : (e : Held) (old mid : ServerState) → AnswersOne port e old mid → state_of (probe_result_of old.ports port.0) ≡ Ready → state_of (probe_result_of mid.ports port.0) ≡ Ready
+  pub ready_on : (e : BookEntry) (old mid : ServerState) → AnswersOne port e old mid → state_of (probe_result_of old.ports port.0) ≡ Ready → state_of (probe_result_of mid.ports port.0) ≡ Ready
   ready_on e old mid one ready = subst (λ (found : List ProbeResult). state_of (probe_result_of found port.0) ≡ Ready) (sym (ap (λ (n : ServerState). n.ports) one.server)) ready
 
-  pub answers_kept : (requests : List Held) (old new : ServerState) → InCallInvariant old → state_of (probe_result_of old.ports port.0) ≡ Ready → AreOver port done old.device → AnswersEach port done requests old new → InCallInvariant new
+  pub answers_kept : (requests : List BookEntry) (old new : ServerState) → InCallInvariant old → state_of (probe_result_of old.ports port.0) ≡ Ready → AreOver port done old.device → AnswersEach port done requests old new → InCallInvariant new
   answers_kept [] old new k ready over none = subst InCallInvariant (sym none) k
   answers_kept (e ∷ requests) old new k ready over (mid, one, its, more) =
       answers_kept requests mid new (answer_kept laws old mid port e k ready one (over one.slot one.small its)) (ready_on e old mid one ready) (over_on e old mid one over) more
 
-  pub each_answered : (requests : List Held) (old new : ServerState) → InCallInvariant old → state_of (probe_result_of old.ports port.0) ≡ Ready → AreOver port done old.device → AnswersEach port done requests old new
-      → (m : Machine) → IsReachable m → IsMachineOf old m → AreAnswered port requests old new m
+  pub each_answered : (requests : List BookEntry) (old new : ServerState) → InCallInvariant old → state_of (probe_result_of old.ports port.0) ≡ Ready → AreOver port done old.device → AnswersEach port done requests old new
+      → (m : Machine) → IsReachable m → MachineRelation old m → AreAnswered port requests old new m
   each_answered [] old new k ready over none m reached is = record {
     ended = [];
     each = tt;
     may = tt;
     backed = subst (λ (n : ServerState). IsBacked old.device n.device m []) (sym none) (laws.backed_none old.device m);
-    stands = subst (λ (n : ServerState). IsMachineOf n m) (sym none) is;
+    stands = subst (λ (n : ServerState). MachineRelation n m) (sym none) is;
   }
   each_answered (e ∷ requests) old new k ready over (mid, one, its, more) m reached is =
       let y : IsAnswer port e old mid m = answer_one laws old mid port e k ready one (over one.slot one.small its) m reached is in
@@ -96,10 +96,10 @@ module _ (laws : LawsBelow) (port : Port) (done : ℕ) where
       record {
         ended = y.done ∷ z.ended;
         each = (y.has, z.each);
-        may = laws.basic.may m (answers_in z.ended) first (tt, (y.here, tt)) z.may;
-        backed = laws.backed_parts old.device mid.device new.device m first (answers_in z.ended)
+        may = laws.basic.may m (ok_answers_of z.ended) first (tt, (y.here, tt)) z.may;
+        backed = laws.backed_parts old.device mid.device new.device m first (ok_answers_of z.ended)
             (subst (λ (d : Device). IsBacked old.device d m first) (sym (ap (λ (n : ServerState). n.device) one.server)) (laws.backed_own old.device m (Answer y.done Ok) (λ none. none))) z.backed;
-        stands = subst (IsMachineOf new) (sym (laws.basic.joined m (answers_in z.ended) first)) z.stands;
+        stands = subst (MachineRelation new) (sym (laws.basic.joined m (ok_answers_of z.ended) first)) z.stands;
       }
 
   pub answers_settle : (replies : List Reply) (s new : ServerState) → SettledInvariant s → state_of (probe_result_of s.ports port.0) ≡ Ready → AreOver port done s.device → AnswersDone port done replies s new → SettledInvariant new
@@ -114,7 +114,7 @@ module _ (laws : LawsBelow) (port : Port) (done : ℕ) where
 -- ---- a port's turn
 
 -- what a turn leaves of the server
-pub turn_settings : LawsBelow → (port : Port) (replies : List Reply) (old new : ServerState) (turn : HasTurnWithoutError port (slots_at old.slots port.0) replies old.device new.device) → AnswersTurn port replies old new turn
+pub turn_settings : LawsBelow → (port : Port) (replies : List Reply) (old new : ServerState) (turn : HasTurnWithoutError port (slots_at old.slots port.0) replies old.device new.device) → TurnAnswers port replies old new turn
     → SameSettings old new
 turn_settings laws port replies old new turn (inl (none, is)) = is ∙ ap (λ (n : ServerState). record old { device = n.device; table = n.table; slots = n.slots; book = n.book }) (sym is)
 turn_settings laws port replies old new turn (inr (some, a)) =
@@ -128,7 +128,7 @@ turn_settings laws port replies old new turn (inr (some, a)) =
 
 -- and of the requests of another port
 pub turn_apart : LawsBelow → (port : Port) (replies : List Reply) (old new : ServerState) (turn : HasTurnWithoutError port (slots_at old.slots port.0) replies old.device new.device) → BookIsInOrder old.book
-    → AnswersTurn port replies old new turn → (other : Port) → other ≢ port → of_port other (asks_of new.book) ≡ of_port other (asks_of old.book)
+    → TurnAnswers port replies old new turn → (other : Port) → other ≢ port → of_port other (asks_of new.book) ≡ of_port other (asks_of old.book)
 turn_apart laws port replies old new turn order (inl (none, is)) other ne = ap (λ (n : ServerState). of_port other (asks_of n.book)) is
 turn_apart laws port replies old new turn order (inr (some, a)) other ne =
     let c = turn.checked.checks some in
@@ -136,7 +136,7 @@ turn_apart laws port replies old new turn order (inr (some, a)) other ne =
     ∙ answers_apart laws port c.done a.requests (record old { device = c.read }) a.mid order a.each other ne
 
 -- and of the slots of another port
-pub turn_slots : LawsBelow → (port : Port) (replies : List Reply) (old new : ServerState) (turn : HasTurnWithoutError port (slots_at old.slots port.0) replies old.device new.device) → AnswersTurn port replies old new turn
+pub turn_slots : LawsBelow → (port : Port) (replies : List Reply) (old new : ServerState) (turn : HasTurnWithoutError port (slots_at old.slots port.0) replies old.device new.device) → TurnAnswers port replies old new turn
     → (other : ℕ) → other ≢ port.0 → slots_at new.slots other ≡ slots_at old.slots other
 turn_slots laws port replies old new turn (inl (none, is)) other ne = ap (λ (n : ServerState). slots_at n.slots other) is
 turn_slots laws port replies old new turn (inr (some, a)) other ne =

@@ -15,9 +15,9 @@ use Rattle.ata_types.specs.declared.request.Reply.{Reply}
 use Rattle.ata_types.specs.declared.request.RequestId.{RequestId}
 use Rattle.adapter.specs.declared.access.DeviceStep.{DeviceStep}
 use Rattle.adapter.specs.declared.command.Operation.TheVariants.{ReadLog}
-use Rattle.refinement.specs.Driven.{SendsNone}
+use Rattle.refinement.specs.Driven.{GainsNoMove}
 use Rattle.refinement.specs.Driver.{IsBacked}
-use Rattle.block_machine.specs.Events.{AllDevices, AllLawful, AllMay, AreStepsOfCall, IsByDevice, IsLawful, IssuesLast, IsToldBefore, AbstractState, Served, Service, Tells, answers_of, issues_it}
+use Rattle.block_machine.specs.Events.{AllByDevice, AllLawful, AllMay, AreStepsOfCall, IsByDevice, IsLawful, IssuesLast, IsToldBefore, AbstractState, Served, Service, RepliesMatch, answers_of, issues_it}
 use Rattle.block_machine.specs.Histories.{IsReachable}
 use Rattle.block_machine.specs.Left.{after}
 use Rattle.block_machine.specs.Ports.{Evidence, IsServiced, Ports, SamePort}
@@ -29,12 +29,12 @@ use Rattle.driver_history.specs.Evidence.{IsEvidencedOf}
 use Rattle.driver_history.specs.Histories.{IssuesDue}
 use Rattle.host_boot.specs.Taken.{probe_result_of}
 use Rattle.port_control.specs.declared.events.PortEvent.TheVariants.{NoEvent}
-use Rattle.request_queue.specs.Entries.{Held, IsEarlier}
+use Rattle.request_queue.specs.Entries.{BookEntry, IsEarlier}
 use Rattle.slots.specs.declared.SlotUse.{SlotUse}
 use Rattle.server_history.specs.Below.{LawsBelow}
-use Rattle.server_history.specs.Served.{AnswersBy, AnswersTurn, HasEnded, HasTurnWithoutError, IsAnsweredIn, IssuesOnly, SameSettings, answers_in}
-use Rattle.server_history.specs.Server.{ServerState, IsMachineOf, SettledInvariant, mode_in, ports_of, remembered_at, slots_at, state_of, used_for}
-use Rattle.server_history.specs.Turns.{InService, ServesPort, IsOfTurn, LeavesOthers, MakesTurn, NamesOnly, joint_state_of, abstract_state_of}
+use Rattle.server_history.specs.Served.{StepsAnswer, TurnAnswers, HasEnded, HasTurnWithoutError, IsAnsweredIn, AllByDeviceOrIssue, SameSettings, ok_answers_of}
+use Rattle.server_history.specs.Server.{ServerState, MachineRelation, SettledInvariant, mode_in, ports_of, remembered_at, slots_at, state_of, used_for}
+use Rattle.server_history.specs.Turns.{InService, ServesPort, IsOfTurn, LeavesOthers, SimulatesTurn, NamesOnly, joint_state_of, abstract_state_of}
 use Rattle.server_history.proofs.state.AnswerSteps.{answered_in, ended_stood, issuing_answers, may_parts, no_answer, no_answer_issuing, told_so, with_ok}
 use Rattle.server_history.proofs.state.TurnAccesses.{TurnList, turn_list}
 use Rattle.server_history.proofs.healthy_turn.AnswersAndIssues.{turn_apart, turn_settings, turn_slots}
@@ -48,40 +48,40 @@ use Rattle.server_history.proofs.state.FirstMembers.{nowhere}
 pub record AddsTurn (port : Port) (replies : List Reply) (old new : ServerState) (m : Machine) : Type 0 where
   pub steps : List Step
   pub may : AllMay m steps
-  pub stands : IsMachineOf new (after m steps)
+  pub stands : MachineRelation new (after m steps)
   pub backed : IsBacked old.device new.device m steps
-  pub answers : AnswersBy (mode_in old port) port replies steps
+  pub answers : StepsAnswer (mode_in old port) port replies steps
   pub last : IssuesLast steps
   pub issues : IssuesDue (mode_in old port) steps (after m steps) port
 
 -- ---- its steps
 
 -- the device's steps
-pub devices_all : (P : List Step → Type 0) → ((step : Step) (base : List Step) → IsByDevice step → P base → P (step ∷ base)) → P [] → (steps : List Step) → AllDevices steps → P steps
+pub devices_all : (P : List Step → Type 0) → ((step : Step) (base : List Step) → IsByDevice step → P base → P (step ∷ base)) → P [] → (steps : List Step) → AllByDevice steps → P steps
 devices_all P device none [] only = none
 devices_all P device none (step ∷ steps) only = device step steps only.1 (devices_all P device none steps only.0)
 
 -- then the answers
-pub answers_all : (P : List Step → Type 0) (ended : List Pending) (early : List Step) → ((e : Pending) (base : List Step) → Contains ended e → P base → P (Answer e Ok ∷ base)) → P early → P (answers_in ended ++ early)
+pub answers_all : (P : List Step → Type 0) (ended : List Pending) (early : List Step) → ((e : Pending) (base : List Step) → Contains ended e → P base → P (Answer e Ok ∷ base)) → P early → P (ok_answers_of ended ++ early)
 answers_all P [] early answer start = start
 answers_all P (e ∷ ended) early answer start =
-    subst P (sym (append_assoc (answers_in ended) (Answer e Ok ∷ []) early))
+    subst P (sym (append_assoc (ok_answers_of ended) (Answer e Ok ∷ []) early))
     (answers_all P ended (Answer e Ok ∷ early) (λ x base here. answer x base (Contains-append_right (e ∷ []) ended x here)) (answer e early (Contains-get_or (e ∷ ended) 0 e (omega arith)) start))
 
 -- then those that issue
 pub issues_all : (P : List Step → Type 0) (mode : QueueMode) (port : Port) → ((step : Step) (base : List Step) → IsByDevice step → P base → P (step ∷ base))
-    → ((e : Pending) (base : List Step) → e.request.port ≡ port → P base → P (Issue mode e ∷ base)) → (late early : List Step) → IssuesOnly mode port late → P early → P (late ++ early)
+    → ((e : Pending) (base : List Step) → e.request.port ≡ port → P base → P (Issue mode e ∷ base)) → (late early : List Step) → AllByDeviceOrIssue mode port late → P early → P (late ++ early)
 issues_all P mode port device issue [] early only start = start
 issues_all P mode port device issue (Issue its e ∷ late) early only start =
     subst (λ (m : QueueMode). P (Issue m e ∷ (late ++ early))) (sym only.0) (issue e (late ++ early) only.1 (issues_all P mode port device issue late early only.2 start))
 issues_all P mode port device issue (step ∷ late) early only start = device step (late ++ early) only.0 (issues_all P mode port device issue late early only.1 start)
 
 -- what holds of such steps
-of_turn : (P : List Step → Type 0) (mode : QueueMode) (port : Port) (replies : List Reply) (steps : List Step) (b : AnswersBy mode port replies steps) → P []
+of_turn : (P : List Step → Type 0) (mode : QueueMode) (port : Port) (replies : List Reply) (steps : List Step) (b : StepsAnswer mode port replies steps) → P []
     → ((step : Step) (base : List Step) → IsByDevice step → P base → P (step ∷ base)) → ((e : Pending) (base : List Step) → Contains b.ended e → P base → P (Answer e Ok ∷ base))
     → ((e : Pending) (base : List Step) → e.request.port ≡ port → P base → P (Issue mode e ∷ base)) → P steps
 of_turn P mode port replies steps b none device answer issue =
-    subst P (sym b.steps_are) (issues_all P mode port device issue b.later (answers_in b.ended ++ b.before) b.last (answers_all P b.ended b.before answer (devices_all P device none b.before b.first)))
+    subst P (sym b.steps_are) (issues_all P mode port device issue b.later (ok_answers_of b.ended ++ b.before) b.last (answers_all P b.ended b.before answer (devices_all P device none b.before b.first)))
 
 pub device_own : (port : Port) (step : Step) → IsByDevice step → IsOfTurn port step
 device_own port (Issue mode e) is = absurd is
@@ -113,15 +113,15 @@ none_last (step ∷ steps) none = (none_last steps rest, λ id h i. false≢true
 
 -- ---- what it tells
 
-pub devices_answers : (steps : List Step) → AllDevices steps → answers_of steps ≡ []
+pub devices_answers : (steps : List Step) → AllByDevice steps → answers_of steps ≡ []
 devices_answers [] only = refl
 devices_answers (Answer e o ∷ steps) only = absurd only.1
 devices_answers (step ∷ steps) only = devices_answers steps only.0
 
-pub answered_permuted : (ended : List Pending) (early : List Step) → IsPermutation (map with_ok ended ++ answers_of early) (answers_of (answers_in ended ++ early))
+pub answered_permuted : (ended : List Pending) (early : List Step) → IsPermutation (map with_ok ended ++ answers_of early) (answers_of (ok_answers_of ended ++ early))
 answered_permuted [] early = IsPermutation-refl (answers_of early)
 answered_permuted (e ∷ ended) early =
-    subst (λ (steps : List Step). IsPermutation (with_ok e ∷ (map with_ok ended ++ answers_of early)) (answers_of steps)) (sym (append_assoc (answers_in ended) (Answer e Ok ∷ []) early))
+    subst (λ (steps : List Step). IsPermutation (with_ok e ∷ (map with_ok ended ++ answers_of early)) (answers_of steps)) (sym (append_assoc (ok_answers_of ended) (Answer e Ok ∷ []) early))
     (IsPermutation-trans _ _ _ moved (answered_permuted ended (Answer e Ok ∷ early)))
   where
     moved : IsPermutation (with_ok e ∷ (map with_ok ended ++ answers_of early)) (map with_ok ended ++ with_ok e ∷ answers_of early)
@@ -134,7 +134,7 @@ rest_ordered R x xs order i j d lt below = order (suc i) (suc j) d (omega (arith
 first_ordered : {X : Type 0} (R : X → X → Type 0) (x : X) (xs : List X) → AllPairs R (x ∷ xs) → All (R x) xs
 first_ordered R x xs order i d small = order 0 (suc i) d (omega arith) (omega (arith, small))
 
-pub told_ordered : (port : Port) (requests : List Held) (ended : List Pending) → AllZip (HasEnded port) requests ended → AllPairs IsEarlier requests → AllPairs IsToldBefore (map with_ok ended)
+pub told_ordered : (port : Port) (requests : List BookEntry) (ended : List Pending) → AllZip (HasEnded port) requests ended → AllPairs IsEarlier requests → AllPairs IsToldBefore (map with_ok ended)
 told_ordered port requests [] each order = λ i j d lt below. absurd (omega (arith, lt, below))
 told_ordered port [] (p ∷ ended) each order = absurd each
 told_ordered port (e ∷ requests) (p ∷ ended) each order =
@@ -151,7 +151,7 @@ told_ordered port (e ∷ requests) (p ∷ ended) each order =
 -- ---- the whole
 
 module _ (laws : LawsBelow) (port : Port) (replies : List Reply) (old new : ServerState) (t : SettledInvariant old) (ready : state_of (probe_result_of old.ports port.0) ≡ ReadyState)
-    (turn : HasTurnWithoutError port (slots_at old.slots port.0) replies old.device new.device) (told : AnswersTurn port replies old new turn) where
+    (turn : HasTurnWithoutError port (slots_at old.slots port.0) replies old.device new.device) (told : TurnAnswers port replies old new turn) where
   low : port.0 < 4
   low = (ready_found old port.0 t.kept ready).0
 
@@ -196,13 +196,13 @@ module _ (laws : LawsBelow) (port : Port) (replies : List Reply) (old new : Serv
     stuck = All-nil (λ q. q ≡ port);
   }
 
-  module _ (m : Machine) (reached : IsReachable m) (is : IsMachineOf old m) (x : AddsTurn port replies old new m)
+  module _ (m : Machine) (reached : IsReachable m) (is : MachineRelation old m) (x : AddsTurn port replies old new m)
       (answered : turn.look ≡ NoEvent → (slot : ℕ) (used : SlotUse) → slot < 32 → used_for old.slots port.0 slot ≡ Some used
       → (old.device.port port.0).ci slot ≡ false → (old.device.port port.0).sact slot ≡ false → IsAnsweredIn used.id replies) where
     abbrev mode : QueueMode
     mode = mode_in old port
 
-    abbrev b : AnswersBy mode port replies x.steps
+    abbrev b : StepsAnswer mode port replies x.steps
     b = x.answers
 
     abbrev began : AbstractState
@@ -213,7 +213,7 @@ module _ (laws : LawsBelow) (port : Port) (replies : List Reply) (old new : Serv
         → ((e : Pending) (base : List Step) → e.request.port ≡ port → P base → P (Issue mode e ∷ base)) → P x.steps
     all_steps P none device answer issue = of_turn P mode port replies x.steps b none device answer issue
 
-    ended_by : (e : Pending) → Contains b.ended e → (request : Held) × Contains b.requests request × HasEnded port request e
+    ended_by : (e : Pending) → Contains b.ended e → (request : BookEntry) × Contains b.requests request × HasEnded port request e
     ended_by e here = at_right (HasEnded port) b.requests b.ended b.each e here
 
     ended_port : (e : Pending) → Contains b.ended e → e.request.port ≡ port
@@ -231,8 +231,8 @@ module _ (laws : LawsBelow) (port : Port) (replies : List Reply) (old new : Serv
         (λ e base here rest. (rest, inr tt))
         (λ e base its_port rest. (rest, inr (ap (ports_of new).state its_port ∙ port_same.1 ∙ ready, ap (ports_of new).mode its_port ∙ mode_same)))
 
-    early_may : AllMay m b.before × AllMay (after m b.before) (answers_in b.ended)
-    early_may = may_parts laws m (answers_in b.ended) b.before (may_parts laws m b.later (answers_in b.ended ++ b.before) (subst (AllMay m) b.steps_are x.may)).0
+    early_may : AllMay m b.before × AllMay (after m b.before) (ok_answers_of b.ended)
+    early_may = may_parts laws m (ok_answers_of b.ended) b.before (may_parts laws m b.later (ok_answers_of b.ended ++ b.before) (subst (AllMay m) b.steps_are x.may)).0
 
     -- who is answered was issued when the turn began, and has ended
     ok_lawful : (e : Pending) → Contains b.ended e → IsLawful began its (ports_of new) e Ok
@@ -251,20 +251,20 @@ module _ (laws : LawsBelow) (port : Port) (replies : List Reply) (old new : Serv
     only_ok : (e : Pending) (o : Outcome) → Contains x.steps (Answer e o) → Contains b.ended e × (o ≡ Ok)
     only_ok e o here = ⊎_elim
         (λ later. absurd (no_answer_issuing mode port b.later b.last e o later))
-        (λ rest. ⊎_elim (answered_in b.ended e o) (λ early. absurd (no_answer b.before b.first e o early)) (Contains-append_cases (answers_in b.ended) b.before (Answer e o) rest))
-        (Contains-append_cases b.later (answers_in b.ended ++ b.before) (Answer e o) (subst (λ (steps : List Step). Contains steps (Answer e o)) b.steps_are here))
+        (λ rest. ⊎_elim (answered_in b.ended e o) (λ early. absurd (no_answer b.before b.first e o early)) (Contains-append_cases (ok_answers_of b.ended) b.before (Answer e o) rest))
+        (Contains-append_cases b.later (ok_answers_of b.ended ++ b.before) (Answer e o) (subst (λ (steps : List Step). Contains steps (Answer e o)) b.steps_are here))
 
     never_unplugged : (e : Pending) → Contains x.steps (Answer e Unplugged) → ⊥
     never_unplugged e here = let z : Unplugged ≡ Ok = (only_ok e Unplugged here).1 in absurd cc
 
-    answers_are : answers_of x.steps ≡ answers_of (answers_in b.ended ++ b.before)
-    answers_are = ap answers_of b.steps_are ∙ issuing_answers mode port b.later (answers_in b.ended ++ b.before) b.last
+    answers_are : answers_of x.steps ≡ answers_of (ok_answers_of b.ended ++ b.before)
+    answers_are = ap answers_of b.steps_are ∙ issuing_answers mode port b.later (ok_answers_of b.ended ++ b.before) b.last
 
-    tells : Tells x.steps replies
+    tells : RepliesMatch x.steps replies
     tells = record {
       answers = map with_ok b.ended;
       same = subst (IsPermutation (map with_ok b.ended)) (sym answers_are)
-          (subst (λ (list : List (Pending × Outcome)). IsPermutation list (answers_of (answers_in b.ended ++ b.before))) (ap (λ (none : List (Pending × Outcome)). map with_ok b.ended ++ none) (devices_answers b.before b.first) ∙ append-nil (map with_ok b.ended))
+          (subst (λ (list : List (Pending × Outcome)). IsPermutation list (answers_of (ok_answers_of b.ended ++ b.before))) (ap (λ (none : List (Pending × Outcome)). map with_ok b.ended ++ none) (devices_answers b.before b.first) ∙ append-nil (map with_ok b.ended))
           (answered_permuted b.ended b.before));
       ordered = told_ordered port b.requests b.ended b.each b.ordered;
       told = b.told ∙ told_so port b.requests b.ended b.each;
@@ -298,7 +298,7 @@ module _ (laws : LawsBelow) (port : Port) (replies : List Reply) (old new : Serv
       stuck_only = λ here. absurd (nowhere port here);
     }
 
-    makes : MakesTurn InService port replies list.driven.accesses old new m
+    makes : SimulatesTurn InService port replies list.driven.accesses old new m
     makes = record {
       steps = x.steps;
       evidence = its;
@@ -323,10 +323,10 @@ module _ (laws : LawsBelow) (port : Port) (replies : List Reply) (old new : Serv
       finds = λ _. finds laws port replies old new t ready turn list port_same m reached is x.steps x.may b answered;
     }
 
-  module _ (adds : (m : Machine) → IsReachable m → IsMachineOf old m → AddsTurn port replies old new m)
+  module _ (adds : (m : Machine) → IsReachable m → MachineRelation old m → AddsTurn port replies old new m)
       (answered : turn.look ≡ NoEvent → (slot : ℕ) (used : SlotUse) → slot < 32 → used_for old.slots port.0 slot ≡ Some used
       → (old.device.port port.0).ci slot ≡ false → (old.device.port port.0).sact slot ≡ false → IsAnsweredIn used.id replies)
-      (silent : (q : ℕ) → state_of (probe_result_of old.ports q) ≢ Dead → SendsNone q ReadLog old.device new.device) where
+      (silent : (q : ℕ) → state_of (probe_result_of old.ports q) ≢ Dead → GainsNoMove q ReadLog old.device new.device) where
     pub serves : ServesPort port replies old new
     serves = record {
       does = inl (turn, told);

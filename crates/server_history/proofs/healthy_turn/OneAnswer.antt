@@ -1,5 +1,5 @@
 -- The request of a ready port's slot, whose command is over, is answered.
-use Rattle.std.proofs.Common.{ℕ, ◌≡◌, ◌<◌, ◌≤◌, ◌==◌, Bool, true, false, cond, List, [], ◌∷◌, length, get_or, Option, Some, None, inl, refl, sym, ap, ◌∙◌, subst, ⊎_elim, arith, eqb-true, eq-eqb}
+use Rattle.std.proofs.Common.{ℕ, ◌≡◌, ◌<◌, ◌≤◌, ◌==◌, Bool, true, false, cond, List, [], ◌∷◌, length, get_or, Option, Some, None, inl, inr, refl, sym, ap, ◌∙◌, subst, ⊎_elim, arith, eqb-true, eq-eqb}
 use Rattle.std.specs.List.{All, Contains}
 use Rattle.std.proofs.lemmas.Bool.{cond-true, false≢true}
 use Rattle.std.proofs.lemmas.List.{get_or_default}
@@ -11,20 +11,21 @@ use Rattle.ata_types.specs.declared.request.Frame.{Frame}
 use Rattle.ata_types.specs.declared.request.Outcome.TheVariants as outcome
 use Rattle.ata_types.specs.declared.request.RequestId.{RequestId}
 use Rattle.adapter.specs.Device.{Device}
-use Rattle.adapter.proofs.Changed.{changed_each}
+use Rattle.std.proofs.lemmas.Bool.Decides.{eqb_tells}
+use Rattle.adapter.specs.Memory.{changed}
 use Rattle.block_machine.specs.Histories.{IsReachable}
 use Rattle.block_machine.specs.State.{Machine, Pending}
-use Rattle.block_machine.specs.Steps.{Answer, IsLiving, after_step, is_lent_to, unlend}
+use Rattle.block_machine.specs.Steps.{Answer, HoldsFrames, after_step, is_lent_to, unlend}
 use Rattle.server_history.proofs.state.ListMembers.{contains_cases}
 use Rattle.refinement.specs.Driven.{known}
-use Rattle.refinement.specs.Driver.{ForgetsRequest, HasNoSlot, DriverState, parking}
+use Rattle.refinement.specs.Driver.{ForgetsAtMost, HasNoSlot, DriverState, parking}
 use Rattle.refinement.specs.Slots.{Free, Serves, SlotStates, put, IsDropped, IsEnded, IsOver, ServesRequest}
 use Rattle.dma_frames.specs.Table.{Table, lent_to, LendsOnly}
 use Rattle.host_boot.specs.Taken.{probe_result_of}
-use Rattle.request_queue.specs.Entries.{Held, IsAccepted, without_entry}
-use Rattle.request_queue.specs.Machine.{IsBook, IsEntry}
+use Rattle.request_queue.specs.Entries.{BookEntry, IsAccepted, without_entry}
+use Rattle.request_queue.specs.Machine.{BookRelation, EntryRelation}
 use Rattle.server_history.specs.Served.{AnswersOne, HasEnded}
-use Rattle.server_history.specs.Server.{ServerState, InCallInvariant, IsMachineOf, mode_at, slots_at, state_of, usable_of, with_slot, used_for, HasTrueMark}
+use Rattle.server_history.specs.Server.{ServerState, InCallInvariant, MachineRelation, mode_at, slots_at, state_of, usable_of, with_slot, used_for, RevokedMarkInvariant}
 use Rattle.server_history.specs.Below.{LawsBelow}
 use Rattle.server_history.proofs.state.HistorySteps.{kept_then}
 use Rattle.server_history.proofs.state.PlacedSlots.{freed_was, placed_four, placed_has, placed_uses}
@@ -33,7 +34,7 @@ use Rattle.server_history.proofs.state.PortSlots.{IsServedBy, its_mode, used_low
 -- ---- loans
 
 -- the frames of the request given back, in the machine and in the table
-pub given_back : LawsBelow → (m : Machine) (e : Held) (x : Pending) (old new : Table) → IsReachable m → IsLiving m x → IsEntry e x → ((f : Frame) → m.lent f ≡ lent_to old f)
+pub given_back : LawsBelow → (m : Machine) (e : BookEntry) (x : Pending) (old new : Table) → IsReachable m → HoldsFrames m x → EntryRelation e x → ((f : Frame) → m.lent f ≡ lent_to old f)
     → All (λ f. lent_to old f ≡ Some e.entry.id) e.frames → LendsOnly old new e.frames None → (f : Frame) → unlend x.request.id m.lent f ≡ lent_to new f
 given_back laws m e x old new reached lives entry same lent lends f = by (m.lent f) refl
   where
@@ -61,22 +62,24 @@ given_back laws m e x old new reached lives entry same lent lends f = by (m.lent
             false≢true (sym q ∙ eq-eqb o.0 x.request.id.0 (ap (λ (i : RequestId). i.0) (sym w ∙ sym entry.id)))))
 
 -- what is parked last is forgotten
-forgets_one : (uses : SlotStates) (parked : ℕ → List RequestId) (d : Device) (port slot : ℕ) (id : RequestId) → ForgetsRequest id (parking (known uses parked d) port slot id).parked parked
-forgets_one uses parked d port slot id =
-    changed_each parked port (id ∷ parked port) (λ q ids. (other : RequestId) → Contains ids other → (other ≡ id → ⊥) → Contains (parked q) other)
-    (λ other here ne. ⊎_elim (λ same. absurd (ne same)) (λ there. there) (contains_cases id (parked port) other here))
-    (λ q other here ne. here)
+forgets_one : (uses : SlotStates) (parked : ℕ → List RequestId) (d : Device) (port slot : ℕ) (id : RequestId) → ForgetsAtMost id (parking (known uses parked d) port slot id).parked parked
+unfolding changed
+forgets_one uses parked d port slot id q other =
+    elim (eqb_tells q port) [
+      | inl both ↦ rw both.0 (λ here ne. ⊎_elim (λ same. absurd (ne same)) (λ there. subst (λ (p : ℕ). Contains (parked p) other) (sym both.1) there) (contains_cases id (parked port) other here))
+      | inr both ↦ rw both.0 (λ here ne. here)
+    ]
 
 -- ---- it is answered
 
 -- Its request is answered, by a machine's step, after which the machine stands for the new server.
-pub record IsAnswer (port : Port) (request : Held) (old new : ServerState) (m : Machine) : Type 0 where
+pub record IsAnswer (port : Port) (request : BookEntry) (old new : ServerState) (m : Machine) : Type 0 where
   pub done : Pending
   pub here : Contains m.book done
   pub has : HasEnded port request done
-  pub stands : IsMachineOf new (after_step m (Answer done outcome.Ok))
+  pub stands : MachineRelation new (after_step m (Answer done outcome.Ok))
 
-module _ (laws : LawsBelow) (s new : ServerState) (port : Port) (e : Held) (k : InCallInvariant s) (ready : state_of (probe_result_of s.ports port.0) ≡ ReadyState)
+module _ (laws : LawsBelow) (s new : ServerState) (port : Port) (e : BookEntry) (k : InCallInvariant s) (ready : state_of (probe_result_of s.ports port.0) ≡ ReadyState)
     (one : AnswersOne port e s new) (over : IsOver (s.device.port port.0) one.slot) where
   abbrev id : RequestId
   id = e.entry.id
@@ -97,7 +100,7 @@ module _ (laws : LawsBelow) (s new : ServerState) (port : Port) (e : Held) (k : 
   was_accepted : IsAccepted s.table e
   was_accepted = All-contains (IsAccepted s.table) s.book e k.accepted one.here
 
-  module _ (m : Machine) (reached : IsReachable m) (is : IsMachineOf s m) where
+  module _ (m : Machine) (reached : IsReachable m) (is : MachineRelation s m) where
     serves : is.uses port.0 slot ≡ Serves id
     serves = serves_used s m port.0 is ready slot one.used one.served ∙ ap Serves one.id_is
 
@@ -120,8 +123,8 @@ module _ (laws : LawsBelow) (s new : ServerState) (port : Port) (e : Held) (k : 
     same : r.request ≡ e
     same = laws.one s.book r.request e k.ordered r.there one.here r.id_is
 
-    entry : IsEntry e done
-    entry = subst (λ (y : Held). IsEntry y done) same r.entry
+    entry : EntryRelation e done
+    entry = subst (λ (y : BookEntry). EntryRelation y done) same r.entry
 
     abbrev answered : Machine
     answered = after_step m (Answer done outcome.Ok)
@@ -132,17 +135,17 @@ module _ (laws : LawsBelow) (s new : ServerState) (port : Port) (e : Held) (k : 
     no_slot : HasNoSlot taken.uses done.request.id
     no_slot = subst (HasNoSlot taken.uses) (sym x.id_is) (laws.slots.parked_frees (known is.uses is.parked s.device) port.0 slot id is.knows.agrees.apart serves)
 
-    forgets : ForgetsRequest done.request.id taken.parked is.parked
-    forgets = subst (λ (i : RequestId). ForgetsRequest i taken.parked is.parked) (sym x.id_is) (forgets_one is.uses is.parked s.device port.0 slot id)
+    forgets : ForgetsAtMost done.request.id taken.parked is.parked
+    forgets = subst (λ (i : RequestId). ForgetsAtMost i taken.parked is.parked) (sym x.id_is) (forgets_one is.uses is.parked s.device port.0 slot id)
 
-    stands : IsMachineOf left answered
+    stands : MachineRelation left answered
     stands = record {
       uses = put is.uses port.0 slot Free;
       used = placed_uses s.slots port.0 slot None (let l = low in let f = k.four in omega (arith, l, f)) (let h = (k.slots port.0 low).places in let small = one.small in omega (arith, h, small)) laws s.ports is.uses is.used;
       parked = is.parked;
       unparked = is.unparked;
       knows = laws.slots.answered_agrees taken m done outcome.Ok is.parked reached (laws.slots.parked_agrees (known is.uses is.parked s.device) m is.knows port.0 slot over id serves) r.here refl no_slot forgets;
-      book = subst (λ (i : RequestId). IsBook (without_entry i s.book) answered.book) x.id_is (laws.answers s.book m done outcome.Ok is.book);
+      book = subst (λ (i : RequestId). BookRelation (without_entry i s.book) answered.book) x.id_is (laws.answers s.book m done outcome.Ok is.book);
       kept = is.kept;
       rows = is.rows;
       owner = λ f. is.owner f ∙ sym (ap (λ (owners : List (Option ClientId)). get_or owners f.0 None) one.lent.owners);
@@ -155,21 +158,21 @@ module _ (laws : LawsBelow) (s new : ServerState) (port : Port) (e : Held) (k : 
       done = done;
       here = r.here;
       has = record {
-        port_is = ap (λ (n : ℕ). record { 0 = n }) (ap (λ (y : Held). y.entry.port.0) (sym same) ∙ r.port_is);
+        port_is = ap (λ (n : ℕ). record { 0 = n }) (ap (λ (y : BookEntry). y.entry.port.0) (sym same) ∙ r.port_is);
         entry = entry;
         issued = r.issued;
         ended = ended.ended;
         touched = ended.touched;
       };
-      stands = subst (λ (n : ServerState). IsMachineOf n answered) (sym one.server) stands;
+      stands = subst (λ (n : ServerState). MachineRelation n answered) (sym one.server) stands;
     }
 
   -- ---- what the server keeps
 
   -- what holds of each that is left
-  left_each : (P : Held → Type 0) → All P s.book → All P (without_entry id s.book)
+  left_each : (P : BookEntry → Type 0) → All P s.book → All P (without_entry id s.book)
   left_each P all i d small =
-      let y : Held = get_or (without_entry id s.book) i d in
+      let y : BookEntry = get_or (without_entry id s.book) i d in
       All-contains P s.book y all ((laws.left s.book id y).0 (i, small, get_or_default (without_entry id s.book) i y d small)).0
 
   pub answer_kept : InCallInvariant new
@@ -187,11 +190,11 @@ module _ (laws : LawsBelow) (s new : ServerState) (port : Port) (e : Held) (k : 
       (a.0, λ other ne. still_none q other (a.1 other ne)))
       (laws.still_answered s.table new.table s.book e one.here one.lent k.accepted)
       (laws.fewer s.book id k.ordered)
-      (left_each (HasTrueMark s.grants) k.marked)
+      (left_each (RevokedMarkInvariant s.grants) k.marked)
       (left_each (λ y. y.entry.id.0 ≤ s.last) k.handed_out)
       (left_each (λ y. state_of (probe_result_of s.ports y.entry.port.0) ≡ ReadyState) k.ready)
       (after_step k.machine (Answer a.done outcome.Ok)) (laws.basic.reached k.machine (Answer a.done outcome.Ok ∷ []) k.reached (tt, (a.here, tt)))
-      (subst (λ (n : ServerState). IsMachineOf n (after_step k.machine (Answer a.done outcome.Ok))) one.server a.stands))
+      (subst (λ (n : ServerState). MachineRelation n (after_step k.machine (Answer a.done outcome.Ok))) one.server a.stands))
     where
       slot_low : slot < usable_of (probe_result_of s.ports port.0) (mode_at s.modes port.0)
       slot_low = used_low s port.0 slot one.used k low one.served

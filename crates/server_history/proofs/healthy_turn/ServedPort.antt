@@ -12,13 +12,13 @@ use Rattle.hba_regs.specs.Bits.{bit}
 use Rattle.adapter.specs.Commands.{is_queued}
 use Rattle.adapter.specs.Device.{Device}
 use Rattle.adapter.specs.declared.command.Operation.TheVariants.{ReadLog}
-use Rattle.refinement.specs.Driven.{AnyUse, IsDrivenBy, IsSimulated, SendsNone}
+use Rattle.refinement.specs.Driven.{AnyUse, IsDrivenBy, IsSimulated, GainsNoMove}
 use Rattle.refinement.specs.Driver.{IsBacked}
 use Rattle.refinement.specs.Slots.{IsOver, Serves, ServesRequest, Stage}
 use Rattle.server_history.proofs.state.FollowedAccesses.{followed_adds}
-use Rattle.server_history.specs.Laws.AccessKind.{Finding, Looking, Serving}
+use Rattle.server_history.specs.Laws.AccessPurpose.{Finding, Looking, Serving}
 use Rattle.server_history.proofs.state.DrivenAccesses.{by_none}
-use Rattle.block_machine.specs.Events.{AllDevices, AllMay, issues_it}
+use Rattle.block_machine.specs.Events.{AllByDevice, AllMay, issues_it}
 use Rattle.block_machine.specs.Histories.{IsReachable}
 use Rattle.block_machine.specs.Left.{after}
 use Rattle.block_machine.specs.State.{Machine, Pending}
@@ -33,13 +33,13 @@ use Rattle.commands.specs.Masks.{ReadsDone, SeesClear}
 use Rattle.port_control.specs.Looks.{IsLooking, LooksAt}
 use Rattle.port_control.specs.Services.{IsService}
 use Rattle.port_control.specs.declared.events.PortEvent.TheVariants.{NoEvent}
-use Rattle.request_queue.specs.Entries.{Held, asks_of, due_ids}
+use Rattle.request_queue.specs.Entries.{BookEntry, asks_of, due_ids}
 use Rattle.slots.specs.Uses.{PortSlots}
 use Rattle.slots.specs.declared.SlotUse.{SlotUse}
 use Rattle.server_history.specs.Below.{LawsBelow}
-use Rattle.server_history.specs.Served.{AnswersDone, AnswersEach, AnswersOne, HasNone, HasTurnWithoutError, IsMaskOf, IssuesIn, IssuesOnly, IsAnsweredIn, answers_in, done_reply, is_used}
+use Rattle.server_history.specs.Served.{AnswersDone, AnswersEach, AnswersOne, IsEmptyMask, HasTurnWithoutError, IsMaskOf, IsIssuingAnySlot, AllByDeviceOrIssue, IsAnsweredIn, ok_answers_of, done_reply, is_used}
 use Rattle.server_history.specs.Turns.{ServesPort}
-use Rattle.server_history.specs.Server.{ServerState, InCallInvariant, IsMachineOf, SettledInvariant, mode_in, slots_at, state_of, used_for, with_slot}
+use Rattle.server_history.specs.Server.{ServerState, InCallInvariant, MachineRelation, SettledInvariant, mode_in, slots_at, state_of, used_for, with_slot}
 use Rattle.server_history.proofs.healthy_turn.OneAnswer.{answer_kept}
 use Rattle.server_history.proofs.state.DueRequests.{none_issued}
 use Rattle.server_history.proofs.state.TurnAccesses.{bit_zero}
@@ -68,19 +68,19 @@ serves_then : LawsBelow → (old mid new : Device) → IsSimulated IsService Any
 serves_then laws old mid new a b = (laws.looking.fragments.both Serving Serving (λ uses. uses) (λ uses. uses) (λ access is. is) (λ uses any. any) old mid new a b).followed
 
 -- answers issue nothing
-pub answers_issue_none : (id : RequestId) (ended : List Pending) → list_any (issues_it id) (answers_in ended) ≡ false
+pub answers_issue_none : (id : RequestId) (ended : List Pending) → list_any (issues_it id) (ok_answers_of ended) ≡ false
 answers_issue_none id [] = refl
-answers_issue_none id (e ∷ ended) = any_append (issues_it id) (answers_in ended) (Answer e Ok ∷ []) ∙ ap (λ (b : Bool). b || false) (answers_issue_none id ended)
+answers_issue_none id (e ∷ ended) = any_append (issues_it id) (ok_answers_of ended) (Answer e Ok ∷ []) ∙ ap (λ (b : Bool). b || false) (answers_issue_none id ended)
 
 -- the steps of a stretch in which nobody is answered
-pub followed_steps : LawsBelow → (s : ServerState) (new : Device) → IsSimulated IsService AnyUse s.device new → (m : Machine) → IsReachable m → IsMachineOf s m
-    → (steps : List Step) × AllMay m steps × IsMachineOf (record s { device = new }) (after m steps) × IsBacked s.device new m steps × AllDevices steps
+pub followed_steps : LawsBelow → (s : ServerState) (new : Device) → IsSimulated IsService AnyUse s.device new → (m : Machine) → IsReachable m → MachineRelation s m
+    → (steps : List Step) × AllMay m steps × MachineRelation (record s { device = new }) (after m steps) × IsBacked s.device new m steps × AllByDevice steps
 followed_steps laws s new followed m reached is =
     let x = (followed_adds laws followed is.uses is.parked tt).adds m reached is.knows in
     (x.0, x.1, machine_on laws s new m x.0 is x.3.only x.2, x.3.backed, x.3.only)
 
 nobody_answered : LawsBelow → (s : ServerState) (new : Device) (port : Port) → SettledInvariant s → state_of (probe_result_of s.ports port.0) ≡ ReadyState → (turn : HasTurnWithoutError port (slots_at s.slots port.0) [] s.device new) → IsSimulated IsService AnyUse s.device new
-    → ((q : ℕ) → state_of (probe_result_of s.ports q) ≢ Dead → SendsNone q ReadLog s.device new)
+    → ((q : ℕ) → state_of (probe_result_of s.ports q) ≢ Dead → GainsNoMove q ReadLog s.device new)
     → (turn.look ≡ NoEvent → (slot : ℕ) (used : SlotUse) → slot < 32 → used_for s.slots port.0 slot ≡ Some used → (s.device.port port.0).ci slot ≡ false → (s.device.port port.0).sact slot ≡ false → ⊥)
     → ServesPort port [] s (record s { device = new })
 nobody_answered laws s new port settled ready turn followed silent never =
@@ -149,7 +149,7 @@ same_some : {X : Type 0} {a b : X} → Some a ≡ Some b → a ≡ b
 same_some is = cc
 
 -- an answer that frees a slot, or leaves it
-module _ (port : Port) (e : Held) (old mid : ServerState) (one : AnswersOne port e old mid) (k : InCallInvariant old) (low : port.0 < 4) where
+module _ (port : Port) (e : BookEntry) (old mid : ServerState) (one : AnswersOne port e old mid) (k : InCallInvariant old) (low : port.0 < 4) where
   in_list : port.0 < length old.slots
   in_list = let f = k.four in omega (arith, low, f)
 
@@ -168,9 +168,9 @@ module _ (port : Port) (e : Held) (old mid : ServerState) (one : AnswersOne port
 
 module _ (laws : LawsBelow) (port : Port) (low : port.0 < 4) (done : ℕ) where
   -- each slot that was found done, and is free in the end, has its request among these
-  done_told : (requests : List Held) (old new : ServerState) → InCallInvariant old → state_of (probe_result_of old.ports port.0) ≡ ReadyState → AreOver port done old.device → AnswersEach port done requests old new
+  done_told : (requests : List BookEntry) (old new : ServerState) → InCallInvariant old → state_of (probe_result_of old.ports port.0) ≡ ReadyState → AreOver port done old.device → AnswersEach port done requests old new
       → ((slot : ℕ) → slot < 32 → bit done slot ≡ true → used_for new.slots port.0 slot ≡ None) → (slot : ℕ) (used : SlotUse) → slot < 32 → bit done slot ≡ true → used_for old.slots port.0 slot ≡ Some used
-      → (e : Held) × Contains requests e × (e.entry.id ≡ used.id)
+      → (e : BookEntry) × Contains requests e × (e.entry.id ≡ used.id)
   done_told [] old new k ready over none free slot used small is its =
       let z : None ≡ Some used = sym (free slot small is) ∙ ap (λ (n : ServerState). used_for n.slots port.0 slot) none ∙ its in absurd cc
   done_told (e ∷ requests) old new k ready over (mid, one, clear, more) free slot used small is its = ⊎_elim
@@ -184,11 +184,11 @@ module _ (laws : LawsBelow) (port : Port) (low : port.0 < 4) (done : ℕ) where
       (cases_eq slot one.slot)
 
   -- and each of these has a slot that was found done
-  told_done : (requests : List Held) (old new : ServerState) → InCallInvariant old → state_of (probe_result_of old.ports port.0) ≡ ReadyState → AreOver port done old.device → AnswersEach port done requests old new
-      → (e : Held) → Contains requests e → (slot : ℕ) × (slot < 32) × (bit done slot ≡ true) × ((used : SlotUse) × (used_for old.slots port.0 slot ≡ Some used) × (used.id ≡ e.entry.id))
+  told_done : (requests : List BookEntry) (old new : ServerState) → InCallInvariant old → state_of (probe_result_of old.ports port.0) ≡ ReadyState → AreOver port done old.device → AnswersEach port done requests old new
+      → (e : BookEntry) → Contains requests e → (slot : ℕ) × (slot < 32) × (bit done slot ≡ true) × ((used : SlotUse) × (used_for old.slots port.0 slot ≡ Some used) × (used.id ≡ e.entry.id))
   told_done [] old new k ready over none e here = absurd (nowhere e here)
   told_done (first ∷ requests) old new k ready over (mid, one, clear, more) e here = ⊎_elim
-      (λ (same : e ≡ first). (one.slot, one.small, clear, (one.used, one.served, one.id_is ∙ ap (λ (x : Held). x.entry.id) (sym same))))
+      (λ (same : e ≡ first). (one.slot, one.small, clear, (one.used, one.served, one.id_is ∙ ap (λ (x : BookEntry). x.entry.id) (sym same))))
       (λ (there : Contains requests e).
       let rest = told_done requests mid new (answer_kept laws old mid port first k ready one (over one.slot one.small clear)) (ready_on laws port done first old mid one ready) (over_on laws port done first old mid one over) more e there in
       ⊎_elim
@@ -207,7 +207,7 @@ module _ (s : ServerState) (seen : Device) (port : Port) (t : SettledInvariant s
   low = (ready_found s port.0 k ready).0
 
   -- a look brings no page of the log but on dead ports
-  seen_silent : LawsBelow → (q : ℕ) → state_of (probe_result_of s.ports q) ≢ Dead → SendsNone q ReadLog s.device seen
+  seen_silent : LawsBelow → (q : ℕ) → state_of (probe_result_of s.ports q) ≢ Dead → GainsNoMove q ReadLog s.device seen
   seen_silent laws q lives = looking_silent s seen port k laws looks q ReadLog refl (λ dead. lives (ap state_of dead))
 
   module _ (l : LooksAt port NoEvent s.device seen) where
@@ -226,7 +226,7 @@ module _ (s : ServerState) (seen : Device) (port : Port) (t : SettledInvariant s
         (seen_silent laws)
         (λ calm slot used small is ci sact. false≢true (sym (bit_zero slot) ∙ its slot small ∙ ap is_used is))
 
-    module _ (laws : LawsBelow) (mask : ℕ) (its : IsMaskOf (slots_at s.slots port.0) mask) (some : HasNone mask → ⊥) where
+    module _ (laws : LawsBelow) (mask : ℕ) (its : IsMaskOf (slots_at s.slots port.0) mask) (some : IsEmptyMask mask → ⊥) where
       -- a used slot is asked for
       asked : (slot : ℕ) (used : SlotUse) → slot < 32 → used_for s.slots port.0 slot ≡ Some used → bit mask slot ≡ true
       asked slot used small is = its slot small ∙ ap is_used is
@@ -235,13 +235,13 @@ module _ (s : ServerState) (seen : Device) (port : Port) (t : SettledInvariant s
       seen_kept = looking_kept s seen port k ready laws looks
 
       -- nor does finding
-      found_silent : (new : Device) (done : ℕ) → ReadsDone port mask done seen new → (q : ℕ) → state_of (probe_result_of s.ports q) ≢ Dead → SendsNone q ReadLog s.device new
+      found_silent : (new : Device) (done : ℕ) → ReadsDone port mask done seen new → (q : ℕ) → state_of (probe_result_of s.ports q) ≢ Dead → GainsNoMove q ReadLog s.device new
       found_silent new done reads q lives =
           silent_more q ReadLog s.device seen new (seen_silent laws q lives)
           (finding_silent (record s { device = seen }) new port seen_kept ready laws mask done reads q ReadLog refl (λ dead. lives (ap state_of dead)))
 
       -- none of what it has issued was found done
-      pub unfinished : (new : Device) (done : ℕ) → ReadsDone port mask done seen new → SeesClear port mask done seen → HasNone done → ServesPort port [] s (record s { device = new })
+      pub unfinished : (new : Device) (done : ℕ) → ReadsDone port mask done seen new → SeesClear port mask done seen → IsEmptyMask done → ServesPort port [] s (record s { device = new })
       unfinished new done reads sees none =
           nobody_answered laws s new port t ready
           (record {
@@ -259,7 +259,7 @@ module _ (s : ServerState) (seen : Device) (port : Port) (t : SettledInvariant s
                 reads = reads;
                 exact = λ slot used small is. ((λ found. absurd (false≢true (sym (none slot small) ∙ found))), (λ w. absurd (nowhere w.0 w.1)));
                 running = λ _. (refl, refl);
-                over = by_none (IssuesIn port) new;
+                over = by_none (IsIssuingAnySlot port) new;
               };
             };
           })
@@ -270,7 +270,7 @@ module _ (s : ServerState) (seen : Device) (port : Port) (t : SettledInvariant s
           false≢true (sym (none slot small) ∙ sees slot small (asked slot used small is) c.0 c.1))
 
       -- what was found done was answered
-      module _ (new : ServerState) (found : Device) (done : ℕ) (replies : List Reply) (reads : ReadsDone port mask done seen found) (sees : SeesClear port mask done seen) (was_done : HasNone done → ⊥)
+      module _ (new : ServerState) (found : Device) (done : ℕ) (replies : List Reply) (reads : ReadsDone port mask done seen found) (sees : SeesClear port mask done seen) (was_done : IsEmptyMask done → ⊥)
           (a : AnswersDone port done replies (record s { device = found }) new) where
         abbrev from : ServerState
         from = record s { device = found }
@@ -297,11 +297,11 @@ module _ (s : ServerState) (seen : Device) (port : Port) (t : SettledInvariant s
         mode_is : mode_in a.mid port ≡ mode_in s port
         mode_is = ap (λ (n : ServerState). mode_in n port) (answers_settings laws port done a.requests from a.mid a.each)
 
-        turn_adds : (m : Machine) → IsReachable m → IsMachineOf s m → AddsTurn port replies s new m
+        turn_adds : (m : Machine) → IsReachable m → MachineRelation s m → AddsTurn port replies s new m
         turn_adds m reached is = record {
           steps = z.steps ++ base;
           may = laws.basic.may m z.steps base base_may z.may;
-          stands = subst (IsMachineOf new) (sym (laws.basic.joined m z.steps base)) z.stands;
+          stands = subst (MachineRelation new) (sym (laws.basic.joined m z.steps base)) z.stands;
           backed = laws.backed_parts s.device a.mid.device new.device m base z.steps base_backed z.backed;
           answers = record {
             requests = a.requests;
@@ -313,7 +313,7 @@ module _ (s : ServerState) (seen : Device) (port : Port) (t : SettledInvariant s
             before = x.0;
             steps_are = refl;
             first = x.4;
-            last = subst (λ (mode : QueueMode). IssuesOnly mode port z.steps) mode_is z.only;
+            last = subst (λ (mode : QueueMode). AllByDeviceOrIssue mode port z.steps) mode_is z.only;
           };
           last = last_on (mode_in a.mid port) port z.steps base z.only z.last (none_last base none_in_base) (λ id late early. false≢true (sym (none_in_base id) ∙ early));
           issues = subst (λ (mode : QueueMode). IssuesDue mode (z.steps ++ base) (after m (z.steps ++ base)) port) mode_is (subst (λ (n : Machine). IssuesDue (mode_in a.mid port) (z.steps ++ base) n port) (sym (laws.basic.joined m z.steps base))
@@ -322,7 +322,7 @@ module _ (s : ServerState) (seen : Device) (port : Port) (t : SettledInvariant s
               (dues laws port a.mid new mid_kept a.issued (after m base) z port (λ ne. absurd (ne refl)))));
         }
           where
-            x : (steps : List Step) × AllMay m steps × IsMachineOf from (after m steps) × IsBacked s.device found m steps × AllDevices steps
+            x : (steps : List Step) × AllMay m steps × MachineRelation from (after m steps) × IsBacked s.device found m steps × AllByDevice steps
             x = followed_steps laws s found served m reached is
 
             reached_x : IsReachable (after m x.0)
@@ -332,28 +332,28 @@ module _ (s : ServerState) (seen : Device) (port : Port) (t : SettledInvariant s
             y = each_answered laws port done a.requests from a.mid found_kept ready over a.each (after m x.0) reached_x x.2
 
             base : List Step
-            base = answers_in y.ended ++ x.0
+            base = ok_answers_of y.ended ++ x.0
 
-            base_is : after m base ≡ after (after m x.0) (answers_in y.ended)
-            base_is = laws.basic.joined m (answers_in y.ended) x.0
+            base_is : after m base ≡ after (after m x.0) (ok_answers_of y.ended)
+            base_is = laws.basic.joined m (ok_answers_of y.ended) x.0
 
             base_may : AllMay m base
-            base_may = laws.basic.may m (answers_in y.ended) x.0 x.1 y.may
+            base_may = laws.basic.may m (ok_answers_of y.ended) x.0 x.1 y.may
 
             base_backed : IsBacked s.device a.mid.device m base
-            base_backed = laws.backed_parts s.device found a.mid.device m x.0 (answers_in y.ended) x.3 y.backed
+            base_backed = laws.backed_parts s.device found a.mid.device m x.0 (ok_answers_of y.ended) x.3 y.backed
 
             none_in_base : (id : RequestId) → list_any (issues_it id) base ≡ false
-            none_in_base id = any_append (issues_it id) (answers_in y.ended) x.0 ∙ ap (λ (b : Bool). b || list_any (issues_it id) x.0) (answers_issue_none id y.ended) ∙ devices_issue_none id x.0 x.4
+            none_in_base id = any_append (issues_it id) (ok_answers_of y.ended) x.0 ∙ ap (λ (b : Bool). b || list_any (issues_it id) x.0) (answers_issue_none id y.ended) ∙ devices_issue_none id x.0 x.4
 
             z : AreIssued port ids a.mid new (after m base)
-            z = each_issued laws port ids a.mid new mid_kept a.issued (after m base) (laws.basic.reached m base reached base_may) (subst (IsMachineOf a.mid) (sym base_is) y.stands)
+            z = each_issued laws port ids a.mid new mid_kept a.issued (after m base) (laws.basic.reached m base reached base_may) (subst (MachineRelation a.mid) (sym base_is) y.stands)
 
-        last_issues : IsDrivenBy (IssuesIn port) found new.device
-        last_issues = subst (λ (d : Device). IsDrivenBy (IssuesIn port) d new.device) mid_device (each_driven laws port ids a.mid new a.issued)
+        last_issues : IsDrivenBy (IsIssuingAnySlot port) found new.device
+        last_issues = subst (λ (d : Device). IsDrivenBy (IsIssuingAnySlot port) d new.device) mid_device (each_driven laws port ids a.mid new a.issued)
 
         -- a request is told exactly if its slot was found done
-        told_of : (e : Held) → Contains a.requests e → IsAnsweredIn e.entry.id replies
+        told_of : (e : BookEntry) → Contains a.requests e → IsAnsweredIn e.entry.id replies
         told_of e here = (done_reply e, subst (λ (list : List Reply). Contains list (done_reply e)) (sym a.told) (into_map done_reply a.requests e here), refl)
 
         exactly : (slot : ℕ) (used : SlotUse) → slot < 32 → used_for s.slots port.0 slot ≡ Some used → bit done slot ≡ true ↔ IsAnsweredIn used.id replies
@@ -376,10 +376,10 @@ module _ (s : ServerState) (seen : Device) (port : Port) (t : SettledInvariant s
                 (serves_used s k.machine port.0 k.stands ready a x ax) (serves_used s k.machine port.0 k.stands ready b y by ∙ ap Serves (sym same))).1
 
         -- no page of the log comes in all that but on dead ports
-        whole_silent : (q : ℕ) → state_of (probe_result_of s.ports q) ≢ Dead → SendsNone q ReadLog s.device new.device
+        whole_silent : (q : ℕ) → state_of (probe_result_of s.ports q) ≢ Dead → GainsNoMove q ReadLog s.device new.device
         whole_silent q lives =
             silent_more q ReadLog s.device found new.device (found_silent found done reads q lives)
-            (subst (λ (d : Device). SendsNone q ReadLog d new.device) mid_device
+            (subst (λ (d : Device). GainsNoMove q ReadLog d new.device) mid_device
             (each_silent laws port ids a.mid new mid_kept a.issued q ReadLog refl (λ dead. lives (ap (λ (n : ServerState). state_of (probe_result_of n.ports q)) (sym (answers_settings laws port done a.requests from a.mid a.each)) ∙ ap state_of dead))))
 
         pub finished : ServesPort port replies s new

@@ -21,25 +21,25 @@ use Rattle.refinement.specs.Slots.{IsEmptySlot, RelatesSlot, Serves, ServesReque
 use Rattle.block_machine.specs.Events.{AllMay, AnswersEnded, changes_disk}
 use Rattle.block_machine.specs.Histories.{IsReachable}
 use Rattle.block_machine.specs.Left.{after}
-use Rattle.block_machine.specs.Ports.{Evidence, IsInterrupted, SamePort}
+use Rattle.block_machine.specs.Ports.{Evidence, IsStoppedOrStuck, SamePort}
 use Rattle.block_machine.specs.State.{Pending, Machine}
 use Rattle.block_machine.specs.Steps.{Step, Answer}
 use Rattle.block_machine.specs.declared.due.QueueMode.{QueueMode}
 use Rattle.server_history.proofs.state.ListMembers.{into_map, map_in}
 use Rattle.driver_history.specs.Heeding.{ServesReady, tells_fault}
 use Rattle.driver_history.specs.Evidence.{ShowsFailure, ShowsLoss}
-use Rattle.driver_history.specs.Histories.{FindsDone, IsUnfitOrForeign, IsAnsweredOk, IsIssuedOn}
-use Rattle.driver_history.specs.Trace.{ReadsMasks}
+use Rattle.driver_history.specs.Histories.{FindsDone, HasUnservedDisk, IsAnsweredOk, IsIssuedOn}
+use Rattle.driver_history.specs.Trace.{ReadsCiAndSact}
 use Rattle.host_boot.specs.Taken.{probe_result_of}
 use Rattle.port_control.specs.Looks.{IsLooking}
 use Rattle.port_control.specs.declared.events.PortEvent.TheVariants.{LinkChanged, NoEvent}
 use Rattle.slots.specs.declared.SlotUse.{SlotUse}
 use Rattle.server_history.specs.Below.{LawsBelow}
-use Rattle.server_history.specs.Served.{AnswersBy, Checks, HasEnded, HasTurnWithoutError, IsAnsweredIn, IsMaskOf, answers_in, done_reply, is_used}
+use Rattle.server_history.specs.Served.{StepsAnswer, PollsSlots, HasEnded, HasTurnWithoutError, IsAnsweredIn, IsMaskOf, ok_answers_of, done_reply, is_used}
 use Rattle.server_history.proofs.any_turn.TurnSteps.{counts_none}
 use Rattle.server_history.proofs.any_turn.UnusedSlotBits.{unused_clear}
-use Rattle.server_history.specs.Turns.{FindsTurn, InService, TurnCorresponds, joint_state_of, abstract_state_of}
-use Rattle.server_history.specs.Server.{ServerState, InCallInvariant, IsMachineOf, SettledInvariant, mode_in, ports_of, slots_at, state_of, used_for}
+use Rattle.server_history.specs.Turns.{FindsDoneInTurn, InService, TurnCorresponds, joint_state_of, abstract_state_of}
+use Rattle.server_history.specs.Server.{ServerState, InCallInvariant, MachineRelation, SettledInvariant, mode_in, ports_of, slots_at, state_of, used_for}
 use Rattle.server_history.proofs.state.AnswerSteps.{answered_in, ended_stood, in_answered, may_parts, no_answer, no_answer_issuing}
 use Rattle.server_history.proofs.state.TurnAccesses.{TurnList, look_does, look_list}
 use Rattle.server_history.proofs.any_turn.ToldTrouble.{no_change, not_missing}
@@ -65,8 +65,8 @@ tells_none q (step ∷ steps) told = tells_none q steps (λ x o here. told x o (
 
 module _ (laws : LawsBelow) (port : Port) (replies : List Reply) (old new : ServerState) (t : SettledInvariant old) (ready : state_of (probe_result_of old.ports port.0) ≡ ReadyState)
     (turn : HasTurnWithoutError port (slots_at old.slots port.0) replies old.device new.device) (list : TurnList port (slots_at old.slots port.0) replies old.device new.device turn)
-    (same : SamePort (ports_of old) (ports_of new) port) (m : Machine) (reached : IsReachable m) (at : IsMachineOf old m) (steps : List Step) (may : AllMay m steps)
-    (b : AnswersBy (mode_in old port) port replies steps)
+    (same : SamePort (ports_of old) (ports_of new) port) (m : Machine) (reached : IsReachable m) (at : MachineRelation old m) (steps : List Step) (may : AllMay m steps)
+    (b : StepsAnswer (mode_in old port) port replies steps)
     (answered : turn.look ≡ NoEvent → (slot : ℕ) (used : SlotUse) → slot < 32 → used_for old.slots port.0 slot ≡ Some used
     → (old.device.port port.0).ci slot ≡ false → (old.device.port port.0).sact slot ≡ false → IsAnsweredIn used.id replies) where
   abbrev kept : InCallInvariant old
@@ -93,8 +93,8 @@ module _ (laws : LawsBelow) (port : Port) (replies : List Reply) (old new : Serv
       (λ rest. ⊎_elim
       (λ told. answered_in b.ended e o told)
       (λ early. absurd (no_answer b.before b.first e o early))
-      (Contains-append_cases (answers_in b.ended) b.before (Answer e o) rest))
-      (Contains-append_cases b.later (answers_in b.ended ++ b.before) (Answer e o) (subst (λ (list : List Step). Contains list (Answer e o)) b.steps_are here))
+      (Contains-append_cases (ok_answers_of b.ended) b.before (Answer e o) rest))
+      (Contains-append_cases b.later (ok_answers_of b.ended ++ b.before) (Answer e o) (subst (λ (list : List Step). Contains list (Answer e o)) b.steps_are here))
 
   has_slot : (e : Pending) → IsIssuedOn port m e → HasSlot old port e.request.id
   has_slot e own = issued_has old m port at kept ready e own.here own.port_is own.issued
@@ -111,8 +111,8 @@ module _ (laws : LawsBelow) (port : Port) (replies : List Reply) (old new : Serv
       let clear = laws.slots.ended_clear at.uses m old.device port h.slot e reached at.knows.agrees (inl (own.here, own.issued)) ended slot in
       (clear.0.over.issued, clear.0.sact)
 
-  early_may : AllMay m b.before × AllMay (after m b.before) (answers_in b.ended)
-  early_may = may_parts laws m (answers_in b.ended) b.before (may_parts laws m b.later (answers_in b.ended ++ b.before) (subst (AllMay m) b.steps_are may)).0
+  early_may : AllMay m b.before × AllMay (after m b.before) (ok_answers_of b.ended)
+  early_may = may_parts laws m (ok_answers_of b.ended) b.before (may_parts laws m b.later (ok_answers_of b.ended ++ b.before) (subst (AllMay m) b.steps_are may)).0
 
   -- who is told is answered, and who is answered is told
   module _ (e : Pending) (own : IsIssuedOn port m e) where
@@ -127,7 +127,7 @@ module _ (laws : LawsBelow) (port : Port) (replies : List Reply) (old new : Serv
           d.0,
           l.2.request ∙ ap (λ (y : Pending). y.request) (sym one),
           subst (λ (steps : List Step). Contains steps (Answer d.0 Ok)) (sym b.steps_are)
-              (Contains-append_right b.later (answers_in b.ended ++ b.before) (Answer d.0 Ok) (Contains-append_left (answers_in b.ended) b.before (Answer d.0 Ok) (in_answered b.ended d.0 d.1))),
+              (Contains-append_right b.later (ok_answers_of b.ended ++ b.before) (Answer d.0 Ok) (Contains-append_left (ok_answers_of b.ended) b.before (Answer d.0 Ok) (in_answered b.ended d.0 d.1))),
         )
 
     answered_told : IsAnsweredOk e steps → IsAnsweredIn (has_slot e own).used.id replies
@@ -153,10 +153,10 @@ module _ (laws : LawsBelow) (port : Port) (replies : List Reply) (old new : Serv
 
     module _ (e : Pending) (leads : IsIssuedOn port m e) where
       read : (mask : ℕ) × IsMaskOf (slots_at old.slots port.0) mask
-          × ((c : Checks port (slots_at old.slots port.0) mask replies turn.seen new.device) × ReadsMasks port c.reads.issued c.reads.active list.driven.accesses)
+          × ((c : PollsSlots port (slots_at old.slots port.0) mask replies turn.seen new.device) × ReadsCiAndSact port c.reads.issued c.reads.active list.driven.accesses)
       read = let h = has_slot e leads in list.masks calm (h.slot, h.small, ap is_used h.used_is)
 
-      abbrev k : Checks port (slots_at old.slots port.0) read.0 replies turn.seen new.device
+      abbrev k : PollsSlots port (slots_at old.slots port.0) read.0 replies turn.seen new.device
       k = read.2.0
 
       looks : IsDrivenBy (IsLooking port) old.device turn.seen
@@ -238,13 +238,13 @@ module _ (laws : LawsBelow) (port : Port) (replies : List Reply) (old new : Serv
             (cases_eq slot (has_slot other own).slot);
       }
 
-      found_by_masks : FindsTurn port list.driven.accesses old m steps
+      found_by_masks : FindsDoneInTurn port list.driven.accesses old m steps
       unfolding finding
       found_by_masks = record { done = finding; unused = λ slot small none. unused_clear laws old m port.0 at ready turn.seen k.read looks read.0 k.done k.reads slot small none }
 
   -- ---- what is owed to it
 
-  pub finds : (e : Pending) → IsIssuedOn port m e → FindsTurn port list.driven.accesses old m steps
+  pub finds : (e : Pending) → IsIssuedOn port m e → FindsDoneInTurn port list.driven.accesses old m steps
   finds e own = found_by_masks turn.quiet e own
 
   undue : (old.device.port port.0).link_due ≡ false
@@ -268,10 +268,10 @@ module _ (laws : LawsBelow) (port : Port) (replies : List Reply) (old new : Serv
       loss
 
   module _ (backed : IsBacked old.device new.device m steps) where
-    uninterrupted : IsInterrupted its port → ⊥
+    uninterrupted : IsStoppedOrStuck its port → ⊥
     uninterrupted i = ⊎_elim (nowhere port) (nowhere port) i
 
-    not_bad : IsUnfitOrForeign (ports_of old) port → ⊥
+    not_bad : HasUnservedDisk (ports_of old) port → ⊥
     not_bad (inl foreign) = let z : Foreign ≡ ReadyState = sym foreign ∙ ready in cc
     not_bad (inr (cause, unfit)) = let z : Unfit cause ≡ ReadyState = sym unfit ∙ ready in cc
 

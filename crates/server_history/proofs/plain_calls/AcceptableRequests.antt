@@ -23,19 +23,19 @@ use Rattle.block_machine.specs.Confined.{IsGranted, WasAccepted}
 use Rattle.block_machine.specs.Events as events
 use Rattle.block_machine.specs.Histories.{JointState, IsReachable}
 use Rattle.block_machine.specs.Refusals.{Situation, IsAcceptable}
-use Rattle.block_machine.specs.Rules.{IsAllowedCount, IsNamed, Names, frames_for}
+use Rattle.block_machine.specs.Rules.{IsAllowedCount, IsNamed, Names, frame_count_for}
 use Rattle.block_machine.specs.State as machine
 use Rattle.block_machine.specs.State.{Machine, block_of}
 use Rattle.block_machine.specs.Steps as steps
-use Rattle.block_machine.specs.Steps.{IsLiving, MayAccept, Step, newly_accepted}
+use Rattle.block_machine.specs.Steps.{HoldsFrames, MayAccept, Step, newly_accepted}
 use Rattle.dma_frames.specs.Table.{Table, owner_of, lent_to, LendsOnly}
 use Rattle.host_boot.specs.Taken.{probe_result_of}
 use Rattle.request_queue.specs.Entries.{IsAccepted, unanswered_entries}
-use Rattle.request_queue.specs.Machine.{IsEntry}
+use Rattle.request_queue.specs.Machine.{EntryRelation}
 use Rattle.server_history.specs.Served.{accepted_as}
-use Rattle.block_machine.specs.Left.{IsRow, after}
-use Rattle.server_history.specs.Server.{ServerState, InCallInvariant, IsMachineOf, ports_of, server_situation, state_of}
-use Rattle.server_history.specs.Basics.{LivingLaws}
+use Rattle.block_machine.specs.Left.{IsValidRow, after}
+use Rattle.server_history.specs.Server.{ServerState, InCallInvariant, MachineRelation, ports_of, admission_context, state_of}
+use Rattle.server_history.specs.Basics.{FrameHolderLaws}
 use Rattle.server_history.specs.Below.{LawsBelow}
 use Rattle.server_history.proofs.plain_calls.RefusalsAndBytes.{situation_is}
 
@@ -63,7 +63,7 @@ ready_is Dead twice = absurd (twice (λ e. cc))
 -- ---- the grant of a request that was accepted
 
 -- it is of the start
-was_granted : LivingLaws → (start : Machine) (history : List Step) (r : machine.Accepted) → WasAccepted start history r → IsGranted start.rows r
+was_granted : FrameHolderLaws → (start : Machine) (history : List Step) (r : machine.Accepted) → WasAccepted start history r → IsGranted start.rows r
 was_granted laws start [] r was = absurd was
 was_granted laws start (step ∷ past) r (inl came) =
     let g = laws.granted (after start past) r came.1 in
@@ -71,16 +71,16 @@ was_granted laws start (step ∷ past) r (inl came) =
 was_granted laws start (step ∷ past) r (inr was) = was_granted laws start past r was
 
 -- so an unanswered request is on the port of the row that it names
-pub on_its_port : LivingLaws → (m : Machine) → IsReachable m → (e : machine.Pending) → Contains m.book e → (row : GrantRow) → Contains m.rows row → Names e.request.asked.client e.request.asked.grant row
+pub on_its_port : FrameHolderLaws → (m : Machine) → IsReachable m → (e : machine.Pending) → Contains m.book e → (row : GrantRow) → Contains m.rows row → Names e.request.asked.client e.request.asked.grant row
     → e.request.port ≡ row.port
 on_its_port laws m reached e here row there named =
-    let was = laws.lived reached.first reached.past e reached.starts reached.legal (subst (λ (n : Machine). IsLiving n e) reached.is (inl here)) in
+    let was = laws.lived reached.first reached.past e reached.starts reached.legal (subst (λ (n : Machine). HoldsFrames n e) reached.is (inl here)) in
     let g = was_granted laws reached.first reached.past e.request was in
     let at_first : IsReachable reached.first = record { first = reached.first; past = []; starts = reached.starts; legal = tt; is = refl } in
     let at_start = (laws.shrunk reached.first reached.past).0 row (subst (λ (n : Machine). Contains n.rows row) reached.is there) in
     g.port ∙ ap (λ (x : GrantRow). x.port) (laws.one_row reached.first e.request.asked.client e.request.asked.grant g.row row at_first g.named.0 g.named.1 at_start named)
 
-module _ (s : ServerState) (r : Request) (acc : IsAcceptable (server_situation s) r) (row : GrantRow) (named : IsNamed s.grants r row) (port : Port) (port_is : row.port ≡ port) where
+module _ (s : ServerState) (r : Request) (acc : IsAcceptable (admission_context s) r) (row : GrantRow) (named : IsNamed s.grants r row) (port : Port) (port_is : row.port ≡ port) where
   -- its port is ready
   pub on_ready : state_of (probe_result_of s.ports port.0) ≡ ReadyState
   on_ready =
@@ -107,10 +107,10 @@ module _ (s : ServerState) (r : Request) (acc : IsAcceptable (server_situation s
     abbrev pub request_in : Machine → machine.Accepted
     request_in m = record { id = id; port = port; asked = r; held = block_of m.memory r.frames.items }
 
-    pub entry_in : (m : Machine) → IsEntry (accepted_as port r id) (newly_accepted (request_in m))
+    pub entry_in : (m : Machine) → EntryRelation (accepted_as port r id) (newly_accepted (request_in m))
     entry_in m = record { id = refl; client = refl; grant = refl; port = refl; op = refl; range = refl; frames = refl; issued = refl; issues = refl; age = refl }
 
-    module _ (laws : LawsBelow) (m : Machine) (reached : IsReachable m) (is : IsMachineOf s m) where
+    module _ (laws : LawsBelow) (m : Machine) (reached : IsReachable m) (is : MachineRelation s m) where
       abbrev at : JointState Device
       at = record { device = s.device; abstract = record { machine = m; ports = ports_of s } }
 
@@ -125,7 +125,7 @@ module _ (s : ServerState) (r : Request) (acc : IsAcceptable (server_situation s
         port = λ other there.
             let here = subst (λ (rows : List GrantRow). Contains rows row) (sym is.rows) named.0 in
             sym port_is ∙ ap (λ (x : GrantRow). x.port) (laws.living.one_row m r.client r.grant row other reached here named.1 there.0 there.1);
-        few = ⊎_elim (λ (low : steps.unanswered_of m.book r.client < 16). low) (λ high. absurd (allowed ClientFull high)) (cases_lt (steps.unanswered_of m.book r.client) 16);
+        few = ⊎_elim (λ (low : steps.unanswered_count m.book r.client < 16). low) (λ high. absurd (allowed ClientFull high)) (cases_lt (steps.unanswered_count m.book r.client) 16);
         held = refl;
       }
 
@@ -138,8 +138,8 @@ module _ (s : ServerState) (r : Request) (acc : IsAcceptable (server_situation s
       there : Contains s.grants granted.row
       there = subst (λ (rows : List GrantRow). Contains rows granted.row) k.stands.rows granted.named.0
 
-      row_is : IsRow granted.row
-      row_is = All-contains IsRow s.grants granted.row k.rows there
+      row_is : IsValidRow granted.row
+      row_is = All-contains IsValidRow s.grants granted.row k.rows there
 
       count : IsAllowedCount r.op r.count
       count = count_is r.op r.count (λ other. acc (Rule BadCount) other)
@@ -152,7 +152,7 @@ module _ (s : ServerState) (r : Request) (acc : IsAcceptable (server_situation s
           omega (arith, covers.1, last)
 
       own : All (λ frame. owner_of s.table frame ≡ Some r.client) r.frames.items
-      own = laws.acceptable_owned (server_situation s) r acc
+      own = laws.acceptable_owned (admission_context s) r acc
 
       apart : AllPairs (λ a b. a ≢ b) r.frames.items
       apart i j d before small same =
@@ -170,7 +170,7 @@ module _ (s : ServerState) (r : Request) (acc : IsAcceptable (server_situation s
         client_to = subst (λ (c : ClientId). c.0 ≤ 8) granted.named.1.0 row_is.client.1;
         sectors = count;
         below = below;
-        frames = ⊎_elim (λ (same : length r.frames.items ≡ frames_for r.op r.count). same) (λ other. absurd (acc (Rule FrameCount) other)) (cases_eq (length r.frames.items) (frames_for r.op r.count));
+        frames = ⊎_elim (λ (same : length r.frames.items ≡ frame_count_for r.op r.count). same) (λ other. absurd (acc (Rule FrameCount) other)) (cases_eq (length r.frames.items) (frame_count_for r.op r.count));
         clients = λ i d small. (k.owners (get_or r.frames.items i d) r.client (own i d small)).0;
         own = λ i d small. ap (λ (owners : List (Option ClientId)). get_or owners (get_or r.frames.items i d).0 None) lends.owners ∙ own i d small;
         apart = apart;

@@ -15,7 +15,7 @@ use Rattle.adapter.specs.Device.{Device}
 use Rattle.adapter.specs.declared.access.DeviceStep.{DeviceStep}
 use Rattle.block_machine.specs.Due.{NoneDue, is_plain, of_port}
 use Rattle.block_machine.specs.Events as events
-use Rattle.block_machine.specs.Events.{Submit, Submitted, AllIssued, issues_it}
+use Rattle.block_machine.specs.Events.{Submit, Submitted, NoneDueWhereReady, issues_it}
 use Rattle.block_machine.specs.Histories.{JointState, Happening, IsReachable, now}
 use Rattle.block_machine.specs.Left.{after}
 use Rattle.block_machine.specs.Ports.{SamePorts}
@@ -30,10 +30,10 @@ use Rattle.refinement.specs.Driven.{IsDrivenBy, known}
 use Rattle.dma_frames.specs.Table.{Table, lent_to, LendsOnly}
 use Rattle.host_boot.specs.Taken.{probe_result_of}
 use Rattle.host_boot.specs.declared.ProbeResult.{ProbeResult}
-use Rattle.request_queue.specs.Entries.{Held, IsAccepted, IsEarlier, asks, asks_of, due_ids}
-use Rattle.driver_history.specs.Histories.{IssuesDue, IssuesOn}
-use Rattle.driver_history.specs.Trace.{ClearsNone, LeavesEngine}
-use Rattle.refinement.specs.Links.{SparesRegister}
+use Rattle.request_queue.specs.Entries.{BookEntry, IsAccepted, IsEarlier, asks, asks_of, due_ids}
+use Rattle.driver_history.specs.Histories.{IssuesDue, IsIssuingAccess}
+use Rattle.driver_history.specs.Trace.{ClearsNoError, LeavesEngine}
+use Rattle.refinement.specs.Links.{DoesNotWrite}
 use Rattle.hba_regs.specs.declared.reg.Reg.TheVariants.{Ghc, Px}
 use Rattle.hba_regs.specs.declared.reg.PortReg.TheVariants.{Ci, Sact}
 use Rattle.hba_regs.specs.declared.reg.PortReg.TheVariants as register
@@ -41,8 +41,8 @@ use Rattle.adapter.specs.Access.{Access}
 use Rattle.adapter.specs.Access.Access.{Loading, Reading, Storing, Writing}
 use Rattle.server_history.specs.Below.{LawsBelow}
 use Rattle.server_history.specs.Histories.{ExtendsSettled, LeadsToServer}
-use Rattle.server_history.specs.Served.{IssuesIn, Accepts, IssuesAll, accepted_as, accepting}
-use Rattle.server_history.specs.Server.{ServerState, InCallInvariant, IsMachineOf, SettledInvariant, mode_in, ports_of, server_situation, state_of, used_for, HasTrueMark}
+use Rattle.server_history.specs.Served.{IsIssuingAnySlot, Accepts, IssuesAll, accepted_as, accepting}
+use Rattle.server_history.specs.Server.{ServerState, InCallInvariant, MachineRelation, SettledInvariant, mode_in, ports_of, admission_context, state_of, used_for, RevokedMarkInvariant}
 use Rattle.slots.specs.declared.SlotUse.{SlotUse}
 use Rattle.block_machine.specs.declared.due.QueueMode.{QueueMode}
 use Rattle.server_history.proofs.state.DueRequests.{none_due}
@@ -58,14 +58,14 @@ use Rattle.server_history.proofs.state.FirstMembers.{first_here}
 -- ---- what issuing writes
 
 -- neither GHC, nor a bit that tells of trouble
-pub issuing_spares_host : (port : Port) (access : Access) → IssuesIn port access → SparesRegister Ghc access
+pub issuing_spares_host : (port : Port) (access : Access) → IsIssuingAnySlot port access → DoesNotWrite Ghc access
 issuing_spares_host port (Writing r v) here =
     λ q. ⊎_elim (λ (is : r ≡ Px port Sact). let z : Px port Sact ≡ Ghc = sym is ∙ q in absurd cc) (λ (is : r ≡ Px port Ci). let z : Px port Ci ≡ Ghc = sym is ∙ q in absurd cc) here.2.0
 issuing_spares_host port (Storing at bytes) here = tt
 issuing_spares_host port (Loading at bytes) here = absurd here.2
 issuing_spares_host port (Reading r v) here = absurd here.2
 
-pub issuing_clears_none : (port other : Port) (access : Access) → IssuesIn port access → ClearsNone other access
+pub issuing_clears_none : (port other : Port) (access : Access) → IsIssuingAnySlot port access → ClearsNoError other access
 issuing_clears_none port other (Writing r v) here = record {
   is = λ q. absurd (⊎_elim (λ (is : r ≡ Px port Sact). let z : Px port Sact ≡ Px other register.Is = sym is ∙ q in absurd cc) (λ (is : r ≡ Px port Ci). let z : Px port Ci ≡ Px other register.Is = sym is ∙ q in absurd cc) here.2.0);
   serr = λ q. absurd (⊎_elim (λ (is : r ≡ Px port Sact). let z : Px port Sact ≡ Px other register.Serr = sym is ∙ q in absurd cc) (λ (is : r ≡ Px port Ci). let z : Px port Ci ≡ Px other register.Serr = sym is ∙ q in absurd cc) here.2.0);
@@ -102,14 +102,14 @@ lends_alike a lent old new alike lends f = by (list_any (λ g. g.0 == f.0) a.ask
 -- ---- the server with one more
 
 -- the others' own requests are as many where one of another port goes last
-own_longer : (q : Port) (book : List Held) (e : Held) → e.entry.port ≢ q → of_port q (asks_of (book ++ e ∷ [])) ≡ of_port q (asks_of book)
+own_longer : (q : Port) (book : List BookEntry) (e : BookEntry) → e.entry.port ≢ q → of_port q (asks_of (book ++ e ∷ [])) ≡ of_port q (asks_of book)
 own_longer q [] e other = cond-false (e.entry.port.0 == q.0) (asks e.entry ∷ []) [] (ne_eqb e.entry.port.0 q.0 (λ same. other (ap (λ (n : ℕ). record { 0 = n }) same)))
 own_longer q (x ∷ book) e other =
     ap (λ (us : List Unanswered). cond (x.entry.port.0 == q.0) (asks x.entry ∷ us) us) (own_longer q book e other)
 
-module _ (laws : LawsBelow) (s : ServerState) (k : InCallInvariant s) (r : Request) (acc : IsAcceptable (server_situation s) r) (row : GrantRow) (named : IsNamed s.grants r row) (port : Port) (port_is : row.port ≡ port)
+module _ (laws : LawsBelow) (s : ServerState) (k : InCallInvariant s) (r : Request) (acc : IsAcceptable (admission_context s) r) (row : GrantRow) (named : IsNamed s.grants r row) (port : Port) (port_is : row.port ≡ port)
     (id : RequestId) (id_is : id.0 ≡ s.last + 1) (table : Table) (lends : LendsOnly s.table table r.frames.items (Some id)) where
-  abbrev e : Held
+  abbrev e : BookEntry
   e = accepted_as port r id
 
   abbrev more : ServerState
@@ -129,7 +129,7 @@ module _ (laws : LawsBelow) (s : ServerState) (k : InCallInvariant s) (r : Reque
       All-push (IsAccepted table) s.book e
       (laws.still_lent s.table table s.book r.frames.items (Some id) lends (unlent s r acc row named port port_is) k.accepted) its
 
-  module _ (m : Machine) (was : IsReachable m) (is : IsMachineOf s m) where
+  module _ (m : Machine) (was : IsReachable m) (is : MachineRelation s m) where
     abbrev request : machine.Accepted
     request = request_in s r acc row named port port_is id id_is m
 
@@ -142,7 +142,7 @@ module _ (laws : LawsBelow) (s : ServerState) (k : InCallInvariant s) (r : Reque
     reached_next : IsReachable next
     reached_next = laws.basic.reached m (Accept request ∷ []) was (tt, fresh)
 
-    stands_next : IsMachineOf more next
+    stands_next : MachineRelation more next
     stands_next = record {
       uses = is.uses;
       used = is.used;
@@ -158,27 +158,27 @@ module _ (laws : LawsBelow) (s : ServerState) (k : InCallInvariant s) (r : Reque
     }
 
   -- each used slot's command is of its request's kind still: the new request has no slot
-  kinds_then : (q : Port) (slot : ℕ) (used : SlotUse) (h : Held) → used_for s.slots q.0 slot ≡ Some used → Contains (s.book ++ e ∷ []) h → h.entry.id ≡ used.id → used.queued ≡ not (is_plain (mode_in s q) h.entry.op)
+  kinds_then : (q : Port) (slot : ℕ) (used : SlotUse) (h : BookEntry) → used_for s.slots q.0 slot ≡ Some used → Contains (s.book ++ e ∷ []) h → h.entry.id ≡ used.id → used.queued ≡ not (is_plain (mode_in s q) h.entry.op)
   kinds_then q slot used h is there same = ⊎_elim
       (λ (old : Contains s.book h). k.kinds q slot used h is old same)
       (λ (new : h ≡ e).
       let ready = used_ready s q.0 slot used k is in
       let x = served_request s k.machine q.0 slot k.stands ready used.id (serves_used s k.machine q.0 k.stands ready slot used is) in
-      let low = All-contains (λ (y : Held). y.entry.id.0 ≤ s.last) s.book x.request k.handed_out x.there in
-      let its : x.request.entry.id.0 ≡ id.0 = ap (λ (i : RequestId). i.0) (x.id_is ∙ sym same ∙ ap (λ (y : Held). y.entry.id) new) in
+      let low = All-contains (λ (y : BookEntry). y.entry.id.0 ≤ s.last) s.book x.request k.handed_out x.there in
+      let its : x.request.entry.id.0 ≡ id.0 = ap (λ (i : RequestId). i.0) (x.id_is ∙ sym same ∙ ap (λ (y : BookEntry). y.entry.id) new) in
       absurd (omega (arith, low, its, id_is)))
       (append_in s.book e h there)
 
   -- it has the grant that it names
-  its_mark : HasTrueMark s.grants e
+  its_mark : RevokedMarkInvariant s.grants e
   its_mark = record { tells = (λ plain. (row, named.0, named.1), λ has. refl); waiting = λ waits. refl }
 
   pub accept_kept : InCallInvariant more
   accept_kept = kept_then s s.device s.grants table s.slots (s.book ++ e ∷ []) (s.last + 1) k k.rows k.on (record { telling = refl; size = refl; cap = refl; pi = refl }) k.behind lends.owners k.four k.slots kinds_then k.commands k.alone accepted
       (laws.longer s.book e k.ordered earlier (refl, refl, refl, refl) its.client_from its.client_to (has_room s r acc row named port port_is))
-      (All-push (HasTrueMark s.grants) s.book e k.marked its_mark)
-      (All-push (λ (x : Held). x.entry.id.0 ≤ s.last + 1) s.book e (All-weaker (λ (x : Held). x.entry.id.0 ≤ s.last) (λ (x : Held). x.entry.id.0 ≤ s.last + 1) (λ x low. omega (arith, low)) s.book k.handed_out) (omega (arith, id_is)))
-      (All-push (λ (x : Held). state_of (probe_result_of s.ports x.entry.port.0) ≡ ReadyState) s.book e k.ready ready)
+      (All-push (RevokedMarkInvariant s.grants) s.book e k.marked its_mark)
+      (All-push (λ (x : BookEntry). x.entry.id.0 ≤ s.last + 1) s.book e (All-weaker (λ (x : BookEntry). x.entry.id.0 ≤ s.last) (λ (x : BookEntry). x.entry.id.0 ≤ s.last + 1) (λ x low. omega (arith, low)) s.book k.handed_out) (omega (arith, id_is)))
+      (All-push (λ (x : BookEntry). state_of (probe_result_of s.ports x.entry.port.0) ≡ ReadyState) s.book e k.ready ready)
       (next k.machine k.reached k.stands) (reached_next k.machine k.reached k.stands) (stands_next k.machine k.reached k.stands)
 
   -- ---- the event
@@ -197,7 +197,7 @@ module _ (laws : LawsBelow) (s : ServerState) (k : InCallInvariant s) (r : Reque
     same : new ≡ record more { device = new.device; slots = new.slots; book = new.book }
     same = each_settings laws port ids more new issues
 
-    driven : IsDrivenBy (IssuesIn port) s.device new.device
+    driven : IsDrivenBy (IsIssuingAnySlot port) s.device new.device
     driven = each_driven laws port ids more new issues
 
     port_low : port.0 < 4
@@ -214,10 +214,10 @@ module _ (laws : LawsBelow) (s : ServerState) (k : InCallInvariant s) (r : Reque
         (allowed, (asked, accepts_on mode port x.steps early x.only, refl), same_ports_are, all_issued)
         tt
         driven.accesses
-        (driven.all, (row, its_row, All-weaker (IssuesIn port) (IssuesOn row.port) (λ access here. subst (λ (p : Port). IssuesOn p access) (sym port_is) (issuing_is port port_low access here)) driven.accesses driven.only))
-        (λ other. All-weaker (IssuesIn port) (LeavesEngine other) (issuing_leaves laws port other) driven.accesses driven.only)
+        (driven.all, (row, its_row, All-weaker (IsIssuingAnySlot port) (IsIssuingAccess row.port) (λ access here. subst (λ (p : Port). IsIssuingAccess p access) (sym port_is) (issuing_is port port_low access here)) driven.accesses driven.only))
+        (λ other. All-weaker (IsIssuingAnySlot port) (LeavesEngine other) (issuing_leaves laws port other) driven.accesses driven.only)
         (λ other is_ready. due_now other)
-        (λ other. record { finds = tt; faults = tt; probes = tt; boots = tt; port_error = laws.calls.ordinary other (with_device s.device old) new.device driven.accesses (told_by s.device old.abstract.ports) (ports_of new) k.on driven.all (All-weaker (IssuesIn port) (SparesRegister Ghc) (issuing_spares_host port) driven.accesses driven.only) (All-weaker (IssuesIn port) (ClearsNone other) (issuing_clears_none port other) driven.accesses driven.only); well = λ i. absurd (uninterrupted s.device old.abstract.ports other i); heeds = uninterrupted s.device old.abstract.ports other })
+        (λ other. record { finds = tt; faults = tt; probes = tt; boots = tt; port_error = laws.calls.ordinary other (with_device s.device old) new.device driven.accesses (told_by s.device old.abstract.ports) (ports_of new) k.on driven.all (All-weaker (IsIssuingAnySlot port) (DoesNotWrite Ghc) (issuing_spares_host port) driven.accesses driven.only) (All-weaker (IsIssuingAnySlot port) (ClearsNoError other) (issuing_clears_none port other) driven.accesses driven.only); well = λ i. absurd (uninterrupted s.device old.abstract.ports other i); heeds = uninterrupted s.device old.abstract.ports other })
         (laws.backed_parts s.device s.device new.device m early x.steps (laws.backed_own s.device m (Accept asked) (λ no. no)) x.backed)
         stands
       where
@@ -230,7 +230,7 @@ module _ (laws : LawsBelow) (s : ServerState) (k : InCallInvariant s) (r : Reque
         was : IsReachable m
         was = reached laws first past s leads
 
-        is : IsMachineOf s m
+        is : MachineRelation s m
         is = leads.stands.machine
 
         asked : machine.Accepted
@@ -242,8 +242,8 @@ module _ (laws : LawsBelow) (s : ServerState) (k : InCallInvariant s) (r : Reque
         x : AreIssued port ids more new (next m was is)
         x = each_issued laws port ids more new accept_kept issues (next m was is) (reached_next m was is) (stands_next m was is)
 
-        stands : IsMachineOf new (after m (x.steps ++ early))
-        stands = subst (IsMachineOf new) (sym (laws.basic.joined m x.steps early)) x.stands
+        stands : MachineRelation new (after m (x.steps ++ early))
+        stands = subst (MachineRelation new) (sym (laws.basic.joined m x.steps early)) x.stands
 
         mode : QueueMode
         mode = mode_in s port
@@ -266,7 +266,7 @@ module _ (laws : LawsBelow) (s : ServerState) (k : InCallInvariant s) (r : Reque
         same_ports_are : SamePorts old.abstract.ports (ports_of new)
         same_ports_are = ports_same old.abstract.ports (ports_of new) (leads.stands.ports_are ∙ sym (ap ports_of same))
 
-        all_issued : AllIssued (record { machine = after m (x.steps ++ early); ports = ports_of new })
+        all_issued : NoneDueWhereReady (record { machine = after m (x.steps ++ early); ports = ports_of new })
         all_issued other on = none_due new (after m (x.steps ++ early)) stands (mode_in new other) other (settles.issued other)
 
         mode_is : (other : Port) → mode_in new other ≡ mode_in s other
@@ -280,7 +280,7 @@ module _ (laws : LawsBelow) (s : ServerState) (k : InCallInvariant s) (r : Reque
             (λ u here own. sym (any_append (issues_it u.id) x.steps early ∙ or_none (list_any (issues_it u.id) x.steps)))
             (dues laws port more new accept_kept issues (next m was is) x other (none_other other))))
 
-pub acceptance : LawsBelow → (s new : ServerState) (port : Port) (r : Request) (id : RequestId) → SettledInvariant s → IsAcceptable (server_situation s) r → Accepts port r id s new → ExtendsSettled s new (Submit r) (Submitted (Ok id))
+pub acceptance : LawsBelow → (s new : ServerState) (port : Port) (r : Request) (id : RequestId) → SettledInvariant s → IsAcceptable (admission_context s) r → Accepts port r id s new → ExtendsSettled s new (Submit r) (Submitted (Ok id))
 acceptance laws s new port r id k acc a = record {
   settled = settles laws s k.kept r acc a.row a.named port a.port_is id a.id_is a.table a.lent k.issued new a.issued;
   adds = event laws s k.kept r acc a.row a.named port a.port_is id a.id_is a.table a.lent k.issued new a.issued;

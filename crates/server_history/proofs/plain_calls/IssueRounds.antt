@@ -9,12 +9,12 @@ use Rattle.ata_types.specs.declared.Port.{Port}
 use Rattle.ata_types.specs.declared.request.RequestId.{RequestId}
 use Rattle.ata_types.specs.declared.PortState.TheVariants.{Dead}
 use Rattle.adapter.specs.declared.command.Operation.{Operation}
-use Rattle.refinement.specs.Driven.{IsDrivenBy, SendsNone}
+use Rattle.refinement.specs.Driven.{IsDrivenBy, GainsNoMove}
 use Rattle.refinement.specs.Slots.{op_of}
 use Rattle.refinement.specs.Driver.{IsBacked}
 use Rattle.server_history.proofs.state.DrivenAccesses.{by_none, driven_as}
 use Rattle.block_machine.specs.Due.{AreAllDueInOrder, IsDue, NoneDue, due_of, mark_issued, of_port, with_issued}
-use Rattle.block_machine.specs.Events.{Ask, AbstractState, AllDevices, AllLawful, AllMay, AreStepsOfCall, IsIssuedIn, IsByServer, IssuesLast, accepts_of, handles, issues_it}
+use Rattle.block_machine.specs.Events.{AbstractCall, AbstractState, AllByDevice, AllLawful, AllMay, AreStepsOfCall, IsIssuedIn, IsByServer, IssuesLast, accepts_of, handles, issues_it}
 use Rattle.block_machine.specs.Histories.{IsReachable}
 use Rattle.block_machine.specs.Left.{after}
 use Rattle.block_machine.specs.Ports.{Ports, Evidence}
@@ -23,12 +23,12 @@ use Rattle.block_machine.specs.Steps.{Step, Accept, Again, Answer, Issue}
 use Rattle.block_machine.specs.declared.due.QueueMode.{QueueMode}
 use Rattle.block_machine.specs.declared.due.Unanswered.{Unanswered}
 use Rattle.server_history.proofs.state.ListMembers.{contains_cases, contains_here, contains_there, into_map, map_in}
-use Rattle.driver_history.specs.Histories.{IssuesDue, unissued}
+use Rattle.driver_history.specs.Histories.{IssuesDue, with_issue_undone}
 use Rattle.commands.specs.Tasks.{IsIssuing}
-use Rattle.request_queue.specs.Entries.{Held, BookIsInOrder, IsWaiting, asks, asks_of, at_entry, due_ids, has_id, issue}
+use Rattle.request_queue.specs.Entries.{BookEntry, BookIsInOrder, IsWaiting, asks, asks_of, update_if_id, due_ids, has_id, issue}
 use Rattle.server_history.specs.Below.{LawsBelow}
-use Rattle.server_history.specs.Served.{IssuesAll, IssuesIn, IssuesEach, IssuesOne, IssuesOnly}
-use Rattle.server_history.specs.Server.{ServerState, InCallInvariant, IsMachineOf, SettledInvariant, mode_at, mode_in, no_slots, slots_at}
+use Rattle.server_history.specs.Served.{IssuesAll, IsIssuingAnySlot, IssuesEach, IssuesOne, AllByDeviceOrIssue}
+use Rattle.server_history.specs.Server.{ServerState, InCallInvariant, MachineRelation, SettledInvariant, mode_at, mode_in, no_slots, slots_at}
 use Rattle.server_history.proofs.state.DueRequests.{same_book}
 use Rattle.server_history.proofs.state.DeviceSteps.{devices_last, not_handled}
 use Rattle.server_history.proofs.plain_calls.OneIssue.{IsIssue, issue_kept, issue_one, issue_silent}
@@ -44,7 +44,7 @@ not_true true is = absurd (false≢true is)
 -- ---- steps
 
 -- the device's steps issue nothing
-pub devices_issue_none : (id : RequestId) (steps : List Step) → AllDevices steps → list_any (issues_it id) steps ≡ false
+pub devices_issue_none : (id : RequestId) (steps : List Step) → AllByDevice steps → list_any (issues_it id) steps ≡ false
 devices_issue_none id [] all = refl
 devices_issue_none id (Issue its e ∷ steps) all = absurd all.1
 devices_issue_none id (step ∷ steps) all = devices_issue_none id steps all.0
@@ -70,48 +70,48 @@ issued_late id late early i = any_append (issues_it id) late early ∙ or_left _
 pub issued_early : (id : RequestId) (late early : List Step) → IsIssuedIn id early → IsIssuedIn id (late ++ early)
 issued_early id late early i = any_append (issues_it id) late early ∙ or_right _ _ i
 
-devices_only : (mode : QueueMode) (port : Port) (steps : List Step) → AllDevices steps → IssuesOnly mode port steps
+devices_only : (mode : QueueMode) (port : Port) (steps : List Step) → AllByDevice steps → AllByDeviceOrIssue mode port steps
 devices_only mode port [] all = tt
 devices_only mode port (Issue its e ∷ steps) all = absurd all.1
 devices_only mode port (step ∷ steps) all = (all.1, devices_only mode port steps all.0)
 
-pub only_append : (mode : QueueMode) (port : Port) (late early : List Step) → IssuesOnly mode port late → IssuesOnly mode port early → IssuesOnly mode port (late ++ early)
+pub only_append : (mode : QueueMode) (port : Port) (late early : List Step) → AllByDeviceOrIssue mode port late → AllByDeviceOrIssue mode port early → AllByDeviceOrIssue mode port (late ++ early)
 only_append mode port [] early a b = b
 only_append mode port (Issue its e ∷ late) early a b = (a.0, a.1, only_append mode port late early a.2 b)
 only_append mode port (step ∷ late) early a b = (a.0, only_append mode port late early a.1 b)
 
 -- what such steps are to a call: each is the device's, or issues a request of the port
 module _ (mode : QueueMode) (port : Port) where
-  pub belong_on : {D : Type 0} (ask : Ask D) (ports : Ports) → ((e : Pending) → e.request.port ≡ port → IsByServer ask ports (Issue mode e)) → (late early : List Step) → IssuesOnly mode port late → AreStepsOfCall ask ports early
+  pub belong_on : {D : Type 0} (ask : AbstractCall D) (ports : Ports) → ((e : Pending) → e.request.port ≡ port → IsByServer ask ports (Issue mode e)) → (late early : List Step) → AllByDeviceOrIssue mode port late → AreStepsOfCall ask ports early
       → AreStepsOfCall ask ports (late ++ early)
   belong_on ask ports own [] early only b = b
   belong_on ask ports own (Issue its e ∷ late) early only b =
       (belong_on ask ports own late early only.2 b, inr (subst (λ (x : QueueMode). IsByServer ask ports (Issue x e)) (sym only.0) (own e only.1)))
   belong_on ask ports own (step ∷ late) early only b = (belong_on ask ports own late early only.1 b, inl only.0)
 
-  pub last_on : (late early : List Step) → IssuesOnly mode port late → IssuesLast late → IssuesLast early → ((id : RequestId) → IsIssuedIn id late → IsIssuedIn id early → ⊥) → IssuesLast (late ++ early)
+  pub last_on : (late early : List Step) → AllByDeviceOrIssue mode port late → IssuesLast late → IssuesLast early → ((id : RequestId) → IsIssuedIn id late → IsIssuedIn id early → ⊥) → IssuesLast (late ++ early)
   last_on [] early only l e apart = e
   last_on (step ∷ late) early only l e apart = (
     last_on late early (rest step only) l.0 e (λ id i. apart id (or_right _ _ i)),
     λ id h i. ⊎_elim (λ (before : IsIssuedIn id late). l.1 id h before) (λ (there : IsIssuedIn id early). apart id (or_left _ _ (issues step only id h)) there) (issued_parts id late early i),
   )
     where
-      rest : (step : Step) → IssuesOnly mode port (step ∷ late) → IssuesOnly mode port late
+      rest : (step : Step) → AllByDeviceOrIssue mode port (step ∷ late) → AllByDeviceOrIssue mode port late
       rest (Issue its e) only = only.2
       rest step only = only.1
 
-      issues : (step : Step) → IssuesOnly mode port (step ∷ late) → (id : RequestId) → handles id step ≡ true → issues_it id step ≡ true
+      issues : (step : Step) → AllByDeviceOrIssue mode port (step ∷ late) → (id : RequestId) → handles id step ≡ true → issues_it id step ≡ true
       issues (Issue its e) only id h = h
       issues step only id h = absurd (not_handled id step only.0 h)
 
-  pub lawful_on : (old : AbstractState) (evidence : Evidence) (ports : Ports) (late early : List Step) → IssuesOnly mode port late → AllLawful old evidence ports early → AllLawful old evidence ports (late ++ early)
+  pub lawful_on : (old : AbstractState) (evidence : Evidence) (ports : Ports) (late early : List Step) → AllByDeviceOrIssue mode port late → AllLawful old evidence ports early → AllLawful old evidence ports (late ++ early)
   lawful_on old evidence ports [] early only l = l
   lawful_on old evidence ports (Issue its e ∷ late) early only l = lawful_on old evidence ports late early only.2 l
   lawful_on old evidence ports (Again e ∷ late) early only l = absurd only.0
   lawful_on old evidence ports (Answer e o ∷ late) early only l = absurd only.0
   lawful_on old evidence ports (step ∷ late) early only l = lawful_on old evidence ports late early only.1 l
 
-  pub accepts_on : (late early : List Step) → IssuesOnly mode port late → accepts_of (late ++ early) ≡ accepts_of early
+  pub accepts_on : (late early : List Step) → AllByDeviceOrIssue mode port late → accepts_of (late ++ early) ≡ accepts_of early
   accepts_on [] early only = refl
   accepts_on (Issue its e ∷ late) early only = accepts_on late early only.2
   accepts_on (Accept r ∷ late) early only = absurd only.0
@@ -124,8 +124,8 @@ pub record AreIssued (port : Port) (ids : List RequestId) (old new : ServerState
   pub steps : List Step
   pub may : AllMay m steps
   pub backed : IsBacked old.device new.device m steps
-  pub stands : IsMachineOf new (after m steps)
-  pub only : IssuesOnly (mode_in old port) port steps
+  pub stands : MachineRelation new (after m steps)
+  pub only : AllByDeviceOrIssue (mode_in old port) port steps
   pub named : (id : RequestId) → IsIssuedIn id steps → Contains ids id
   pub all : (id : RequestId) → Contains ids id → IsIssuedIn id steps
   pub last : IssuesLast steps
@@ -135,47 +135,47 @@ same_id a b same = ap (λ (n : ℕ). record { 0 = n }) same
 
 module _ (laws : LawsBelow) (port : Port) where
   -- each waits until its turn comes
-  each_waits : (ids : List RequestId) (old new : ServerState) → InCallInvariant old → IssuesEach port ids old new → (id : RequestId) → Contains ids id → (e : Held) → Contains old.book e → e.entry.id ≡ id → e.entry.issued ≡ false
+  each_waits : (ids : List RequestId) (old new : ServerState) → InCallInvariant old → IssuesEach port ids old new → (id : RequestId) → Contains ids id → (e : BookEntry) → Contains old.book e → e.entry.id ≡ id → e.entry.issued ≡ false
   each_waits [] old new k none id there e here its = absurd (nowhere id there)
   each_waits (first ∷ ids) old new k (mid, one, more) id there e here its = ⊎_elim
       (λ (same : id ≡ first).
       let it : one.request ≡ e = laws.one old.book one.request e k.ordered one.here here (one.id_is ∙ sym same ∙ sym its) in
-      subst (λ (x : Held). x.entry.issued ≡ false) it (not_true one.request.entry.issued (and_parts _ _ one.due.clear).0))
+      subst (λ (x : BookEntry). x.entry.issued ≡ false) it (not_true one.request.entry.issued (and_parts _ _ one.due.clear).0))
       (λ (later : Contains ids id).
-      let moved : Contains mid.book (at_entry first issue e) = subst (λ (n : ServerState). Contains n.book (at_entry first issue e)) (sym one.server) (into_map (at_entry first issue) old.book e here) in
-      let waits : (at_entry first issue e).entry.issued ≡ false = each_waits ids mid new (issue_kept laws old mid port first k one) more id later (at_entry first issue e) moved (by_id e (has_id first e) ∙ its) in
+      let moved : Contains mid.book (update_if_id first issue e) = subst (λ (n : ServerState). Contains n.book (update_if_id first issue e)) (sym one.server) (into_map (update_if_id first issue) old.book e here) in
+      let waits : (update_if_id first issue e).entry.issued ≡ false = each_waits ids mid new (issue_kept laws old mid port first k one) more id later (update_if_id first issue e) moved (by_id e (has_id first e) ∙ its) in
       still e (has_id first e) refl waits)
       (contains_cases first ids id there)
     where
-      by_id : (e : Held) (b : Bool) → (if b then record e { entry = issue e.entry } else e).entry.id ≡ e.entry.id
+      by_id : (e : BookEntry) (b : Bool) → (if b then record e { entry = issue e.entry } else e).entry.id ≡ e.entry.id
       by_id e true = refl
       by_id e false = refl
 
-      still : (e : Held) (b : Bool) → has_id first e ≡ b → (at_entry first issue e).entry.issued ≡ false → e.entry.issued ≡ false
-      still e true is waits = absurd (false≢true (sym waits ∙ ap (λ (x : Held). x.entry.issued) (cond-true (has_id first e) (record e { entry = issue e.entry }) e is)))
-      still e false is waits = sym (ap (λ (x : Held). x.entry.issued) (cond-false (has_id first e) (record e { entry = issue e.entry }) e is)) ∙ waits
+      still : (e : BookEntry) (b : Bool) → has_id first e ≡ b → (update_if_id first issue e).entry.issued ≡ false → e.entry.issued ≡ false
+      still e true is waits = absurd (false≢true (sym waits ∙ ap (λ (x : BookEntry). x.entry.issued) (cond-true (has_id first e) (record e { entry = issue e.entry }) e is)))
+      still e false is waits = sym (ap (λ (x : BookEntry). x.entry.issued) (cond-false (has_id first e) (record e { entry = issue e.entry }) e is)) ∙ waits
 
   -- so no request is issued twice
   never_again : (first : RequestId) (ids : List RequestId) (old mid new : ServerState) → InCallInvariant old → IssuesOne port first old mid → IssuesEach port ids mid new → Contains ids first → ⊥
-  never_again first ids old mid new k one more there = false≢true (sym waits ∙ ap (λ (x : Held). x.entry.issued) now)
+  never_again first ids old mid new k one more there = false≢true (sym waits ∙ ap (λ (x : BookEntry). x.entry.issued) now)
     where
-      e : Held
+      e : BookEntry
       e = one.request
 
-      now : at_entry first issue e ≡ record e { entry = issue e.entry }
+      now : update_if_id first issue e ≡ record e { entry = issue e.entry }
       now = cond-true (has_id first e) (record e { entry = issue e.entry }) e (eq-eqb e.entry.id.0 first.0 (ap (λ (r : RequestId). r.0) one.id_is))
 
-      waits : (at_entry first issue e).entry.issued ≡ false
-      waits = each_waits ids mid new (issue_kept laws old mid port first k one) more first there (at_entry first issue e)
-          (subst (λ (n : ServerState). Contains n.book (at_entry first issue e)) (sym one.server) (into_map (at_entry first issue) old.book e one.here))
-          (ap (λ (x : Held). x.entry.id) now ∙ one.id_is)
+      waits : (update_if_id first issue e).entry.issued ≡ false
+      waits = each_waits ids mid new (issue_kept laws old mid port first k one) more first there (update_if_id first issue e)
+          (subst (λ (n : ServerState). Contains n.book (update_if_id first issue e)) (sym one.server) (into_map (update_if_id first issue) old.book e one.here))
+          (ap (λ (x : BookEntry). x.entry.id) now ∙ one.id_is)
 
-  pub each_issued : (ids : List RequestId) (old new : ServerState) → InCallInvariant old → IssuesEach port ids old new → (m : Machine) → IsReachable m → IsMachineOf old m → AreIssued port ids old new m
+  pub each_issued : (ids : List RequestId) (old new : ServerState) → InCallInvariant old → IssuesEach port ids old new → (m : Machine) → IsReachable m → MachineRelation old m → AreIssued port ids old new m
   each_issued [] old new k none m reached is = record {
     steps = [];
     may = tt;
     backed = subst (λ (n : ServerState). IsBacked old.device n.device m []) (sym none) (laws.backed_none old.device m);
-    stands = subst (λ (n : ServerState). IsMachineOf n m) (sym none) is;
+    stands = subst (λ (n : ServerState). MachineRelation n m) (sym none) is;
     only = tt;
     named = λ id i. absurd (false≢true i);
     all = λ id here. absurd (nowhere id here);
@@ -189,8 +189,8 @@ module _ (laws : LawsBelow) (port : Port) where
         steps = y.steps ++ early;
         may = laws.basic.may m y.steps early x.may y.may;
         backed = laws.backed_parts old.device mid.device new.device m early y.steps x.backed y.backed;
-        stands = subst (IsMachineOf new) (sym (laws.basic.joined m y.steps early)) y.stands;
-        only = only_append (mode_in old port) port y.steps early (subst (λ (modes : List QueueMode). IssuesOnly (mode_at modes port.0) port y.steps) (ap (λ (n : ServerState). n.modes) one.server) y.only) (refl, x.port_is, devices_only (mode_in old port) port x.steps x.only);
+        stands = subst (MachineRelation new) (sym (laws.basic.joined m y.steps early)) y.stands;
+        only = only_append (mode_in old port) port y.steps early (subst (λ (modes : List QueueMode). AllByDeviceOrIssue (mode_at modes port.0) port y.steps) (ap (λ (n : ServerState). n.modes) one.server) y.only) (refl, x.port_is, devices_only (mode_in old port) port x.steps x.only);
         named = λ id i. ⊎_elim
             (λ (late : IsIssuedIn id y.steps). contains_there first ids id (y.named id late))
             (λ (here : IsIssuedIn id early). ⊎_elim
@@ -217,8 +217,8 @@ module _ (laws : LawsBelow) (port : Port) where
 
   -- in that no data comes for a command of the driver's own but on dead ports
   pub each_silent : (ids : List RequestId) (old new : ServerState) → InCallInvariant old → IssuesEach port ids old new → (q : ℕ) (o : Operation) → op_of o ≡ None → probe_result_of old.ports q ≢ Unready Dead
-      → SendsNone q o old.device new.device
-  each_silent [] old new k none q o own other = subst (λ (n : ServerState). SendsNone q o old.device n.device) (sym none) (silent_none q o old.device)
+      → GainsNoMove q o old.device new.device
+  each_silent [] old new k none q o own other = subst (λ (n : ServerState). GainsNoMove q o old.device n.device) (sym none) (silent_none q o old.device)
   each_silent (first ∷ ids) old new k (mid, one, more) q o own other =
       silent_more q o old.device mid.device new.device (issue_silent laws old mid port first k one q o own other)
       (each_silent ids mid new (issue_kept laws old mid port first k one) more q o own (λ dead. other (ap (λ (n : ServerState). probe_result_of n.ports q) (sym one.server) ∙ dead)))
@@ -230,15 +230,15 @@ module _ (laws : LawsBelow) (port : Port) where
       each_settings ids mid new more ∙ ap (λ (n : ServerState). record n { device = new.device; slots = new.slots; book = new.book }) one.server
 
   -- the accesses that issue them
-  pub each_driven : (ids : List RequestId) (old new : ServerState) → IssuesEach port ids old new → IsDrivenBy (IssuesIn port) old.device new.device
-  each_driven [] old new none = subst (λ (n : ServerState). IsDrivenBy (IssuesIn port) old.device n.device) (sym none) (by_none (IssuesIn port) old.device)
+  pub each_driven : (ids : List RequestId) (old new : ServerState) → IssuesEach port ids old new → IsDrivenBy (IsIssuingAnySlot port) old.device new.device
+  each_driven [] old new none = subst (λ (n : ServerState). IsDrivenBy (IsIssuingAnySlot port) old.device n.device) (sym none) (by_none (IsIssuingAnySlot port) old.device)
   each_driven (first ∷ ids) old new (mid, one, more) =
       let late = each_driven ids mid new more in
-      let early = driven_as (IsIssuing port one.slot) (IssuesIn port) old.device mid.device (λ access is. (one.slot, one.small, is)) one.issues.driven in
+      let early = driven_as (IsIssuing port one.slot) (IsIssuingAnySlot port) old.device mid.device (λ access is. (one.slot, one.small, is)) one.issues.driven in
       record {
         accesses = early.accesses ++ late.accesses;
         all = laws.basic.does_append early.accesses late.accesses old.device mid.device new.device early.all late.all;
-        only = All-append (IssuesIn port) early.accesses late.accesses early.only late.only;
+        only = All-append (IsIssuingAnySlot port) early.accesses late.accesses early.only late.only;
       }
 
   -- ---- the book then
@@ -271,7 +271,7 @@ module _ (laws : LawsBelow) (port : Port) where
   each_apart (first ∷ ids) old new order (mid, one, more) other ne =
       each_apart ids mid new (subst (λ (n : ServerState). BookIsInOrder n.book) (sym one.server) (laws.issued old.book first order (subst (λ (id : RequestId). IsWaiting id old.book) one.id_is (laws.waits (mode_in old port) old.book (asks one.request.entry) one.due)))) more other ne
       ∙ ap (of_port other) (ap (λ (n : ServerState). asks_of n.book) one.server ∙ laws.asks_issued old.book first ∙ ap (λ (id : RequestId). with_issued id (asks_of old.book)) (sym one.id_is))
-      ∙ laws.issued_apart other (asks_of old.book) (asks one.request.entry) (laws.asked old.book order) (into_map (λ (y : Held). asks y.entry) old.book one.request one.here)
+      ∙ laws.issued_apart other (asks_of old.book) (asks one.request.entry) (laws.asked old.book order) (into_map (λ (y : BookEntry). asks y.entry) old.book one.request one.here)
       (λ same. ne (sym same ∙ one.port_is))
 
   -- and so are the slots of another port
@@ -365,13 +365,13 @@ module _ (laws : LawsBelow) (port : Port) where
         let y = map_in (λ (u : Unanswered). u.id) (due_of (mode_in old port) port (asks_of old.book)) r.id there in
         let own : y.0.port ≡ port = laws.own (mode_in old port) port (asks_of old.book) y.0 y.1 in
         let its : IsDue (mode_in old port) (asks_of old.book) y.0 = (laws.exact (mode_in old port) port (asks_of old.book) y.0 own).0 y.1 in
-        let a = map_in (λ (e : Held). asks e.entry) old.book r here in
-        let b = map_in (λ (e : Held). asks e.entry) old.book y.0 its.here in
+        let a = map_in (λ (e : BookEntry). asks e.entry) old.book r here in
+        let b = map_in (λ (e : BookEntry). asks e.entry) old.book y.0 its.here in
         let one : a.0 ≡ b.0 = laws.one old.book a.0 b.0 k.ordered a.1 b.1 (sym (ap (λ (u : Unanswered). u.id) a.2) ∙ y.2 ∙ ap (λ (u : Unanswered). u.id) b.2) in
-        let same : y.0 ≡ r = b.2 ∙ ap (λ (e : Held). asks e.entry) (sym one) ∙ sym a.2 in
+        let same : y.0 ≡ r = b.2 ∙ ap (λ (e : BookEntry). asks e.entry) (sym one) ∙ sym a.2 in
         (subst (IsDue (mode_in old port) (asks_of old.book)) same its, ap (λ (u : Unanswered). u.port) (sym same) ∙ own)
 
-    was : unissued x.steps (map unanswered (after m x.steps).book) ≡ asks_of old.book
+    was : with_issue_undone x.steps (map unanswered (after m x.steps).book) ≡ asks_of old.book
     was =
         ap (map (mark x.steps)) (same_book new.book (after m x.steps).book x.stands.book ∙ each_asks ids old new issues ∙ each_marks ids (asks_of old.book))
         ∙ unmarked_all (mark x.steps) (mark_each ids) (asks_of old.book)
@@ -385,8 +385,8 @@ module _ (laws : LawsBelow) (port : Port) where
           (λ issued. let d = is_due r here (x.named r.id issued) in subst (λ (z : Port). IsDue (mode_in old z) (asks_of old.book) r) (sym d.1 ∙ own) d.0),
           (λ its. ⊎_elim
               (λ (same : q.0 ≡ port.0).
-              let at_entry : r.port ≡ port = own ∙ ap (λ (n : ℕ). record { 0 = n }) same in
-              x.all r.id (into_map (λ (u : Unanswered). u.id) (due_of (mode_in old port) port (asks_of old.book)) r ((laws.exact (mode_in old port) port (asks_of old.book) r at_entry).1 (subst (λ (z : Port). IsDue (mode_in old z) (asks_of old.book) r) (ap (λ (n : ℕ). record { 0 = n }) same) its))))
+              let update_if_id : r.port ≡ port = own ∙ ap (λ (n : ℕ). record { 0 = n }) same in
+              x.all r.id (into_map (λ (u : Unanswered). u.id) (due_of (mode_in old port) port (asks_of old.book)) r ((laws.exact (mode_in old port) port (asks_of old.book) r update_if_id).1 (subst (λ (z : Port). IsDue (mode_in old z) (asks_of old.book) r) (ap (λ (n : ℕ). record { 0 = n }) same) its))))
               (λ (ne : q.0 ≢ port.0). absurd (none (λ same. ne (ap (λ (p : Port). p.0) same)) r own its))
               (cases_eq q.0 port.0)),
         )
@@ -460,10 +460,10 @@ dues_carried laws mode one other m n q same alike dues r here own = (
 )
   where
     a : List Unanswered
-    a = unissued one (map unanswered m.book)
+    a = with_issue_undone one (map unanswered m.book)
 
     b : List Unanswered
-    b = unissued other (map unanswered n.book)
+    b = with_issue_undone other (map unanswered n.book)
 
     own_alike : (x : Unanswered) → Contains (of_port q (map unanswered m.book)) x → (if list_any (issues_it x.id) one then record x { issued = false } else x) ≡ (if list_any (issues_it x.id) other then record x { issued = false } else x)
     own_alike x there =

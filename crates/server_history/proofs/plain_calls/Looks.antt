@@ -12,25 +12,25 @@ use Rattle.adapter.specs.Device.{Device}
 use Rattle.adapter.specs.declared.command.Operation.{Operation}
 use Rattle.adapter.specs.declared.command.Operation.TheVariants.{Identify}
 use Rattle.refinement.specs.Relation.{port_at}
-use Rattle.refinement.specs.Driven.{AnyUse, IsDrivenBy, IsSimulated, IsOf, LeavesPort, NoneWrites, SendsNone}
-use Rattle.refinement.specs.Halting.{IsHaltedAsTaken}
+use Rattle.refinement.specs.Driven.{AnyUse, IsDrivenBy, IsSimulated, SparesOtherPorts, LeavesPort, NoneWrites, GainsNoMove}
+use Rattle.refinement.specs.Halting.{HaltOfTakenIfSt}
 use Rattle.refinement.specs.Slots.{IsOver, SlotStates, op_of}
 use Rattle.server_history.proofs.state.FollowedAccesses.{followed_adds, followed_silent}
 use Rattle.server_history.proofs.state.DrivenAccesses.{driven_as, kept_over as accesses_keep}
 use Rattle.host_boot.specs.Taken.{probe_result_of}
 use Rattle.host_boot.specs.declared.ProbeResult.TheVariants.{Unready}
 use Rattle.server_history.specs.Served.{IsMaskOf}
-use Rattle.server_history.specs.Server.{ServerState, InCallInvariant, IsPortOf, slots_at, state_of, used_for}
+use Rattle.server_history.specs.Server.{ServerState, InCallInvariant, PortInvariant, slots_at, state_of, used_for}
 use Rattle.server_history.proofs.state.HistorySteps.{machine_on, kept_on}
 use Rattle.server_history.proofs.state.PlainHalts.{followed_halts}
 use Rattle.server_history.proofs.state.PortsOverAccesses.{port_on}
 use Rattle.server_history.proofs.state.PortSlots.{AreOver, busy_used, not_own, ready_found, serves_used, used_there}
 use Rattle.server_history.proofs.state.StoredCommands.{service_leaves_stored}
-use Rattle.refinement.specs.Acts.{at_slots}
+use Rattle.refinement.specs.Acts.{driver_state}
 use Rattle.std.specs.List.{All}
 use Rattle.port_control.specs.Looks.{IsLooking}
 use Rattle.port_control.specs.Services.{IsService}
-use Rattle.commands.specs.Masks.{ReadsDone, IsFinding}
+use Rattle.commands.specs.Masks.{ReadsDone, ReadsCiOrSact}
 use Rattle.hba_regs.specs.Bits.{bit}
 use Rattle.server_history.specs.Below.{LawsBelow}
 use Rattle.server_history.proofs.state.TransferAccesses.{finding_serves}
@@ -40,8 +40,8 @@ use Rattle.server_history.proofs.state.TransferAccesses.{finding_serves}
 -- Accesses that serve a ready port leave what stands behind each, where the others are left to the device, no page comes but on
 -- dead ones, and halts are of taken commands still.
 pub behind_served : LawsBelow → (s : ServerState) (new : Device) (port : Port) → InCallInvariant s → state_of (probe_result_of s.ports port.0) ≡ ReadyState → IsDrivenBy IsService s.device new
-    → ((q : ℕ) → q < 4 → q ≢ port.0 → LeavesPort (s.device.port q) (new.port q)) → ((q : ℕ) → probe_result_of s.ports q ≢ Unready Dead → SendsNone q Identify s.device new)
-    → ((q : ℕ) → IsHaltedAsTaken (s.device.port q) → IsHaltedAsTaken (new.port q)) → (q : ℕ) → q < 4 → IsPortOf s.wanted s.ports q new
+    → ((q : ℕ) → q < 4 → q ≢ port.0 → LeavesPort (s.device.port q) (new.port q)) → ((q : ℕ) → probe_result_of s.ports q ≢ Unready Dead → GainsNoMove q Identify s.device new)
+    → ((q : ℕ) → HaltOfTakenIfSt (s.device.port q) → HaltOfTakenIfSt (new.port q)) → (q : ℕ) → q < 4 → PortInvariant s.wanted s.ports q new
 behind_served laws s new port k ready driven left silent halts q low =
     port_on laws s.wanted s.ports q s.device new (laws.looking.services_same s.device new driven) k.on driven
     (λ unready. left q low (λ same. unready (ap (λ (n : ℕ). state_of (probe_result_of s.ports n)) same ∙ ready))) (silent q) (halts q) (k.behind q low)
@@ -59,14 +59,14 @@ looking_spares port q r other (Storing at bytes) here = tt
 module _ (s : ServerState) (new : Device) (port : Port) (k : InCallInvariant s) where
   -- in followed accesses that write neither PxCI nor PxSACT, no data comes for a command of the driver's own but on dead ports
   silent_over : LawsBelow → (May : Access → Type 0) → ((q : Port) → NoneWrites May (Px q Ci) × NoneWrites May (Px q Sact)) → IsSimulated May AnyUse s.device new
-      → (q : ℕ) (o : Operation) → op_of o ≡ None → probe_result_of s.ports q ≢ Unready Dead → SendsNone q o s.device new
+      → (q : ℕ) (o : Operation) → op_of o ≡ None → probe_result_of s.ports q ≢ Unready Dead → GainsNoMove q o s.device new
   silent_over laws May none followed q o own other =
       followed_silent laws followed k.stands.uses k.stands.parked k.machine tt k.reached k.stands.knows (port_at q) o own (none (port_at q)).0 (none (port_at q)).1
       (not_own (probe_result_of s.ports q) (used_for s.slots q 0) (k.stands.uses q 0) o other (k.stands.used q 0))
 
   -- followed accesses that serve the port, and write no PxCI, where what stands behind each port goes on
   kept_by : LawsBelow → (May : Access → Type 0) → ((access : Access) → May access → IsService access) → ((access : Access) (at : ℕ) (bytes : List ℕ) → May access → access ≡ Storing at bytes → ⊥) → ((q : Port) → NoneWrites May (Px q Ci) × NoneWrites May (Px q Sact)) → ((q : Port) → NoneWrites May (Px q Cmd))
-      → ((q : ℕ) → q < 4 → IsPortOf s.wanted s.ports q new) → IsSimulated May AnyUse s.device new → InCallInvariant (record s { device = new })
+      → ((q : ℕ) → q < 4 → PortInvariant s.wanted s.ports q new) → IsSimulated May AnyUse s.device new → InCallInvariant (record s { device = new })
   kept_by below May service storeless none commandless behind followed =
       let uses : SlotStates = k.stands.uses in
       let driven : IsDrivenBy IsService s.device new = driven_as May IsService s.device new service followed.driven in
@@ -80,7 +80,7 @@ module _ (s : ServerState) (new : Device) (port : Port) (k : InCallInvariant s) 
       record {
         command = h.command;
         places = h.places;
-        stored = below.slots.stored (port_at q) n h.command h.places acts.acts (at_slots (record { uses = uses; parked = k.stands.parked }) s.device) (at_slots (record { uses = uses; parked = k.stands.parked }) new) k.machine k.reached k.stands.knows acts.done
+        stored = below.slots.stored (port_at q) n h.command h.places acts.acts (driver_state (record { uses = uses; parked = k.stands.parked }) s.device) (driver_state (record { uses = uses; parked = k.stands.parked }) new) k.machine k.reached k.stands.knows acts.done
             (λ i d small.
             let its = subst (All May) (sym acts.accesses_are) followed.driven.only i d small in
             service_leaves_stored below (port_at q) n _ (service _ its) (λ a bytes place e x from to. storeless _ a bytes its e)) k.on h.stored;
@@ -89,7 +89,7 @@ module _ (s : ServerState) (new : Device) (port : Port) (k : InCallInvariant s) 
       x.0 x.1
       (machine_on below s new k.machine x.0 k.stands x.3.only x.2)
 
-  finding_spares : (q : Port) (r : PortReg) → NoneWrites (IsFinding port) (Px q r)
+  finding_spares : (q : Port) (r : PortReg) → NoneWrites (ReadsCiOrSact port) (Px q r)
   finding_spares q r (Writing reg v) here = absurd here
   finding_spares q r (Reading reg v) here = tt
   finding_spares q r (Loading at bytes) here = tt
@@ -98,14 +98,14 @@ module _ (s : ServerState) (new : Device) (port : Port) (k : InCallInvariant s) 
   looking_stores : (access : Access) (at : ℕ) (bytes : List ℕ) → IsLooking port access → access ≡ Storing at bytes → ⊥
   looking_stores access at bytes is e = subst (IsLooking port) e is
 
-  finding_stores : (access : Access) (at : ℕ) (bytes : List ℕ) → IsFinding port access → access ≡ Storing at bytes → ⊥
-  finding_stores access at bytes is e = subst (IsFinding port) e is
+  finding_stores : (access : Access) (at : ℕ) (bytes : List ℕ) → ReadsCiOrSact port access → access ≡ Storing at bytes → ⊥
+  finding_stores access at bytes is e = subst (ReadsCiOrSact port) e is
 
-  pub looking_silent : LawsBelow → IsSimulated (IsLooking port) AnyUse s.device new → (q : ℕ) (o : Operation) → op_of o ≡ None → probe_result_of s.ports q ≢ Unready Dead → SendsNone q o s.device new
+  pub looking_silent : LawsBelow → IsSimulated (IsLooking port) AnyUse s.device new → (q : ℕ) (o : Operation) → op_of o ≡ None → probe_result_of s.ports q ≢ Unready Dead → GainsNoMove q o s.device new
   looking_silent laws followed = silent_over laws (IsLooking port) (λ q. (looking_spares port q Ci (λ e. absurd cc), looking_spares port q Sact (λ e. absurd cc))) followed
 
   -- a look, whatever the port is, where what stands behind each port goes on
-  pub looked_kept : LawsBelow → IsSimulated (IsLooking port) AnyUse s.device new → ((q : ℕ) → q < 4 → IsPortOf s.wanted s.ports q new) → InCallInvariant (record s { device = new })
+  pub looked_kept : LawsBelow → IsSimulated (IsLooking port) AnyUse s.device new → ((q : ℕ) → q < 4 → PortInvariant s.wanted s.ports q new) → InCallInvariant (record s { device = new })
   looked_kept laws followed behind =
       kept_by laws (IsLooking port) (laws.looking.looking_service port) looking_stores (λ q. (looking_spares port q Ci (λ e. absurd cc), looking_spares port q Sact (λ e. absurd cc))) (λ q. looking_spares port q Cmd (λ e. absurd cc)) behind followed
 
@@ -121,17 +121,17 @@ module _ (s : ServerState) (new : Device) (port : Port) (k : InCallInvariant s) 
 
   pub looking_kept : LawsBelow → IsSimulated (IsLooking port) AnyUse s.device new → InCallInvariant (record s { device = new })
   looking_kept laws followed =
-      kept_over laws (IsLooking port) (laws.looking.looking_service port) (looking_stores s new port k) (λ q. (looking_spares port q Ci (λ e. absurd cc), looking_spares port q Sact (λ e. absurd cc))) (λ q. looking_spares port q Cmd (λ e. absurd cc)) (λ q low other. laws.looks.other_left port q s.device new other k.on (driven_as (IsLooking port) (IsOf port) s.device new (laws.looking.looking_of port) followed.driven)) followed
+      kept_over laws (IsLooking port) (laws.looking.looking_service port) (looking_stores s new port k) (λ q. (looking_spares port q Ci (λ e. absurd cc), looking_spares port q Sact (λ e. absurd cc))) (λ q. looking_spares port q Cmd (λ e. absurd cc)) (λ q low other. laws.looks.other_left port q s.device new other k.on (driven_as (IsLooking port) (SparesOtherPorts port) s.device new (laws.looking.looking_of port) followed.driven)) followed
 
   module _ (laws : LawsBelow) (mask done : ℕ) (finds : ReadsDone port mask done s.device new) where
     pub finding_kept : InCallInvariant (record s { device = new })
     finding_kept =
         let followed = laws.finding_followed port mask done s.device new finds in
-        kept_over laws (IsFinding port) (finding_serves port) (finding_stores s new port k) (λ q. (finding_spares s new port k q Ci, finding_spares s new port k q Sact)) (λ q. finding_spares s new port k q Cmd)
-        (λ q low other. laws.looks.other_left port q s.device new other k.on (driven_as (IsFinding port) (IsOf port) s.device new (laws.finding_of port) followed.driven)) followed
+        kept_over laws (ReadsCiOrSact port) (finding_serves port) (finding_stores s new port k) (λ q. (finding_spares s new port k q Ci, finding_spares s new port k q Sact)) (λ q. finding_spares s new port k q Cmd)
+        (λ q low other. laws.looks.other_left port q s.device new other k.on (driven_as (ReadsCiOrSact port) (SparesOtherPorts port) s.device new (laws.finding_of port) followed.driven)) followed
 
-    pub finding_silent : (q : ℕ) (o : Operation) → op_of o ≡ None → probe_result_of s.ports q ≢ Unready Dead → SendsNone q o s.device new
-    finding_silent = silent_over s new port k laws (IsFinding port) (λ q. (finding_spares s new port k q Ci, finding_spares s new port k q Sact)) (laws.finding_followed port mask done s.device new finds)
+    pub finding_silent : (q : ℕ) (o : Operation) → op_of o ≡ None → probe_result_of s.ports q ≢ Unready Dead → GainsNoMove q o s.device new
+    finding_silent = silent_over s new port k laws (ReadsCiOrSact port) (λ q. (finding_spares s new port k q Ci, finding_spares s new port k q Sact)) (laws.finding_followed port mask done s.device new finds)
 
     -- the command of a slot that was found done is over, where only used slots were asked for
     pub found_over : IsMaskOf (slots_at s.slots port.0) mask → AreOver port done new

@@ -18,10 +18,10 @@ use Rattle.block_machine.specs.declared.due.Unanswered.{Unanswered}
 use Rattle.server_history.proofs.state.ListMembers.{into_map, map_in}
 use Rattle.host_boot.specs.Taken.{probe_result_of}
 use Rattle.request_queue.specs.Entries as entries
-use Rattle.request_queue.specs.Entries.{Held}
+use Rattle.request_queue.specs.Entries.{BookEntry}
 use Rattle.request_queue.specs.declared.PendingRequest.{PendingRequest}
 use Rattle.server_history.specs.Below.{LawsBelow}
-use Rattle.server_history.specs.Server.{ServerState, InCallInvariant, IsMachineOf, SettledInvariant, mode_in, state_of, HasTrueMark}
+use Rattle.server_history.specs.Server.{ServerState, InCallInvariant, MachineRelation, SettledInvariant, mode_in, state_of, RevokedMarkInvariant}
 use Rattle.server_history.specs.Turns.{a_tick_older, is_ready}
 use Rattle.server_history.proofs.state.RevokedMarks.{older_marked}
 
@@ -112,7 +112,7 @@ module _ (laws : LawsBelow) (s : ServerState) where
   abbrev ready : Port → Bool
   ready port = is_ready (probe_result_of s.ports port.0)
 
-  pub older_stands : (m : Machine) → IsMachineOf s m → IsMachineOf (a_tick_older s) (after_step m (Age ready))
+  pub older_stands : (m : Machine) → MachineRelation s m → MachineRelation (a_tick_older s) (after_step m (Age ready))
   older_stands m is = record {
     uses = is.uses;
     used = is.used;
@@ -128,11 +128,11 @@ module _ (laws : LawsBelow) (s : ServerState) where
   }
 
   -- who is in the book then was in it
-  was_held : (e : Held) → Contains (a_tick_older s).book e → (o : Held) × Contains s.book o × (e ≡ record o { entry = entries.older_entry ready o.entry })
-  was_held e here = map_in (λ (x : Held). record x { entry = entries.older_entry ready x.entry }) s.book e here
+  was_held : (e : BookEntry) → Contains (a_tick_older s).book e → (o : BookEntry) × Contains s.book o × (e ≡ record o { entry = entries.older_entry ready o.entry })
+  was_held e here = map_in (λ (x : BookEntry). record x { entry = entries.older_entry ready x.entry }) s.book e here
 
-  still_all : (P : Held → Type 0) → ((e : Held) (age : ℕ) → P e → P (record e { entry = record (e.entry) { age = age } })) → All P s.book → All P (a_tick_older s).book
-  still_all P keeps all = All-map P (λ (x : Held). record x { entry = entries.older_entry ready x.entry }) s.book
+  still_all : (P : BookEntry → Type 0) → ((e : BookEntry) (age : ℕ) → P e → P (record e { entry = record (e.entry) { age = age } })) → All P s.book → All P (a_tick_older s).book
+  still_all P keeps all = All-map P (λ (x : BookEntry). record x { entry = entries.older_entry ready x.entry }) s.book
       (λ k d lt. entry_by (λ r. P (record (get_or s.book k d) { entry = r })) ready (get_or s.book k d).entry (all k d lt) (λ age. keeps (get_or s.book k d) age (all k d lt)))
 
   pub older_settled : SettledInvariant s → SettledInvariant (a_tick_older s)
@@ -151,8 +151,8 @@ module _ (laws : LawsBelow) (s : ServerState) where
       slots = k.slots;
       kinds = λ port slot used e its here id.
           let w = was_held e here in
-          let same_id = ap (λ (x : Held). x.entry.id) w.2 ∙ entry_by (λ r. r.id ≡ w.0.entry.id) ready w.0.entry refl (λ age. refl) in
-          let same_op = ap (λ (x : Held). x.entry.op) w.2 ∙ entry_by (λ r. r.op ≡ w.0.entry.op) ready w.0.entry refl (λ age. refl) in
+          let same_id = ap (λ (x : BookEntry). x.entry.id) w.2 ∙ entry_by (λ r. r.id ≡ w.0.entry.id) ready w.0.entry refl (λ age. refl) in
+          let same_op = ap (λ (x : BookEntry). x.entry.op) w.2 ∙ entry_by (λ r. r.op ≡ w.0.entry.op) ready w.0.entry refl (λ age. refl) in
           k.kinds port slot used w.0 its w.1 (sym same_id ∙ id) ∙ ap (λ (op : Op). not (is_plain (mode_in s port) op)) (sym same_op);
       commands = k.commands;
       alone = k.alone;
@@ -160,7 +160,7 @@ module _ (laws : LawsBelow) (s : ServerState) where
       owners = k.owners;
       accepted = laws.ages.accepted s.table s.book ready k.accepted;
       ordered = laws.ages.ordered s.book ready k.ordered;
-      marked = still_all (HasTrueMark s.grants) (older_marked s.grants) k.marked;
+      marked = still_all (RevokedMarkInvariant s.grants) (older_marked s.grants) k.marked;
       handed_out = still_all (λ e. e.entry.id.0 ≤ s.last) (λ e age x. x) k.handed_out;
       ready = still_all (λ e. state_of (probe_result_of s.ports e.entry.port.0) ≡ ReadyState) (λ e age x. x) k.ready;
       machine = after_step k.machine (Age ready);

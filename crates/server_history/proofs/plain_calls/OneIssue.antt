@@ -15,7 +15,7 @@ use Rattle.adapter.specs.Device.{Device}
 use Rattle.adapter.specs.declared.command.Operation.{Operation}
 use Rattle.adapter.specs.declared.command.Operation.TheVariants.{Identify}
 use Rattle.block_machine.specs.Due.{IsDue, conflict, waits_for, is_plain}
-use Rattle.block_machine.specs.Events.{AllDevices, AllMay}
+use Rattle.block_machine.specs.Events.{AllByDevice, AllMay}
 use Rattle.block_machine.specs.Histories.{IsReachable}
 use Rattle.block_machine.specs.Left.{after}
 use Rattle.block_machine.specs.State.{Machine, Pending, unanswered}
@@ -23,16 +23,16 @@ use Rattle.block_machine.specs.Steps.{Step, Issue, May}
 use Rattle.block_machine.specs.declared.due.QueueMode.{QueueMode}
 use Rattle.block_machine.specs.declared.due.Unanswered.{Unanswered}
 use Rattle.server_history.proofs.state.ListMembers.{into_map, map_in}
-use Rattle.refinement.specs.Driven.{IsDrivenBy, IsOf, SendsNone, known}
-use Rattle.refinement.specs.Driver.{EndsWith, IsBacked, serving}
-use Rattle.refinement.specs.Links.{SparesRegister}
+use Rattle.refinement.specs.Driven.{IsDrivenBy, SparesOtherPorts, GainsNoMove, known}
+use Rattle.refinement.specs.Driver.{EndsInStep, IsBacked, serving}
+use Rattle.refinement.specs.Links.{DoesNotWrite}
 use Rattle.refinement.specs.Slots.{Free, Serves, SlotState, op_of, put}
 use Rattle.refinement.specs.Spares.{SparesBook}
 use Rattle.server_history.proofs.state.DrivenAccesses.{driven_as}
 use Rattle.host_boot.specs.Taken.{probe_result_of}
 use Rattle.host_boot.specs.declared.ProbeResult.TheVariants.{Unready}
-use Rattle.request_queue.specs.Entries.{Held, asks_of, at_entry, has_id, issue}
-use Rattle.request_queue.specs.Machine.{IsBook, IsEntry}
+use Rattle.request_queue.specs.Entries.{BookEntry, asks_of, update_if_id, has_id, issue}
+use Rattle.request_queue.specs.Machine.{BookRelation, EntryRelation}
 use Rattle.refinement.specs.Driven.{RelatesWith}
 use Rattle.ata_types.specs.declared.request.Frame.{Frame}
 use Rattle.command_table.specs.Written.{IsUnused}
@@ -41,7 +41,7 @@ use Rattle.request_queue.specs.Entries.{asks}
 use Rattle.slots.specs.Uses.{IsLowestFree}
 use Rattle.slots.specs.declared.SlotUse.{SlotUse}
 use Rattle.server_history.specs.Served.{IssuesOne, task_of, use_for}
-use Rattle.server_history.specs.Server.{HasStoredCommand, StandsAlone, ServerState, InCallInvariant, IsMachineOf, IsPortOf, IsUsedAs, mode_at, mode_in, slots_at, state_of, usable_of, used_for, with_slot, HasTrueMark}
+use Rattle.server_history.specs.Server.{HasStoredCommand, StandsAlone, ServerState, InCallInvariant, MachineRelation, PortInvariant, IsUsedAs, mode_at, mode_in, slots_at, state_of, usable_of, used_for, with_slot, RevokedMarkInvariant}
 use Rattle.server_history.specs.Below.{LawsBelow}
 use Rattle.server_history.proofs.state.DueRequests.{asked_alike, same_book}
 use Rattle.server_history.proofs.state.ChangedRequests.{all_changed}
@@ -51,7 +51,7 @@ use Rattle.server_history.proofs.state.PlacedSlots.{its_or_other, placed_four, p
 use Rattle.server_history.proofs.state.StoredCommands.{AreApart, issuing_leaves_stored}
 use Rattle.std.specs.Prelude.{if◌then◌else◌}
 use Rattle.adapter.specs.Commands.{is_queued}
-use Rattle.refinement.specs.Acts.{InSlots, at_slots}
+use Rattle.refinement.specs.Acts.{DriverSlots, driver_state}
 use Rattle.refinement.specs.Relation.{port_at}
 use Rattle.ata_types.specs.declared.request.Op.{Op}
 use Rattle.ata_types.specs.declared.request.Op.TheVariants.{Read, Write, Trim, Flush}
@@ -71,10 +71,10 @@ pub record IsIssue (port : Port) (id : RequestId) (old new : ServerState) (m : M
   pub here : Contains m.book request
   pub waits : request.issued ≡ false
   pub steps : List Step
-  pub only : AllDevices steps
+  pub only : AllByDevice steps
   pub may : AllMay m (Issue (mode_in old port) request ∷ steps)
   pub backed : IsBacked old.device new.device m (Issue (mode_in old port) request ∷ steps)
-  pub stands : IsMachineOf new (after m (Issue (mode_in old port) request ∷ steps))
+  pub stands : MachineRelation new (after m (Issue (mode_in old port) request ∷ steps))
 
 -- ---- what stands behind the ports then
 
@@ -85,38 +85,38 @@ issued_serves port slot old new driven = driven_as (IsIssuing port slot) IsServi
 silent_issued : LawsBelow → (s : ServerState) (new : Device) (port : Port) (slot : ℕ) (mode : QueueMode) (r : Task) (frames : List Frame) (p : Pending) (k : InCallInvariant s)
     → IssuesTask port slot r frames s.device new → IsTaskOf port slot r frames mode p
     → MayServe port slot mode p (record { uses = k.stands.uses; parked = k.stands.parked }) k.machine
-    → (q : ℕ) (o : Operation) → op_of o ≡ None → probe_result_of s.ports q ≢ Unready Dead → SendsNone q o s.device new
+    → (q : ℕ) (o : Operation) → op_of o ≡ None → probe_result_of s.ports q ≢ Unready Dead → GainsNoMove q o s.device new
 silent_issued laws s new port slot mode r frames p k issues its may q o own other =
     laws.issuing_silent port slot r frames mode p s.device new (record { uses = k.stands.uses; parked = k.stands.parked }) k.machine issues its k.reached k.stands.knows may q o own
     (not_own (probe_result_of s.ports q) (used_for s.slots q 0) (k.stands.uses q 0) o other (k.stands.used q 0))
 
 -- it writes no PxCMD
-issuing_commands : (port : Port) (slot : ℕ) (q : Port) (access : Access) → IsIssuing port slot access → SparesRegister (Px q Cmd) access
+issuing_commands : (port : Port) (slot : ℕ) (q : Port) (access : Access) → IsIssuing port slot access → DoesNotWrite (Px q Cmd) access
 issuing_commands port slot q (Writing w v) is = ⊎_elim
     (λ (its : w ≡ Px port Sact) (same : w ≡ Px q Cmd). let z : Px port Sact ≡ Px q Cmd = sym its ∙ same in absurd cc)
     (λ (its : w ≡ Px port Ci) (same : w ≡ Px q Cmd). let z : Px port Ci ≡ Px q Cmd = sym its ∙ same in absurd cc)
     is.0
 issuing_commands port slot q (Reading w v) is = tt
-issuing_commands port slot q (Loading at_entry bytes) is = tt
-issuing_commands port slot q (Storing at_entry bytes) is = tt
+issuing_commands port slot q (Loading update_if_id bytes) is = tt
+issuing_commands port slot q (Storing update_if_id bytes) is = tt
 
 -- on a ready port, that leaves what stands behind each
 behind_issued : LawsBelow → (s : ServerState) (new : Device) (port : Port) (slot : ℕ) (mode : QueueMode) (r : Task) (frames : List Frame) (p : Pending) (k : InCallInvariant s) → state_of (probe_result_of s.ports port.0) ≡ ReadyState
     → IssuesTask port slot r frames s.device new → IsTaskOf port slot r frames mode p
-    → MayServe port slot mode p (record { uses = k.stands.uses; parked = k.stands.parked }) k.machine → (q : ℕ) → q < 4 → IsPortOf s.wanted s.ports q new
+    → MayServe port slot mode p (record { uses = k.stands.uses; parked = k.stands.parked }) k.machine → (q : ℕ) → q < 4 → PortInvariant s.wanted s.ports q new
 behind_issued laws s new port slot mode r frames p k ready issues its may =
     behind_served laws s new port k ready (issued_serves port slot s.device new issues.driven)
-    (λ q low other. laws.looks.other_left port q s.device new other k.on (driven_as (IsIssuing port slot) (IsOf port) s.device new (laws.issuing_of port slot) issues.driven))
+    (λ q low other. laws.looks.other_left port q s.device new other k.on (driven_as (IsIssuing port slot) (SparesOtherPorts port) s.device new (laws.issuing_of port slot) issues.driven))
     (λ q other. silent_issued laws s new port slot mode r frames p k issues its may q Identify refl other)
     (λ q.
-    let slots : InSlots = record { uses = k.stands.uses; parked = k.stands.parked } in
+    let slots : DriverSlots = record { uses = k.stands.uses; parked = k.stands.parked } in
     let c = issues.comes mode p its slots k.machine k.reached k.stands.knows may in
-    laws.port_error.halts_acts (port_at q) c.acts (at_slots slots s.device) (at_slots (with_serving port slot p.request.id slots) new) k.machine k.reached k.stands.knows c.done
-    (subst (All (SparesRegister (Px (port_at q) Cmd))) (sym c.accesses_are)
-    (All-weaker (IsIssuing port slot) (SparesRegister (Px (port_at q) Cmd)) (issuing_commands port slot (port_at q)) issues.driven.accesses issues.driven.only)))
+    laws.port_error.halts_acts (port_at q) c.acts (driver_state slots s.device) (driver_state (with_serving port slot p.request.id slots) new) k.machine k.reached k.stands.knows c.done
+    (subst (All (DoesNotWrite (Px (port_at q) Cmd))) (sym c.accesses_are)
+    (All-weaker (IsIssuing port slot) (DoesNotWrite (Px (port_at q) Cmd)) (issuing_commands port slot (port_at q)) issues.driven.accesses issues.driven.only)))
 
 module _ (laws : LawsBelow) (s new : ServerState) (port : Port) (id : RequestId) (k : InCallInvariant s) (one : IssuesOne port id s new) where
-  abbrev e : Held
+  abbrev e : BookEntry
   e = one.request
 
   -- how its port takes commands, and its slot
@@ -134,7 +134,7 @@ module _ (laws : LawsBelow) (s new : ServerState) (port : Port) (id : RequestId)
 
   -- the server then
   abbrev later : ServerState
-  later = record s { device = new.device; slots = with_slot s.slots port.0 slot its_use; book = map (at_entry id issue) s.book }
+  later = record s { device = new.device; slots = with_slot s.slots port.0 slot its_use; book = map (update_if_id id issue) s.book }
 
   port_same : e.entry.port.0 ≡ port.0
   port_same = ap (λ (p : Port). p.0) one.port_is
@@ -157,12 +157,12 @@ module _ (laws : LawsBelow) (s new : ServerState) (port : Port) (id : RequestId)
   few : usable_of (probe_result_of s.ports port.0) (mode_at s.modes port.0) ≤ 32
   few = let u = usable_ready s port.0 k issued_ready in let f = (its_mode s port.0 k low).0.1 in omega (arith, u, f)
 
-  module _ (m : Machine) (reached : IsReachable m) (is : IsMachineOf s m) where
+  module _ (m : Machine) (reached : IsReachable m) (is : MachineRelation s m) where
     free : is.uses port.0 slot ≡ Free
     free = free_unused s m port.0 is issued_ready slot one.lowest.1
 
-    x : (p : Pending) × Contains m.book p × IsEntry e p
-    x = at_left IsEntry s.book m.book is.book e one.here
+    x : (p : Pending) × Contains m.book p × EntryRelation e p
+    x = at_left EntryRelation s.book m.book is.book e one.here
 
     abbrev p : Pending
     p = x.0
@@ -193,7 +193,7 @@ module _ (laws : LawsBelow) (s new : ServerState) (port : Port) (id : RequestId)
       head = λ plain. may_use.3 (not_false (is_plain mode e.entry.op) plain);
     }
 
-    ends : EndsWith (known is.uses is.parked s.device) m (Issue mode p) (serving (known is.uses is.parked s.device) port.0 slot p.request.id new.device)
+    ends : EndsInStep (known is.uses is.parked s.device) m (Issue mode p) (serving (known is.uses is.parked s.device) port.0 slot p.request.id new.device)
     ends = laws.issuing_ends port slot r e.frames mode p s.device new.device (record { uses = is.uses; parked = is.parked }) m one.issues its_transfer reached is.knows (free, may)
 
     its_id : p.request.id ≡ id
@@ -202,7 +202,7 @@ module _ (laws : LawsBelow) (s new : ServerState) (port : Port) (id : RequestId)
     spares : SparesBook m (after m ends.steps)
     spares = laws.basic.spares m ends.steps ends.only
 
-    stands : IsMachineOf later (after m (Issue mode p ∷ ends.steps))
+    stands : MachineRelation later (after m (Issue mode p ∷ ends.steps))
     stands = record {
       uses = put is.uses port.0 slot (Serves p.request.id);
       used = subst (λ (u : SlotState). (q n : ℕ) → IsUsedAs (probe_result_of s.ports q) (used_for (with_slot s.slots port.0 slot its_use) q n) (put is.uses port.0 slot u q n)) (ap Serves (sym x.2.id))
@@ -210,7 +210,7 @@ module _ (laws : LawsBelow) (s new : ServerState) (port : Port) (id : RequestId)
       parked = is.parked;
       unparked = is.unparked;
       knows = ends.knows;
-      book = subst (λ (i : RequestId). IsBook (map (at_entry i issue) s.book) (after m (Issue mode p ∷ ends.steps)).book) its_id
+      book = subst (λ (i : RequestId). BookRelation (map (update_if_id i issue) s.book) (after m (Issue mode p ∷ ends.steps)).book) its_id
           (laws.issues s.book (after m ends.steps) mode p (book_on s.book m.book (after m ends.steps).book spares.book is.book));
       kept = still_kept laws s.ports s.kept m.kept (after m ends.steps).kept spares.kept is.kept;
       rows = spares.rows ∙ is.rows;
@@ -230,13 +230,13 @@ module _ (laws : LawsBelow) (s new : ServerState) (port : Port) (id : RequestId)
       only = ends.only;
       may = ends.may;
       backed = ends.backed;
-      stands = subst (λ (n : ServerState). IsMachineOf n (after m (Issue mode p ∷ ends.steps))) (sym one.server) stands;
+      stands = subst (λ (n : ServerState). MachineRelation n (after m (Issue mode p ∷ ends.steps))) (sym one.server) stands;
     }
       where
         waiting : e.entry.issued ≡ false
         waiting = not_true e.entry.issued (and_parts _ _ one.due.clear).0
 
-  pub issue_silent : (q : ℕ) (o : Operation) → op_of o ≡ None → probe_result_of s.ports q ≢ Unready Dead → SendsNone q o s.device new.device
+  pub issue_silent : (q : ℕ) (o : Operation) → op_of o ≡ None → probe_result_of s.ports q ≢ Unready Dead → GainsNoMove q o s.device new.device
   issue_silent =
       silent_issued laws s new.device port slot mode r e.frames (p k.machine k.reached k.stands) k one.issues (its_transfer k.machine k.reached k.stands)
       (free k.machine k.reached k.stands, may k.machine k.reached k.stands)
@@ -256,34 +256,34 @@ module _ (laws : LawsBelow) (s new : ServerState) (port : Port) (id : RequestId)
   was_used q n used other is = placed_was s.slots port.0 slot its_use in_list in_places q n used other is
 
   -- each command is queued exactly if its request asks for it
-  kinds_then : (q : Port) (n : ℕ) (used : SlotUse) (h : Held) → used_for (with_slot s.slots port.0 slot its_use) q.0 n ≡ Some used → Contains (map (at_entry id issue) s.book) h → h.entry.id ≡ used.id
+  kinds_then : (q : Port) (n : ℕ) (used : SlotUse) (h : BookEntry) → used_for (with_slot s.slots port.0 slot its_use) q.0 n ≡ Some used → Contains (map (update_if_id id issue) s.book) h → h.entry.id ≡ used.id
       → used.queued ≡ not (is_plain (mode_in s q) h.entry.op)
   kinds_then q n used h is there same = ⊎_elim
       (λ (its : (q.0 ≡ port.0) × (n ≡ slot)).
       let alike : use_for mode e ≡ used = its_there q.0 n used its.0 its.1 is in
-      let one_is : old.0 ≡ e = laws.one s.book old.0 e k.ordered old.1 one.here (sym (id_same old.0) ∙ sym (ap (λ (x : Held). x.entry.id) old.2) ∙ same ∙ ap (λ (u : SlotUse). u.id) (sym alike)) in
-      ap (λ (u : SlotUse). u.queued) (sym alike) ∙ ap (λ (o : Op). not (is_plain mode o)) (ap (λ (x : Held). x.entry.op) (sym one_is) ∙ sym (op_same old.0) ∙ ap (λ (x : Held). x.entry.op) (sym old.2))
+      let one_is : old.0 ≡ e = laws.one s.book old.0 e k.ordered old.1 one.here (sym (id_same old.0) ∙ sym (ap (λ (x : BookEntry). x.entry.id) old.2) ∙ same ∙ ap (λ (u : SlotUse). u.id) (sym alike)) in
+      ap (λ (u : SlotUse). u.queued) (sym alike) ∙ ap (λ (o : Op). not (is_plain mode o)) (ap (λ (x : BookEntry). x.entry.op) (sym one_is) ∙ sym (op_same old.0) ∙ ap (λ (x : BookEntry). x.entry.op) (sym old.2))
       ∙ ap (λ (p : ℕ). not (is_plain (mode_at s.modes p) h.entry.op)) (sym its.0))
       (λ (other : AreApart port.0 slot q.0 n).
-      k.kinds q n used old.0 (was_used q.0 n used other is) old.1 (sym (id_same old.0) ∙ sym (ap (λ (x : Held). x.entry.id) old.2) ∙ same)
-      ∙ ap (λ (o : Op). not (is_plain (mode_in s q) o)) (sym (op_same old.0) ∙ ap (λ (x : Held). x.entry.op) (sym old.2)))
+      k.kinds q n used old.0 (was_used q.0 n used other is) old.1 (sym (id_same old.0) ∙ sym (ap (λ (x : BookEntry). x.entry.id) old.2) ∙ same)
+      ∙ ap (λ (o : Op). not (is_plain (mode_in s q) o)) (sym (op_same old.0) ∙ ap (λ (x : BookEntry). x.entry.op) (sym old.2)))
       (its_or_other port.0 slot q.0 n)
     where
-      old : (x : Held) × Contains s.book x × (h ≡ at_entry id issue x)
-      old = map_in (at_entry id issue) s.book h there
+      old : (x : BookEntry) × Contains s.book x × (h ≡ update_if_id id issue x)
+      old = map_in (update_if_id id issue) s.book h there
 
-      op_by : (x : Held) (b : Bool) → (if b then record x { entry = issue x.entry } else x).entry.op ≡ x.entry.op
+      op_by : (x : BookEntry) (b : Bool) → (if b then record x { entry = issue x.entry } else x).entry.op ≡ x.entry.op
       op_by x true = refl
       op_by x false = refl
 
-      op_same : (x : Held) → (at_entry id issue x).entry.op ≡ x.entry.op
+      op_same : (x : BookEntry) → (update_if_id id issue x).entry.op ≡ x.entry.op
       op_same x = op_by x (has_id id x)
 
-      id_by : (x : Held) (b : Bool) → (if b then record x { entry = issue x.entry } else x).entry.id ≡ x.entry.id
+      id_by : (x : BookEntry) (b : Bool) → (if b then record x { entry = issue x.entry } else x).entry.id ≡ x.entry.id
       id_by x true = refl
       id_by x false = refl
 
-      id_same : (x : Held) → (at_entry id issue x).entry.id ≡ x.entry.id
+      id_same : (x : BookEntry) → (update_if_id id issue x).entry.id ≡ x.entry.id
       id_same x = id_by x (has_id id x)
 
   -- and its slot's bytes say such a command
@@ -302,7 +302,7 @@ module _ (laws : LawsBelow) (s new : ServerState) (port : Port) (id : RequestId)
       record {
         command = h.command;
         places = h.places;
-        stored = laws.slots.stored (port_at q) n h.command h.places acts.acts (at_slots (record { uses = k.stands.uses; parked = k.stands.parked }) s.device) _ k.machine k.reached k.stands.knows acts.done
+        stored = laws.slots.stored (port_at q) n h.command h.places acts.acts (driver_state (record { uses = k.stands.uses; parked = k.stands.parked }) s.device) _ k.machine k.reached k.stands.knows acts.done
             (λ i d small. issuing_leaves_stored laws port (port_at q) slot n low may_use.1 t.0 t.1 other _ (subst (All (IsIssuing port slot)) (sym acts.accesses_are) one.issues.driven.only i d small)) k.on h.stored;
         kind = h.kind;
       })
@@ -342,7 +342,7 @@ module _ (laws : LawsBelow) (s new : ServerState) (port : Port) (id : RequestId)
   -- so no slot of the port is used where a plain request is due, and none for a plain one where any is
   none_beside : (n : ℕ) (u : SlotUse) → used_for s.slots port.0 n ≡ Some u → (is_plain mode e.entry.op ≡ true) ⊎ (u.queued ≡ false) → ⊥
   none_beside n u used plain = false≢true (sym (not_true _ (and_parts _ _ one.due.clear).1) ∙ any_here (waits_for mode (asks e.entry)) (asks_of s.book) (asks x.request.entry)
-      (into_map (λ (h : Held). asks h.entry) s.book x.request x.there)
+      (into_map (λ (h : BookEntry). asks h.entry) s.book x.request x.there)
       (holds (asks x.request.entry) x.port_is (sym x.entry.issued ∙ x.issued) (⊎_elim (λ it. inl it) (λ its. inr (plain_of its)) plain)))
     where
       x : IsServedBy s k.machine port.0 n u.id
@@ -381,7 +381,7 @@ module _ (laws : LawsBelow) (s new : ServerState) (port : Port) (id : RequestId)
   issue_kept =
       let i = issue_one k.machine k.reached k.stands in
       subst InCallInvariant (sym one.server)
-      (kept_then s new.device s.grants s.table (with_slot s.slots port.0 slot its_use) (map (at_entry id issue) s.book) s.last k k.rows
+      (kept_then s new.device s.grants s.table (with_slot s.slots port.0 slot its_use) (map (update_if_id id issue) s.book) s.last k k.rows
       (laws.looking.services_on s.device new.device k.on driven) (laws.looking.services_same s.device new.device driven)
       (behind_issued laws s new.device port slot mode r e.frames (p k.machine k.reached k.stands) k issued_ready one.issues (its_transfer k.machine k.reached k.stands)
       (free k.machine k.reached k.stands, may k.machine k.reached k.stands))
@@ -393,11 +393,11 @@ module _ (laws : LawsBelow) (s new : ServerState) (port : Port) (id : RequestId)
       alone_then
       (laws.still_issued s.table s.book id k.accepted)
       (laws.issued s.book id k.ordered (e, one.here, one.id_is, waiting))
-      (all_changed id issue (HasTrueMark s.grants) (issued_marked s.grants) s.book k.marked)
+      (all_changed id issue (RevokedMarkInvariant s.grants) (issued_marked s.grants) s.book k.marked)
       (all_changed id issue (λ y. y.entry.id.0 ≤ s.last) (λ y a. a) s.book k.handed_out)
       (all_changed id issue (λ y. state_of (probe_result_of s.ports y.entry.port.0) ≡ ReadyState) (λ y a. a) s.book k.ready)
       (after k.machine (Issue mode i.request ∷ i.steps)) (laws.basic.reached k.machine (Issue mode i.request ∷ i.steps) k.reached i.may)
-      (subst (λ (n : ServerState). IsMachineOf n (after k.machine (Issue mode i.request ∷ i.steps))) one.server i.stands))
+      (subst (λ (n : ServerState). MachineRelation n (after k.machine (Issue mode i.request ∷ i.steps))) one.server i.stands))
     where
       driven : IsDrivenBy IsService s.device new.device
       driven = issued_serves port slot s.device new.device one.issues.driven

@@ -17,19 +17,19 @@ use Rattle.adapter.specs.Rules.{IsUnowned, IsStable}
 use Rattle.adapter.specs.Steps.{Steps}
 use Rattle.adapter.specs.declared.access.DeviceStep.{DeviceStep}
 use Rattle.adapter.specs.declared.command.Operation.TheVariants.{Identify}
-use Rattle.refinement.specs.Driven.{IsDrivenBy, SendsNone, known}
-use Rattle.refinement.specs.Driver.{EndsWith}
-use Rattle.refinement.specs.Links.{SameAdapter, SparesRegister}
+use Rattle.refinement.specs.Driven.{IsDrivenBy, GainsNoMove, known}
+use Rattle.refinement.specs.Driver.{EndsInStep}
+use Rattle.refinement.specs.Links.{SameAdapter, DoesNotWrite}
 use Rattle.hba_regs.specs.declared.reg.PortReg.TheVariants.{Cmd}
 use Rattle.hba_regs.specs.declared.reg.Reg.TheVariants.{Ghc, Px}
 use Rattle.refinement.specs.Spares.{SparesBook}
 use Rattle.server_history.proofs.state.DrivenAccesses.{by_one}
-use Rattle.block_machine.specs.Events.{Ask, Submit, StoreAt, LoadAt, Service, Tick, Reset, RevokeOf, State, AllMay, Device as Told, CallResult, Submitted, Shown, Stepped, IsAnswered, AbstractState, WasRevoked}
+use Rattle.block_machine.specs.Events.{AbstractCall, Submit, StoreAt, LoadAt, Service, Tick, Reset, RevokeOf, State, AllMay, Device as Told, CallResult, Submitted, Shown, Stepped, IsAnswered, AbstractState, WasRevoked}
 use Rattle.block_machine.specs.Rules.{HasRow}
 use Rattle.block_machine.specs.Histories.{JointState, Happening, IsReachable, now}
 use Rattle.block_machine.specs.Left.{after}
 use Rattle.block_machine.specs.Ports.{Evidence, Ports}
-use Rattle.block_machine.specs.Refusals.{Situation, IsFirstMemFault, IsFirstRefusal, IsOpen}
+use Rattle.block_machine.specs.Refusals.{Situation, IsFirstMemFault, IsFirstRefusal, MayAccessFrame}
 use Rattle.block_machine.specs.State.{Machine}
 use Rattle.block_machine.specs.Steps.{Step, Load, Store}
 use Rattle.block_machine.specs.Events as events
@@ -42,10 +42,10 @@ use Rattle.ata_types.specs.declared.memory.TheConstants.{DRIVER_BYTES, DRIVER_FR
 use Rattle.port_control.specs.Services.{IsService}
 use Rattle.server_history.specs.Below.{LawsBelow}
 use Rattle.driver_history.specs.Heeding.{OnlyFailedPortsRequeueIn}
-use Rattle.driver_history.specs.Histories.{ExplainsAccesses, Issues, IssuesDue, LosesNoPortError, PortCorresponds}
-use Rattle.driver_history.specs.Trace.{ClearsNone, LeavesEngine}
+use Rattle.driver_history.specs.Histories.{ExplainsAccesses, IssuesAllDue, IssuesDue, LosesNoPortError, PortCorresponds}
+use Rattle.driver_history.specs.Trace.{ClearsNoError, LeavesEngine}
 use Rattle.server_history.specs.Histories.{ExtendsSettled, ExtendsHistory, LeadsToServer, ServerRelation, load_said, store_said}
-use Rattle.server_history.specs.Server.{HasStoredCommand, ServerState, InCallInvariant, IsMachineOf, IsPortOf, SettledInvariant, OwnedFramesAreClients, mode_in, ports_of, server_situation, used_for}
+use Rattle.server_history.specs.Server.{HasStoredCommand, ServerState, InCallInvariant, MachineRelation, PortInvariant, SettledInvariant, OwnedFramesAreClients, mode_in, ports_of, admission_context, used_for}
 use Rattle.slots.specs.declared.SlotUse.{SlotUse}
 use Rattle.refinement.specs.Relation.{port_at}
 use Rattle.refinement.specs.Places.{IsTableByte}
@@ -65,7 +65,7 @@ module _ (laws : LawsBelow) (first : JointState Device) (past : List (Happening 
   reached = laws.basic.history_reached s.wanted first past leads.history
 
 -- what holds of the server's owners and loans holds of the machine's
-pub as_told : (s : ServerState) (m : Machine) → IsMachineOf s m → (P : (Frame → Option ClientId) → (Frame → Option RequestId) → Type 0) → P (owner_of s.table) (lent_to s.table) → P m.owner m.lent
+pub as_told : (s : ServerState) (m : Machine) → MachineRelation s m → (P : (Frame → Option ClientId) → (Frame → Option RequestId) → Type 0) → P (owner_of s.table) (lent_to s.table) → P m.owner m.lent
 as_told s m is P holds = subst (λ owner. P owner m.lent) (sym (λ i frame. is.owner frame i)) (subst (λ lent. P (owner_of s.table) lent) (sym (λ i frame. is.lent frame i)) holds)
 
 -- what it stores lies above the driver's own memory
@@ -86,19 +86,19 @@ abbrev still : ServerState → AbstractState → JointState Device
 still s m = record { device = s.device; abstract = m }
 
 -- accesses of bytes write no register
-bytes_spare_host : (access : Access) → IsOfBytes access → SparesRegister Ghc access
+bytes_spare_host : (access : Access) → IsOfBytes access → DoesNotWrite Ghc access
 bytes_spare_host (Loading at bytes) its = tt
 bytes_spare_host (Storing at bytes) its = tt
 bytes_spare_host (Reading r v) its = absurd its
 bytes_spare_host (Writing r v) its = absurd its
 
-bytes_spare_commands : (port : Port) (access : Access) → IsOfBytes access → SparesRegister (Px port Cmd) access
+bytes_spare_commands : (port : Port) (access : Access) → IsOfBytes access → DoesNotWrite (Px port Cmd) access
 bytes_spare_commands port (Loading at bytes) its = tt
 bytes_spare_commands port (Storing at bytes) its = tt
 bytes_spare_commands port (Reading r v) its = absurd its
 bytes_spare_commands port (Writing r v) its = absurd its
 
-bytes_clear_none : (port : Port) (access : Access) → IsOfBytes access → ClearsNone port access
+bytes_clear_none : (port : Port) (access : Access) → IsOfBytes access → ClearsNoError port access
 bytes_clear_none port (Loading at bytes) its = tt
 bytes_clear_none port (Storing at bytes) its = tt
 bytes_clear_none port (Reading r v) its = absurd its
@@ -110,12 +110,12 @@ pub record GoesTo (s : ServerState) (new : Device) : Type 0 where
   pub port_error : (m : AbstractState) → m.ports ≡ ports_of s → (port : Port) → LosesNoPortError (told_by s.device m.ports) (still s m) (ports_of s) new port
 
 -- what of it stands in the device's terms, for each port
-abbrev Parts : ServerState → Device → Ask DeviceStep → CallResult → List Step → List Access → Type 0
+abbrev Parts : ServerState → Device → AbstractCall DeviceStep → CallResult → List Step → List Access → Type 0
 Parts s new ask said steps accesses = (m : AbstractState) → m.ports ≡ ports_of s → (port : Port) → PortCorresponds (still s m) (happening (still s m) new ask said steps (ports_of s)) accesses port
 
 module _ (laws : LawsBelow) where
   -- what a request meets is what it meets in the machine
-  pub situation_is : (s : ServerState) (old : JointState Device) → ServerRelation old s → events.situation_of old.abstract ≡ server_situation s
+  pub situation_is : (s : ServerState) (old : JointState Device) → ServerRelation old s → events.situation_of old.abstract ≡ admission_context s
   situation_is s old at = λ i. record {
     rows = at.machine.rows i;
     owner = λ frame. at.machine.owner frame i;
@@ -128,20 +128,20 @@ module _ (laws : LawsBelow) where
   }
 
   -- the machine of a load is that of the device's steps
-  pub load_ends : (s : ServerState) (new : Device) (client : ClientId) (frame : Frame) (offset : ℕ) (bytes : List ℕ) → IsOpen (owner_of s.table) (lent_to s.table) client frame offset (length bytes)
-      → Loads (4096 * frame.0 + offset) bytes s.device new → (m : Machine) → IsReachable m → (is : IsMachineOf s m)
-      → (x : EndsWith (known is.uses is.parked s.device) m (Load client frame offset bytes) (known is.uses is.parked new)) × IsMachineOf (record s { device = new }) (after m (Load client frame offset bytes ∷ x.steps))
+  pub load_ends : (s : ServerState) (new : Device) (client : ClientId) (frame : Frame) (offset : ℕ) (bytes : List ℕ) → MayAccessFrame (owner_of s.table) (lent_to s.table) client frame offset (length bytes)
+      → Loads (4096 * frame.0 + offset) bytes s.device new → (m : Machine) → IsReachable m → (is : MachineRelation s m)
+      → (x : EndsInStep (known is.uses is.parked s.device) m (Load client frame offset bytes) (known is.uses is.parked new)) × MachineRelation (record s { device = new }) (after m (Load client frame offset bytes ∷ x.steps))
   load_ends s new client frame offset bytes opens loads m r is =
-      let x : EndsWith (known is.uses is.parked s.device) m (Load client frame offset bytes) (known is.uses is.parked new) =
-      laws.client_loads (known is.uses is.parked s.device) m client frame offset bytes new r is.knows (as_told s m is (λ owner lent. IsOpen owner lent client frame offset (length bytes)) opens) loads in
+      let x : EndsInStep (known is.uses is.parked s.device) m (Load client frame offset bytes) (known is.uses is.parked new) =
+      laws.client_loads (known is.uses is.parked s.device) m client frame offset bytes new r is.knows (as_told s m is (λ owner lent. MayAccessFrame owner lent client frame offset (length bytes)) opens) loads in
       (x, machine_with laws s new m (after m (Load client frame offset bytes ∷ x.steps)) is (laws.basic.spares m x.steps x.only) x.knows)
 
-  pub store_ends : (s : ServerState) (new : Device) (client : ClientId) (frame : Frame) (offset : ℕ) (bytes : List ℕ) → IsOpen (owner_of s.table) (lent_to s.table) client frame offset (length bytes)
-      → Stores (4096 * frame.0 + offset) bytes s.device new → (m : Machine) → IsReachable m → (is : IsMachineOf s m)
-      → (x : EndsWith (known is.uses is.parked s.device) m (Store client frame offset bytes) (known is.uses is.parked new)) × IsMachineOf (record s { device = new }) (after m (Store client frame offset bytes ∷ x.steps))
+  pub store_ends : (s : ServerState) (new : Device) (client : ClientId) (frame : Frame) (offset : ℕ) (bytes : List ℕ) → MayAccessFrame (owner_of s.table) (lent_to s.table) client frame offset (length bytes)
+      → Stores (4096 * frame.0 + offset) bytes s.device new → (m : Machine) → IsReachable m → (is : MachineRelation s m)
+      → (x : EndsInStep (known is.uses is.parked s.device) m (Store client frame offset bytes) (known is.uses is.parked new)) × MachineRelation (record s { device = new }) (after m (Store client frame offset bytes ∷ x.steps))
   store_ends s new client frame offset bytes opens stores m r is =
-      let x : EndsWith (known is.uses is.parked s.device) m (Store client frame offset bytes) (known is.uses is.parked new) =
-      laws.client_stores (known is.uses is.parked s.device) m client frame offset bytes new r is.knows (as_told s m is (λ owner lent. IsOpen owner lent client frame offset (length bytes)) opens) stores in
+      let x : EndsInStep (known is.uses is.parked s.device) m (Store client frame offset bytes) (known is.uses is.parked new) =
+      laws.client_stores (known is.uses is.parked s.device) m client frame offset bytes new r is.knows (as_told s m is (λ owner lent. MayAccessFrame owner lent client frame offset (length bytes)) opens) stores in
       let spares : SparesBook m (after m x.steps) = laws.basic.spares m x.steps x.only in (
         x,
         machine_with laws s new m (after m (Store client frame offset bytes ∷ x.steps)) is
@@ -151,7 +151,7 @@ module _ (laws : LawsBelow) where
   -- ---- calls that do nothing
 
   -- where there is no step, nothing needs a ground
-  none_grounded : (ask : Ask DeviceStep) (evidence : Evidence) → OnlyFailedPortsRequeueIn ask evidence []
+  none_grounded : (ask : AbstractCall DeviceStep) (evidence : Evidence) → OnlyFailedPortsRequeueIn ask evidence []
   none_grounded Service evidence = tt
   none_grounded (Submit r) evidence = tt
   none_grounded (StoreAt client frame offset bytes) evidence = tt
@@ -162,9 +162,9 @@ module _ (laws : LawsBelow) where
   none_grounded (State port) evidence = tt
   none_grounded (Told step) evidence = tt
 
-  pub nothing_event : (s : ServerState) (ask : Ask DeviceStep) (said : CallResult) → GoesTo s s.device → ((m : AbstractState) → ExplainsAccesses m ask said [] s.device s.device)
+  pub nothing_event : (s : ServerState) (ask : AbstractCall DeviceStep) (said : CallResult) → GoesTo s s.device → ((m : AbstractState) → ExplainsAccesses m ask said [] s.device s.device)
       → ((old : JointState Device) → ServerRelation old s → (evidence : Evidence) → IsAnswered ask said old.abstract evidence [] (record { machine = old.abstract.machine; ports = ports_of s }))
-      → ((old : JointState Device) → IsReachable old.abstract.machine → ServerRelation old s → (port : Port) → Issues ask [] old.abstract.machine (ports_of s) port)
+      → ((old : JointState Device) → IsReachable old.abstract.machine → ServerRelation old s → (port : Port) → IssuesAllDue ask [] old.abstract.machine (ports_of s) port)
       → Parts s s.device ask said [] []
       → ExtendsHistory s s ask said
   nothing_event s ask said goes came answered issues parts first past leads =
@@ -202,8 +202,8 @@ module _ (laws : LawsBelow) where
         (λ m are port. record { finds = tt; faults = tt; probes = tt; boots = tt; port_error = goes.port_error m are port; well = λ i. absurd (uninterrupted s.device m.ports port i); heeds = uninterrupted s.device m.ports port })
 
     -- where nothing is due on a ready port
-    pub submit_refused_event : (r : Request) (refusal : Refusal) → IsFirstRefusal (server_situation s) r refusal
-        → ((m : Machine) → IsMachineOf s m → (port : Port) → (ports_of s).state port ≡ ReadyState → IssuesDue (mode_in s port) [] m port) → ExtendsHistory s s (Submit r) (Submitted (Err refusal))
+    pub submit_refused_event : (r : Request) (refusal : Refusal) → IsFirstRefusal (admission_context s) r refusal
+        → ((m : Machine) → MachineRelation s m → (port : Port) → (ports_of s).state port ≡ ReadyState → IssuesDue (mode_in s port) [] m port) → ExtendsHistory s s (Submit r) (Submitted (Err refusal))
     submit_refused_event r refusal is undue =
         nothing_event s (Submit r) (Submitted (Err refusal)) goes (λ m. (refl, refl))
         (λ old at evidence. (subst (λ (x : Situation). IsFirstRefusal x r refusal) (sym (situation_is s old at)) is, refl, ports_same old.abstract.ports (ports_of s) at.ports_are))
@@ -211,7 +211,7 @@ module _ (laws : LawsBelow) where
         (λ m are port. record { finds = tt; faults = tt; probes = tt; boots = tt; port_error = goes.port_error m are port; well = λ i. absurd (uninterrupted s.device m.ports port i); heeds = uninterrupted s.device m.ports port })
 
     pub revoke_refused_event : (client : ClientId) (number : ℕ) → (HasRow client number s.grants → ⊥)
-        → ((m : Machine) → IsMachineOf s m → (port : Port) → (ports_of s).state port ≡ ReadyState → IssuesDue (mode_in s port) [] m port) → ExtendsHistory s s (RevokeOf client number) (WasRevoked None)
+        → ((m : Machine) → MachineRelation s m → (port : Port) → (ports_of s).state port ≡ ReadyState → IssuesDue (mode_in s port) [] m port) → ExtendsHistory s s (RevokeOf client number) (WasRevoked None)
     revoke_refused_event client number none undue =
         nothing_event s (RevokeOf client number) (WasRevoked None) goes (λ m. (refl, refl))
         (λ old at evidence. (λ has. none (subst (HasRow client number) at.machine.rows has), refl, ports_same old.abstract.ports (ports_of s) at.ports_are))
@@ -243,7 +243,7 @@ module _ (laws : LawsBelow) where
         x.3.backed
         (machine_on laws s new old.abstract.machine steps m x.3.only x.2)
 
-    module _ (client : ClientId) (frame : Frame) (offset : ℕ) (bytes : List ℕ) (opens : IsOpen (owner_of s.table) (lent_to s.table) client frame offset (length bytes)) where
+    module _ (client : ClientId) (frame : Frame) (offset : ℕ) (bytes : List ℕ) (opens : MayAccessFrame (owner_of s.table) (lent_to s.table) client frame offset (length bytes)) where
       pub load_event : Loads (4096 * frame.0 + offset) bytes s.device new → ExtendsHistory s (record s { device = new }) (LoadAt client frame offset (length bytes)) (load_said (Ok tt) bytes)
       load_event loads first past leads =
           let old : JointState Device = now first past in
@@ -253,7 +253,7 @@ module _ (laws : LawsBelow) where
           x.0.may (devices_belong {D = DeviceStep} (LoadAt client frame offset (length bytes)) (ports_of s) x.0.steps x.0.only, inr (refl, refl, refl, refl))
           (devices_last x.0.steps x.0.only, λ id h i. false≢true h)
           (devices_lawful old.abstract no_evidence (ports_of s) x.0.steps x.0.only)
-          (ports_same old.abstract.ports (ports_of s) at.ports_are, as_told s old.abstract.machine at.machine (λ owner lent. IsOpen owner lent client frame offset (length bytes)) opens, ap (λ (rest : List (List ℕ)). bytes ∷ rest) (devices_transfer x.0.steps x.0.only))
+          (ports_same old.abstract.ports (ports_of s) at.ports_are, as_told s old.abstract.machine at.machine (λ owner lent. MayAccessFrame owner lent client frame offset (length bytes)) opens, ap (λ (rest : List (List ℕ)). bytes ∷ rest) (devices_transfer x.0.steps x.0.only))
           tt
           (Loading (4096 * frame.0 + offset) bytes ∷ [])
           ((new, loads, refl), refl)
@@ -271,7 +271,7 @@ module _ (laws : LawsBelow) where
           x.0.may (devices_belong {D = DeviceStep} (StoreAt client frame offset bytes) (ports_of s) x.0.steps x.0.only, inr (refl, refl, refl, refl))
           (devices_last x.0.steps x.0.only, λ id h i. false≢true h)
           (devices_lawful old.abstract no_evidence (ports_of s) x.0.steps x.0.only)
-          (ports_same old.abstract.ports (ports_of s) at.ports_are, as_told s old.abstract.machine at.machine (λ owner lent. IsOpen owner lent client frame offset (length bytes)) opens, ap (λ (rest : List (List ℕ)). bytes ∷ rest) (devices_transfer x.0.steps x.0.only))
+          (ports_same old.abstract.ports (ports_of s) at.ports_are, as_told s old.abstract.machine at.machine (λ owner lent. MayAccessFrame owner lent client frame offset (length bytes)) opens, ap (λ (rest : List (List ℕ)). bytes ∷ rest) (devices_transfer x.0.steps x.0.only))
           tt
           (Storing (4096 * frame.0 + offset) bytes ∷ [])
           ((new, stores, refl), refl)
@@ -283,14 +283,14 @@ module _ (laws : LawsBelow) where
   -- ---- clients' bytes
 
   -- a frame that is open is its client's
-  pub open_owned : (owner : Frame → Option ClientId) (lent : Frame → Option RequestId) (client : ClientId) (frame : Frame) (offset count : ℕ) → IsOpen owner lent client frame offset count → owner frame ≡ Some client
+  pub open_owned : (owner : Frame → Option ClientId) (lent : Frame → Option RequestId) (client : ClientId) (frame : Frame) (offset count : ℕ) → MayAccessFrame owner lent client frame offset count → owner frame ≡ Some client
   open_owned = laws.open_owned
 
-  pub open_free : (s : ServerState) (client : ClientId) (frame : Frame) (offset count : ℕ) → OwnedFramesAreClients s.table s.device.size → (m : Machine) → IsReachable m → IsMachineOf s m
-      → IsOpen (owner_of s.table) (lent_to s.table) client frame offset count → IsStable (IsUnowned (4096 * frame.0 + offset) count) s.device
+  pub open_free : (s : ServerState) (client : ClientId) (frame : Frame) (offset count : ℕ) → OwnedFramesAreClients s.table s.device.size → (m : Machine) → IsReachable m → MachineRelation s m
+      → MayAccessFrame (owner_of s.table) (lent_to s.table) client frame offset count → IsStable (IsUnowned (4096 * frame.0 + offset) count) s.device
   open_free s client frame offset count owners m was is opens =
       laws.client_bytes_free is.uses m s.device was is.knows.agrees client frame offset count (owners frame client (open_owned (owner_of s.table) (lent_to s.table) client frame offset count opens)).1
-      (as_told s m is (λ owner lent. IsOpen owner lent client frame offset count) opens)
+      (as_told s m is (λ owner lent. MayAccessFrame owner lent client frame offset count) opens)
 
 -- ---- a server whose adapter is on
 
@@ -298,14 +298,14 @@ module _ (laws : LawsBelow) where
   -- ---- trouble that isn't lost
 
   untroubled : (s : ServerState) → InCallInvariant s → (m : AbstractState) (port : Port) → LosesNoPortError (told_by s.device m.ports) (still s m) (ports_of s) s.device port
-  untroubled s k m port = laws.calls.ordinary port (still s m) s.device [] (told_by s.device m.ports) (ports_of s) k.on refl (All-nil (SparesRegister Ghc)) (All-nil (ClearsNone port))
+  untroubled s k m port = laws.calls.ordinary port (still s m) s.device [] (told_by s.device m.ports) (ports_of s) k.on refl (All-nil (DoesNotWrite Ghc)) (All-nil (ClearsNoError port))
 
   one_untroubled : (s : ServerState) → InCallInvariant s → (new : Device) (access : Access) → IsOfBytes access → Does access s.device new → (m : AbstractState) (port : Port)
       → LosesNoPortError (told_by s.device m.ports) (still s m) (ports_of s) new port
   one_untroubled s k new access its does m port =
       laws.calls.ordinary port (still s m) new (access ∷ []) (told_by s.device m.ports) (ports_of s) k.on (new, does, refl)
-      (All-cons (SparesRegister Ghc) access [] (bytes_spare_host access its) (All-nil (SparesRegister Ghc)))
-      (All-cons (ClearsNone port) access [] (bytes_clear_none port access its) (All-nil (ClearsNone port)))
+      (All-cons (DoesNotWrite Ghc) access [] (bytes_spare_host access its) (All-nil (DoesNotWrite Ghc)))
+      (All-cons (ClearsNoError port) access [] (bytes_clear_none port access its) (All-nil (ClearsNoError port)))
 
   -- ---- accesses of bytes
 
@@ -316,13 +316,13 @@ module _ (laws : LawsBelow) where
     same : SameAdapter s.device new
     same = laws.looks.access_same access s.device new does
 
-    silent : (port : ℕ) → probe_result_of s.ports port ≢ Unready Dead → SendsNone port Identify s.device new
+    silent : (port : ℕ) → probe_result_of s.ports port ≢ Unready Dead → GainsNoMove port Identify s.device new
     silent port other =
         let grows = laws.looks.tape.access_grows access s.device new does in
         let none = not_own (probe_result_of s.ports port) (used_for s.slots port 0) (k.stands.uses port 0) Identify other (k.stands.used port 0) in
         (grows.0, grows.1, laws.slots.page_asked k.stands.uses k.machine access s.device new port Identify grows.0 k.reached k.stands.knows.agrees does grows.1 refl (λ own. absurd (none own)))
 
-    ports_on : (port : ℕ) → port < 4 → IsPortOf s.wanted s.ports port new
+    ports_on : (port : ℕ) → port < 4 → PortInvariant s.wanted s.ports port new
     ports_on port below =
         port_on laws s.wanted s.ports port s.device new same k.on served (λ unready. bytes_leave laws access s.device new its k.on does port) (silent port)
         (laws.port_error.halts_access k.stands.uses k.machine (port_at port) access s.device new k.reached k.stands.knows.agrees (bytes_spare_commands (port_at port) access its) does) (k.behind port below)
@@ -341,7 +341,7 @@ module _ (laws : LawsBelow) where
         }
 
     -- a machine that spares the book
-    kept_with : (steps : List Step) → AllMay k.machine steps → IsMachineOf (record s { device = new }) (after k.machine steps) → InCallInvariant (record s { device = new })
+    kept_with : (steps : List Step) → AllMay k.machine steps → MachineRelation (record s { device = new }) (after k.machine steps) → InCallInvariant (record s { device = new })
     kept_with steps may stands = kept_on laws s new k (laws.looking.services_on s.device new k.on served) same ports_on commands_on steps may stands
 
   -- ---- the device's steps
@@ -387,13 +387,13 @@ module _ (laws : LawsBelow) where
     adds = revoke_refused_event laws s (stays s k.kept) client number none (λ m at port ready. none_issued s m at [] (λ id. refl) (mode_in s port) port (k.issued port));
   }
 
-  pub submit_refused : (s : ServerState) (r : Request) (refusal : Refusal) → SettledInvariant s → IsFirstRefusal (server_situation s) r refusal → ExtendsSettled s s (Submit r) (Submitted (Err refusal))
+  pub submit_refused : (s : ServerState) (r : Request) (refusal : Refusal) → SettledInvariant s → IsFirstRefusal (admission_context s) r refusal → ExtendsSettled s s (Submit r) (Submitted (Err refusal))
   submit_refused s r refusal k is = record {
     settled = k;
     adds = submit_refused_event laws s (stays s k.kept) r refusal is (λ m at port ready. none_issued s m at [] (λ id. refl) (mode_in s port) port (k.issued port));
   }
 
-  module _ (s : ServerState) (new : Device) (client : ClientId) (frame : Frame) (offset : ℕ) (bytes : List ℕ) (t : SettledInvariant s) (opens : IsOpen (owner_of s.table) (lent_to s.table) client frame offset (length bytes)) where
+  module _ (s : ServerState) (new : Device) (client : ClientId) (frame : Frame) (offset : ℕ) (bytes : List ℕ) (t : SettledInvariant s) (opens : MayAccessFrame (owner_of s.table) (lent_to s.table) client frame offset (length bytes)) where
     abbrev k : InCallInvariant s
     k = t.kept
 
@@ -433,8 +433,8 @@ module _ (laws : LawsBelow) where
 
   -- of so many bytes
   pub load_of : (s : ServerState) (new : Device) (client : ClientId) (frame : Frame) (offset count : ℕ) (bytes : List ℕ) → SettledInvariant s → length bytes ≡ count
-      → IsOpen (owner_of s.table) (lent_to s.table) client frame offset count → Loads (4096 * frame.0 + offset) bytes s.device new
+      → MayAccessFrame (owner_of s.table) (lent_to s.table) client frame offset count → Loads (4096 * frame.0 + offset) bytes s.device new
       → ExtendsSettled s (record s { device = new }) (LoadAt client frame offset count) (load_said (Ok tt) bytes)
   load_of s new client frame offset count bytes k long opens loads =
-      let here : IsOpen (owner_of s.table) (lent_to s.table) client frame offset (length bytes) = subst (λ (n : ℕ). IsOpen (owner_of s.table) (lent_to s.table) client frame offset n) (sym long) opens in
+      let here : MayAccessFrame (owner_of s.table) (lent_to s.table) client frame offset (length bytes) = subst (λ (n : ℕ). MayAccessFrame (owner_of s.table) (lent_to s.table) client frame offset n) (sym long) opens in
       subst (λ (n : ℕ). ExtendsSettled s (record s { device = new }) (LoadAt client frame offset n) (load_said (Ok tt) bytes)) long (load_adds s new client frame offset bytes k here loads)

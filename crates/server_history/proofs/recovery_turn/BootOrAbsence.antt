@@ -11,7 +11,7 @@ use Rattle.host_boot.specs.declared.ProbeResult.{ProbeResult}
 use Rattle.host_boot.specs.declared.ProbeResult.TheVariants.{Unready}
 use Rattle.identify.specs.Wanted.{serial_of}
 use Rattle.identify.specs.declared.wanted.Wanted.{Wanted}
-use Rattle.port_boot.specs.States.{EndsAs}
+use Rattle.port_boot.specs.States.{BacksState}
 use Rattle.server_history.specs.ErrorHandling.{BootsAfter}
 use Rattle.port_control.specs.declared.events.PortError.{PortError}
 use Rattle.port_control.specs.declared.events.PortError.TheVariants.{FatalError, TaskFileError, TimedOut, LinkChanged}
@@ -21,7 +21,7 @@ pub record IsFoundAbsent (wanted : Wanted) (port : Port) (port_error : PortError
   pub lost : port_error ≡ LinkChanged
   pub is : found ≡ Unready Absent
   pub starts : IsSimulated (IsSurveyOrBoot port) (λ uses. AllFree uses port.0) old new
-  pub ended : EndsAs (serial_of wanted) Absent port.0 new
+  pub ended : BacksState (serial_of wanted) Absent port.0 new
 
 pub boots_or_absent : (port_error : PortError) (wanted : Wanted) (port : Port) (booted : Booted) (old new : Device) → BootsAfter port_error wanted port booted old new
     → RebootsPort wanted port booted old new ⊎ IsFoundAbsent wanted port port_error booted.found old new

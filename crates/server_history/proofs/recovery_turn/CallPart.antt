@@ -21,12 +21,12 @@ use Rattle.host_boot.specs.Taken.{probe_result_of}
 use Rattle.host_boot.specs.declared.ProbeResult.TheVariants.{Ready}
 use Rattle.identify.specs.declared.DiskInfo.{DiskInfo}
 use Rattle.port_control.specs.Looks.{IsLooking}
-use Rattle.request_queue.specs.Entries.{Held, asks, asks_of, due_ids}
+use Rattle.request_queue.specs.Entries.{BookEntry, asks, asks_of, due_ids}
 use Rattle.server_history.specs.Below.{LawsBelow}
 use Rattle.server_history.specs.ErrorHandling.{HasResolved, HandlesPortError}
 use Rattle.port_control.specs.declared.events.PortError.TheVariants.{TimedOut}
-use Rattle.server_history.specs.Server.{InCallInvariant, IsMachineOf, SettledInvariant, ServerState, mode_in, ports_of, state_of}
-use Rattle.server_history.specs.Turns.{IsPortTurn, InRestart, InService, MakesTurn, OwesTurn, ServesPort, TurnCorresponds, Turn, ask_of_turn}
+use Rattle.server_history.specs.Server.{InCallInvariant, MachineRelation, SettledInvariant, ServerState, mode_in, ports_of, state_of}
+use Rattle.server_history.specs.Turns.{IsPortTurn, InRestart, InService, SimulatesTurn, MeetsTurnDuty, ServesPort, TurnCorresponds, Turn, ask_of_turn}
 use Rattle.server_history.proofs.recovery_turn.TurnAsCall.{heeds_trouble, ties_recovered}
 use Rattle.server_history.proofs.recovery_turn.DecidedSteps.{DecidesTurn, recovered_decides}
 use Rattle.server_history.proofs.recovery_turn.TurnEvidence.{IsEvident, evident}
@@ -60,7 +60,7 @@ goes_on laws port later old new k ready a looks =
 -- nothing is due on a port that isn't ready, of which no request is unanswered
 pub none_due_unready : (s : ServerState) → InCallInvariant s → (port : Port) → state_of (probe_result_of s.ports port.0) ≢ ReadyState → (mode : QueueMode) → NoneDue mode (asks_of s.book) port
 none_due_unready s k port unready mode r own due =
-    let y = map_in (λ (x : Held). asks x.entry) s.book r due.here in
+    let y = map_in (λ (x : BookEntry). asks x.entry) s.book r due.here in
     unready (ap (λ (q : Port). state_of (probe_result_of s.ports q.0)) (sym own ∙ ap (λ (u : Unanswered). u.port) y.2) ∙ of_ready s k y.0 y.1)
 
 pub unready_undue : LawsBelow → (s : ServerState) → InCallInvariant s → (port : Port) → ((info : DiskInfo) → probe_result_of s.ports port.0 ≡ Ready info → ⊥) → due_ids (mode_in s port) port (asks_of s.book) ≡ []
@@ -83,12 +83,12 @@ module _ (laws : LawsBelow) (port : Port) (replies : List Reply) (old new : Serv
   e = evident laws port replies old new k ready r looks kept
 
   -- what it makes of a machine that stands for the server, where it is such a part of its call
-  module _ (m : Machine) (reached : IsReachable m) (is : IsMachineOf old m) where
+  module _ (m : Machine) (reached : IsReachable m) (is : MachineRelation old m) where
     d : DecidesTurn port replies old new r (evidence_by r.settled) m
     d = recovered_decides laws port replies old new k ready r looks kept m reached is
 
-    makes : (turn : Turn) → AreStepsOfCall {D = DeviceStep} (ask_of_turn turn) (ports_of new) d.steps → OwesTurn turn port e.accesses old new m (evidence_by r.settled) d.steps
-        → TurnCorresponds turn port replies e.accesses old new m (evidence_by r.settled) d.steps → MakesTurn turn port replies e.accesses old new m
+    makes : (turn : Turn) → AreStepsOfCall {D = DeviceStep} (ask_of_turn turn) (ports_of new) d.steps → MeetsTurnDuty turn port e.accesses old new m (evidence_by r.settled) d.steps
+        → TurnCorresponds turn port replies e.accesses old new m (evidence_by r.settled) d.steps → SimulatesTurn turn port replies e.accesses old new m
     makes turn belong owes ties = record {
       steps = d.steps;
       evidence = evidence_by r.settled;
@@ -113,7 +113,7 @@ module _ (laws : LawsBelow) (port : Port) (replies : List Reply) (old new : Serv
       ties = ties;
     }
 
-  has_part : (turn : Turn) → ((m : Machine) → IsReachable m → IsMachineOf old m → MakesTurn turn port replies e.accesses old new m) → IsPortTurn turn port replies old new
+  has_part : (turn : Turn) → ((m : Machine) → IsReachable m → MachineRelation old m → SimulatesTurn turn port replies e.accesses old new m) → IsPortTurn turn port replies old new
   has_part turn made = record {
     accesses = e.accesses;
     does = e.does;

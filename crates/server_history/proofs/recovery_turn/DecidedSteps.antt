@@ -15,7 +15,7 @@ use Rattle.ata_types.specs.declared.request.RequestId.{RequestId}
 use Rattle.adapter.specs.declared.access.DeviceStep.{DeviceStep}
 use Rattle.refinement.specs.Driven.{AnyUse, IsSimulated}
 use Rattle.refinement.specs.Driver.{IsBacked}
-use Rattle.block_machine.specs.Events.{AllDevices, AllLawful, AllMay, AreStepsOfCall, EndsUndone, IsIssuedIn, IsLawful, IssuesLast, IsToldBefore, AbstractState, Service, Tells, UnplugsAll, WasIssued, answers_of, issues_it, reply_of, IsReadyAgain}
+use Rattle.block_machine.specs.Events.{AllByDevice, AllLawful, AllMay, AreStepsOfCall, EndsUndone, IsIssuedIn, IsLawful, IssuesLast, IsToldBefore, AbstractState, Service, RepliesMatch, AnswersAllUnplugged, WasIssued, answers_of, issues_it, reply_of, IsReadyAgain}
 use Rattle.block_machine.specs.Histories.{IsReachable}
 use Rattle.block_machine.specs.Left.{after}
 use Rattle.block_machine.specs.Ports.{Evidence, Ports, SameDisk}
@@ -25,9 +25,9 @@ use Rattle.block_machine.specs.declared.due.QueueMode.{QueueMode}
 use Rattle.block_machine.specs.declared.due.Unanswered.{Unanswered}
 use Rattle.server_history.proofs.state.ListMembers.{contains_here, map_in, in_filter}
 use Rattle.block_machine.specs.Due.{due_of}
-use Rattle.driver_history.specs.Heeding.{OnlyFailedPortsRequeue, AreTold}
+use Rattle.driver_history.specs.Heeding.{OnlyFailedPortsRequeue, ToldOkOr}
 use Rattle.driver_history.specs.Histories.{IssuesDue}
-use Rattle.driver_history.specs.Holds.{NoneWaits}
+use Rattle.driver_history.specs.Holds.{HasNoUnanswered}
 use Rattle.identify.specs.declared.error_log.FailedSlot.{FailedSlot}
 use Rattle.error_recovery.specs.declared.Next.{Next}
 use Rattle.error_recovery.specs.declared.Next.TheVariants.{Running, Restart, Dead as Stuck}
@@ -38,9 +38,9 @@ use Rattle.identify.specs.declared.DiskInfo.{DiskInfo}
 use Rattle.port_control.specs.Looks.{IsLooking}
 use Rattle.port_control.specs.declared.events.PortError.{PortError}
 use Rattle.port_control.specs.declared.events.PortError.TheVariants.{FatalError, TaskFileError, TimedOut, LinkChanged}
-use Rattle.request_queue.specs.Entries.{Held, asks, asks_of, due_ids, is_of}
+use Rattle.request_queue.specs.Entries.{BookEntry, asks, asks_of, due_ids, is_of}
 use Rattle.request_queue.specs.Dispositions.{disposition_of}
-use Rattle.request_queue.specs.Machine.{IsEntry}
+use Rattle.request_queue.specs.Machine.{EntryRelation}
 use Rattle.request_queue.specs.declared.PendingRequest.{PendingRequest}
 use Rattle.request_queue.specs.declared.disposition.FailedRequest.{FailedRequest}
 use Rattle.request_queue.specs.declared.disposition.Disposition.TheVariants.{Complete}
@@ -49,9 +49,9 @@ use Rattle.request_queue.specs.declared.disposition.Revalidation.TheVariants.{Sa
 use Rattle.slots.specs.Uses.{PortSlots, use_at}
 use Rattle.slots.specs.declared.SlotUse.{SlotUse}
 use Rattle.server_history.specs.Below.{LawsBelow}
-use Rattle.server_history.specs.ErrorHandling.{IsFailed, IsRevalidation, HasResolved, HandlesPortError, holdings_of, requests_of}
-use Rattle.server_history.specs.Served.{HasEnded, answers_in, done_reply}
-use Rattle.server_history.specs.Server.{InCallInvariant, IsMachineOf, ServerState, last_disk_in, last_disk_of, mode_in, ports_of, remembered_at, last_sectors_of, last_serial_of, slots_at, state_of}
+use Rattle.server_history.specs.ErrorHandling.{IsFailedRequest, IsRevalidation, HasResolved, HandlesPortError, holdings_of, requests_of}
+use Rattle.server_history.specs.Served.{HasEnded, ok_answers_of, done_reply}
+use Rattle.server_history.specs.Server.{InCallInvariant, MachineRelation, ServerState, last_disk_in, last_disk_of, mode_in, ports_of, remembered_at, last_sectors_of, last_serial_of, slots_at, state_of}
 use Rattle.server_history.specs.Turns.{IsOfTurn, abstract_state_of}
 use Rattle.server_history.proofs.state.AnswerSteps.{answered_in, ended_stood, issuing_answers, may_parts, no_answer, no_answer_issuing, told_so, with_ok}
 use Rattle.server_history.proofs.any_turn.ToldTrouble.{given_up, lost_or_not}
@@ -78,21 +78,21 @@ pub record DecidesTurn (port : Port) (replies : List Reply) (old new : ServerSta
   pub issuing : AreIssued port (due_ids (mode_in r.mid port) port (asks_of r.mid.book)) r.mid new (after m (until_issues dispositions))
   pub steps_are : steps ≡ issuing.steps ++ until_issues dispositions
   pub may : AllMay m steps
-  pub stands : IsMachineOf new (after m steps)
+  pub stands : MachineRelation new (after m steps)
   pub backed : IsBacked old.device new.device m steps
   pub own : All (IsOfTurn port) steps
   pub belong : AreStepsOfCall {D = DeviceStep} Service (ports_of new) steps
   pub last : IssuesLast steps
   pub lawful : AllLawful (abstract_state_of old m) evidence (ports_of new) steps
   pub grounded : r.settled.error_handled.port_error ≢ TimedOut → OnlyFailedPortsRequeue evidence steps
-  pub tells : Tells steps replies
-  pub unplugs : UnplugsAll steps (after m steps)
-  pub keeps : SameDisk (ports_of old) (ports_of new) port ⊎ NoneWaits (after m steps) port
+  pub tells : RepliesMatch steps replies
+  pub unplugs : AnswersAllUnplugged steps (after m steps)
+  pub keeps : SameDisk (ports_of old) (ports_of new) port ⊎ HasNoUnanswered (after m steps) port
   pub issues : (ports_of new).state port ≡ ReadyState → IssuesDue (mode_in new port) steps (after m steps) port
   pub gives : r.settled.error_handled.port_error ≢ TaskFileError → (e : Pending) (o : Outcome) → Contains steps (Answer e o) → EndsUndone o ⊎ (o ≡ outcome.Ok)
   pub unplugged : (e : Pending) → Contains steps (Answer e outcome.Unplugged) → (r.settled.revalidation ≡ DiskLost) × (e.request.port ≡ port)
-  pub emptied : r.settled.error_handled.port_error ≡ LinkChanged → NoneWaits (after m steps) port
-  pub told : r.settled.error_handled.port_error ≡ LinkChanged → AreTold outcome.Unplugged steps port ⊎ AreTold outcome.PortDead steps port
+  pub emptied : r.settled.error_handled.port_error ≡ LinkChanged → HasNoUnanswered (after m steps) port
+  pub told : r.settled.error_handled.port_error ≡ LinkChanged → ToldOkOr outcome.Unplugged steps port ⊎ ToldOkOr outcome.PortDead steps port
 
 -- ---- evidence
 
@@ -102,7 +102,7 @@ stopped_named port (Restart token) lives = first_here port []
 stopped_named port Stuck lives = absurd (lives refl)
 
 -- of an error that recovery names the request had a slot
-failed_used : (slots : PortSlots) (its : Option FailedSlot) (failed : Option FailedRequest) (x : FailedRequest) → IsFailed slots its failed → failed ≡ Some x → (slot : ℕ) × (used : SlotUse) × (use_at slots slot ≡ Some used) × (x.id ≡ used.id)
+failed_used : (slots : PortSlots) (its : Option FailedSlot) (failed : Option FailedRequest) (x : FailedRequest) → IsFailedRequest slots its failed → failed ≡ Some x → (slot : ℕ) × (used : SlotUse) × (use_at slots slot ≡ Some used) × (x.id ≡ used.id)
 failed_used slots None failed x names is = let z : None ≡ Some x = sym names ∙ is in absurd cc
 failed_used slots (Some its) failed x (used, at, names) is =
     let z : Some (record { id = used.id; status = its.status; error = its.error }) ≡ Some x = sym names ∙ is in
@@ -114,7 +114,7 @@ module _ (laws : LawsBelow) (port : Port) (replies : List Reply) (old new : Serv
   abbrev a : HasResolved port r.later old r.mid
   a = r.settled
 
-  abbrev its : List Held
+  abbrev its : List BookEntry
   its = requests_of port a.mid.book
 
   abbrev evidence : Evidence
@@ -192,10 +192,10 @@ module _ (laws : LawsBelow) (port : Port) (replies : List Reply) (old new : Serv
     other_lost = subst (λ (p : Revalidation). Contains (lost_of port p) port) (sym is) (first_here port [])
 
   -- but on the same disk, no request of it is left
-  none_stays : a.revalidation ≢ Same → (x : Held) → Contains r.mid.book x → x.entry.port ≢ port
+  none_stays : a.revalidation ≢ Same → (x : BookEntry) → Contains r.mid.book x → x.entry.port ≢ port
   none_stays other x here own =
       let w = none_left laws (disposition_of a.failed a.revalidation) (other_ends a.failed a.revalidation other) its r.later (holdings_of port a.mid) a.now a.meets x (subst (λ (s : ServerState). Contains s.book x) a.server here) in
-      w.1 (in_filter (λ (y : Held). is_of port y.entry) a.mid.book x w.0 (eq-eqb x.entry.port.0 port.0 (ap (λ (q : Port). q.0) own)))
+      w.1 (in_filter (λ (y : BookEntry). is_of port y.entry) a.mid.book x w.0 (eq-eqb x.entry.port.0 port.0 (ap (λ (q : Port). q.0) own)))
 
   -- ---- who is named
 
@@ -203,7 +203,7 @@ module _ (laws : LawsBelow) (port : Port) (replies : List Reply) (old new : Serv
   pub nobody : a.error_handled.port_error ≢ TaskFileError → a.failed ≡ None
   nobody other =
       let none = (given_up a.error_handled.port_error port a.error_handled.outstanding a.error_handled.queued a.error_handled.result a.error_handled.handling.accesses a.mid.device a.device a.error_handled.tells other).0 in
-      subst (λ (f : Option FailedSlot). IsFailed (slots_at a.mid.slots port.0) f a.failed) none a.names
+      subst (λ (f : Option FailedSlot). IsFailedRequest (slots_at a.mid.slots port.0) f a.failed) none a.names
 
   -- where its disk was lost, no request goes on as on the same disk
   not_same : a.error_handled.port_error ≡ LinkChanged → a.revalidation ≢ Same
@@ -224,13 +224,13 @@ module _ (laws : LawsBelow) (port : Port) (replies : List Reply) (old new : Serv
   dead_state is = state_new ∙ ap state_of (subst (IsRevalidation a.error_handled.port_error a.was a.found) is a.expects)
 
   -- a request that met its fate was in the book
-  of_its : (e : Held) → Contains its e → Contains a.mid.book e × (e.entry.port ≡ port)
+  of_its : (e : BookEntry) → Contains its e → Contains a.mid.book e × (e.entry.port ≡ port)
   of_its e here = (
-    All-contains (Contains a.mid.book) its e (All-filter (λ (x : Held). is_of port x.entry) (Contains a.mid.book) a.mid.book (All-contains_itself a.mid.book)) here,
-    ap (λ (q : ℕ). record { 0 = q }) (eqb-true e.entry.port.0 port.0 (All-contains (λ (x : Held). is_of port x.entry ≡ true) its e (filter_passes (λ (x : Held). is_of port x.entry) a.mid.book) here)),
+    All-contains (Contains a.mid.book) its e (All-filter (λ (x : BookEntry). is_of port x.entry) (Contains a.mid.book) a.mid.book (All-contains_itself a.mid.book)) here,
+    ap (λ (q : ℕ). record { 0 = q }) (eqb-true e.entry.port.0 port.0 (All-contains (λ (x : BookEntry). is_of port x.entry ≡ true) its e (filter_passes (λ (x : BookEntry). is_of port x.entry) a.mid.book) here)),
   )
 
-  module _ (m : Machine) (reached : IsReachable m) (is : IsMachineOf old m) (f : AddsFates port r.later old r.mid a m) where
+  module _ (m : Machine) (reached : IsReachable m) (is : MachineRelation old m) (f : AddsFates port r.later old r.mid a m) where
     abbrev base : List Step
     base = until_issues f
 
@@ -248,26 +248,26 @@ module _ (laws : LawsBelow) (port : Port) (replies : List Reply) (old new : Serv
 
     -- ---- what was so when the turn began
 
-    was_issued : (e : Held) → Contains a.mid.book e → e.entry.issued ≡ true → WasIssued m e.entry.id
+    was_issued : (e : BookEntry) → Contains a.mid.book e → e.entry.issued ≡ true → WasIssued m e.entry.id
     was_issued e here issued =
         let there = (answered_left laws port a.error_handled.done a.error_handled.requests _ a.mid a.error_handled.each e here).0 in
-        let p = at_left IsEntry old.book m.book is.book e there in
+        let p = at_left EntryRelation old.book m.book is.book e there in
         record { pending = p.0; here = p.1; id_is = p.2.id; issued = p.2.issued ∙ issued }
 
     -- the one that failed was issued
-    failed_issued : (x : FailedRequest) → a.failed ≡ Some x → (e : Held) → Contains a.mid.book e → x.id.0 ≡ e.entry.id.0 → e.entry.issued ≡ true
+    failed_issued : (x : FailedRequest) → a.failed ≡ Some x → (e : BookEntry) → Contains a.mid.book e → x.id.0 ≡ e.entry.id.0 → e.entry.issued ≡ true
     failed_issued x some e here same =
         let u = failed_used (slots_at a.mid.slots port.0) a.error_handled.result.failed a.failed x a.names some in
         let s = served_request a.mid k_then.machine port.0 u.0 k_then.stands then_ready u.1.id (serves_used a.mid k_then.machine port.0 k_then.stands then_ready u.0 u.1 u.2) in
         let one : s.request ≡ e = laws.one a.mid.book s.request e k_then.ordered s.there here (s.id_is ∙ sym u.3 ∙ ap (λ (n : ℕ). record { 0 = n }) same) in
-        subst (λ (y : Held). y.entry.issued ≡ true) one (sym s.entry.issued ∙ s.issued)
+        subst (λ (y : BookEntry). y.entry.issued ≡ true) one (sym s.entry.issued ∙ s.issued)
 
     -- ---- answers
 
     fate_lawful : (e : Pending) (o : Outcome) → Contains f.dispositions (Answer e o) → IsLawful began evidence (ports_of new) e o
     fate_lawful e o here = by (why a.failed a.revalidation w.0.entry o w.3)
       where
-        w : (request : Held) × Contains its request × IsEntry request e × (disposition_of a.failed a.revalidation request.entry ≡ Complete o)
+        w : (request : BookEntry) × Contains its request × EntryRelation request e × (disposition_of a.failed a.revalidation request.entry ≡ Complete o)
         w = f.answered e o here
 
         there : Contains a.mid.book w.0
@@ -306,10 +306,10 @@ module _ (laws : LawsBelow) (port : Port) (replies : List Reply) (old new : Serv
     again_same : (e : Pending) → Contains f.dispositions (Again e) → (a.revalidation ≡ Same) × (e.request.port ≡ port)
     again_same e here = let w = f.again e here in (why_again a.failed a.revalidation w.0.entry w.3, w.2.port ∙ (of_its w.0 w.1).1)
 
-    early_may : AllMay m f.first × AllMay (after m f.first) (answers_in f.ended)
-    early_may = may_parts laws m (answers_in f.ended) f.first (may_parts laws m f.middle (answers_in f.ended ++ f.first) (may_parts laws m f.dispositions (f.middle ++ (answers_in f.ended ++ f.first)) f.may).0).0
+    early_may : AllMay m f.first × AllMay (after m f.first) (ok_answers_of f.ended)
+    early_may = may_parts laws m (ok_answers_of f.ended) f.first (may_parts laws m f.middle (ok_answers_of f.ended ++ f.first) (may_parts laws m f.dispositions (f.middle ++ (ok_answers_of f.ended ++ f.first)) f.may).0).0
 
-    ended_by : (e : Pending) → Contains f.ended e → (request : Held) × Contains a.error_handled.requests request × HasEnded port request e
+    ended_by : (e : Pending) → Contains f.ended e → (request : BookEntry) × Contains a.error_handled.requests request × HasEnded port request e
     ended_by e here = at_right (HasEnded port) a.error_handled.requests f.ended f.each e here
 
     ended_port : (e : Pending) → Contains f.ended e → e.request.port ≡ port
@@ -325,9 +325,9 @@ module _ (laws : LawsBelow) (port : Port) (replies : List Reply) (old new : Serv
     lawful : AllLawful began evidence (ports_of new) (z.steps ++ base)
     lawful =
         lawful_on (mode_in r.mid port) port began evidence (ports_of new) z.steps base z.only
-        (lawful_join began evidence (ports_of new) f.dispositions (f.middle ++ (answers_in f.ended ++ f.first))
+        (lawful_join began evidence (ports_of new) f.dispositions (f.middle ++ (ok_answers_of f.ended ++ f.first))
         (deciding_lawful port began evidence (ports_of new) f.dispositions f.own fate_lawful (λ e here. let s = again_same e here in subst (Contains evidence.stopped) (sym s.1) (same_stopped s.0)))
-        (lawful_join began evidence (ports_of new) f.middle (answers_in f.ended ++ f.first) (devices_lawful began evidence (ports_of new) f.middle f.middle_only)
+        (lawful_join began evidence (ports_of new) f.middle (ok_answers_of f.ended ++ f.first) (devices_lawful began evidence (ports_of new) f.middle f.middle_only)
         (answers_all (AllLawful began evidence (ports_of new)) f.ended f.first (λ e steps here l. (l, ok_lawful e here)) (devices_lawful began evidence (ports_of new) f.first f.first_only))))
 
     again_failed : a.error_handled.port_error ≢ TimedOut → (e : Pending) → Contains f.dispositions (Again e) → Contains evidence.failed port
@@ -336,7 +336,7 @@ module _ (laws : LawsBelow) (port : Port) (replies : List Reply) (old new : Serv
     answer_failed : a.error_handled.port_error ≢ TimedOut → (e : Pending) (o : Outcome) → Contains f.dispositions (Answer e o) → RestsOnFailure o → Contains evidence.failed port
     answer_failed unhung e o here rests = ⊎_elim (λ lost. absurd (none lost (why a.failed a.revalidation w.0.entry o w.3))) (failed_named unhung) (lost_or_not a.error_handled.port_error)
       where
-        w : (request : Held) × Contains its request × IsEntry request e × (disposition_of a.failed a.revalidation request.entry ≡ Complete o)
+        w : (request : BookEntry) × Contains its request × EntryRelation request e × (disposition_of a.failed a.revalidation request.entry ≡ Complete o)
         w = f.answered e o here
 
         none : a.error_handled.port_error ≡ LinkChanged → Why a.failed a.revalidation w.0.entry o → ⊥
@@ -349,13 +349,13 @@ module _ (laws : LawsBelow) (port : Port) (replies : List Reply) (old new : Serv
     grounded : a.error_handled.port_error ≢ TimedOut → OnlyFailedPortsRequeue evidence (z.steps ++ base)
     grounded unhung =
         issues_all (OnlyFailedPortsRequeue evidence) (mode_in r.mid port) port (device_grounded evidence) (λ e steps own g. g) z.steps base z.only
-        (grounded_join evidence f.dispositions (f.middle ++ (answers_in f.ended ++ f.first)) (deciding_grounded port evidence f.dispositions f.own (again_failed unhung) (answer_failed unhung))
-        (grounded_join evidence f.middle (answers_in f.ended ++ f.first) (devices_all (OnlyFailedPortsRequeue evidence) (device_grounded evidence) tt f.middle f.middle_only)
+        (grounded_join evidence f.dispositions (f.middle ++ (ok_answers_of f.ended ++ f.first)) (deciding_grounded port evidence f.dispositions f.own (again_failed unhung) (answer_failed unhung))
+        (grounded_join evidence f.middle (ok_answers_of f.ended ++ f.first) (devices_all (OnlyFailedPortsRequeue evidence) (device_grounded evidence) tt f.middle f.middle_only)
         (answers_all (OnlyFailedPortsRequeue evidence) f.ended f.first (λ e steps here g. g) (devices_all (OnlyFailedPortsRequeue evidence) (device_grounded evidence) tt f.first f.first_only))))
 
     -- ---- its steps
 
-    devices_own : (steps : List Step) → AllDevices steps → All (IsOfTurn port) steps
+    devices_own : (steps : List Step) → AllByDevice steps → All (IsOfTurn port) steps
     devices_own steps only = devices_all (All (IsOfTurn port)) (λ step rest device more. All-cons (IsOfTurn port) step rest (device_own port step device) more) (All-nil (IsOfTurn port)) steps only
 
     issuing_own : All (IsOfTurn port) z.steps
@@ -365,8 +365,8 @@ module _ (laws : LawsBelow) (port : Port) (replies : List Reply) (old new : Serv
 
     own : All (IsOfTurn port) (z.steps ++ base)
     own = All-append (IsOfTurn port) z.steps base issuing_own
-        (All-append (IsOfTurn port) f.dispositions (f.middle ++ (answers_in f.ended ++ f.first)) (deciding_own port f.dispositions f.own)
-        (All-append (IsOfTurn port) f.middle (answers_in f.ended ++ f.first) (devices_own f.middle f.middle_only)
+        (All-append (IsOfTurn port) f.dispositions (f.middle ++ (ok_answers_of f.ended ++ f.first)) (deciding_own port f.dispositions f.own)
+        (All-append (IsOfTurn port) f.middle (ok_answers_of f.ended ++ f.first) (devices_own f.middle f.middle_only)
         (answers_all (All (IsOfTurn port)) f.ended f.first (λ e rest here more. All-cons (IsOfTurn port) (Answer e outcome.Ok) rest (ended_port e here) more) (devices_own f.first f.first_only))))
 
     -- what is issued is of a ready port
@@ -375,21 +375,21 @@ module _ (laws : LawsBelow) (port : Port) (replies : List Reply) (old new : Serv
         let y = map_in (λ (u : Unanswered). u.id) (due_of (mode_in r.mid port) port (asks_of r.mid.book)) id (z.named id issued) in
         let at : y.0.port ≡ port = laws.own (mode_in r.mid port) port (asks_of r.mid.book) y.0 y.1 in
         let due = (laws.exact (mode_in r.mid port) port (asks_of r.mid.book) y.0 at).0 y.1 in
-        let e = map_in (λ (x : Held). asks x.entry) r.mid.book y.0 due.here in
+        let e = map_in (λ (x : BookEntry). asks x.entry) r.mid.book y.0 due.here in
         ap (λ (ports : Ports). ports.state port) ports_same ∙ ap (λ (q : Port). state_of (probe_result_of r.mid.ports q.0)) (sym (ap (λ (u : Unanswered). u.port) (sym e.2) ∙ at)) ∙ of_ready r.mid k_mid e.0 e.1
 
     belong : AreStepsOfCall {D = DeviceStep} Service (ports_of new) (z.steps ++ base)
     belong =
         belong_join Service (ports_of new) z.steps base (issuing_belong port (mode_in r.mid port) (ports_of new) mode_new z.steps z.only issued_ready)
-        (belong_join Service (ports_of new) f.dispositions (f.middle ++ (answers_in f.ended ++ f.first)) (deciding_belong port (ports_of new) f.dispositions f.own (λ e here. let s = again_same e here in ap (ports_of new).state s.1 ∙ same_ready s.0))
-        (belong_join Service (ports_of new) f.middle (answers_in f.ended ++ f.first) (devices_belong {D = DeviceStep} Service (ports_of new) f.middle f.middle_only)
+        (belong_join Service (ports_of new) f.dispositions (f.middle ++ (ok_answers_of f.ended ++ f.first)) (deciding_belong port (ports_of new) f.dispositions f.own (λ e here. let s = again_same e here in ap (ports_of new).state s.1 ∙ same_ready s.0))
+        (belong_join Service (ports_of new) f.middle (ok_answers_of f.ended ++ f.first) (devices_belong {D = DeviceStep} Service (ports_of new) f.middle f.middle_only)
         (answers_all (AreStepsOfCall {D = DeviceStep} Service (ports_of new)) f.ended f.first (λ e rest here b. (b, inr tt)) (devices_belong {D = DeviceStep} Service (ports_of new) f.first f.first_only))))
 
     none_in_base : (id : RequestId) → list_any (issues_it id) base ≡ false
     none_in_base id =
-        any_append (issues_it id) f.dispositions (f.middle ++ (answers_in f.ended ++ f.first)) ∙ ap (λ (b : Bool). b || list_any (issues_it id) (f.middle ++ (answers_in f.ended ++ f.first))) (deciding_issues_none port id f.dispositions f.own)
-        ∙ any_append (issues_it id) f.middle (answers_in f.ended ++ f.first) ∙ ap (λ (b : Bool). b || list_any (issues_it id) (answers_in f.ended ++ f.first)) (devices_issue_none id f.middle f.middle_only)
-        ∙ any_append (issues_it id) (answers_in f.ended) f.first ∙ ap (λ (b : Bool). b || list_any (issues_it id) f.first) (answers_issue_none id f.ended) ∙ devices_issue_none id f.first f.first_only
+        any_append (issues_it id) f.dispositions (f.middle ++ (ok_answers_of f.ended ++ f.first)) ∙ ap (λ (b : Bool). b || list_any (issues_it id) (f.middle ++ (ok_answers_of f.ended ++ f.first))) (deciding_issues_none port id f.dispositions f.own)
+        ∙ any_append (issues_it id) f.middle (ok_answers_of f.ended ++ f.first) ∙ ap (λ (b : Bool). b || list_any (issues_it id) (ok_answers_of f.ended ++ f.first)) (devices_issue_none id f.middle f.middle_only)
+        ∙ any_append (issues_it id) (ok_answers_of f.ended) f.first ∙ ap (λ (b : Bool). b || list_any (issues_it id) f.first) (answers_issue_none id f.ended) ∙ devices_issue_none id f.first f.first_only
 
     last : IssuesLast (z.steps ++ base)
     last = last_on (mode_in r.mid port) port z.steps base z.only z.last (none_last base none_in_base) (λ id late early. false≢true (sym (none_in_base id) ∙ early))
@@ -435,16 +435,16 @@ module _ (laws : LawsBelow) (port : Port) (replies : List Reply) (old new : Serv
     none_first : map with_ok f.ended ++ answers_of f.first ≡ map with_ok f.ended
     none_first = ap (λ (none : List (Pending × Outcome)). map with_ok f.ended ++ none) (devices_answers f.first f.first_only) ∙ append-nil (map with_ok f.ended)
 
-    answers_are : answers_of (z.steps ++ base) ≡ answers_of f.dispositions ++ answers_of (answers_in f.ended ++ f.first)
-    answers_are = issuing_answers (mode_in r.mid port) port z.steps base z.only ∙ answers_append f.dispositions (f.middle ++ (answers_in f.ended ++ f.first))
-        ∙ ap (λ (list : List (Pending × Outcome)). answers_of f.dispositions ++ list) (answers_append f.middle (answers_in f.ended ++ f.first) ∙ ap (λ (none : List (Pending × Outcome)). none ++ answers_of (answers_in f.ended ++ f.first)) (devices_answers f.middle f.middle_only))
+    answers_are : answers_of (z.steps ++ base) ≡ answers_of f.dispositions ++ answers_of (ok_answers_of f.ended ++ f.first)
+    answers_are = issuing_answers (mode_in r.mid port) port z.steps base z.only ∙ answers_append f.dispositions (f.middle ++ (ok_answers_of f.ended ++ f.first))
+        ∙ ap (λ (list : List (Pending × Outcome)). answers_of f.dispositions ++ list) (answers_append f.middle (ok_answers_of f.ended ++ f.first) ∙ ap (λ (none : List (Pending × Outcome)). none ++ answers_of (ok_answers_of f.ended ++ f.first)) (devices_answers f.middle f.middle_only))
 
     all_told : IsPermutation (map with_ok f.ended ++ f.tells.answers) (answers_of (z.steps ++ base))
     all_told = subst (IsPermutation (map with_ok f.ended ++ f.tells.answers)) (sym answers_are)
         (IsPermutation-trans _ _ _ (IsPermutation-append_comm (map with_ok f.ended) f.tells.answers)
-        (IsPermutation-append _ _ _ _ f.tells.same (subst (λ (list : List (Pending × Outcome)). IsPermutation list (answers_of (answers_in f.ended ++ f.first))) none_first (answered_permuted f.ended f.first))))
+        (IsPermutation-append _ _ _ _ f.tells.same (subst (λ (list : List (Pending × Outcome)). IsPermutation list (answers_of (ok_answers_of f.ended ++ f.first))) none_first (answered_permuted f.ended f.first))))
 
-    tells : Tells (z.steps ++ base) replies
+    tells : RepliesMatch (z.steps ++ base) replies
     tells = record {
       answers = in_order.0;
       same = IsPermutation-trans in_order.0 (map with_ok f.ended ++ f.tells.answers) (answers_of (z.steps ++ base)) in_order.1 all_told;
@@ -462,9 +462,9 @@ module _ (laws : LawsBelow) (port : Port) (replies : List Reply) (old new : Serv
         (λ disposition. disposition)
         (λ rest. ⊎_elim
         (λ mid. absurd (no_answer f.middle f.middle_only e o mid))
-        (λ rest. ⊎_elim (λ ok. absurd (other (answered_in f.ended e o ok).1)) (λ early. absurd (no_answer f.first f.first_only e o early)) (Contains-append_cases (answers_in f.ended) f.first (Answer e o) rest))
-        (Contains-append_cases f.middle (answers_in f.ended ++ f.first) (Answer e o) rest))
-        (Contains-append_cases f.dispositions (f.middle ++ (answers_in f.ended ++ f.first)) (Answer e o) rest))
+        (λ rest. ⊎_elim (λ ok. absurd (other (answered_in f.ended e o ok).1)) (λ early. absurd (no_answer f.first f.first_only e o early)) (Contains-append_cases (ok_answers_of f.ended) f.first (Answer e o) rest))
+        (Contains-append_cases f.middle (ok_answers_of f.ended ++ f.first) (Answer e o) rest))
+        (Contains-append_cases f.dispositions (f.middle ++ (ok_answers_of f.ended ++ f.first)) (Answer e o) rest))
         (Contains-append_cases z.steps base (Answer e o) here)
 
     -- no fault is told unless a command had failed
@@ -486,7 +486,7 @@ module _ (laws : LawsBelow) (port : Port) (replies : List Reply) (old new : Serv
     unplugged_why : (e : Pending) → Contains (z.steps ++ base) (Answer e outcome.Unplugged) → (a.revalidation ≡ DiskLost) × (e.request.port ≡ port)
     unplugged_why e here = (by (why a.failed a.revalidation w.0.entry outcome.Unplugged w.3), w.2.port ∙ (of_its w.0 w.1).1)
       where
-        w : (request : Held) × Contains its request × IsEntry request e × (disposition_of a.failed a.revalidation request.entry ≡ Complete outcome.Unplugged)
+        w : (request : BookEntry) × Contains its request × EntryRelation request e × (disposition_of a.failed a.revalidation request.entry ≡ Complete outcome.Unplugged)
         w = f.answered e outcome.Unplugged (fated e outcome.Unplugged (λ x. let y : outcome.Unplugged ≡ outcome.Ok = x in cc) here)
 
         by : Why a.failed a.revalidation w.0.entry outcome.Unplugged → a.revalidation ≡ DiskLost
@@ -499,7 +499,7 @@ module _ (laws : LawsBelow) (port : Port) (replies : List Reply) (old new : Serv
     dead_why : (e : Pending) → Contains (z.steps ++ base) (Answer e outcome.PortDead) → a.revalidation ≡ NoEnd
     dead_why e here = by (why a.failed a.revalidation w.0.entry outcome.PortDead w.3)
       where
-        w : (request : Held) × Contains its request × IsEntry request e × (disposition_of a.failed a.revalidation request.entry ≡ Complete outcome.PortDead)
+        w : (request : BookEntry) × Contains its request × EntryRelation request e × (disposition_of a.failed a.revalidation request.entry ≡ Complete outcome.PortDead)
         w = f.answered e outcome.PortDead (fated e outcome.PortDead (λ x. let y : outcome.PortDead ≡ outcome.Ok = x in cc) here)
 
         by : Why a.failed a.revalidation w.0.entry outcome.PortDead → a.revalidation ≡ NoEnd
@@ -510,20 +510,20 @@ module _ (laws : LawsBelow) (port : Port) (replies : List Reply) (old new : Serv
         by (inr (inr (inr (inr x)))) = let y : outcome.PortDead ≡ outcome.Revoked = x.3 in absurd cc
 
     -- but with the same disk, none of the port's requests is left
-    none_waits : a.revalidation ≢ Same → NoneWaits (after m (z.steps ++ base)) port
+    none_waits : a.revalidation ≢ Same → HasNoUnanswered (after m (z.steps ++ base)) port
     none_waits other e here own_port =
         let b = stood laws port (after m base) z.steps issuing_own e (subst (λ (n : Machine). Contains n.book e) all_is here) in
-        let h = at_right IsEntry r.mid.book (after m base).book f.stands.book b.was b.here in
+        let h = at_right EntryRelation r.mid.book (after m base).book f.stands.book b.was b.here in
         none_stays other h.0 h.1 (sym h.2.port ∙ ap (λ x. x.port) b.request ∙ own_port)
 
     disk_lost : a.revalidation ≡ DiskLost → a.revalidation ≢ Same
     disk_lost lost same = let y : DiskLost ≡ Same = sym lost ∙ same in absurd cc
 
     -- and where its disk was lost, all are told alike
-    told_lost : a.error_handled.port_error ≡ LinkChanged → AreTold outcome.Unplugged (z.steps ++ base) port ⊎ AreTold outcome.PortDead (z.steps ++ base) port
+    told_lost : a.error_handled.port_error ≡ LinkChanged → ToldOkOr outcome.Unplugged (z.steps ++ base) port ⊎ ToldOkOr outcome.PortDead (z.steps ++ base) port
     told_lost lost = by a.revalidation refl
       where
-        told_as : (told : Outcome) → ((e : Held) (o : Outcome) → Why a.failed a.revalidation e.entry o → o ≡ told) → AreTold told (z.steps ++ base) port
+        told_as : (told : Outcome) → ((e : BookEntry) (o : Outcome) → Why a.failed a.revalidation e.entry o → o ≡ told) → ToldOkOr told (z.steps ++ base) port
         told_as told alike e o here own_port = by_ok (ok_or_not o)
           where
             by_ok : (o ≡ outcome.Ok) ⊎ (o ≢ outcome.Ok) → (o ≡ outcome.Ok) ⊎ (o ≡ told)
@@ -535,7 +535,7 @@ module _ (laws : LawsBelow) (port : Port) (replies : List Reply) (old new : Serv
         unnamed_then : (x : FailedRequest) → a.failed ≡ Some x → ⊥
         unnamed_then x is = let y : None ≡ Some x = sym (nobody (λ failed. let z : LinkChanged ≡ TaskFileError = sym lost ∙ failed in absurd cc)) ∙ is in absurd cc
 
-        by : (p : Revalidation) → a.revalidation ≡ p → AreTold outcome.Unplugged (z.steps ++ base) port ⊎ AreTold outcome.PortDead (z.steps ++ base) port
+        by : (p : Revalidation) → a.revalidation ≡ p → ToldOkOr outcome.Unplugged (z.steps ++ base) port ⊎ ToldOkOr outcome.PortDead (z.steps ++ base) port
         by Same x = absurd (not_same lost x)
         by DiskLost x = inl (told_as outcome.Unplugged (λ e o reason. ⊎_elim
             (λ named. absurd (unnamed_then named.0 named.1))
@@ -558,16 +558,16 @@ module _ (laws : LawsBelow) (port : Port) (replies : List Reply) (old new : Serv
             rest)
             reason))
 
-    unplugs : UnplugsAll (z.steps ++ base) (after m (z.steps ++ base))
+    unplugs : AnswersAllUnplugged (z.steps ++ base) (after m (z.steps ++ base))
     unplugs = record {
       emptied = λ e other here there same. let w = unplugged_why e here in none_waits (disk_lost w.0) other there (same ∙ w.1);
       alike = λ e other here there same. let y : DiskLost ≡ NoEnd = sym (unplugged_why e here).0 ∙ dead_why other there in absurd cc;
     }
 
-    keeps : SameDisk (ports_of old) (ports_of new) port ⊎ NoneWaits (after m (z.steps ++ base)) port
+    keeps : SameDisk (ports_of old) (ports_of new) port ⊎ HasNoUnanswered (after m (z.steps ++ base)) port
     keeps = by a.revalidation refl
       where
-        by : (p : Revalidation) → a.revalidation ≡ p → SameDisk (ports_of old) (ports_of new) port ⊎ NoneWaits (after m (z.steps ++ base)) port
+        by : (p : Revalidation) → a.revalidation ≡ p → SameDisk (ports_of old) (ports_of new) port ⊎ HasNoUnanswered (after m (z.steps ++ base)) port
         by Same x = inl (same_shown x)
         by DiskLost x = inr (none_waits (disk_lost x))
         by NoEnd x = inl (same_disk a.was (ap (λ (found : ProbeResult). last_disk_of found (Some a.was)) (subst (IsRevalidation a.error_handled.port_error a.was a.found) x a.expects)) refl refl)
@@ -579,7 +579,7 @@ module _ (laws : LawsBelow) (port : Port) (replies : List Reply) (old new : Serv
       issuing = z;
       steps_are = refl;
       may = laws.basic.may m z.steps base f.may z.may;
-      stands = subst (IsMachineOf new) (sym all_is) z.stands;
+      stands = subst (MachineRelation new) (sym all_is) z.stands;
       backed = laws.backed_parts old.device r.mid.device new.device m base z.steps f.backed z.backed;
       own = own;
       belong = belong;
@@ -600,7 +600,7 @@ module _ (laws : LawsBelow) (port : Port) (replies : List Reply) (old new : Serv
 
 -- So it is from each machine that stands for the server.
 pub recovered_decides : LawsBelow → (port : Port) (replies : List Reply) (old new : ServerState) → InCallInvariant old → state_of (probe_result_of old.ports port.0) ≡ ReadyState → (r : HandlesPortError port replies old new)
-    → IsSimulated (IsLooking port) AnyUse old.device r.settled.error_handled.seen → InCallInvariant r.mid → (m : Machine) → IsReachable m → IsMachineOf old m
+    → IsSimulated (IsLooking port) AnyUse old.device r.settled.error_handled.seen → InCallInvariant r.mid → (m : Machine) → IsReachable m → MachineRelation old m
     → DecidesTurn port replies old new r (evidence_by r.settled) m
 recovered_decides laws port replies old new k ready r looks k_mid m reached is =
     decides_turn laws port replies old new k ready r looks k_mid m reached is (adds_fates laws port r.later old r.mid k ready r.settled looks m reached is)

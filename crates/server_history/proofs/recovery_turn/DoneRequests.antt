@@ -24,20 +24,20 @@ use Rattle.block_machine.specs.State.{Machine, Pending}
 use Rattle.block_machine.specs.Steps.{Step, Answer}
 use Rattle.server_history.proofs.state.ListMembers.{contains_cases, contains_there}
 use Rattle.driver_history.specs.Histories.{FindsDone, IsAnsweredOk, IsIssuedOn}
-use Rattle.driver_history.specs.Trace.{ReadsMasks}
+use Rattle.driver_history.specs.Trace.{ReadsCiAndSact}
 use Rattle.host_boot.specs.Taken.{probe_result_of}
 use Rattle.port_control.specs.Looks.{IsLooking}
-use Rattle.request_queue.specs.Entries.{Held}
+use Rattle.request_queue.specs.Entries.{BookEntry}
 use Rattle.request_queue.specs.Dispositions.{disposition_of}
-use Rattle.request_queue.specs.Machine.{IsEntry}
+use Rattle.request_queue.specs.Machine.{EntryRelation}
 use Rattle.request_queue.specs.declared.disposition.Disposition.TheVariants.{Complete}
 use Rattle.slots.specs.declared.SlotUse.{SlotUse}
 use Rattle.server_history.specs.Below.{LawsBelow}
 use Rattle.server_history.specs.ErrorHandling.{IsErrorHandled, HasResolved, HandlesPortError, requests_of}
-use Rattle.server_history.specs.Served.{AnswersEach, HasEnded, answers_in, is_used}
-use Rattle.server_history.specs.Server.{ServerState, InCallInvariant, IsMachineOf, mode_in, state_of, used_for}
+use Rattle.server_history.specs.Served.{AnswersEach, HasEnded, ok_answers_of, is_used}
+use Rattle.server_history.specs.Server.{ServerState, InCallInvariant, MachineRelation, mode_in, state_of, used_for}
 use Rattle.server_history.proofs.any_turn.UnusedSlotBits.{unused_clear}
-use Rattle.server_history.specs.Turns.{FindsTurn, joint_state_of}
+use Rattle.server_history.specs.Turns.{FindsDoneInTurn, joint_state_of}
 use Rattle.server_history.proofs.state.AnswerSteps.{answered_in, ended_stood, in_answered, may_parts, no_answer, no_answer_issuing}
 use Rattle.server_history.proofs.healthy_turn.OneAnswer.{answer_kept}
 use Rattle.server_history.proofs.plain_calls.IssueRounds.{not_true}
@@ -67,19 +67,19 @@ module _ (laws : LawsBelow) (port : Port) (low : port.0 < 4) (done : ℕ) where
     id_is : used.id ≡ id
     found : bit done slot ≡ true
 
-  had_slot : (requests : List Held) (old new : ServerState) → InCallInvariant old → state_of (probe_result_of old.ports port.0) ≡ ReadyState → AreOver port done old.device → AnswersEach port done requests old new
-      → (request : Held) → Contains requests request → HadSlot old request.entry.id
+  had_slot : (requests : List BookEntry) (old new : ServerState) → InCallInvariant old → state_of (probe_result_of old.ports port.0) ≡ ReadyState → AreOver port done old.device → AnswersEach port done requests old new
+      → (request : BookEntry) → Contains requests request → HadSlot old request.entry.id
   had_slot [] old new k ready over none request here = absurd (nowhere request here)
   had_slot (e ∷ requests) old new k ready over (mid, one, its, more) request here = ⊎_elim
-      (λ (same : request ≡ e). record { slot = one.slot; small = one.small; used = one.used; used_is = one.served; id_is = one.id_is ∙ ap (λ (h : Held). h.entry.id) (sym same); found = its })
+      (λ (same : request ≡ e). record { slot = one.slot; small = one.small; used = one.used; used_is = one.served; id_is = one.id_is ∙ ap (λ (h : BookEntry). h.entry.id) (sym same); found = its })
       (λ (there : Contains requests request).
       let x = had_slot requests mid new (answer_kept laws old mid port e k ready one (over one.slot one.small its)) (ready_on laws port done e old mid one ready) (over_on laws port done e old mid one over) more request there in
       record { slot = x.slot; small = x.small; used = x.used; used_is = slots_were laws port low done (e ∷ []) old mid k ready over (mid, one, its, refl) x.slot x.used x.used_is; id_is = x.id_is; found = x.found })
       (contains_cases e requests request here)
 
   -- and whose slot isn't used any more was answered
-  was_told : (requests : List Held) (old new : ServerState) → InCallInvariant old → state_of (probe_result_of old.ports port.0) ≡ ReadyState → AreOver port done old.device → AnswersEach port done requests old new
-      → (slot : ℕ) (used : SlotUse) → used_for old.slots port.0 slot ≡ Some used → used_for new.slots port.0 slot ≡ None → (request : Held) × Contains requests request × (request.entry.id ≡ used.id)
+  was_told : (requests : List BookEntry) (old new : ServerState) → InCallInvariant old → state_of (probe_result_of old.ports port.0) ≡ ReadyState → AreOver port done old.device → AnswersEach port done requests old new
+      → (slot : ℕ) (used : SlotUse) → used_for old.slots port.0 slot ≡ Some used → used_for new.slots port.0 slot ≡ None → (request : BookEntry) × Contains requests request × (request.entry.id ≡ used.id)
   was_told [] old new k ready over none slot used is unused = let z : None ≡ Some used = sym unused ∙ ap (λ (n : ServerState). used_for n.slots port.0 slot) none ∙ is in absurd cc
   was_told (e ∷ requests) old new k ready over (mid, one, its, more) slot used is unused = ⊎_elim
       (λ (same : slot ≡ one.slot).
@@ -100,7 +100,7 @@ module _ (laws : LawsBelow) (port : Port) (low : port.0 < 4) (done : ℕ) where
 -- ---- the whole
 
 module _ (laws : LawsBelow) (port : Port) (replies : List Reply) (old new : ServerState) (k : InCallInvariant old) (ready : state_of (probe_result_of old.ports port.0) ≡ ReadyState) (r : HandlesPortError port replies old new)
-    (looks : IsSimulated (IsLooking port) AnyUse old.device r.settled.error_handled.seen) (kept : InCallInvariant r.mid) (evident : IsEvident port replies old new r) (m : Machine) (reached : IsReachable m) (is : IsMachineOf old m)
+    (looks : IsSimulated (IsLooking port) AnyUse old.device r.settled.error_handled.seen) (kept : InCallInvariant r.mid) (evident : IsEvident port replies old new r) (m : Machine) (reached : IsReachable m) (is : MachineRelation old m)
     (d : DecidesTurn port replies old new r (evidence_by r.settled) m) where
   abbrev a : HasResolved port r.later old r.mid
   a = r.settled
@@ -126,15 +126,15 @@ module _ (laws : LawsBelow) (port : Port) (replies : List Reply) (old new : Serv
       (λ rest. ⊎_elim
       (λ mid. absurd (no_answer d.dispositions.middle d.dispositions.middle_only e outcome.Ok mid))
       (λ rest. ⊎_elim (λ ok. (answered_in d.dispositions.ended e outcome.Ok ok).0) (λ early. absurd (no_answer d.dispositions.first d.dispositions.first_only e outcome.Ok early))
-      (Contains-append_cases (answers_in d.dispositions.ended) d.dispositions.first (Answer e outcome.Ok) rest))
-      (Contains-append_cases d.dispositions.middle (answers_in d.dispositions.ended ++ d.dispositions.first) (Answer e outcome.Ok) rest))
-      (Contains-append_cases d.dispositions.dispositions (d.dispositions.middle ++ (answers_in d.dispositions.ended ++ d.dispositions.first)) (Answer e outcome.Ok) rest))
+      (Contains-append_cases (ok_answers_of d.dispositions.ended) d.dispositions.first (Answer e outcome.Ok) rest))
+      (Contains-append_cases d.dispositions.middle (ok_answers_of d.dispositions.ended ++ d.dispositions.first) (Answer e outcome.Ok) rest))
+      (Contains-append_cases d.dispositions.dispositions (d.dispositions.middle ++ (ok_answers_of d.dispositions.ended ++ d.dispositions.first)) (Answer e outcome.Ok) rest))
       (Contains-append_cases d.issuing.steps (until_issues d.dispositions) (Answer e outcome.Ok) (subst (λ (steps : List Step). Contains steps (Answer e outcome.Ok)) d.steps_are here))
     where
       no_fate : Contains d.dispositions.dispositions (Answer e outcome.Ok) → ⊥
       no_fate disposition = by (why a.failed a.revalidation w.0.entry outcome.Ok w.3)
         where
-          w : (request : Held) × Contains (requests_of port a.mid.book) request × IsEntry request e × (disposition_of a.failed a.revalidation request.entry ≡ Complete outcome.Ok)
+          w : (request : BookEntry) × Contains (requests_of port a.mid.book) request × EntryRelation request e × (disposition_of a.failed a.revalidation request.entry ≡ Complete outcome.Ok)
           w = d.dispositions.answered e outcome.Ok disposition
 
           by : Why a.failed a.revalidation w.0.entry outcome.Ok → ⊥
@@ -147,13 +147,13 @@ module _ (laws : LawsBelow) (port : Port) (replies : List Reply) (old new : Serv
   ended_answered : (e : Pending) → Contains d.dispositions.ended e → Contains d.steps (Answer e outcome.Ok)
   ended_answered e here = subst (λ (steps : List Step). Contains steps (Answer e outcome.Ok)) (sym d.steps_are)
       (Contains-append_right d.issuing.steps (until_issues d.dispositions) (Answer e outcome.Ok)
-      (Contains-append_right d.dispositions.dispositions (d.dispositions.middle ++ (answers_in d.dispositions.ended ++ d.dispositions.first)) (Answer e outcome.Ok)
-      (Contains-append_right d.dispositions.middle (answers_in d.dispositions.ended ++ d.dispositions.first) (Answer e outcome.Ok)
-      (Contains-append_left (answers_in d.dispositions.ended) d.dispositions.first (Answer e outcome.Ok) (in_answered d.dispositions.ended e here)))))
+      (Contains-append_right d.dispositions.dispositions (d.dispositions.middle ++ (ok_answers_of d.dispositions.ended ++ d.dispositions.first)) (Answer e outcome.Ok)
+      (Contains-append_right d.dispositions.middle (ok_answers_of d.dispositions.ended ++ d.dispositions.first) (Answer e outcome.Ok)
+      (Contains-append_left (ok_answers_of d.dispositions.ended) d.dispositions.first (Answer e outcome.Ok) (in_answered d.dispositions.ended e here)))))
 
-  early_may : AllMay m d.dispositions.first × AllMay (after m d.dispositions.first) (answers_in d.dispositions.ended)
-  early_may = may_parts laws m (answers_in d.dispositions.ended) d.dispositions.first
-      (may_parts laws m d.dispositions.middle (answers_in d.dispositions.ended ++ d.dispositions.first) (may_parts laws m d.dispositions.dispositions (d.dispositions.middle ++ (answers_in d.dispositions.ended ++ d.dispositions.first)) d.dispositions.may).0).0
+  early_may : AllMay m d.dispositions.first × AllMay (after m d.dispositions.first) (ok_answers_of d.dispositions.ended)
+  early_may = may_parts laws m (ok_answers_of d.dispositions.ended) d.dispositions.first
+      (may_parts laws m d.dispositions.middle (ok_answers_of d.dispositions.ended ++ d.dispositions.first) (may_parts laws m d.dispositions.dispositions (d.dispositions.middle ++ (ok_answers_of d.dispositions.ended ++ d.dispositions.first)) d.dispositions.may).0).0
 
   -- the masks that were read
   masks_read : (read : Device) × Reads (Px port Ci) x.reads.issued x.seen read × Reads (Px port Sact) x.reads.active read x.found
@@ -214,13 +214,13 @@ module _ (laws : LawsBelow) (port : Port) (replies : List Reply) (old new : Serv
           elsewhere
           (cases_eq slot h.slot)
 
-  abbrev there : ReadsMasks port x.reads.issued x.reads.active evident.parts.early.accesses
+  abbrev there : ReadsCiAndSact port x.reads.issued x.reads.active evident.parts.early.accesses
   there = evident.parts.masks
 
   abbrev rest : List Access
   rest = x.handling.accesses ++ evident.parts.late.accesses
 
-  masks : ReadsMasks port x.reads.issued x.reads.active evident.accesses
+  masks : ReadsCiAndSact port x.reads.issued x.reads.active evident.accesses
   masks = record {
     before = there.before;
     later = there.later ++ rest;
@@ -234,7 +234,7 @@ module _ (laws : LawsBelow) (port : Port) (replies : List Reply) (old new : Serv
   finding = record { ci = x.reads.issued; sact = x.reads.active; reads = masks; exact = λ e slot own says. exact e own slot says }
 
   -- and the masks show the bits of a slot that isn't used clear
-  pub found_by_masks : FindsTurn port evident.accesses old m d.steps
+  pub found_by_masks : FindsDoneInTurn port evident.accesses old m d.steps
   unfolding finding
   found_by_masks = record { done = finding; unused = λ slot small none. unused_clear laws old m port.0 is ready x.seen x.found looks.driven x.mask x.done x.reads slot small none }
 

@@ -10,8 +10,8 @@ use Rattle.adapter.specs.Device.{Device}
 use Rattle.adapter.specs.Rules.{IsOn}
 use Rattle.refinement.specs.Driven.{RelatesWith, AnyUse, IsSimulated}
 use Rattle.refinement.specs.Facts.{IsFaulted}
-use Rattle.error_recovery.specs.Recovery.{FitsFor, IsAloneIn, MayRecover}
-use Rattle.driver_history.specs.Holds.{Runs}
+use Rattle.error_recovery.specs.Recovery.{PlainUsesSlot0, PlainIsSlot0, MayRecover}
+use Rattle.driver_history.specs.Holds.{EngineRuns}
 use Rattle.host_boot.specs.Taken.{StillStandsBehind, probe_result_of, wanted_of}
 use Rattle.host_boot.specs.declared.ProbeResult.{ProbeResult}
 use Rattle.commands.specs.Masks.{ReadsDone}
@@ -20,7 +20,7 @@ use Rattle.port_control.specs.declared.events.PortEvent.TheVariants.{TaskFileErr
 use Rattle.slots.specs.declared.SlotUse.{SlotUse}
 use Rattle.server_history.specs.Below.{LawsBelow}
 use Rattle.server_history.specs.Server.{ServerState, InCallInvariant, StandsAlone, slots_at, state_of, used_for}
-use Rattle.server_history.specs.ErrorHandling.{AreQueued}
+use Rattle.server_history.specs.ErrorHandling.{AreAllQueuedAs}
 use Rattle.server_history.specs.Served.{IsMaskOf}
 use Rattle.server_history.proofs.plain_calls.Looks.{finding_kept, looking_kept}
 use Rattle.server_history.proofs.state.TransferAccesses.{both_read}
@@ -44,13 +44,13 @@ module _ (laws : LawsBelow) (s : ServerState) (seen found : Device) (port : Port
   found_kept = finding_kept (record s { device = seen }) found port seen_kept ready laws mask done finds
 
   -- it runs, before and after
-  was : Runs port.0 s.device
+  was : EngineRuns port.0 s.device
   was = (k.behind port.0 low).runs ready
 
-  then_runs : Runs port.0 seen
+  then_runs : EngineRuns port.0 seen
   then_runs = (seen_kept.behind port.0 low).runs ready
 
-  runs : Runs port.0 found
+  runs : EngineRuns port.0 found
   runs = (found_kept.behind port.0 low).runs ready
 
   first : IsFaulted (seen.port port.0).halt × ((seen.port port.0).notes.last_ssts % 16 ≡ 3)
@@ -82,7 +82,7 @@ module _ (laws : LawsBelow) (s : ServerState) (seen found : Device) (port : Port
 
 -- of plain commands a port has one alone
 pub fits_for : (s : ServerState) (port : Port) (queued : Bool) (k : InCallInvariant s) → state_of (probe_result_of s.ports port.0) ≡ ReadyState
-    → ((slot : ℕ) (used : SlotUse) → used_for s.slots port.0 slot ≡ Some used → used.queued ≡ queued) → RelatesWith (FitsFor queued port.0) s.device
+    → ((slot : ℕ) (used : SlotUse) → used_for s.slots port.0 slot ≡ Some used → used.queued ≡ queued) → RelatesWith (PlainUsesSlot0 queued port.0) s.device
 fits_for s port queued k ready kinds = (
   k.stands.uses,
   (λ plain slot other. ⊎_elim
@@ -105,7 +105,7 @@ one_plain s port slot other used its k is there plain = ⊎_elim
     alone = k.alone port slot used is plain
 
 -- the used slots of a port have queued commands, or plain ones
-pub are_alike : (s : ServerState) (port : Port) (slot : ℕ) (used : SlotUse) → InCallInvariant s → used_for s.slots port.0 slot ≡ Some used → AreQueued used.queued (slots_at s.slots port.0)
+pub are_alike : (s : ServerState) (port : Port) (slot : ℕ) (used : SlotUse) → InCallInvariant s → used_for s.slots port.0 slot ≡ Some used → AreAllQueuedAs used.queued (slots_at s.slots port.0)
 are_alike s port slot used k is other its there = ⊎_elim
     (λ (queued : used.queued ≡ true). ⊎_elim
     (λ (so : its.queued ≡ true). so ∙ sym queued)
@@ -115,8 +115,8 @@ are_alike s port slot used k is other its there = ⊎_elim
     (cases_Bool used.queued)
 
 -- of plain ones it is slot 0 alone
-pub is_alone : (s : ServerState) (port : Port) (queued : Bool) (outstanding : ℕ) → InCallInvariant s → IsMaskOf (slots_at s.slots port.0) outstanding → AreQueued queued (slots_at s.slots port.0)
-    → IsAloneIn queued outstanding
+pub is_alone : (s : ServerState) (port : Port) (queued : Bool) (outstanding : ℕ) → InCallInvariant s → IsMaskOf (slots_at s.slots port.0) outstanding → AreAllQueuedAs queued (slots_at s.slots port.0)
+    → PlainIsSlot0 queued outstanding
 is_alone s port queued outstanding k its alike plain slot small is =
     let used = busy_used (used_for s.slots port.0 slot) (sym (its slot small) ∙ is) in
     (k.alone port.0 slot used.0 used.1 (alike slot used.0 used.1 ∙ plain)).0

@@ -14,7 +14,7 @@ use Rattle.adapter.specs.Access.{Access, DoesAll, Writes}
 use Rattle.adapter.specs.Access.Access.{Reading, Writing}
 use Rattle.adapter.specs.Device.{Device, DevicePort}
 use Rattle.adapter.specs.Rules.{IsOn}
-use Rattle.refinement.specs.Driven.{Grows, IsControl, IsDrivenBy, IsOf}
+use Rattle.refinement.specs.Driven.{Grows, OnPortWriting, IsDrivenBy, SparesOtherPorts}
 use Rattle.refinement.specs.Driver.{IsBacked}
 use Rattle.block_machine.specs.Events.{ShowsDisk, changes_disk}
 use Rattle.block_machine.specs.State.{Machine}
@@ -24,13 +24,13 @@ use Rattle.host_boot.specs.declared.Booted.{Booted}
 use Rattle.host_boot.specs.declared.ProbeResult.{ProbeResult}
 use Rattle.host_boot.specs.declared.ProbeResult.TheVariants.{Ready, Unready, Unserved}
 use Rattle.identify.specs.declared.wanted.Wanted.{Wanted}
-use Rattle.port_boot.specs.States.{EndsAs, EndsBeforeStart, EndsAfterStart, BringsReady, BringsUpPort, IsBeforeStart, IsAfterStart, IsOfBoot, ShowsOwnDisk, IsStateOfFault}
+use Rattle.port_boot.specs.States.{BacksState, EndsBeforeStart, EndsAfterStart, BringsReady, BringsUpPort, IsBeforeStart, IsAfterStart, IsOfBoot, HasDiskIfShown, IsStateOfFault}
 use Rattle.identify.specs.Wanted.{serial_of}
-use Rattle.port_control.specs.Ports.{FindsLink, HasLink, IsPlacingRegister, LooksAfterReset, ReadsUntil}
+use Rattle.port_control.specs.Ports.{FindsLink, HasLink, IsPlacingRegister, SeesResetFault, ReadsUntil}
 use Rattle.port_control.specs.declared.PortFault.{PortFault}
 use Rattle.port_control.specs.declared.PortFault.TheVariants.{NoDevice, Busy, EngineStuck, NotAta}
 use Rattle.server_history.specs.Below.{LawsBelow}
-use Rattle.server_history.specs.Server.{IsMachineOf, ServerState, state_of}
+use Rattle.server_history.specs.Server.{MachineRelation, ServerState, state_of}
 use Rattle.server_history.proofs.state.DrivenAccesses.{driven_as}
 use Rattle.server_history.proofs.recovery_turn.LinkResets.{IsBeside, cleared_then, late_then, linked_then, placing_boots, ready_then, resetting, started_then, until, without}
 use Rattle.server_history.proofs.any_turn.ShownTrouble.{grows_over}
@@ -41,12 +41,12 @@ pub record SeesDevice (port : Port) (old new : Device) : Type 0 where
   pub seen : Device
   pub early : IsDrivenBy (IsOfBoot port) old seen
   pub shows : (seen.port port.0).ssts_det ≡ 3
-  pub own : ShowsOwnDisk (seen.port port.0)
+  pub own : HasDiskIfShown (seen.port port.0)
   pub late : IsDrivenBy (IsBeside port) seen new
 
 module _ (laws : LawsBelow) (port : Port) where
   -- once COMRESET was sent, a disk is in where a device shows
-  own_then : (placed sent ended seen : Device) → IsOn placed → Writes (Px port Sctl) 1 placed sent → Writes (Px port Sctl) 0 sent ended → ReadsUntil port Ssts HasLink ended seen → ShowsOwnDisk (seen.port port.0)
+  own_then : (placed sent ended seen : Device) → IsOn placed → Writes (Px port Sctl) 1 placed sent → Writes (Px port Sctl) 0 sent ended → ReadsUntil port Ssts HasLink ended seen → HasDiskIfShown (seen.port port.0)
   own_then placed sent ended seen on sends ends sees =
       let waits = sees.waits.reads in
       laws.recovery.own_on port.0 (Writing (Px port Sctl) 0 ∷ (waits.accesses ++ Reading (Px port Ssts) sees.value ∷ [])) sent seen
@@ -57,16 +57,16 @@ module _ (laws : LawsBelow) (port : Port) where
       none = ap (λ (p : DevicePort). p.ssts_det) (laws.looks.put port Sctl 1 placed sent sends on.no_reset).here
 
   -- COMRESET was sent, and the link was found
-  found_then : (old placed sent ended linked new : Device) → IsOn old → IsDrivenBy (IsControl IsPlacingRegister port) old placed → Writes (Px port Sctl) 1 placed sent → Writes (Px port Sctl) 0 sent ended
+  found_then : (old placed sent ended linked new : Device) → IsOn old → IsDrivenBy (OnPortWriting IsPlacingRegister port) old placed → Writes (Px port Sctl) 1 placed sent → Writes (Px port Sctl) 0 sent ended
       → FindsLink port ended linked → IsDrivenBy (IsBeside port) linked new → SeesDevice port old new
   found_then old placed sent ended linked new on places sends ends found rest =
       let waited = (resetting laws port old placed sent ended found.sees.waited places sends ends (without laws port Ssts _ found.sees.count ended found.sees.waited found.sees.waits)).driven in
-      let there = laws.of_on port old found.sees.waited on (record { accesses = waited.accesses; all = waited.all; only = All-weaker (IsOfBoot port) (IsOf port) (laws.booting_of port) waited.accesses waited.only }) in
+      let there = laws.of_on port old found.sees.waited on (record { accesses = waited.accesses; all = waited.all; only = All-weaker (IsOfBoot port) (SparesOtherPorts port) (laws.booting_of port) waited.accesses waited.only }) in
       record {
         seen = found.seen;
         early = (resetting laws port old placed sent ended found.seen places sends ends (until laws port Ssts _ ended found.seen found.sees)).driven;
         shows = sym (laws.looks.shown_after port Ssts found.sees.value found.sees.waited found.seen there.no_reset found.sees.reads) ∙ found.sees.shown;
-        own = own_then placed sent ended found.seen (laws.of_on port old placed on (driven_as (IsControl IsPlacingRegister port) (IsOf port) old placed (λ access is. laws.booting_of port access (placing_boots laws port access is)) places)) sends ends found.sees;
+        own = own_then placed sent ended found.seen (laws.of_on port old placed on (driven_as (OnPortWriting IsPlacingRegister port) (SparesOtherPorts port) old placed (λ access is. laws.booting_of port access (placing_boots laws port access is)) places)) sends ends found.sees;
         late = cleared_then laws port found.seen linked new found.clears rest;
       }
 
@@ -79,7 +79,7 @@ module _ (laws : LawsBelow) (port : Port) where
   early : (state : Shown) (old new : Device) → IsOn old → state ≢ Absent → EndsBeforeStart port state old new → SeesDevice port old new
   early state old new on other g = by g.fault g.told g.resets.rest
     where
-      by : (fault : PortFault) → IsStateOfFault state fault → LooksAfterReset port fault g.resets.ended new → SeesDevice port old new
+      by : (fault : PortFault) → IsStateOfFault state fault → SeesResetFault port fault g.resets.ended new → SeesDevice port old new
       by NoDevice told l = absurd (other told)
       by Busy told l = found_then old g.placed g.resets.sent g.resets.ended l.linked new on g.places g.resets.sends g.resets.ends l.links (without laws port Tfd _ MOST_READINGS l.linked new l.waits)
       by (NotAta signature) told l = found_then old g.placed g.resets.sent g.resets.ended l.linked new on g.places g.resets.sends g.resets.ends l.links (linked_then laws port signature g.resets.ended new l)
@@ -110,7 +110,7 @@ module _ (laws : LawsBelow) (port : Port) where
   pub boot_sees : (wanted : Wanted) (found : ProbeResult) (old new : Device) → IsOn old → BootsStopped wanted port found old new → ShowsDisk (state_of found) → SeesDevice port old new
   boot_sees wanted Unserved old new on none shows = absurd none
   boot_sees wanted (Ready info) old new on e shows = ready_sees old new on e.way
-  boot_sees wanted (Unready state) old new on e shows = unready_sees state old new on (λ is. subst (λ (x : Shown). EndsAs (serial_of wanted) x port.0 new) is e.ended) e.early e.late shows
+  boot_sees wanted (Unready state) old new on e shows = unready_sees state old new on (λ is. subst (λ (x : Shown). BacksState (serial_of wanted) x port.0 new) is e.ended) e.early e.late shows
 
 -- So it has since before the boot: by these accesses, of which some led to the boot.
 pub record SeesOver (port : Port) (old asked new : Device) : Type 0 where
@@ -118,12 +118,12 @@ pub record SeesOver (port : Port) (old asked new : Device) : Type 0 where
   pub accesses : List Access
   pub does : DoesAll accesses old seen
   pub shows : (seen.port port.0).ssts_det ≡ 3
-  pub own : ShowsOwnDisk (seen.port port.0)
+  pub own : HasDiskIfShown (seen.port port.0)
   pub before : Grows old asked
   pub since : Grows asked new
   pub later : Grows seen new
 
-pub booted_sees : (laws : LawsBelow) (port : Port) (wanted : Wanted) (booted : Booted) (accesses : List Access) (old d new : Device) → IsOn old → DoesAll accesses old d → All (IsOf port) accesses
+pub booted_sees : (laws : LawsBelow) (port : Port) (wanted : Wanted) (booted : Booted) (accesses : List Access) (old d new : Device) → IsOn old → DoesAll accesses old d → All (SparesOtherPorts port) accesses
     → (b : RebootsPort wanted port booted d new) → ShowsDisk (state_of booted.found) → SeesOver port old b.asked new
 booted_sees laws port wanted booted accesses old d new on does of b shows = record {
   seen = sees.seen;
@@ -147,15 +147,15 @@ booted_sees laws port wanted booted accesses old d new on does of b shows = reco
 
     sees : SeesDevice port b.asked new
     sees = boot_sees laws port wanted booted.found b.asked new
-        (laws.of_on port old b.asked on (record { accesses = until; all = asked; only = All-append (IsOf port) accesses made.accesses of (All-weaker (IsSurveyOrBoot port) (IsOf port) (laws.recovery.start_of port) made.accesses made.only) }))
+        (laws.of_on port old b.asked on (record { accesses = until; all = asked; only = All-append (SparesOtherPorts port) accesses made.accesses of (All-weaker (IsSurveyOrBoot port) (SparesOtherPorts port) (laws.recovery.start_of port) made.accesses made.only) }))
         b.boots shows
 
     late : Grows sees.seen new
     late = grows_over laws sees.late.accesses sees.seen new sees.late.all
 
 -- The machine had a disk in the port then, or one went or came, where the device went on after the boot.
-pub booted_had : (laws : LawsBelow) (port : Port) (s : ServerState) (wanted : Wanted) (booted : Booted) (accesses : List Access) (d new end : Device) → IsOn s.device → DoesAll accesses s.device d → All (IsOf port) accesses
-    → (b : RebootsPort wanted port booted d new) → ShowsDisk (state_of booted.found) → Grows new end → (m : Machine) → IsMachineOf s m → (steps : List Step) → IsBacked s.device end m steps
+pub booted_had : (laws : LawsBelow) (port : Port) (s : ServerState) (wanted : Wanted) (booted : Booted) (accesses : List Access) (d new end : Device) → IsOn s.device → DoesAll accesses s.device d → All (SparesOtherPorts port) accesses
+    → (b : RebootsPort wanted port booted d new) → ShowsDisk (state_of booted.found) → Grows new end → (m : Machine) → MachineRelation s m → (steps : List Step) → IsBacked s.device end m steps
     → (m.present port ≡ true) ⊎ (list_any (changes_disk port) steps ≡ true)
 booted_had laws port s wanted booted accesses d new end on does of b shows later m stands steps backed =
     let sees = booted_sees laws port wanted booted accesses s.device d new on does of b shows in

@@ -16,12 +16,12 @@ use Rattle.adapter.specs.Rules.{IsOn}
 use Rattle.refinement.specs.Driven.{AnyUse, Grows, IsDrivenBy, IsSimulated}
 use Rattle.refinement.specs.Errors.{IsFatalOf}
 use Rattle.refinement.specs.Facts.{IsFaultOf, RunsWell, Undisturbed}
-use Rattle.refinement.specs.Links.{PlugsNone, SparesRegister}
+use Rattle.refinement.specs.Links.{NoPlugEvents, DoesNotWrite}
 use Rattle.refinement.specs.Recovering.{IsLinked, WorksPlainly}
 use Rattle.block_machine.specs.State.{Machine}
 use Rattle.driver_history.specs.Histories.{RunsWellAnew}
 use Rattle.driver_history.specs.Trace.{ResetsLink}
-use Rattle.error_recovery.specs.Evidence.{GainsRunning}
+use Rattle.error_recovery.specs.Evidence.{GainsSinceStart}
 use Rattle.error_recovery.specs.declared.Next.{Next}
 use Rattle.error_recovery.specs.declared.Next.TheVariants as next
 use Rattle.host_boot.specs.Taken.{StillStandsBehind, probe_result_of, wanted_of}
@@ -65,9 +65,9 @@ record ShowsLink (p : DevicePort) : Type 0 where
 module _ (laws : LawsBelow) (port : Port) where
   -- the access writes neither PxSCTL nor GHC
   abbrev LeavesLinked : Access → Type 0
-  LeavesLinked access = SparesRegister (Px port Sctl) access × SparesRegister Ghc access
+  LeavesLinked access = DoesNotWrite (Px port Sctl) access × DoesNotWrite Ghc access
 
-  linked_over : (accesses : List Access) (old new : Device) → IsOn old → All LeavesLinked accesses → PlugsNone port.0 old new → DoesAll accesses old new → ShowsLink (old.port port.0) → ShowsLink (new.port port.0)
+  linked_over : (accesses : List Access) (old new : Device) → IsOn old → All LeavesLinked accesses → NoPlugEvents port.0 old new → DoesAll accesses old new → ShowsLink (old.port port.0) → ShowsLink (new.port port.0)
   linked_over [] old new on all none is up = subst (λ (d : Device). ShowsLink (d.port port.0)) (sym is) up
   linked_over (access ∷ accesses) old new on all none (mid, does, rest) up =
       let kind = All-head LeavesLinked access accesses all in
@@ -97,7 +97,7 @@ module _ (laws : LawsBelow) (port : Port) where
 -- one that got ready runs well, where no disk went or came, and nothing went wrong since ST was set
 module _ (laws : LawsBelow) (port : Port) (old asked mid new : Device) (on : IsOn asked) (way : BringsReady port asked mid) (later : IsDrivenBy (LeavesTrouble port) mid new) (mid_on : IsOn mid)
     (first : Grows old asked) where
-  pub ready_well : PlugsNone port.0 old new → (GainsRunning (IsFaultOf port.0) port.0 old new → ⊥) → (GainsRunning (IsFatalOf port.0) port.0 old new → ⊥) → RunsWell (new.port port.0)
+  pub ready_well : NoPlugEvents port.0 old new → (GainsSinceStart (IsFaultOf port.0) port.0 old new → ⊥) → (GainsSinceStart (IsFatalOf port.0) port.0 old new → ⊥) → RunsWell (new.port port.0)
   ready_well none unfailed unbroken =
       let since = ready_since laws port old asked mid new on way later in
       let up = (let x = up_driven laws port asked way.up way.first in grows_over laws x.accesses asked way.up x.all) in
@@ -115,13 +115,13 @@ module _ (laws : LawsBelow) (port : Port) (old asked mid new : Device) (on : IsO
 -- and so does one that was booted
 module _ (laws : LawsBelow) (port : Port) (low : port.0 < 4) (wanted : Wanted) (info : DiskInfo) (booted : Booted) (old d mid new : Device) (on : IsOn d) (b : RebootsPort wanted port booted d mid) (found : booted.found ≡ Ready info)
     (later : IsDrivenBy (LeavesTrouble port) mid new) (mid_on : IsOn mid) (until : Grows old d) where
-  pub booted_well : PlugsNone port.0 old new → (GainsRunning (IsFaultOf port.0) port.0 old new → ⊥) → (GainsRunning (IsFatalOf port.0) port.0 old new → ⊥) → RunsWell (new.port port.0)
+  pub booted_well : NoPlugEvents port.0 old new → (GainsSinceStart (IsFaultOf port.0) port.0 old new → ⊥) → (GainsSinceStart (IsFatalOf port.0) port.0 old new → ⊥) → RunsWell (new.port port.0)
   booted_well = ready_well laws port old b.asked mid new (boot_asked_on laws port low wanted info booted old d mid new on b found later) (boot_ends laws port low wanted info booted old d mid new on b found later).way later mid_on
       (laws.looks.tape.grows_more old d b.asked until (grows_over laws b.asks.driven.accesses d b.asked b.asks.driven.all))
 
 -- a link wasn't reset where PxSCTL wasn't written
-never_reset : (port : Port) (accesses : List Access) → All (SparesRegister (Px port Sctl)) accesses → ResetsLink port accesses → ⊥
-never_reset port accesses all r = All-contains (SparesRegister (Px port Sctl)) accesses (Writing (Px port Sctl) r.sending) all
+never_reset : (port : Port) (accesses : List Access) → All (DoesNotWrite (Px port Sctl)) accesses → ResetsLink port accesses → ⊥
+never_reset port accesses all r = All-contains (DoesNotWrite (Px port Sctl)) accesses (Writing (Px port Sctl) r.sending) all
     (subst (λ (list : List Access). Contains list (Writing (Px port Sctl) r.sending)) (sym r.here)
     (Contains-append_right r.before (Writing (Px port Sctl) r.sending ∷ (r.between ++ (Writing (Px port Sctl) r.ending ∷ r.later))) (Writing (Px port Sctl) r.sending)
     (0, omega arith, refl))) refl
@@ -161,19 +161,19 @@ module _ (laws : LawsBelow) (port : Port) (replies : List Reply) (old new : Serv
   -- ---- a port that runs again
 
   module _ (token : _) (is : x.result.next ≡ next.Running token) where
-    unreset : All (SparesRegister (Px port Sctl)) (t.early.accesses ++ (x.handling.accesses ++ t.late.accesses))
+    unreset : All (DoesNotWrite (Px port Sctl)) (t.early.accesses ++ (x.handling.accesses ++ t.late.accesses))
     unreset = t.unreset (λ other same. let z : next.Running token ≡ next.Restart other = sym is ∙ same in absurd cc)
 
     early_leaves : All (LeavesLinked laws port) t.early.accesses
     early_leaves = All-weaker (λ access. Contains t.early.accesses access × IsEarlyPart port access) (LeavesLinked laws port)
         (λ access w. (
-          All-contains (SparesRegister (Px port Sctl)) (t.early.accesses ++ (x.handling.accesses ++ t.late.accesses)) access unreset (Contains-append_left t.early.accesses (x.handling.accesses ++ t.late.accesses) access w.0),
+          All-contains (DoesNotWrite (Px port Sctl)) (t.early.accesses ++ (x.handling.accesses ++ t.late.accesses)) access unreset (Contains-append_left t.early.accesses (x.handling.accesses ++ t.late.accesses) access w.0),
           laws.of_host port access w.1.0.1,
         ))
         t.early.accesses (λ i d small. (All-contains_itself t.early.accesses i d small, t.early.only i d small))
 
     -- its link was up
-    linked : PlugsNone port.0 old.device new.device → (old.device.port port.0).ssts_det ≡ 3 → (old.device.port port.0).fresh ≡ true → IsLinked (a.mid.device.port port.0)
+    linked : NoPlugEvents port.0 old.device new.device → (old.device.port port.0).ssts_det ≡ 3 → (old.device.port port.0).fresh ≡ true → IsLinked (a.mid.device.port port.0)
     linked none det fresh = record {
       det = up.det;
       present = (then_kept.behind port.0 low).own then_ready up.det;
@@ -195,7 +195,7 @@ module _ (laws : LawsBelow) (port : Port) (replies : List Reply) (old new : Serv
             let f = ready_found a.mid port.0 then_kept then_ready in
             (subst (λ (f : ProbeResult). StillStandsBehind (wanted_of a.mid.wanted port.0) f port.0 a.mid.device) f.1.1 (then_kept.behind port.0 low).behind).1.det
 
-    runs_well : PlugsNone port.0 old.device new.device → (old.device.port port.0).ssts_det ≡ 3 → (GainsRunning (IsFaultOf port.0) port.0 old.device new.device → ⊥) → (GainsRunning (IsFatalOf port.0) port.0 old.device new.device → ⊥)
+    runs_well : NoPlugEvents port.0 old.device new.device → (old.device.port port.0).ssts_det ≡ 3 → (GainsSinceStart (IsFaultOf port.0) port.0 old.device new.device → ⊥) → (GainsSinceStart (IsFatalOf port.0) port.0 old.device new.device → ⊥)
         → ResetsLink port evident.accesses ⊎ ((old.device.port port.0).fresh ≡ true) → RunsWell (new.device.port port.0)
     runs_well none det unfailed unbroken how =
         let fresh : (old.device.port port.0).fresh ≡ true = ⊎_elim
@@ -216,7 +216,7 @@ module _ (laws : LawsBelow) (port : Port) (replies : List Reply) (old new : Serv
   -- ---- one that was booted
 
   module _ (token : _) (is : x.result.next ≡ next.Restart token) (is_ready : (ports_of new).state port ≡ ReadyState) where
-    boots_well : PlugsNone port.0 old.device new.device → (GainsRunning (IsFaultOf port.0) port.0 old.device new.device → ⊥) → (GainsRunning (IsFatalOf port.0) port.0 old.device new.device → ⊥)
+    boots_well : NoPlugEvents port.0 old.device new.device → (GainsSinceStart (IsFaultOf port.0) port.0 old.device new.device → ⊥) → (GainsSinceStart (IsFatalOf port.0) port.0 old.device new.device → ⊥)
         → RunsWell (new.device.port port.0)
     boots_well =
         let again = again_booted laws port replies old new k ready r looks kept t token is is_ready in
@@ -225,7 +225,7 @@ module _ (laws : LawsBelow) (port : Port) (replies : List Reply) (old new : Serv
         (issuing laws port replies old new k ready r looks kept t) kept.on (laws.looks.tape.grows_more old.device a.mid.device a.device early_grows part_grows)
 
   -- A port that runs again showed a device when the turn began, where no disk went or came: else the look would have told that its disk was lost.
-  showed : (m : Machine) (token : _) → x.result.next ≡ next.Running token → PlugsNone port.0 old.device new.device → (old.device.port port.0).ssts_det ≡ 3
+  showed : (m : Machine) (token : _) → x.result.next ≡ next.Running token → NoPlugEvents port.0 old.device new.device → (old.device.port port.0).ssts_det ≡ 3
   showed m token is none = ⊎_elim
       (λ shows. shows)
       (λ (missing : (old.device.port port.0).ssts_det ≢ 3).

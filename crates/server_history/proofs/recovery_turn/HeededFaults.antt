@@ -27,16 +27,16 @@ use Rattle.host_boot.specs.Taken.{probe_result_of}
 use Rattle.port_control.specs.Looks.{IsLooking}
 use Rattle.port_control.specs.declared.events.PortError.{PortError}
 use Rattle.port_control.specs.declared.events.PortError.TheVariants.{FatalError, TaskFileError, TimedOut, LinkChanged}
-use Rattle.request_queue.specs.Entries.{Held}
+use Rattle.request_queue.specs.Entries.{BookEntry}
 use Rattle.request_queue.specs.Dispositions.{disposition_of}
-use Rattle.request_queue.specs.Machine.{IsEntry}
+use Rattle.request_queue.specs.Machine.{EntryRelation}
 use Rattle.request_queue.specs.declared.disposition.FailedRequest as failed_request
 use Rattle.request_queue.specs.declared.disposition.Disposition.TheVariants.{Complete}
 use Rattle.slots.specs.Uses.{PortSlots, use_at}
 use Rattle.server_history.specs.Below.{LawsBelow}
 use Rattle.server_history.specs.ErrorHandling.{HasResolved, HandlesPortError, requests_of}
-use Rattle.server_history.specs.Served.{IssuesOnly, answers_in}
-use Rattle.server_history.specs.Server.{ServerState, InCallInvariant, IsMachineOf, mode_in, no_slots, state_of, used_for}
+use Rattle.server_history.specs.Served.{AllByDeviceOrIssue, ok_answers_of}
+use Rattle.server_history.specs.Server.{ServerState, InCallInvariant, MachineRelation, mode_in, no_slots, state_of, used_for}
 use Rattle.server_history.specs.Turns.{IsOfTurn, abstract_state_of}
 use Rattle.server_history.proofs.state.AnswerSteps.{answered_in, no_answer, no_answer_issuing}
 use Rattle.server_history.proofs.recovery_turn.MendedPort.{interrupted}
@@ -59,7 +59,7 @@ use Rattle.server_history.proofs.state.FirstMembers.{nowhere, first_here}
 -- ---- requests that are issued
 
 -- Who is issued after steps that issue requests was issued by them, or was before.
-issued_before : LawsBelow → (mode : QueueMode) (port : Port) (m : Machine) (steps : List Step) → IssuesOnly mode port steps → (e : Pending) → Contains (after m steps).book e → e.issued ≡ true
+issued_before : LawsBelow → (mode : QueueMode) (port : Port) (m : Machine) (steps : List Step) → AllByDeviceOrIssue mode port steps → (e : Pending) → Contains (after m steps).book e → e.issued ≡ true
     → IsIssuedIn e.request.id steps ⊎ ((was : Pending) × Contains m.book was × (was.request ≡ e.request) × (was.issued ≡ true))
 issued_before laws mode port m [] only e here issued = inr (e, here, refl, issued)
 issued_before laws mode port m (Issue its x ∷ steps) only e here issued =
@@ -160,7 +160,7 @@ failed_id None = 0
 failed_id (Some failed) = failed.id.0
 
 module _ (laws : LawsBelow) (port : Port) (replies : List Reply) (old new : ServerState) (k : InCallInvariant old) (ready : state_of (probe_result_of old.ports port.0) ≡ ReadyState) (r : HandlesPortError port replies old new)
-    (looks : IsSimulated (IsLooking port) AnyUse old.device r.settled.error_handled.seen) (kept : InCallInvariant r.mid) (evident : IsEvident port replies old new r) (m : Machine) (reached : IsReachable m) (is : IsMachineOf old m)
+    (looks : IsSimulated (IsLooking port) AnyUse old.device r.settled.error_handled.seen) (kept : InCallInvariant r.mid) (evident : IsEvident port replies old new r) (m : Machine) (reached : IsReachable m) (is : MachineRelation old m)
     (d : DecidesTurn port replies old new r (evidence_by r.settled) m) where
   abbrev a : HasResolved port r.later old r.mid
   a = r.settled
@@ -183,7 +183,7 @@ module _ (laws : LawsBelow) (port : Port) (replies : List Reply) (old new : Serv
 
   none_issued : (e : Pending) → Contains (after m base).book e → e.request.port ≡ port → e.issued ≡ true → ⊥
   none_issued e here own issued =
-      let w = at_right IsEntry r.mid.book (after m base).book d.dispositions.stands.book e here in
+      let w = at_right EntryRelation r.mid.book (after m base).book d.dispositions.stands.book e here in
       let number : w.0.entry.port.0 ≡ port.0 = ap (λ (q : Port). q.0) (sym w.2.port ∙ own) in
       let is_ready = ap (λ (q : ℕ). state_of (probe_result_of r.mid.ports q)) (sym number) ∙ of_ready r.mid kept w.0 w.1 in
       let h : HasSlot r.mid port e.request.id = issued_has r.mid (after m base) port d.dispositions.stands kept is_ready e here own issued in
@@ -201,7 +201,7 @@ module _ (laws : LawsBelow) (port : Port) (replies : List Reply) (old new : Serv
 
   fate_there : (e : Pending) (o : Outcome) → Contains d.dispositions.dispositions (Answer e o) → Contains d.steps (Answer e o)
   fate_there e o here = subst (λ (steps : List Step). Contains steps (Answer e o)) (sym d.steps_are)
-      (Contains-append_right d.issuing.steps base (Answer e o) (Contains-append_left d.dispositions.dispositions (d.dispositions.middle ++ (answers_in d.dispositions.ended ++ d.dispositions.first)) (Answer e o) here))
+      (Contains-append_right d.issuing.steps base (Answer e o) (Contains-append_left d.dispositions.dispositions (d.dispositions.middle ++ (ok_answers_of d.dispositions.ended ++ d.dispositions.first)) (Answer e o) here))
 
   differ : AreDifferent (answers_of d.dispositions.dispositions)
   differ = still_differ d.dispositions.tells.answers (answers_of d.dispositions.dispositions) d.dispositions.tells.same (told_differ port d.dispositions.tells.answers
@@ -213,7 +213,7 @@ module _ (laws : LawsBelow) (port : Port) (replies : List Reply) (old new : Serv
   named : (e : Pending) (o : Outcome) → Contains d.dispositions.dispositions (Answer e o) → tells_fault port (Answer e o) ≡ true → e.request.id.0 ≡ failed_id a.failed
   named e o here tells = by (why a.failed a.revalidation w.0.entry o w.3)
     where
-      w : (request : Held) × Contains (requests_of port a.mid.book) request × IsEntry request e × (disposition_of a.failed a.revalidation request.entry ≡ Complete o)
+      w : (request : BookEntry) × Contains (requests_of port a.mid.book) request × EntryRelation request e × (disposition_of a.failed a.revalidation request.entry ≡ Complete o)
       w = d.dispositions.answered e o here
 
       no : (other : Outcome) → o ≡ other → tells_fault port (Answer e other) ≡ false → ⊥
@@ -236,7 +236,7 @@ module _ (laws : LawsBelow) (port : Port) (replies : List Reply) (old new : Serv
       not_named : (e : Pending) (o : Outcome) → Contains d.dispositions.dispositions (Answer e o) → tells_fault port (Answer e o) ≡ true → ⊥
       not_named e o here tells = by (why a.failed a.revalidation w.0.entry o w.3)
         where
-          w : (request : Held) × Contains (requests_of port a.mid.book) request × IsEntry request e × (disposition_of a.failed a.revalidation request.entry ≡ Complete o)
+          w : (request : BookEntry) × Contains (requests_of port a.mid.book) request × EntryRelation request e × (disposition_of a.failed a.revalidation request.entry ≡ Complete o)
           w = d.dispositions.answered e o here
 
           no : (other : Outcome) → o ≡ other → tells_fault port (Answer e other) ≡ false → ⊥
@@ -256,12 +256,12 @@ module _ (laws : LawsBelow) (port : Port) (replies : List Reply) (old new : Serv
   counted =
       let issuing = silent d.issuing.steps (λ e o here. absurd (no_answer_issuing (mode_in r.mid port) port d.issuing.steps d.issuing.only e o here)) in
       let middle = silent d.dispositions.middle (λ e o here. absurd (no_answer d.dispositions.middle d.dispositions.middle_only e o here)) in
-      let ended = silent (answers_in d.dispositions.ended) (λ e o here. (answered_in d.dispositions.ended e o here).1) in
+      let ended = silent (ok_answers_of d.dispositions.ended) (λ e o here. (answered_in d.dispositions.ended e o here).1) in
       let first = silent d.dispositions.first (λ e o here. absurd (no_answer d.dispositions.first d.dispositions.first_only e o here)) in
       let c = ap (count_by (tells_fault port)) d.steps_are ∙ count_append (tells_fault port) d.issuing.steps base in
-      let c1 = count_append (tells_fault port) d.dispositions.dispositions (d.dispositions.middle ++ (answers_in d.dispositions.ended ++ d.dispositions.first)) in
-      let c2 = count_append (tells_fault port) d.dispositions.middle (answers_in d.dispositions.ended ++ d.dispositions.first) in
-      let c3 = count_append (tells_fault port) (answers_in d.dispositions.ended) d.dispositions.first in
+      let c1 = count_append (tells_fault port) d.dispositions.dispositions (d.dispositions.middle ++ (ok_answers_of d.dispositions.ended ++ d.dispositions.first)) in
+      let c2 = count_append (tells_fault port) d.dispositions.middle (ok_answers_of d.dispositions.ended ++ d.dispositions.first) in
+      let c3 = count_append (tells_fault port) (ok_answers_of d.dispositions.ended) d.dispositions.first in
       omega (arith, issuing, middle, ended, first, c, c1, c2, c3)
 
   single : count_by (tells_fault port) d.steps ≤ 1

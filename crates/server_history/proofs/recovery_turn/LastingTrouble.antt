@@ -11,12 +11,12 @@ use Rattle.adapter.specs.Access.{Access, named_causes}
 use Rattle.adapter.specs.Access.Access.{Loading, Reading, Storing, Writing}
 use Rattle.adapter.specs.Device.{Device}
 use Rattle.adapter.specs.Rules.{IsOn}
-use Rattle.refinement.specs.Driven.{AnyUse, IsDrivenBy, IsSimulated, IsOf}
+use Rattle.refinement.specs.Driven.{AnyUse, IsDrivenBy, IsSimulated, SparesOtherPorts}
 use Rattle.server_history.proofs.state.DrivenAccesses.{by_then, driven_as}
 use Rattle.block_machine.specs.State.{Machine}
-use Rattle.disk_page.specs.Asking.{IsAsking}
+use Rattle.disk_page.specs.Asking.{IsPageAccess}
 use Rattle.driver_history.specs.Histories.{LosesNoPortError}
-use Rattle.error_recovery.specs.Evidence.{ShowsTrouble}
+use Rattle.error_recovery.specs.Evidence.{HidesNoTrouble}
 use Rattle.error_recovery.specs.Recovery.{EndsAsNext, RunsAgain}
 use Rattle.error_recovery.specs.declared.Next.{Next}
 use Rattle.error_recovery.specs.declared.Next.TheVariants as next
@@ -34,7 +34,7 @@ use Rattle.request_queue.specs.Entries.{asks_of, due_ids}
 use Rattle.identify.specs.declared.wanted.Wanted.{Wanted}
 use Rattle.server_history.specs.Below.{LawsBelow}
 use Rattle.server_history.specs.ErrorHandling.{IsRevalidated, IsErrorHandled, HasResolved, HandlesPortError}
-use Rattle.server_history.specs.Served.{IssuesIn}
+use Rattle.server_history.specs.Served.{IsIssuingAnySlot}
 use Rattle.server_history.specs.Server.{ServerState, InCallInvariant, mode_in, ports_of, state_of}
 use Rattle.server_history.specs.Turns.{joint_state_of}
 use Rattle.server_history.proofs.recovery_turn.MendedPort.{interrupted, next_dead, ready_info, state_new}
@@ -77,7 +77,7 @@ ie_apart port v = (
 )
 
 -- of any port
-pub issuing_leaves : (at port : Port) (access : Access) → IssuesIn at access → LeavesTrouble port access
+pub issuing_leaves : (at port : Port) (access : Access) → IsIssuingAnySlot at access → LeavesTrouble port access
 issuing_leaves at port (Reading r v) is = (tt, tt, tt, tt, stays_on (Reading r v) tt)
 issuing_leaves at port (Writing r v) is = ⊎_elim
     (λ (same : r ≡ Px at Sact). subst (λ (x : Reg). LeavesTrouble port (Writing x v)) (sym same) (sact_apart port at v))
@@ -86,7 +86,7 @@ issuing_leaves at port (Writing r v) is = ⊎_elim
 issuing_leaves at port (Loading a bytes) is = (tt, tt, tt, tt, stays_on (Loading a bytes) tt)
 issuing_leaves at port (Storing a bytes) is = (tt, tt, tt, tt, stays_on (Storing a bytes) tt)
 
-asking_leaves : (port : Port) (access : Access) → IsAsking port access → LeavesTrouble port access
+asking_leaves : (port : Port) (access : Access) → IsPageAccess port access → LeavesTrouble port access
 asking_leaves port (Reading r v) is = (tt, tt, tt, tt, stays_on (Reading r v) tt)
 asking_leaves port (Writing r v) is = subst (λ (x : Reg). LeavesTrouble port (Writing x v)) (sym is.0) (ci_apart port port v)
 asking_leaves port (Loading at bytes) is = (tt, tt, tt, tt, stays_on (Loading at bytes) tt)
@@ -96,17 +96,17 @@ asking_leaves port (Storing at bytes) is = (tt, tt, tt, tt, stays_on (Storing at
 
 module _ (laws : LawsBelow) (port : Port) (old asked mid new : Device) (on : IsOn asked) (way : BringsReady port asked mid) (later : IsDrivenBy (LeavesTrouble port) mid new) where
   pub ready_up_on : IsOn way.up
-  ready_up_on = laws.of_on port asked way.up on (driven_as (IsOfBoot port) (IsOf port) asked way.up (λ access x. laws.booting_of port access x) (up_driven laws port asked way.up way.first))
+  ready_up_on = laws.of_on port asked way.up on (driven_as (IsOfBoot port) (SparesOtherPorts port) asked way.up (λ access x. laws.booting_of port access x) (up_driven laws port asked way.up way.first))
 
   -- what came since ST was set leaves what the port shows
   pub ready_since : IsDrivenBy (LeavesTrouble port) way.up new
   ready_since =
-      by_then laws (driven_as (IsAsking port) (LeavesTrouble port) way.up way.then.asked (asking_leaves port) way.then.asks)
+      by_then laws (driven_as (IsPageAccess port) (LeavesTrouble port) way.up way.then.asked (asking_leaves port) way.then.asks)
       (by_then laws
       (record { accesses = Writing (Px port Ie) named_causes ∷ []; all = (mid, way.then.tells, refl); only = All-cons (LeavesTrouble port) (Writing (Px port Ie) named_causes) [] (ie_apart port named_causes) (All-nil (LeavesTrouble port)) })
       later)
 
-  pub ready_shows : ShowsTrouble port.0 old new
+  pub ready_shows : HidesNoTrouble port.0 old new
   ready_shows = shown_since port.0 old way.up new (shows_over laws port ready_since.accesses way.up new ready_up_on ready_since.only ready_since.all) way.first.set
 
 -- ---- a port that is ready once it was booted
@@ -114,7 +114,7 @@ module _ (laws : LawsBelow) (port : Port) (old asked mid new : Device) (on : IsO
 module _ (laws : LawsBelow) (port : Port) (low : port.0 < 4) (wanted : Wanted) (info : DiskInfo) (booted : Booted) (old d mid new : Device) (on : IsOn d) (b : RebootsPort wanted port booted d mid) (found : booted.found ≡ Ready info)
     (later : IsDrivenBy (LeavesTrouble port) mid new) where
   pub boot_asked_on : IsOn b.asked
-  boot_asked_on = laws.of_on port d b.asked on (driven_as (IsSurveyOrBoot port) (IsOf port) d b.asked (λ access s. (start_part laws port low access s).1) b.asks.driven)
+  boot_asked_on = laws.of_on port d b.asked on (driven_as (IsSurveyOrBoot port) (SparesOtherPorts port) d b.asked (λ access s. (start_part laws port low access s).1) b.asks.driven)
 
   pub boot_ends : EndsReady (serial_of wanted) port info b.asked mid
   boot_ends = subst (λ (f : ProbeResult). BootsStopped wanted port f b.asked mid) found b.boots
@@ -122,7 +122,7 @@ module _ (laws : LawsBelow) (port : Port) (low : port.0 < 4) (wanted : Wanted) (
   abbrev boot_way : BringsReady port b.asked mid
   boot_way = boot_ends.way
 
-  pub boot_shows : ShowsTrouble port.0 old new
+  pub boot_shows : HidesNoTrouble port.0 old new
   boot_shows = ready_shows laws port old b.asked mid new boot_asked_on boot_way later
 
 -- ---- the whole
@@ -140,12 +140,12 @@ module _ (laws : LawsBelow) (port : Port) (replies : List Reply) (old new : Serv
 
   -- what is issued leaves what the port shows
   pub issuing : IsDrivenBy (LeavesTrouble port) r.mid.device new.device
-  issuing = driven_as (IssuesIn port) (LeavesTrouble port) r.mid.device new.device (issuing_leaves port port) (each_driven laws port (due_ids (mode_in r.mid port) port (asks_of r.mid.book)) r.mid new r.issued)
+  issuing = driven_as (IsIssuingAnySlot port) (LeavesTrouble port) r.mid.device new.device (issuing_leaves port port) (each_driven laws port (due_ids (mode_in r.mid port) port (asks_of r.mid.book)) r.mid new r.issued)
 
   -- the adapter is on when the port was recovered
-  pub recovered_driven : IsDrivenBy (IsOf port) old.device a.device
-  recovered_driven = by_then laws (driven_as (IsEarlyPart port) (IsOf port) old.device a.mid.device (λ access is. is.0.1) t.early)
-      (record { accesses = x.handling.accesses; all = t.does; only = All-weaker (IsPart port) (IsOf port) (λ access is. is.1) x.handling.accesses t.kinds })
+  pub recovered_driven : IsDrivenBy (SparesOtherPorts port) old.device a.device
+  recovered_driven = by_then laws (driven_as (IsEarlyPart port) (SparesOtherPorts port) old.device a.mid.device (λ access is. is.0.1) t.early)
+      (record { accesses = x.handling.accesses; all = t.does; only = All-weaker (IsPart port) (SparesOtherPorts port) (λ access is. is.1) x.handling.accesses t.kinds })
 
   pub recovered_on : IsOn a.device
   recovered_on = laws.of_on port old.device a.device k.on recovered_driven
@@ -161,7 +161,7 @@ module _ (laws : LawsBelow) (port : Port) (replies : List Reply) (old new : Serv
     pub then_issuing : IsDrivenBy (LeavesTrouble port) a.device new.device
     then_issuing = subst (λ (d : Device). IsDrivenBy (LeavesTrouble port) d new.device) again_is.1 issuing
 
-    runs_shows : ShowsTrouble port.0 old.device new.device
+    runs_shows : HidesNoTrouble port.0 old.device new.device
     runs_shows = shown_more port.0 old.device a.mid.device a.device new.device again.shows (grows_over laws x.handling.accesses a.mid.device a.device t.does) again.since
         (shows_over laws port then_issuing.accesses a.device new.device recovered_on then_issuing.only then_issuing.all)
 
@@ -185,13 +185,13 @@ module _ (laws : LawsBelow) (port : Port) (replies : List Reply) (old new : Serv
     abbrev pub asked : Device
     asked = again_booted.2.asked
 
-    its_shows : ShowsTrouble port.0 old.device new.device
+    its_shows : HidesNoTrouble port.0 old.device new.device
     its_shows = boot_shows laws port low (wanted_of old.wanted port.0) info.0 again_booted.0 old.device a.device r.mid.device new.device recovered_on again_booted.2 (again_booted.1 ∙ info.1) issuing
 
-  shows : (ports_of new).state port ≡ ReadyState → ShowsTrouble port.0 old.device new.device
+  shows : (ports_of new).state port ≡ ReadyState → HidesNoTrouble port.0 old.device new.device
   shows is_ready = by x.result.next refl
     where
-      by : (n : Next) → x.result.next ≡ n → ShowsTrouble port.0 old.device new.device
+      by : (n : Next) → x.result.next ≡ n → HidesNoTrouble port.0 old.device new.device
       by (next.Running token) is = runs_shows token is
       by (next.Restart token) is = its_shows token is is_ready
       by next.Dead is =

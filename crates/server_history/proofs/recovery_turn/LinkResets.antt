@@ -13,14 +13,14 @@ use Rattle.hba_regs.specs.declared.reg.Reg.TheVariants.{Px}
 use Rattle.adapter.specs.Access.{Access, Does, Reads, Writes, named_causes}
 use Rattle.adapter.specs.Access.Access.{Loading, Reading, Storing, Writing}
 use Rattle.adapter.specs.Device.{Device}
-use Rattle.refinement.specs.Driven.{IsControl, IsDrivenBy}
-use Rattle.refinement.specs.Links.{SparesRegister}
+use Rattle.refinement.specs.Driven.{OnPortWriting, IsDrivenBy}
+use Rattle.refinement.specs.Links.{DoesNotWrite}
 use Rattle.server_history.proofs.state.DrivenAccesses.{by_none, by_then, driven_as}
-use Rattle.disk_page.specs.Asking.{IsAsking}
+use Rattle.disk_page.specs.Asking.{IsPageAccess}
 use Rattle.driver_history.specs.Trace.{ResetsLink}
-use Rattle.error_recovery.specs.Recovery.{IsRecoveryRegister, IsRecovering}
+use Rattle.error_recovery.specs.Recovery.{IsRecoveryRegister, IsRecoveryAccess}
 use Rattle.port_boot.specs.States.{EndsBeforeStart, EndsAfterStart, BringsReady, BringsUpPort, IsBootRegister, IsOfBoot}
-use Rattle.port_control.specs.Ports.{ClearsErrors, FindsLink, FindsSignature, IsPlacingRegister, LooksAfterReset, ReadsNot, ReadsUntil, ReadsWithout, IsCommandRegister}
+use Rattle.port_control.specs.Ports.{ClearsErrors, FindsLink, FindsSignature, IsPlacingRegister, SeesResetFault, IsVainReading, ReadsUntil, ReadsInVain, IsCommandRegister}
 use Rattle.port_control.specs.declared.PortFault.{PortFault}
 use Rattle.port_control.specs.declared.PortFault.TheVariants.{NoDevice, Busy, EngineStuck, NotAta}
 use Rattle.server_history.specs.Below.{LawsBelow}
@@ -31,7 +31,7 @@ pub record ResetsBy (port : Port) (old new : Device) : Type 0 where
   pub resets : ResetsLink port driven.accesses
 
 -- more accesses before, and after, that don't write PxSCTL
-pub resets_more : (port : Port) (early part late : List Access) → ResetsLink port part → All (SparesRegister (Px port Sctl)) late → ResetsLink port (early ++ (part ++ late))
+pub resets_more : (port : Port) (early part late : List Access) → ResetsLink port part → All (DoesNotWrite (Px port Sctl)) late → ResetsLink port (early ++ (part ++ late))
 resets_more port early part late r spared = record {
   before = early ++ r.before;
   between = r.between;
@@ -46,23 +46,23 @@ resets_more port early part late r spared = record {
   sends = r.sends;
   ends = r.ends;
   held = r.held;
-  left = All-append (SparesRegister (Px port Sctl)) r.later late r.left spared;
+  left = All-append (DoesNotWrite (Px port Sctl)) r.later late r.left spared;
 }
 
 pub resets_since : (port : Port) (early part : List Access) → ResetsLink port part → ResetsLink port (early ++ part)
 resets_since port early part r =
-    subst (λ (list : List Access). ResetsLink port (early ++ list)) (append-nil part) (resets_more port early part [] r (All-nil (SparesRegister (Px port Sctl))))
+    subst (λ (list : List Access). ResetsLink port (early ++ list)) (append-nil part) (resets_more port early part [] r (All-nil (DoesNotWrite (Px port Sctl))))
 
 -- ---- accesses of a boot's way but those that reset the link
 
 abbrev pub IsBeside : Port → Access → Type 0
-IsBeside port access = IsOfBoot port access × SparesRegister (Px port Sctl) access
+IsBeside port access = IsOfBoot port access × DoesNotWrite (Px port Sctl) access
 
 apart : (port at : Port) (r other : PortReg) → r ≢ other → Px at r ≢ Px port other
 apart port at r other ne same = ne cc
 
 module _ (laws : LawsBelow) (port : Port) where
-  control_beside : (Such : PortReg → Type 0) → ((r : PortReg) → Such r → IsBootRegister r × (r ≢ Sctl)) → (access : Access) → IsControl Such port access → IsBeside port access
+  control_beside : (Such : PortReg → Type 0) → ((r : PortReg) → Such r → IsBootRegister r × (r ≢ Sctl)) → (access : Access) → OnPortWriting Such port access → IsBeside port access
   control_beside Such each (Reading (Px at r) v) is = (inl is, tt)
   control_beside Such each (Reading r v) is = absurd is
   control_beside Such each (Writing (Px at r) v) is = let e = each r is.1 in (inl (is.0, e.0), apart port at r Sctl e.1)
@@ -83,17 +83,17 @@ module _ (laws : LawsBelow) (port : Port) where
       no (inr (inr (inr (inl x)))) same = let z : Fb ≡ Sctl = sym x ∙ same in absurd cc
       no (inr (inr (inr (inr x)))) same = let z : Fbu ≡ Sctl = sym x ∙ same in absurd cc
 
-  pub placing_boots : (access : Access) → IsControl IsPlacingRegister port access → IsOfBoot port access
+  pub placing_boots : (access : Access) → OnPortWriting IsPlacingRegister port access → IsOfBoot port access
   placing_boots access is = (control_beside IsPlacingRegister placing_beside access is).0
 
-  asking_beside : (access : Access) → IsAsking port access → IsBeside port access
+  asking_beside : (access : Access) → IsPageAccess port access → IsBeside port access
   asking_beside (Reading r v) is = (inr is, tt)
   asking_beside (Writing r v) is = (inr is, λ same. let z : Px port Ci ≡ Px port Sctl = sym is.0 ∙ same in absurd cc)
   asking_beside (Loading at bytes) is = (inr is, tt)
   asking_beside (Storing at bytes) is = (inr is, tt)
 
-  unread : (r : PortReg) (Sees : ℕ → Type 0) (access : Access) → ReadsNot port r Sees access → IsBeside port access
-  unread r Sees (Reading at v) is = (inl (subst (λ (x : Reg). IsControl IsBootRegister port (Reading x v)) (sym is.0) refl), tt)
+  unread : (r : PortReg) (Sees : ℕ → Type 0) (access : Access) → IsVainReading port r Sees access → IsBeside port access
+  unread r Sees (Reading at v) is = (inl (subst (λ (x : Reg). OnPortWriting IsBootRegister port (Reading x v)) (sym is.0) refl), tt)
   unread r Sees (Writing at v) is = absurd is
   unread r Sees (Loading at bytes) is = absurd is
   unread r Sees (Storing at bytes) is = absurd is
@@ -108,8 +108,8 @@ module _ (laws : LawsBelow) (port : Port) where
   write_one : (r : PortReg) (v : ℕ) (old new : Device) → IsBootRegister r → r ≢ Sctl → Writes (Px port r) v old new → IsDrivenBy (IsBeside port) old new
   write_one r v old new is other writes = one (Writing (Px port r) v) old new (inl (refl, is), apart port port r Sctl other) writes
 
-  pub without : (r : PortReg) (Sees : ℕ → Type 0) (count : ℕ) (old new : Device) → ReadsWithout port r Sees count old new → IsDrivenBy (IsBeside port) old new
-  without r Sees count old new w = driven_as (ReadsNot port r Sees) (IsBeside port) old new (unread r Sees) w.reads
+  pub without : (r : PortReg) (Sees : ℕ → Type 0) (count : ℕ) (old new : Device) → ReadsInVain port r Sees count old new → IsDrivenBy (IsBeside port) old new
+  without r Sees count old new w = driven_as (IsVainReading port r Sees) (IsBeside port) old new (unread r Sees) w.reads
 
   pub until : (r : PortReg) (Sees : ℕ → Type 0) (old new : Device) → ReadsUntil port r Sees old new → IsDrivenBy (IsBeside port) old new
   until r Sees old new u = by_then laws (without r Sees u.count old u.waited u.waits) (read_one r u.value u.waited new u.reads)
@@ -133,17 +133,17 @@ module _ (laws : LawsBelow) (port : Port) where
   signing : (signature : ℕ) (old new : Device) → FindsSignature port signature old new → IsDrivenBy (IsBeside port) old new
   signing signature old new f = by_then laws (linking old f.linked f.links) (linked_then signature old new f)
 
-  looking : (fault : PortFault) (old new : Device) → LooksAfterReset port fault old new → IsDrivenBy (IsBeside port) old new
+  looking : (fault : PortFault) (old new : Device) → SeesResetFault port fault old new → IsDrivenBy (IsBeside port) old new
   looking NoDevice old new l = without Ssts _ MOST_READINGS old new l
   looking Busy old new l = by_then laws (linking old l.linked l.links) (without Tfd _ MOST_READINGS l.linked new l.waits)
   looking (NotAta signature) old new l = signing signature old new l
   looking EngineStuck old new l = absurd l
 
-  pub commanding : (old new : Device) → IsDrivenBy (IsControl IsCommandRegister port) old new → IsDrivenBy (IsBeside port) old new
-  commanding old new driven = driven_as (IsControl IsCommandRegister port) (IsBeside port) old new (control_beside IsCommandRegister command_beside) driven
+  pub commanding : (old new : Device) → IsDrivenBy (OnPortWriting IsCommandRegister port) old new → IsDrivenBy (IsBeside port) old new
+  commanding old new driven = driven_as (OnPortWriting IsCommandRegister port) (IsBeside port) old new (control_beside IsCommandRegister command_beside) driven
 
-  asking : (old new : Device) → IsDrivenBy (IsAsking port) old new → IsDrivenBy (IsBeside port) old new
-  asking old new driven = driven_as (IsAsking port) (IsBeside port) old new asking_beside driven
+  asking : (old new : Device) → IsDrivenBy (IsPageAccess port) old new → IsDrivenBy (IsBeside port) old new
+  asking old new driven = driven_as (IsPageAccess port) (IsBeside port) old new asking_beside driven
 
   -- what comes once the link was found of a port that is started, and then
   pub started_then : (old up new : Device) (g : BringsUpPort port old up) → IsDrivenBy (IsBeside port) up new → IsDrivenBy (IsBeside port) g.resets.rest.linked new
@@ -158,13 +158,13 @@ module _ (laws : LawsBelow) (port : Port) where
 
   -- ---- the whole
 
-  pub resetting : (old placed sent ended new : Device) → IsDrivenBy (IsControl IsPlacingRegister port) old placed → Writes (Px port Sctl) 1 placed sent → Writes (Px port Sctl) 0 sent ended → IsDrivenBy (IsBeside port) ended new → ResetsBy port old new
+  pub resetting : (old placed sent ended new : Device) → IsDrivenBy (OnPortWriting IsPlacingRegister port) old placed → Writes (Px port Sctl) 1 placed sent → Writes (Px port Sctl) 0 sent ended → IsDrivenBy (IsBeside port) ended new → ResetsBy port old new
   resetting old placed sent ended new places sends ends rest = record {
     driven = record {
       accesses = places.accesses ++ list;
       all = laws.basic.does_append places.accesses list old placed new places.all (sent, sends, (ended, ends, rest.all));
       only = All-append (IsOfBoot port) places.accesses list
-          (All-weaker (IsControl IsPlacingRegister port) (IsOfBoot port) placing_boots places.accesses places.only)
+          (All-weaker (OnPortWriting IsPlacingRegister port) (IsOfBoot port) placing_boots places.accesses places.only)
           (All-cons (IsOfBoot port) (Writing (Px port Sctl) 1) (Writing (Px port Sctl) 0 ∷ rest.accesses) (inl (refl, inr (inl (inl refl))))
           (All-cons (IsOfBoot port) (Writing (Px port Sctl) 0) rest.accesses (inl (refl, inr (inl (inl refl)))) (All-weaker (IsBeside port) (IsOfBoot port) (λ access is. is.0) rest.accesses rest.only)));
     };
@@ -177,8 +177,8 @@ module _ (laws : LawsBelow) (port : Port) where
       here = refl;
       sends = refl;
       ends = refl;
-      held = All-nil (SparesRegister (Px port Sctl));
-      left = All-weaker (IsBeside port) (SparesRegister (Px port Sctl)) (λ access is. is.1) rest.accesses rest.only;
+      held = All-nil (DoesNotWrite (Px port Sctl));
+      left = All-weaker (IsBeside port) (DoesNotWrite (Px port Sctl)) (λ access is. is.1) rest.accesses rest.only;
     };
   }
     where
@@ -202,7 +202,7 @@ module _ (laws : LawsBelow) (port : Port) where
 
   -- ---- recovery
 
-  control_spares : (Such : PortReg → Type 0) → ((r : PortReg) → Such r → r ≢ Sctl) → (access : Access) → IsControl Such port access → SparesRegister (Px port Sctl) access
+  control_spares : (Such : PortReg → Type 0) → ((r : PortReg) → Such r → r ≢ Sctl) → (access : Access) → OnPortWriting Such port access → DoesNotWrite (Px port Sctl) access
   control_spares Such each (Reading r v) is = tt
   control_spares Such each (Writing (Px at r) v) is = apart port at r Sctl (each r is.1)
   control_spares Such each (Writing r v) is = absurd is
@@ -210,7 +210,7 @@ module _ (laws : LawsBelow) (port : Port) where
   control_spares Such each (Storing at bytes) is = tt
 
   -- recovery leaves the link alone
-  pub recovering_spares : (access : Access) → IsRecovering port access → SparesRegister (Px port Sctl) access
+  pub recovering_spares : (access : Access) → IsRecoveryAccess port access → DoesNotWrite (Px port Sctl) access
   recovering_spares access (inl is) = control_spares IsRecoveryRegister no access is
     where
       no : (r : PortReg) → IsRecoveryRegister r → r ≢ Sctl

@@ -12,12 +12,12 @@ use Rattle.ata_types.specs.declared.request.Frame.{Frame}
 use Rattle.ata_types.specs.declared.request.Reply.{Reply}
 use Rattle.ata_types.specs.declared.request.RequestId.{RequestId}
 use Rattle.adapter.specs.Device.{Device}
-use Rattle.refinement.specs.Acts.{InSlots, at_slots}
+use Rattle.refinement.specs.Acts.{DriverSlots, driver_state}
 use Rattle.refinement.specs.Driven.{AnyUse, IsSimulated}
 use Rattle.refinement.specs.Driver.{HasNoSlot, IsBacked}
 use Rattle.refinement.specs.Slots.{Serves}
 use Rattle.refinement.specs.Spares.{SparesBook}
-use Rattle.block_machine.specs.Events.{AllDevices, AllMay}
+use Rattle.block_machine.specs.Events.{AllByDevice, AllMay}
 use Rattle.block_machine.specs.Histories.{IsReachable}
 use Rattle.block_machine.specs.Left.{after}
 use Rattle.block_machine.specs.State.{Machine, Pending}
@@ -31,9 +31,9 @@ use Rattle.host_boot.specs.declared.ProbeResult.{ProbeResult}
 use Rattle.host_boot.specs.declared.ProbeResult.TheVariants.{Unserved, Ready, Unready}
 use Rattle.identify.specs.declared.DiskInfo.{DiskInfo}
 use Rattle.port_control.specs.Looks.{IsLooking}
-use Rattle.request_queue.specs.Entries.{Held, IsEarlier, is_of}
-use Rattle.request_queue.specs.Dispositions.{KeepsOrEndsLoan, Holdings, AreResolved, IsResolved, disposition_of, disposition_on, keeps_loan}
-use Rattle.request_queue.specs.Machine.{IsEntry}
+use Rattle.request_queue.specs.Entries.{BookEntry, IsEarlier, is_of}
+use Rattle.request_queue.specs.Dispositions.{KeepsOrEndsLoan, Holdings, AreResolved, IsResolved, disposition_of, disposition_of_unfailed, keeps_loan}
+use Rattle.request_queue.specs.Machine.{EntryRelation}
 use Rattle.request_queue.specs.declared.PendingRequest.{PendingRequest}
 use Rattle.request_queue.specs.declared.disposition.FailedRequest.{FailedRequest}
 use Rattle.request_queue.specs.declared.disposition.Disposition.{Disposition}
@@ -42,10 +42,10 @@ use Rattle.request_queue.specs.declared.disposition.Revalidation.{Revalidation}
 use Rattle.request_queue.specs.declared.disposition.Revalidation.TheVariants.{SameDisk, DiskLost, Dead as NoEnd}
 use Rattle.slots.specs.Uses.{PortSlots}
 use Rattle.server_history.specs.Below.{LawsBelow}
-use Rattle.server_history.specs.Dispositions.{DecidesOn, AreResolvable, AreResolvedInMachine, keeps_frames_lent}
-use Rattle.server_history.specs.ErrorHandling.{AreUnused, IsFailed, IsRevalidated, IsRevalidation, HasResolved, holdings_of, requests_of, with_port_found}
-use Rattle.server_history.specs.Served.{answers_in}
-use Rattle.server_history.specs.Server.{AreKept, AreUsesOf, InCallInvariant, IsMachineOf, ServerState, is_served, kept_at, slots_at, state_of, HasTrueMark}
+use Rattle.server_history.specs.Dispositions.{IsResolveStep, AreResolvable, AreResolvedInMachine, keeps_frames_lent}
+use Rattle.server_history.specs.ErrorHandling.{AreUnused, IsFailedRequest, IsRevalidated, IsRevalidation, HasResolved, holdings_of, requests_of, with_port_found}
+use Rattle.server_history.specs.Served.{ok_answers_of}
+use Rattle.server_history.specs.Server.{QuarantineRelation, AreUsesOf, InCallInvariant, MachineRelation, ServerState, is_served, quarantined_at, slots_at, state_of, RevokedMarkInvariant}
 use Rattle.server_history.proofs.state.HistorySteps.{book_on, still_kept}
 use Rattle.server_history.proofs.state.Quarantine.{none_alive}
 use Rattle.server_history.proofs.plain_calls.Looks.{finding_kept, found_over, looking_kept}
@@ -73,20 +73,20 @@ in_ports ports port info is = is_listed ports port (ap is_served is)
 -- ---- what fates leave
 
 -- steps that decide leave the grants, the owners, and the next id
-step_leaves : (port : Port) (m : Machine) (step : Step) → DecidesOn port step → ((after_step m step).rows ≡ m.rows) × ((frame : Frame) → (after_step m step).owner frame ≡ m.owner frame) × ((after_step m step).next ≡ m.next)
+step_leaves : (port : Port) (m : Machine) (step : Step) → IsResolveStep port step → ((after_step m step).rows ≡ m.rows) × ((frame : Frame) → (after_step m step).owner frame ≡ m.owner frame) × ((after_step m step).next ≡ m.next)
 step_leaves port m (Accept r) is = absurd is
 step_leaves port m (Revoke client number) is = absurd is
 step_leaves port m step is = (refl, λ frame. refl, refl)
 
-pub deciding_leaves : (port : Port) (m : Machine) (steps : List Step) → All (DecidesOn port) steps → ((after m steps).rows ≡ m.rows) × ((frame : Frame) → (after m steps).owner frame ≡ m.owner frame) × ((after m steps).next ≡ m.next)
+pub deciding_leaves : (port : Port) (m : Machine) (steps : List Step) → All (IsResolveStep port) steps → ((after m steps).rows ≡ m.rows) × ((frame : Frame) → (after m steps).owner frame ≡ m.owner frame) × ((after m steps).next ≡ m.next)
 deciding_leaves port m [] own = (refl, λ frame. refl, refl)
 deciding_leaves port m (step ∷ steps) own =
-    let x = step_leaves port (after m steps) step (All-head (DecidesOn port) step steps own) in
-    let y = deciding_leaves port m steps (All-tail (DecidesOn port) step steps own) in
+    let x = step_leaves port (after m steps) step (All-head (IsResolveStep port) step steps own) in
+    let y = deciding_leaves port m steps (All-tail (IsResolveStep port) step steps own) in
     (x.0 ∙ y.0, λ frame. x.1 frame ∙ y.1 frame, x.2 ∙ y.2)
 
 -- and fates the owners
-fate_owners : (request : Held) (f : Disposition) (replies : List Reply) (old new : Holdings) → IsResolved request f replies old new → new.table.owners ≡ old.table.owners
+fate_owners : (request : BookEntry) (f : Disposition) (replies : List Reply) (old new : Holdings) → IsResolved request f replies old new → new.table.owners ≡ old.table.owners
 fate_owners request Wait replies old new meets = ap (λ (h : Holdings). h.table.owners) meets.1
 fate_owners request Requeue replies old new meets = ap (λ (h : Holdings). h.table.owners) meets.1
 fate_owners request (Complete o) replies old new meets = by (keeps_loan o request.entry) meets.2
@@ -95,7 +95,7 @@ fate_owners request (Complete o) replies old new meets = by (keeps_loan o reques
     by true loan = ap (λ t. t.owners) loan.1
     by false loan = loan.1.owners
 
-pub fates_owners : (disposition : PendingRequest → Disposition) (requests : List Held) (replies : List Reply) (old new : Holdings) → AreResolved disposition requests replies old new → new.table.owners ≡ old.table.owners
+pub fates_owners : (disposition : PendingRequest → Disposition) (requests : List BookEntry) (replies : List Reply) (old new : Holdings) → AreResolved disposition requests replies old new → new.table.owners ≡ old.table.owners
 fates_owners disposition [] replies old new meets = ap (λ (h : Holdings). h.table.owners) meets.1
 fates_owners disposition (request ∷ requests) replies old new (mid, its, later, split, meets, more) = fates_owners disposition requests later mid new more ∙ fate_owners request (disposition request.entry) its old mid meets
 
@@ -107,10 +107,10 @@ dead_end port_error was found SameDisk (_, (info, is, same)) dead = let z : Read
 dead_end port_error was found DiskLost x dead = absurd (x.0 dead)
 dead_end port_error was found NoEnd x dead = refl
 
-module _ (laws : LawsBelow) (port : Port) (mid : ServerState) (k : InCallInvariant mid) (ready : state_of (probe_result_of mid.ports port.0) ≡ ReadyState) (n : Machine) (reached : IsReachable n) (is : IsMachineOf mid n)
+module _ (laws : LawsBelow) (port : Port) (mid : ServerState) (k : InCallInvariant mid) (ready : state_of (probe_result_of mid.ports port.0) ≡ ReadyState) (n : Machine) (reached : IsReachable n) (is : MachineRelation mid n)
     (way : Next) (found : ProbeResult) (device : Device) (passed : IsPassed port.0 way found mid.device device (record { uses = is.uses; parked = is.parked }) n)
     (failed : Option FailedRequest) (revalidation : Revalidation) (port_error : PortError) (was : DiskInfo) (expects : IsRevalidation port_error was found revalidation) (unnamed : way ≡ Stuck → (found ≡ Unready Dead) × (failed ≡ None)) where
-  abbrev t : InSlots
+  abbrev t : DriverSlots
   t = passed.slots
 
   abbrev w : Machine
@@ -119,7 +119,7 @@ module _ (laws : LawsBelow) (port : Port) (mid : ServerState) (k : InCallInvaria
   abbrev disposition : PendingRequest → Disposition
   disposition = disposition_of failed revalidation
 
-  abbrev its : List Held
+  abbrev its : List BookEntry
   its = requests_of port mid.book
 
   low : port.0 < 4
@@ -134,21 +134,21 @@ module _ (laws : LawsBelow) (port : Port) (mid : ServerState) (k : InCallInvaria
   spares : SparesBook n w
   spares = laws.basic.spares n passed.passes.steps passed.passes.only
 
-  in_its : (e : Held) → Contains mid.book e → e.entry.port.0 ≡ port.0 → Contains its e
-  in_its e here same = in_filter (λ (x : Held). is_of port x.entry) mid.book e here (eq-eqb e.entry.port.0 port.0 same)
+  in_its : (e : BookEntry) → Contains mid.book e → e.entry.port.0 ≡ port.0 → Contains its e
+  in_its e here same = in_filter (λ (x : BookEntry). is_of port x.entry) mid.book e here (eq-eqb e.entry.port.0 port.0 same)
 
-  of_its : (e : Held) → Contains its e → Contains mid.book e × (e.entry.port ≡ port)
+  of_its : (e : BookEntry) → Contains its e → Contains mid.book e × (e.entry.port ≡ port)
   of_its e here = (
-    All-contains (Contains mid.book) its e (All-filter (λ (x : Held). is_of port x.entry) (Contains mid.book) mid.book (All-contains_itself mid.book)) here,
-    ap (λ (q : ℕ). record { 0 = q }) (eqb-true e.entry.port.0 port.0 (All-contains (λ (x : Held). is_of port x.entry ≡ true) its e (filter_passes (λ (x : Held). is_of port x.entry) mid.book) here)),
+    All-contains (Contains mid.book) its e (All-filter (λ (x : BookEntry). is_of port x.entry) (Contains mid.book) mid.book (All-contains_itself mid.book)) here,
+    ap (λ (q : ℕ). record { 0 = q }) (eqb-true e.entry.port.0 port.0 (All-contains (λ (x : BookEntry). is_of port x.entry ≡ true) its e (filter_passes (λ (x : BookEntry). is_of port x.entry) mid.book) here)),
   )
 
   -- one whose loan isn't kept has no slot
-  unserved : (e : Held) → Contains its e → keeps_frames_lent (disposition e.entry) e.entry ≡ false → HasNoSlot t.uses e.entry.id
+  unserved : (e : BookEntry) → Contains its e → keeps_frames_lent (disposition e.entry) e.entry ≡ false → HasNoSlot t.uses e.entry.id
   unserved e here never = by e.entry.issued refl
     where
-      entry : (p : Pending) × Contains n.book p × IsEntry e p
-      entry = at_left IsEntry mid.book n.book is.book e (of_its e here).0
+      entry : (p : Pending) × Contains n.book p × EntryRelation e p
+      entry = at_left EntryRelation mid.book n.book is.book e (of_its e here).0
 
       served : way ≢ Stuck → e.entry.issued ≡ true → HasNoSlot t.uses e.entry.id
       served lives issued = ⊎_elim
@@ -162,7 +162,7 @@ module _ (laws : LawsBelow) (port : Port) (mid : ServerState) (k : InCallInvaria
       of Stuck z issued =
           let u = unnamed z in
           let keeps : keeps_frames_lent (disposition e.entry) e.entry ≡ true =
-          ap (λ (f : Option FailedRequest). keeps_frames_lent (disposition_of f revalidation e.entry) e.entry) u.1 ∙ ap (λ (p : Revalidation). keeps_frames_lent (disposition_on p e.entry) e.entry) (dead_end port_error was found revalidation expects u.0) ∙ issued in
+          ap (λ (f : Option FailedRequest). keeps_frames_lent (disposition_of f revalidation e.entry) e.entry) u.1 ∙ ap (λ (p : Revalidation). keeps_frames_lent (disposition_of_unfailed p e.entry) e.entry) (dead_end port_error was found revalidation expects u.0) ∙ issued in
           absurd (false≢true (sym never ∙ keeps))
 
       by : (b : Bool) → e.entry.issued ≡ b → HasNoSlot t.uses e.entry.id
@@ -172,7 +172,7 @@ module _ (laws : LawsBelow) (port : Port) (mid : ServerState) (k : InCallInvaria
       by true issued = of way refl issued
 
   -- what is parked was in a slot
-  parked_by : (id : RequestId) → Contains (t.parked port.0) id → (e : Held) × Contains its e × (e.entry.id ≡ id) × (e.entry.issued ≡ true)
+  parked_by : (id : RequestId) → Contains (t.parked port.0) id → (e : BookEntry) × Contains its e × (e.entry.id ≡ id) × (e.entry.issued ≡ true)
   parked_by id here = ⊎_elim
       (λ there.
       let slot = laws.slots.served is.uses port.0 32 id there in
@@ -181,7 +181,7 @@ module _ (laws : LawsBelow) (port : Port) (mid : ServerState) (k : InCallInvaria
       (λ there. absurd (nowhere id (subst (λ (ids : List RequestId). Contains ids id) (is.unparked port.0 alive) there)))
       (Contains-append_cases _ (is.parked port.0) id (passed.left.its id here))
 
-  may_meet : AreResolvable port disposition its (holdings_of port mid) (at_slots t device) w
+  may_meet : AreResolvable port disposition its (holdings_of port mid) (driver_state t device) w
   may_meet = record {
     reached = w_reached;
     knows = passed.passes.knows;
@@ -190,14 +190,14 @@ module _ (laws : LawsBelow) (port : Port) (mid : ServerState) (k : InCallInvaria
     ordered = k.ordered;
     accepted = k.accepted;
     here = of_its;
-    marked = λ e here. tells_of w.rows mid.grants e.entry (spares.rows ∙ is.rows) (All-contains (HasTrueMark mid.grants) mid.book e k.marked (of_its e here).0).tells;
-    earlier = AllPairs-filter IsEarlier (λ (x : Held). is_of port x.entry) mid.book k.ordered.ordered;
+    marked = λ e here. tells_of w.rows mid.grants e.entry (spares.rows ∙ is.rows) (All-contains (RevokedMarkInvariant mid.grants) mid.book e k.marked (of_its e here).0).tells;
+    earlier = AllPairs-filter IsEarlier (λ (x : BookEntry). is_of port x.entry) mid.book k.ordered.ordered;
     unserved = unserved;
   }
 
   module _ (later : List Reply) (now : Holdings) (meets : AreResolved disposition its later (holdings_of port mid) now) where
-    pub met : AreResolvedInMachine port disposition its later (holdings_of port mid) now (at_slots t device) w
-    met = meet laws port disposition its (fits_each failed revalidation its) later (holdings_of port mid) now (at_slots t device) w may_meet meets
+    pub met : AreResolvedInMachine port disposition its later (holdings_of port mid) now (driver_state t device) w
+    met = meet laws port disposition its (fits_each failed revalidation its) later (holdings_of port mid) now (driver_state t device) w may_meet meets
 
     abbrev z : Machine
     z = after w met.steps
@@ -206,7 +206,7 @@ module _ (laws : LawsBelow) (port : Port) (mid : ServerState) (k : InCallInvaria
     dies : (e : Pending) → Contains met.held e → (e.request.port ≡ port) × (found ≡ Unready Dead)
     dies e here = (x.2.port ∙ (of_its x.0 x.1).1, by revalidation refl)
       where
-        x : (request : Held) × Contains its request × IsEntry request e × (keeps_frames_lent (disposition request.entry) request.entry ≡ true)
+        x : (request : BookEntry) × Contains its request × EntryRelation request e × (keeps_frames_lent (disposition request.entry) request.entry ≡ true)
         x = met.whose e here
 
         lives : revalidation ≢ NoEnd → ⊥
@@ -222,7 +222,7 @@ module _ (laws : LawsBelow) (port : Port) (mid : ServerState) (k : InCallInvaria
     quiet other e = kept_dead_alone failed revalidation e (λ dead. other (subst (IsRevalidation port_error was found) dead expects))
 
     none_left : found ≢ Unready Dead → met.parked port.0 ≡ []
-    none_left other = none_parked port disposition its (fits_each failed revalidation its) later (holdings_of port mid) now (at_slots t device) w met (quiet other) parked_by
+    none_left other = none_parked port disposition its (fits_each failed revalidation its) later (holdings_of port mid) now (driver_state t device) w met (quiet other) parked_by
 
     module _ (mode : QueueMode) (slots : PortSlots) (unused : AreUnused mode slots) where
       abbrev new : ServerState
@@ -234,10 +234,10 @@ module _ (laws : LawsBelow) (port : Port) (mid : ServerState) (k : InCallInvaria
       found_other : (q : ℕ) → q ≢ port.0 → probe_result_of new.ports q ≡ probe_result_of mid.ports q
       found_other q ne = get_or-set_other mid.ports port.0 q found Unserved ne
 
-      kept_same : kept_at new.kept port.0 ≡ now.kept
+      kept_same : quarantined_at new.kept port.0 ≡ now.kept
       kept_same = get_or-set_same mid.kept port.0 now.kept [] (let f = k.four_kept in let l = low in omega (arith, f, l))
 
-      kept_other : (q : ℕ) → q ≢ port.0 → kept_at new.kept q ≡ kept_at mid.kept q
+      kept_other : (q : ℕ) → q ≢ port.0 → quarantined_at new.kept q ≡ quarantined_at mid.kept q
       kept_other q ne = get_or-set_other mid.kept port.0 q now.kept [] ne
 
       used : AreUsesOf new t.uses
@@ -253,18 +253,18 @@ module _ (laws : LawsBelow) (port : Port) (mid : ServerState) (k : InCallInvaria
 
       -- ---- what is kept
 
-      was_kept : AreKept mid.ports mid.kept w.kept
+      was_kept : QuarantineRelation mid.ports mid.kept w.kept
       was_kept = still_kept laws mid.ports mid.kept n.kept w.kept spares.kept is.kept
 
       -- one that was kept is of another port
       elsewhere : (e : Pending) → Contains w.kept e → e.request.port.0 ≢ port.0
       elsewhere e here same = alive (ap (probe_result_of mid.ports) (sym same) ∙ was_kept.dead e here)
 
-      none_kept_here : kept_at mid.kept port.0 ≡ []
-      none_kept_here = none_alive mid k port.0 alive (kept_at mid.kept port.0) refl
+      none_kept_here : quarantined_at mid.kept port.0 ≡ []
+      none_kept_here = none_alive mid k port.0 alive (quarantined_at mid.kept port.0) refl
 
-      are_kept : AreKept new.ports new.kept z.kept
-      are_kept = subst (AreKept new.ports new.kept) (sym met.kept)
+      are_kept : QuarantineRelation new.ports new.kept z.kept
+      are_kept = subst (QuarantineRelation new.ports new.kept) (sym met.kept)
           (more_kept port mid.ports new.ports mid.kept new.kept met.held w.kept was_kept (kept_same ∙ met.loans) kept_other
           (λ e here. found_other e.request.port.0 (elsewhere e here) ∙ was_kept.dead e here)
           (λ e here. let d = dies e here in (d.0, found_same ∙ d.1))
@@ -274,7 +274,7 @@ module _ (laws : LawsBelow) (port : Port) (mid : ServerState) (k : InCallInvaria
       leaves : (z.rows ≡ w.rows) × ((frame : Frame) → z.owner frame ≡ w.owner frame) × (z.next ≡ w.next)
       leaves = deciding_leaves port w met.steps met.own
 
-      pub stands : IsMachineOf new z
+      pub stands : MachineRelation new z
       stands = record {
         uses = t.uses;
         used = used;
@@ -319,10 +319,10 @@ module _ (laws : LawsBelow) (port : Port) (later : List Reply) (old new : Server
   pub unnamed : a.error_handled.result.next ≡ Stuck → (a.found ≡ Unready Dead) × (a.failed ≡ None)
   unnamed stuck = (
     (subst (λ (way : Next). IsRevalidated (wanted_of old.wanted port.0) port a.error_handled.port_error a.was way a.device new.device a.found) stuck a.is).0,
-    subst (λ (its : Option _). IsFailed (slots_at a.mid.slots port.0) its a.failed) (a.error_handled.handling.tells.dead stuck) a.names,
+    subst (λ (its : Option _). IsFailedRequest (slots_at a.mid.slots port.0) its a.failed) (a.error_handled.handling.tells.dead stuck) a.names,
   )
 
-  pub adds_fates : (m : Machine) → IsReachable m → IsMachineOf old m → AddsFates port later old new a m
+  pub adds_fates : (m : Machine) → IsReachable m → MachineRelation old m → AddsFates port later old new a m
   adds_fates m reached is = record {
     first = x.0;
     ended = y.ended;
@@ -335,8 +335,8 @@ module _ (laws : LawsBelow) (port : Port) (later : List Reply) (old new : Server
     may = laws.basic.may m f.steps (p.passes.steps ++ base) (laws.basic.may m p.passes.steps base base_may p.passes.may) (subst (λ (s : Machine). AllMay s f.steps) (sym then_is) f.may);
     backed = laws.backed_parts old.device new.device new.device m (p.passes.steps ++ base) f.steps
         (laws.backed_parts old.device a.mid.device new.device m base p.passes.steps base_backed p.passes.backed) (subst (λ (s : Machine). IsBacked new.device new.device s f.steps) (sym then_is) (f.backed new.device));
-    stands = subst (IsMachineOf new) (sym (laws.basic.joined m f.steps (p.passes.steps ++ base) ∙ ap (λ (s : Machine). after s f.steps) then_is))
-        (subst (λ (s : ServerState). IsMachineOf s (after (after n p.passes.steps) f.steps)) (sym a.server)
+    stands = subst (MachineRelation new) (sym (laws.basic.joined m f.steps (p.passes.steps ++ base) ∙ ap (λ (s : Machine). after s f.steps) then_is))
+        (subst (λ (s : ServerState). MachineRelation s (after (after n p.passes.steps) f.steps)) (sym a.server)
         (stands laws port a.mid mid_kept mid_ready n n_reached is_mid a.error_handled.result.next a.found new.device p a.failed a.revalidation a.error_handled.port_error a.was a.expects unnamed later a.now a.meets a.mode a.slots a.unused));
     own = f.own;
     answered = f.answered;
@@ -344,18 +344,18 @@ module _ (laws : LawsBelow) (port : Port) (later : List Reply) (old new : Server
     tells = f.tells;
   }
     where
-      looked : (steps : List Step) × AllMay m steps × IsMachineOf (record old { device = a.error_handled.seen }) (after m steps) × IsBacked old.device a.error_handled.seen m steps × AllDevices steps
+      looked : (steps : List Step) × AllMay m steps × MachineRelation (record old { device = a.error_handled.seen }) (after m steps) × IsBacked old.device a.error_handled.seen m steps × AllByDevice steps
       looked = followed_steps laws old a.error_handled.seen (looks_serve laws port old.device a.error_handled.seen looks) m reached is
 
-      finding : (steps : List Step) × AllMay (after m looked.0) steps × IsMachineOf from (after (after m looked.0) steps) × IsBacked a.error_handled.seen a.error_handled.found (after m looked.0) steps × AllDevices steps
+      finding : (steps : List Step) × AllMay (after m looked.0) steps × MachineRelation from (after (after m looked.0) steps) × IsBacked a.error_handled.seen a.error_handled.found (after m looked.0) steps × AllByDevice steps
       finding = followed_steps laws (record old { device = a.error_handled.seen }) a.error_handled.found (finds_serve laws port a.error_handled.mask a.error_handled.done a.error_handled.seen a.error_handled.found a.error_handled.reads)
           (after m looked.0) (laws.basic.reached m looked.0 reached looked.1) looked.2
 
-      x : (steps : List Step) × AllMay m steps × IsMachineOf from (after m steps) × IsBacked old.device a.error_handled.found m steps × AllDevices steps
+      x : (steps : List Step) × AllMay m steps × MachineRelation from (after m steps) × IsBacked old.device a.error_handled.found m steps × AllByDevice steps
       x = (
         finding.0 ++ looked.0,
         laws.basic.may m finding.0 looked.0 looked.1 finding.1,
-        subst (IsMachineOf from) (sym (laws.basic.joined m finding.0 looked.0)) finding.2,
+        subst (MachineRelation from) (sym (laws.basic.joined m finding.0 looked.0)) finding.2,
         laws.backed_parts old.device a.error_handled.seen a.error_handled.found m looked.0 finding.0 looked.3 finding.3,
         devices_both finding.0 looked.0 finding.4 looked.4,
       )
@@ -367,28 +367,28 @@ module _ (laws : LawsBelow) (port : Port) (later : List Reply) (old new : Server
       y = each_answered laws port a.error_handled.done a.error_handled.requests from a.mid found_kept ready over a.error_handled.each (after m x.0) reached_x x.2
 
       base : List Step
-      base = answers_in y.ended ++ x.0
+      base = ok_answers_of y.ended ++ x.0
 
       n : Machine
       n = after m base
 
       base_may : AllMay m base
-      base_may = laws.basic.may m (answers_in y.ended) x.0 x.1 y.may
+      base_may = laws.basic.may m (ok_answers_of y.ended) x.0 x.1 y.may
 
       base_backed : IsBacked old.device a.mid.device m base
-      base_backed = laws.backed_parts old.device a.error_handled.found a.mid.device m x.0 (answers_in y.ended) x.3 y.backed
+      base_backed = laws.backed_parts old.device a.error_handled.found a.mid.device m x.0 (ok_answers_of y.ended) x.3 y.backed
 
       n_reached : IsReachable n
       n_reached = laws.basic.reached m base reached base_may
 
-      is_mid : IsMachineOf a.mid n
-      is_mid = subst (IsMachineOf a.mid) (sym (laws.basic.joined m (answers_in y.ended) x.0)) y.stands
+      is_mid : MachineRelation a.mid n
+      is_mid = subst (MachineRelation a.mid) (sym (laws.basic.joined m (ok_answers_of y.ended) x.0)) y.stands
 
       p : IsPassed port.0 a.error_handled.result.next a.found a.mid.device new.device (record { uses = is_mid.uses; parked = is_mid.parked }) n
       p = passed laws (wanted_of old.wanted port.0) port a.error_handled.port_error a.was a.error_handled.result.next a.error_handled.handling.accesses a.mid.device a.device new.device a.found a.error_handled.handling.does.slots a.is
           (record { uses = is_mid.uses; parked = is_mid.parked }) n n_reached is_mid.knows
 
-      f : AreResolvedInMachine port (disposition_of a.failed a.revalidation) (requests_of port a.mid.book) later (holdings_of port a.mid) a.now (at_slots p.slots new.device) (after n p.passes.steps)
+      f : AreResolvedInMachine port (disposition_of a.failed a.revalidation) (requests_of port a.mid.book) later (holdings_of port a.mid) a.now (driver_state p.slots new.device) (after n p.passes.steps)
       f = met laws port a.mid mid_kept mid_ready n n_reached is_mid a.error_handled.result.next a.found new.device p a.failed a.revalidation a.error_handled.port_error a.was a.expects unnamed later a.now a.meets
 
       then_is : after m (p.passes.steps ++ base) ≡ after n p.passes.steps

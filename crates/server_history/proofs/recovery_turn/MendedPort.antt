@@ -9,7 +9,7 @@ use Rattle.ata_types.specs.declared.PortState.TheVariants.{Dead as DeadState, Re
 use Rattle.ata_types.specs.declared.request.Reply.{Reply}
 use Rattle.adapter.specs.Device.{Device, DevicePort}
 use Rattle.refinement.specs.Driven.{AnyUse, IsSimulated}
-use Rattle.block_machine.specs.Ports.{Evidence, IsInterrupted, IsServiced, SameDisk}
+use Rattle.block_machine.specs.Ports.{Evidence, IsStoppedOrStuck, IsServiced, SameDisk}
 use Rattle.error_recovery.specs.declared.Next.{Next}
 use Rattle.error_recovery.specs.declared.Next.TheVariants as next
 use Rattle.host_boot.specs.Again.{RebootsPort, BootsStopped}
@@ -76,7 +76,7 @@ found_served wanted port port_error was next.Dead old new found is = ap is_serve
 
 -- ---- who is named
 
-interrupted_by : (port : Port) (port_error : PortError) (shown : DevicePort) (failed : Option FailedRequest) (revalidation : Revalidation) (then : Next) → (then ≡ next.Dead → revalidation ≡ Dead) → IsInterrupted (evidence_of port port_error shown failed revalidation then) port
+interrupted_by : (port : Port) (port_error : PortError) (shown : DevicePort) (failed : Option FailedRequest) (revalidation : Revalidation) (then : Next) → (then ≡ next.Dead → revalidation ≡ Dead) → IsStoppedOrStuck (evidence_of port port_error shown failed revalidation then) port
 interrupted_by port port_error shown failed revalidation (next.Running token) dies = inl (0, omega arith, refl)
 interrupted_by port port_error shown failed revalidation (next.Restart token) dies = inl (0, omega arith, refl)
 interrupted_by port port_error shown failed revalidation next.Dead dies = inr (subst (λ (p : Revalidation). Contains (stuck_of port p) port) (sym (dies refl)) (0, omega arith, refl))
@@ -211,7 +211,7 @@ module _ (laws : LawsBelow) (port : Port) (replies : List Reply) (old new : Serv
   pub found_prospect : a.found ≡ Unready DeadState → a.revalidation ≡ Dead
   found_prospect dead = prospect_is x.port_error a.was a.found a.revalidation a.expects dead
 
-  pub interrupted : IsInterrupted its port
+  pub interrupted : IsStoppedOrStuck its port
   interrupted = interrupted_by port x.port_error (old.device.port port.0) a.failed a.revalidation x.result.next (λ is. found_prospect (next_dead is))
 
   pub becomes : IsServiced (ports_of old) its (ports_of new) port

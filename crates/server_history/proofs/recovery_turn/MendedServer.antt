@@ -11,7 +11,7 @@ use Rattle.ata_types.specs.declared.limits.TheConstants.{MOST_READINGS}
 use Rattle.hba_regs.specs.Bits.{bit}
 use Rattle.adapter.specs.Device.{Device}
 use Rattle.adapter.specs.declared.command.Operation.TheVariants.{Identify}
-use Rattle.refinement.specs.Acts.{InSlots}
+use Rattle.refinement.specs.Acts.{DriverSlots}
 use Rattle.refinement.specs.Driven.{AnyUse, IsSimulated}
 use Rattle.refinement.specs.Links.{SameAdapter}
 use Rattle.block_machine.specs.Histories.{IsReachable}
@@ -29,13 +29,13 @@ use Rattle.port_control.specs.Ports.{IsStopped}
 use Rattle.port_control.specs.declared.Running as running_token
 use Rattle.port_control.specs.declared.Stopped.{Stopped}
 use Rattle.port_control.specs.Looks.{IsLooking}
-use Rattle.request_queue.specs.Entries.{Held, is_of}
+use Rattle.request_queue.specs.Entries.{BookEntry, is_of}
 use Rattle.request_queue.specs.Dispositions.{disposition_of}
 use Rattle.request_queue.specs.declared.disposition.Revalidation.{Revalidation}
 use Rattle.request_queue.specs.declared.disposition.Revalidation.TheVariants.{SameDisk, DiskLost, Dead}
 use Rattle.server_history.specs.Below.{LawsBelow}
-use Rattle.server_history.specs.ErrorHandling.{AreQueued, IsRevalidated, IsRevalidation, IsErrorHandled, HasResolved, holdings_of, requests_of}
-use Rattle.server_history.specs.Server.{ServerState, InCallInvariant, IsMachineOf, is_served, kept_at, mode_found, mode_in, slots_at, state_of, used_for}
+use Rattle.server_history.specs.ErrorHandling.{AreAllQueuedAs, IsRevalidated, IsRevalidation, IsErrorHandled, HasResolved, holdings_of, requests_of}
+use Rattle.server_history.specs.Server.{ServerState, InCallInvariant, MachineRelation, is_served, quarantined_at, probed_mode, mode_in, slots_at, state_of, used_for}
 use Rattle.server_history.proofs.state.PortGrounds.{ready_on}
 use Rattle.server_history.proofs.recovery_turn.OtherPorts.{Passes, PassesTo, recovery_passes, after_passes, passes_none, slots_of}
 use Rattle.server_history.proofs.state.PlainHalts.{again_halts, works_plainly}
@@ -102,10 +102,10 @@ module _ (laws : LawsBelow) (port : Port) (old mid : ServerState) (device : Devi
   same = same_over laws port mid.device device passed.1.driven
 
   -- how the port takes commands, by what the adapter is capable of
-  pub mode_still : mode_in old port ≡ mode_found device.cap (probe_result_of old.ports port.0)
+  pub mode_still : mode_in old port ≡ probed_mode device.cap (probe_result_of old.ports port.0)
   mode_still =
       sym (ap (λ (n : ServerState). mode_in n port) settings) ∙ mid_kept.modes port.0 low
-      ∙ ap (λ (cap : ℕ). mode_found cap (probe_result_of mid.ports port.0)) (sym same.cap) ∙ ap (λ (ports : List ProbeResult). mode_found device.cap (probe_result_of ports port.0)) ports_same
+      ∙ ap (λ (cap : ℕ). probed_mode cap (probe_result_of mid.ports port.0)) (sym same.cap) ∙ ap (λ (ports : List ProbeResult). probed_mode device.cap (probe_result_of ports port.0)) ports_same
 
   -- a port that has to be booted may be
   pub bootable : (token : Stopped) → r.result.next ≡ next.Restart token → IsBootable port device × IsStopped (device.port port.0) × ((device.port port.0).notes.link_count ≡ MOST_READINGS)
@@ -154,7 +154,7 @@ module _ (laws : LawsBelow) (port : Port) (later : List Reply) (old new : Server
   -- ---- accesses
 
   -- the whole way leaves the other ports
-  whole : (slots : InSlots) × Passes mid port slots new.device
+  whole : (slots : DriverSlots) × Passes mid port slots new.device
   whole = after_passes laws mid port m small wanted r.port_error a.was r.result.next a.device new.device a.found is_after done
 
   alike : SameAdapter mid.device new.device
@@ -191,7 +191,7 @@ module _ (laws : LawsBelow) (port : Port) (later : List Reply) (old new : Server
         shown = λ bad. absurd bad;
         own = λ _. laws.recovery.own_on port.0 done.1.driven.accesses mid.device a.device done.1.driven.all ((m.behind port.0 small).own its_ready);
         halts = λ _. again_halts laws r.queued port.0 mid.device a.device g
-            (λ plain. works_plainly laws mid m port its_ready (subst (λ (queued : Bool). AreQueued queued (slots_at mid.slots port.0)) plain r.alike) ((m.behind port.0 small).halts its_ready));
+            (λ plain. works_plainly laws mid m port its_ready (subst (λ (queued : Bool). AreAllQueuedAs queued (slots_at mid.slots port.0)) plain r.alike) ((m.behind port.0 small).halts its_ready));
       }
 
   its_stands : Stands a.found new.device
@@ -204,7 +204,7 @@ module _ (laws : LawsBelow) (port : Port) (later : List Reply) (old new : Server
   left = fated laws port (disposition_of a.failed a.revalidation) (requests_of port mid.book) (fits_each a.failed a.revalidation (requests_of port mid.book)) later (holdings_of port mid) a.now (its_requests port mid m.ordered m.accepted) a.meets
 
   -- where one of the port is left, its port is ready
-  still_ready : (e : Held) → Contains a.now.book e → e.entry.port.0 ≡ port.0 → state_of a.found ≡ ReadyState
+  still_ready : (e : BookEntry) → Contains a.now.book e → e.entry.port.0 ≡ port.0 → state_of a.found ≡ ReadyState
   still_ready e here own = by a.revalidation refl a.expects
     where
       w : WasIn mid.book e
@@ -213,7 +213,7 @@ module _ (laws : LawsBelow) (port : Port) (later : List Reply) (old new : Server
       none : (a.revalidation ≡ SameDisk → ⊥) → ⊥
       none other =
           let end = ends_of a.failed a.revalidation other w.was.entry in
-          left.gone w.was end.0 (kept_in (λ (x : Held). is_of port x.entry) mid.book w.was w.there (eq-eqb w.was.entry.port.0 port.0 (ap (λ (p : Port). p.0) (sym w.port) ∙ own))) end.1 e here w.id
+          left.gone w.was end.0 (kept_in (λ (x : BookEntry). is_of port x.entry) mid.book w.was w.there (eq-eqb w.was.entry.port.0 port.0 (ap (λ (p : Port). p.0) (sym w.port) ∙ own))) end.1 e here w.id
 
       by : (p : Revalidation) → a.revalidation ≡ p → IsRevalidation r.port_error a.was a.found p → state_of a.found ≡ ReadyState
       by SameDisk is x = ap state_of x.1.1
@@ -223,10 +223,10 @@ module _ (laws : LawsBelow) (port : Port) (later : List Reply) (old new : Server
   -- ---- the server
 
   -- it had no loan kept, and has one of each issued request at most
-  few_kept : (q : ℕ) → length (kept_at (slice_set mid.kept port.0 a.now.kept) q) ≤ 32
+  few_kept : (q : ℕ) → length (quarantined_at (slice_set mid.kept port.0 a.now.kept) q) ≤ 32
   few_kept q = ⊎_elim
       (λ (same : q ≡ port.0).
-      let here = ap (kept_at (slice_set mid.kept port.0 a.now.kept)) same ∙ get_or-set_same mid.kept port.0 a.now.kept [] (let f = m.four_kept in let l = small in omega (arith, f, l)) in
+      let here = ap (quarantined_at (slice_set mid.kept port.0 a.now.kept)) same ∙ get_or-set_same mid.kept port.0 a.now.kept [] (let f = m.four_kept in let l = small in omega (arith, f, l)) in
       let were = places laws mid port m its_ready in
       let none = ap length were.0 in
       let most = were.1 in
@@ -239,8 +239,8 @@ module _ (laws : LawsBelow) (port : Port) (later : List Reply) (old new : Server
       omega (arith, there, most))
       (cases_eq q port.0)
 
-  pub recovered_kept : (machine : Machine) → IsReachable machine → IsMachineOf new machine → InCallInvariant new
+  pub recovered_kept : (machine : Machine) → IsReachable machine → MachineRelation new machine → InCallInvariant new
   recovered_kept machine reached stands = subst InCallInvariant (sym a.server)
       (replaced_kept laws port mid m small new.device whole.0 whole.1 a.now.table a.found (slice_set mid.remembered port.0 (Some a.was)) a.mode a.slots (slice_set mid.kept port.0 a.now.kept) a.now.book (ap is_served was_found) its_stands a.mode_is a.unused
       (record { owners = left.owners; accepted = left.accepted; ordered = left.ordered; from = left.from; ready = still_ready })
-      (length-set mid.remembered port.0 (Some a.was) ∙ m.four_remembered) (length-set mid.kept port.0 a.now.kept ∙ m.four_kept) few_kept machine reached (subst (λ (s : ServerState). IsMachineOf s machine) a.server stands))
+      (length-set mid.remembered port.0 (Some a.was) ∙ m.four_remembered) (length-set mid.kept port.0 a.now.kept ∙ m.four_kept) few_kept machine reached (subst (λ (s : ServerState). MachineRelation s machine) a.server stands))

@@ -11,7 +11,7 @@ use Rattle.adapter.specs.Rules.{IsOn}
 use Rattle.refinement.specs.Driven.{Grows}
 use Rattle.refinement.specs.Errors.{IsFatalOf}
 use Rattle.refinement.specs.Facts.{IsFaultOf}
-use Rattle.refinement.specs.Links.{IsPlugging}
+use Rattle.refinement.specs.Links.{IsPlugEvent}
 use Rattle.driver_history.specs.Evidence.{Gains, ShowsChange, ShowsFailure, ShowsLoss}
 use Rattle.error_recovery.specs.Evidence.{ShowsFatal}
 use Rattle.port_control.specs.Looks.{LooksAt}
@@ -83,7 +83,7 @@ module _ (laws : LawsBelow) (port : Port) (old seen new : Device) (on : IsOn old
 
   -- a change that was there to tell, a missing device, or a disk that went or came
   abbrev pub IsLoss : Type 0
-  IsLoss = ShowsChange p ⊎ ((p.ssts_det ≢ 3) ⊎ Gains (IsPlugging port.0) old new)
+  IsLoss = ShowsChange p ⊎ ((p.ssts_det ≢ 3) ⊎ Gains (IsPlugEvent port.0) old new)
 
   pub loss : (t : PortError) → ErrorIsFound port t old seen → t ≡ LinkChanged → IsLoss
   loss TaskFileError l lost = let z : TaskFileError ≡ LinkChanged = lost in absurd cc

@@ -14,13 +14,13 @@ use Rattle.adapter.specs.Device.{Device}
 use Rattle.adapter.specs.Rules.{IsOn}
 use Rattle.adapter.specs.declared.command.Operation.{Operation}
 use Rattle.adapter.specs.declared.command.Operation.TheVariants.{Identify, ReadLog}
-use Rattle.refinement.specs.Acts.{Act, ActsReach, InSlots, act_steps, at_slots}
+use Rattle.refinement.specs.Acts.{Act, ActsReach, DriverSlots, act_steps, driver_state}
 use Rattle.refinement.specs.Relation.{port_at}
-use Rattle.refinement.specs.Driven.{AnyUse, IsControl, IsDrivenBy, IsSimulated, IsSimulatedTo, IsOf, SendsNone}
+use Rattle.refinement.specs.Driven.{AnyUse, OnPortWriting, IsDrivenBy, IsSimulated, IsSimulatedTo, SparesOtherPorts, GainsNoMove}
 use Rattle.refinement.specs.Driver.{AllFree, DriverAdvances, DriverRelation}
 use Rattle.refinement.specs.GivingUp.{given_up}
-use Rattle.refinement.specs.Halting.{IsHaltedAsTaken}
-use Rattle.refinement.specs.Links.{SparesRegister}
+use Rattle.refinement.specs.Halting.{HaltOfTakenIfSt}
+use Rattle.refinement.specs.Links.{DoesNotWrite}
 use Rattle.refinement.specs.Readying.{LeavesStored}
 use Rattle.refinement.specs.Slots.{Own, SlotState, SlotStates, op_of, put}
 use Rattle.server_history.proofs.state.FollowedAccesses.{followed_silent}
@@ -29,8 +29,8 @@ use Rattle.block_machine.specs.Histories.{IsReachable}
 use Rattle.block_machine.specs.Left.{after}
 use Rattle.block_machine.specs.State.{Machine}
 use Rattle.command_table.specs.Written.{IsTableStore}
-use Rattle.disk_page.specs.Asking.{IsAsking}
-use Rattle.error_recovery.specs.Recovery.{IsRecoveryRegister, IsRecovering, LeavesSlots, RecoversOrStops, with_own}
+use Rattle.disk_page.specs.Asking.{IsPageAccess}
+use Rattle.error_recovery.specs.Recovery.{IsRecoveryRegister, IsRecoveryAccess, SlotsAfterRecovery, RecoversOrStops, with_own}
 use Rattle.error_recovery.specs.declared.Next.{Next}
 use Rattle.error_recovery.specs.declared.Next.TheVariants as next
 use Rattle.error_recovery.specs.declared.Recovered.{Recovered}
@@ -57,16 +57,16 @@ use Rattle.server_history.proofs.state.StoredCommands.{never_both, of_store, of_
 
 -- it is of the port, and stores in header and table of its slot 0 alone
 abbrev pub IsMild : Port → Access → Type 0
-IsMild port access = IsOf port access × ((at : ℕ) (bytes : List ℕ) → access ≡ Storing at bytes → IsTableStore port.0 0 (Storing at bytes))
+IsMild port access = SparesOtherPorts port access × ((at : ℕ) (bytes : List ℕ) → access ≡ Storing at bytes → IsTableStore port.0 0 (Storing at bytes))
 
-stored_in : (Written : PortReg → Type 0) (port : Port) (at : ℕ) (bytes : List ℕ) → (IsControl Written port (Storing at bytes)) ⊎ (IsAsking port (Storing at bytes)) → IsTableStore port.0 0 (Storing at bytes)
+stored_in : (Written : PortReg → Type 0) (port : Port) (at : ℕ) (bytes : List ℕ) → (OnPortWriting Written port (Storing at bytes)) ⊎ (IsPageAccess port (Storing at bytes)) → IsTableStore port.0 0 (Storing at bytes)
 stored_in Written port at bytes (inl none) = absurd none
 stored_in Written port at bytes (inr its) = its
 
 survey_mild : (port : Port) (access : Access) → IsSurvey access → IsMild port access
 survey_mild port access is = (by access is, λ at bytes e. absurd (subst IsSurvey e is))
   where
-    by : (a : Access) → IsSurvey a → IsOf port a
+    by : (a : Access) → IsSurvey a → SparesOtherPorts port a
     by (Reading Cap v) its = tt
     by (Reading Pi v) its = tt
     by (Reading r v) its = absurd its
@@ -78,8 +78,8 @@ looking_stores : (port : Port) (access : Access) → IsLooking port access → (
 looking_stores port access is at bytes e = absurd (subst (IsLooking port) e is)
 
 module _ (laws : LawsBelow) where
-  recovering_mild : (port : Port) (access : Access) → IsRecovering port access → IsMild port access
-  recovering_mild port access is = (laws.recovering_of port access is, λ at bytes e. stored_in IsRecoveryRegister port at bytes (subst (IsRecovering port) e is))
+  recovering_mild : (port : Port) (access : Access) → IsRecoveryAccess port access → IsMild port access
+  recovering_mild port access is = (laws.recovering_of port access is, λ at bytes e. stored_in IsRecoveryRegister port at bytes (subst (IsRecoveryAccess port) e is))
 
   booting_mild : (port : Port) (access : Access) → IsOfBoot port access → IsMild port access
   booting_mild port access is = (laws.booting_of port access is, λ at bytes e. stored_in IsBootRegister port at bytes (subst (IsOfBoot port) e is))
@@ -87,7 +87,7 @@ module _ (laws : LawsBelow) where
   mild_leaves : (port q : Port) (slot : ℕ) → q.0 ≢ port.0 → port.0 < 4 → q.0 < 4 → slot < 32 → (access : Access) → IsMild port access → LeavesStored q slot access
   mild_leaves port q slot other low small few access is = record {
     host = laws.of_host port access is.0;
-    start = λ v e. absurd (subst (SparesRegister (Px q Cmd)) e (laws.of_spares port q Cmd other access is.0) refl);
+    start = λ v e. absurd (subst (DoesNotWrite (Px q Cmd)) e (laws.of_spares port q Cmd other access is.0) refl);
     list = laws.of_spares port q Clb other access is.0;
     table = λ at bytes e place t from to.
         never_both port.0 0 q.0 slot place low (omega arith) small few (λ same _. other same) (of_store port.0 0 at place bytes (is.1 at bytes e) from to) (of_table q.0 slot place t);
@@ -98,24 +98,24 @@ module _ (laws : LawsBelow) where
 -- Accesses of the port led from the server's device to this one, and some machine agrees with the slots used so. On other ports that aren't dead
 -- no slot has a command of the driver's own, no page came, and the commands of used slots are stored; and halts of other ports are of taken commands
 -- still.
-pub record Passes (s : ServerState) (port : Port) (slots : InSlots) (d : Device) : Type 0 where
-  pub driven : IsDrivenBy (IsOf port) s.device d
+pub record Passes (s : ServerState) (port : Port) (slots : DriverSlots) (d : Device) : Type 0 where
+  pub driven : IsDrivenBy (SparesOtherPorts port) s.device d
   pub on : IsOn d
   pub machine : Machine
   pub reached : IsReachable machine
-  pub knows : DriverRelation machine (at_slots slots d)
+  pub knows : DriverRelation machine (driver_state slots d)
   pub clients : (q : ℕ) (o : Operation) → q ≢ port.0 → probe_result_of s.ports q ≢ Unready DeadState → slots.uses q 0 ≡ Own o → ⊥
-  pub silent : (q : ℕ) (o : Operation) → op_of o ≡ None → q ≢ port.0 → probe_result_of s.ports q ≢ Unready DeadState → SendsNone q o s.device d
-  pub halts : (q : ℕ) → q ≢ port.0 → IsHaltedAsTaken (s.device.port q) → IsHaltedAsTaken (d.port q)
+  pub silent : (q : ℕ) (o : Operation) → op_of o ≡ None → q ≢ port.0 → probe_result_of s.ports q ≢ Unready DeadState → GainsNoMove q o s.device d
+  pub halts : (q : ℕ) → q ≢ port.0 → HaltOfTakenIfSt (s.device.port q) → HaltOfTakenIfSt (d.port q)
   pub commands : (q slot : ℕ) (used : SlotUse) → q ≢ port.0 → used_for s.slots q slot ≡ Some used → HasStoredCommand used.queued d q slot
 
 -- what the server's machine has in the slots
-abbrev pub slots_of : (s : ServerState) → InCallInvariant s → InSlots
+abbrev pub slots_of : (s : ServerState) → InCallInvariant s → DriverSlots
 slots_of s k = record { uses = k.stands.uses; parked = k.stands.parked }
 
 pub passes_none : (s : ServerState) (port : Port) (k : InCallInvariant s) → Passes s port (slots_of s k) s.device
 passes_none s port k = record {
-  driven = by_none (IsOf port) s.device;
+  driven = by_none (SparesOtherPorts port) s.device;
   on = k.on;
   machine = k.machine;
   reached = k.reached;
@@ -129,29 +129,29 @@ passes_none s port k = record {
 module _ (laws : LawsBelow) (s : ServerState) (port : Port) (k : InCallInvariant s) (low : port.0 < 4) where
   -- ---- acts
 
-  module _ (slots then : InSlots) (d new : Device) (p : Passes s port slots d) where
-    passes_on : (accesses : List Access) → DoesAll accesses d new → All (IsMild port) accesses → (Tells : List Act → Type 0) → ActsReach accesses (at_slots slots d) p.machine (at_slots then new) Tells
+  module _ (slots then : DriverSlots) (d new : Device) (p : Passes s port slots d) where
+    passes_on : (accesses : List Access) → DoesAll accesses d new → All (IsMild port) accesses → (Tells : List Act → Type 0) → ActsReach accesses (driver_state slots d) p.machine (driver_state then new) Tells
         → ((q : ℕ) (o : Operation) → q ≢ port.0 → probe_result_of s.ports q ≢ Unready DeadState → then.uses q 0 ≡ Own o → ⊥)
-        → ((q : ℕ) (o : Operation) → op_of o ≡ None → q ≢ port.0 → probe_result_of s.ports q ≢ Unready DeadState → SendsNone q o d new) → Passes s port then new
+        → ((q : ℕ) (o : Operation) → op_of o ≡ None → q ≢ port.0 → probe_result_of s.ports q ≢ Unready DeadState → GainsNoMove q o d new) → Passes s port then new
     passes_on accesses all only Tells c clients silent = record {
       driven = by_then laws p.driven its;
       on = laws.of_on port d new p.on its;
       machine = after p.machine (act_steps c.acts);
-      reached = laws.recovery.gone_reached (at_slots slots d) (at_slots then new) p.machine (act_steps c.acts) p.reached goes;
+      reached = laws.recovery.gone_reached (driver_state slots d) (driver_state then new) p.machine (act_steps c.acts) p.reached goes;
       knows = goes.knows;
       clients = clients;
       silent = λ q o own other alive. silent_more q o s.device d new (p.silent q o own other alive) (silent q o own other alive);
       halts = λ q other h.
-          laws.port_error.halts_acts (port_at q) c.acts (at_slots slots d) (at_slots then new) p.machine p.reached p.knows c.done
-          (subst (All (SparesRegister (Px (port_at q) Cmd))) (sym c.accesses_are)
-          (All-weaker (IsMild port) (SparesRegister (Px (port_at q) Cmd)) (λ access is. laws.of_spares port (port_at q) Cmd other access is.0) accesses only)) (p.halts q other h);
+          laws.port_error.halts_acts (port_at q) c.acts (driver_state slots d) (driver_state then new) p.machine p.reached p.knows c.done
+          (subst (All (DoesNotWrite (Px (port_at q) Cmd))) (sym c.accesses_are)
+          (All-weaker (IsMild port) (DoesNotWrite (Px (port_at q) Cmd)) (λ access is. laws.of_spares port (port_at q) Cmd other access is.0) accesses only)) (p.halts q other h);
       commands = λ q slot used other is.
           let there = used_there s q slot used k is in
           let h = p.commands q slot used other is in
           record {
             command = h.command;
             places = h.places;
-            stored = laws.slots.stored (port_at q) slot h.command h.places c.acts (at_slots slots d) (at_slots then new) p.machine p.reached p.knows c.done
+            stored = laws.slots.stored (port_at q) slot h.command h.places c.acts (driver_state slots d) (driver_state then new) p.machine p.reached p.knows c.done
                 (subst (All (LeavesStored (port_at q) slot)) (sym c.accesses_are)
                 (All-weaker (IsMild port) (LeavesStored (port_at q) slot) (mild_leaves laws port (port_at q) slot other low there.0 there.1) accesses only))
                 p.on h.stored;
@@ -159,15 +159,15 @@ module _ (laws : LawsBelow) (s : ServerState) (port : Port) (k : InCallInvariant
           };
     }
       where
-        its : IsDrivenBy (IsOf port) d new
-        its = record { accesses = accesses; all = all; only = All-weaker (IsMild port) (IsOf port) (λ access is. is.0) accesses only }
+        its : IsDrivenBy (SparesOtherPorts port) d new
+        its = record { accesses = accesses; all = all; only = All-weaker (IsMild port) (SparesOtherPorts port) (λ access is. is.0) accesses only }
 
-        goes : DriverAdvances (at_slots slots d) p.machine (act_steps c.acts) (at_slots then new)
-        goes = laws.slots.acts_go c.acts (at_slots slots d) (at_slots then new) p.machine p.knows c.done
+        goes : DriverAdvances (driver_state slots d) p.machine (act_steps c.acts) (driver_state then new)
+        goes = laws.slots.acts_go c.acts (driver_state slots d) (driver_state then new) p.machine p.knows c.done
 
   -- ---- a stretch that is followed
 
-  module _ (slots : InSlots) (d new : Device) (p : Passes s port slots d) (May : Access → Type 0) (Fits : SlotStates → Type 0) (next_uses : SlotStates → SlotStates) (mild : (access : Access) → May access → IsMild port access)
+  module _ (slots : DriverSlots) (d new : Device) (p : Passes s port slots d) (May : Access → Type 0) (Fits : SlotStates → Type 0) (next_uses : SlotStates → SlotStates) (mild : (access : Access) → May access → IsMild port access)
       (fits : Fits slots.uses) (others : (q : ℕ) → q ≢ port.0 → next_uses slots.uses q 0 ≡ slots.uses q 0) (f : IsSimulatedTo May Fits next_uses d new) where
     passes_followed : Passes s port (record slots { uses = next_uses slots.uses }) new
     passes_followed =
@@ -183,28 +183,28 @@ module _ (laws : LawsBelow) (s : ServerState) (port : Port) (k : InCallInvariant
 
   -- a recovery leads to slots of which the port's are free where it isn't dead
   abbrev pub PassesTo : Next → Device → Type 0
-  PassesTo after_it new = (then : InSlots) × Passes s port then new × (after_it ≢ next.Dead → AllFree then.uses port.0)
+  PassesTo after_it new = (then : DriverSlots) × Passes s port then new × (after_it ≢ next.Dead → AllFree then.uses port.0)
 
-  module _ (slots : InSlots) (d : Device) (first : Passes s port slots d) (outstanding : ℕ) (queued : Bool) (result : Recovered) (new : Device) (r : RecoversOrStops port outstanding queued result d new) where
+  module _ (slots : DriverSlots) (d : Device) (first : Passes s port slots d) (outstanding : ℕ) (queued : Bool) (result : Recovered) (new : Device) (r : RecoversOrStops port outstanding queued result d new) where
     mild : All (IsMild port) r.accesses
-    mild = All-weaker (IsRecovering port) (IsMild port) (recovering_mild laws port) r.accesses r.does.only
+    mild = All-weaker (IsRecoveryAccess port) (IsMild port) (recovering_mild laws port) r.accesses r.does.only
 
-    silent : (q : ℕ) (o : Operation) → op_of o ≡ None → q ≢ port.0 → probe_result_of s.ports q ≢ Unready DeadState → SendsNone q o d new
+    silent : (q : ℕ) (o : Operation) → op_of o ≡ None → q ≢ port.0 → probe_result_of s.ports q ≢ Unready DeadState → GainsNoMove q o d new
     silent q o own other alive =
         r.leaves.others (port_at q) o other own (slots.uses, first.clients q o other alive, record { machine = first.machine; parked = slots.parked; reached = first.reached; knows = first.knows })
 
     given_others : (q : ℕ) → q ≢ port.0 → (given_up port.0 slots).uses q ≡ slots.uses q
-    given_others q other = (laws.slots.given_others (at_slots slots d) port.0 q other).0
+    given_others q other = (laws.slots.given_others (driver_state slots d) port.0 q other).0
 
     given_free : AllFree (given_up port.0 slots).uses port.0
-    given_free = laws.slots.given_free (at_slots slots d) port.0
+    given_free = laws.slots.given_free (driver_state slots d) port.0
 
-    given : (Tells : List Act → Type 0) → DoesAll r.accesses d new → ActsReach r.accesses (at_slots slots d) first.machine (at_slots (given_up port.0 slots) new) Tells → Passes s port (given_up port.0 slots) new
+    given : (Tells : List Act → Type 0) → DoesAll r.accesses d new → ActsReach r.accesses (driver_state slots d) first.machine (driver_state (given_up port.0 slots) new) Tells → Passes s port (given_up port.0 slots) new
     given Tells does c =
         passes_on slots (given_up port.0 slots) d new first r.accesses does mild Tells c
         (λ q o other alive is. first.clients q o other alive (ap (λ (f : ℕ → SlotState). f 0) (sym (given_others q other)) ∙ is)) silent
 
-    by_next : (after_it : Next) → LeavesSlots port.0 after_it r.accesses d new → PassesTo after_it new
+    by_next : (after_it : Next) → SlotsAfterRecovery port.0 after_it r.accesses d new → PassesTo after_it new
     by_next (next.Running token) p = (given_up port.0 slots, given _ p.does (p.comes slots first.machine first.reached first.knows tt), λ alive. given_free)
     by_next (next.Restart token) p = (given_up port.0 slots, given _ p.does (p.comes slots first.machine first.reached first.knows tt), λ alive. given_free)
     by_next next.Dead (inl p) = (slots, passes_on slots slots d new first r.accesses p.does mild _ (p.comes slots first.machine first.reached first.knows tt) first.clients silent, λ alive. absurd (alive refl))
@@ -221,8 +221,8 @@ module _ (laws : LawsBelow) (s : ServerState) (port : Port) (k : InCallInvariant
 
   -- ---- a boot
 
-  module _ (slots : InSlots) (d new : Device) (p : Passes s port slots d) (free : AllFree slots.uses port.0) where
-    boot_to : (Tells : List Access → Type 0) (state : PortState) → IsBootTo Tells port state d new → (then : InSlots) × Passes s port then new
+  module _ (slots : DriverSlots) (d new : Device) (p : Passes s port slots d) (free : AllFree slots.uses port.0) where
+    boot_to : (Tells : List Access → Type 0) (state : PortState) → IsBootTo Tells port state d new → (then : DriverSlots) × Passes s port then new
     boot_to Tells DeadState (inl b) = (slots, passes_followed slots d new p (IsOfBoot port) (λ uses. AllFree uses port.0) (λ uses. uses) (booting_mild laws port) free (λ q other. refl) b.followed)
     boot_to Tells DeadState (inr b) = (
       record slots { uses = put slots.uses port.0 0 (Own Identify) },
@@ -234,18 +234,18 @@ module _ (laws : LawsBelow) (s : ServerState) (port : Port) (k : InCallInvariant
     boot_to Tells Foreign b = (slots, passes_followed slots d new p (IsOfBoot port) (λ uses. AllFree uses port.0) (λ uses. uses) (booting_mild laws port) free (λ q other. refl) b.followed)
     boot_to Tells (Unfit n) b = (slots, passes_followed slots d new p (IsOfBoot port) (λ uses. AllFree uses port.0) (λ uses. uses) (booting_mild laws port) free (λ q other. refl) b.followed)
 
-    stopped_passes : (wanted : Wanted) (found : ProbeResult) → BootsStopped wanted port found d new → (then : InSlots) × Passes s port then new
+    stopped_passes : (wanted : Wanted) (found : ProbeResult) → BootsStopped wanted port found d new → (then : DriverSlots) × Passes s port then new
     stopped_passes wanted Unserved b = absurd b
     stopped_passes wanted (Ready info) b =
         (slots, passes_followed slots d new p (IsOfBoot port) (λ uses. AllFree uses port.0) (λ uses. uses) (booting_mild laws port) free (λ q other. refl) b.boots.followed)
     stopped_passes wanted (Unready state) b = boot_to (StopsOnWay port state) state b.boots
 
-  pub start_passes : (slots : InSlots) (d new : Device) → Passes s port slots d → AllFree slots.uses port.0 → IsSimulated (IsSurveyOrBoot port) (λ uses. AllFree uses port.0) d new → Passes s port slots new
+  pub start_passes : (slots : DriverSlots) (d new : Device) → Passes s port slots d → AllFree slots.uses port.0 → IsSimulated (IsSurveyOrBoot port) (λ uses. AllFree uses port.0) d new → Passes s port slots new
   start_passes slots d new p free asks =
       passes_followed slots d new p (IsSurveyOrBoot port) (λ uses. AllFree uses port.0) (λ uses. uses) (λ access is. ⊎_elim (survey_mild port access) (booting_mild laws port access) is) free (λ q other. refl) asks
 
-  pub again_passes : (slots : InSlots) (d new : Device) → Passes s port slots d → AllFree slots.uses port.0 → (wanted : Wanted) (booted : Booted) → RebootsPort wanted port booted d new
-      → (then : InSlots) × Passes s port then new
+  pub again_passes : (slots : DriverSlots) (d new : Device) → Passes s port slots d → AllFree slots.uses port.0 → (wanted : Wanted) (booted : Booted) → RebootsPort wanted port booted d new
+      → (then : DriverSlots) × Passes s port then new
   again_passes slots d new p free wanted booted b =
       let asked : Passes s port slots b.asked = start_passes slots d b.asked p free b.asks in
       stopped_passes slots b.asked new asked free wanted booted.found b.boots
@@ -253,12 +253,12 @@ module _ (laws : LawsBelow) (s : ServerState) (port : Port) (k : InCallInvariant
   -- ---- what a port is then
 
   -- a look leaves the other ports, and the slots
-  pub look_passes : (slots : InSlots) (d new : Device) → Passes s port slots d → IsSimulated (IsLooking port) AnyUse d new → Passes s port slots new
+  pub look_passes : (slots : DriverSlots) (d new : Device) → Passes s port slots d → IsSimulated (IsLooking port) AnyUse d new → Passes s port slots new
   look_passes slots d new p looks = passes_followed slots d new p (IsLooking port) AnyUse (λ uses. uses) (λ access is. (laws.looking.looking_of port access is, looking_stores port access is)) tt (λ q other. refl) looks
 
   -- it was found so once it was stopped
   pub after_passes : (wanted : Wanted) (port_error : PortError) (was : DiskInfo) (after_it : Next) (d new : Device) (found : ProbeResult) → IsRevalidated wanted port port_error was after_it d new found → PassesTo after_it d
-      → (then : InSlots) × Passes s port then new
+      → (then : DriverSlots) × Passes s port then new
   after_passes wanted port_error was (next.Running token) d new found (is, same) (slots, p, free) = (slots, subst (Passes s port slots) (sym same) p)
   after_passes wanted port_error was (next.Restart token) d new found (booted, is, b) (slots, p, free) =
       let free_then = free (λ dead. let z : next.Restart token ≡ next.Dead = dead in absurd cc) in ⊎_elim

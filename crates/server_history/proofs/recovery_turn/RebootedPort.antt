@@ -27,7 +27,7 @@ use Rattle.port_control.specs.declared.events.PortError.{PortError}
 use Rattle.port_control.specs.declared.events.PortError.TheVariants.{TaskFileError, LinkChanged}
 use Rattle.server_history.specs.Below.{LawsBelow}
 use Rattle.server_history.specs.ErrorHandling.{IsRevalidated, IsErrorHandled, HasResolved, HandlesPortError}
-use Rattle.server_history.specs.Server.{ServerState, InCallInvariant, last_disk_in, last_disk_of, is_served, mode_found, mode_in, plain_mode, ports_of, last_sectors_of, last_serial_of, state_of, trims_of}
+use Rattle.server_history.specs.Server.{ServerState, InCallInvariant, last_disk_in, last_disk_of, is_served, probed_mode, mode_in, plain_mode, ports_of, last_sectors_of, last_serial_of, state_of, trims_of}
 use Rattle.server_history.specs.Turns.{joint_state_of}
 use Rattle.server_history.proofs.recovery_turn.MendedPort.{disk_new, disk_old, found_new, issued_as, next_dead, state_new}
 use Rattle.server_history.proofs.recovery_turn.TurnEvidence.{IsEvident}
@@ -81,8 +81,8 @@ module _ (laws : LawsBelow) (port : Port) (replies : List Reply) (old new : Serv
 
     mode_same : mode_in new port ≡ mode_in old port
     mode_same =
-        mode_new ∙ a.mode_is ∙ ap (mode_found r.mid.device.cap) (found ∙ sym a.ready)
-        ∙ ap (λ cap. mode_found cap (probe_result_of old.ports port.0)) (ap (λ (d : Device). d.cap) device ∙ adapter.cap) ∙ sym (k.modes port.0 low)
+        mode_new ∙ a.mode_is ∙ ap (probed_mode r.mid.device.cap) (found ∙ sym a.ready)
+        ∙ ap (λ cap. probed_mode cap (probe_result_of old.ports port.0)) (ap (λ (d : Device). d.cap) device ∙ adapter.cap) ∙ sym (k.modes port.0 low)
 
     same : SamePort (ports_of old) (ports_of new) port
     same = (ap is_served found_same, ap state_of found_same, ap last_serial_of disk_same, ap last_sectors_of disk_same, ap trims_of found_same, mode_same)

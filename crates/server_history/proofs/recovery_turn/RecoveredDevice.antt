@@ -13,19 +13,19 @@ use Rattle.adapter.specs.Access.{Access}
 use Rattle.adapter.specs.Device.{Device}
 use Rattle.adapter.specs.declared.command.Operation.{Operation}
 use Rattle.adapter.specs.declared.command.Operation.TheVariants.{Identify, ReadLog}
-use Rattle.refinement.specs.Acts.{AnySlots, ByDeviceAlone, InSlots, Performs, at_slots, act_steps}
+use Rattle.refinement.specs.Acts.{AnySlots, ByDeviceAlone, DriverSlots, Performs, driver_state, act_steps}
 use Rattle.refinement.specs.Relation.{ServeApart}
 use Rattle.refinement.specs.Driven.{IsSimulated, IsSimulatedTo}
 use Rattle.refinement.specs.Driver.{AllFree, HasNoSlot, IsBacked, DriverState, DriverRelation}
 use Rattle.refinement.specs.GivingUp.{given_up, served_ids}
 use Rattle.refinement.specs.Slots.{Own, Serves, SlotState, SlotStates, put}
 use Rattle.server_history.proofs.state.FollowedAccesses.{followed_adds}
-use Rattle.block_machine.specs.Events.{AllDevices, AllMay}
+use Rattle.block_machine.specs.Events.{AllByDevice, AllMay}
 use Rattle.block_machine.specs.Histories.{IsReachable}
 use Rattle.block_machine.specs.Left.{after}
 use Rattle.block_machine.specs.State.{Machine}
 use Rattle.block_machine.specs.Steps.{Step}
-use Rattle.error_recovery.specs.Recovery.{LeavesSlots, with_own}
+use Rattle.error_recovery.specs.Recovery.{SlotsAfterRecovery, with_own}
 use Rattle.error_recovery.specs.declared.Next.{Next}
 use Rattle.error_recovery.specs.declared.Next.TheVariants.{Running, Restart, Dead as Stuck}
 use Rattle.host_boot.specs.Again.{RebootsPort, BootsStopped, IsSurveyOrBoot}
@@ -39,7 +39,7 @@ use Rattle.port_control.specs.Engines.{Sticks}
 use Rattle.slots.specs.Uses.{PortSlots, use_at}
 use Rattle.server_history.specs.Below.{LawsBelow}
 use Rattle.server_history.specs.ErrorHandling.{IsRevalidated}
-use Rattle.server_history.specs.Server.{IsUsedAs, no_slots, use_of, used_for}
+use Rattle.server_history.specs.Server.{IsUsedAs, no_slots, slot_state_of, used_for}
 use Rattle.port_control.specs.declared.events.PortError.{PortError}
 use Rattle.server_history.proofs.recovery_turn.BootOrAbsence.{IsFoundAbsent, boots_or_absent}
 
@@ -48,12 +48,12 @@ use Rattle.server_history.proofs.recovery_turn.BootOrAbsence.{IsFoundAbsent, boo
 -- The device's steps alone lead from what the driver knew to what it knows then.
 pub record Passes (k later : DriverState) (m : Machine) : Type 0 where
   pub steps : List Step
-  pub only : AllDevices steps
+  pub only : AllByDevice steps
   pub may : AllMay m steps
   pub backed : IsBacked k.device later.device m steps
   pub knows : DriverRelation (after m steps) later
 
-pub devices_both : (late early : List Step) → AllDevices late → AllDevices early → AllDevices (late ++ early)
+pub devices_both : (late early : List Step) → AllByDevice late → AllByDevice early → AllByDevice (late ++ early)
 devices_both [] early a b = b
 devices_both (step ∷ late) early a b = (devices_both late early a.0 b, a.1)
 
@@ -67,25 +67,25 @@ passes_then laws a b c m x y = record {
 }
 
 -- what was followed
-passes_followed : LawsBelow → (May : Access → Type 0) (Fits : SlotStates → Type 0) (next : SlotStates → SlotStates) (old new : Device) → IsSimulatedTo May Fits next old new → (s : InSlots) (m : Machine) → Fits s.uses → IsReachable m → DriverRelation m (at_slots s old)
-    → Passes (at_slots s old) (at_slots (record s { uses = next s.uses }) new) m
+passes_followed : LawsBelow → (May : Access → Type 0) (Fits : SlotStates → Type 0) (next : SlotStates → SlotStates) (old new : Device) → IsSimulatedTo May Fits next old new → (s : DriverSlots) (m : Machine) → Fits s.uses → IsReachable m → DriverRelation m (driver_state s old)
+    → Passes (driver_state s old) (driver_state (record s { uses = next s.uses }) new) m
 passes_followed laws May Fits next old new followed s m fits reached knows =
     let x = (followed_adds laws followed s.uses s.parked fits).adds m reached knows in
     record { steps = x.0; only = x.3.only; may = x.1; backed = x.3.backed; knows = x.2 }
 
 -- a part of a call
-passes_performs : LawsBelow → (accesses : List Access) (next : InSlots → InSlots) (old new : Device) → Performs accesses AnySlots next ByDeviceAlone old new → (s : InSlots) (m : Machine) → IsReachable m → DriverRelation m (at_slots s old)
-    → Passes (at_slots s old) (at_slots (next s) new) m
+passes_performs : LawsBelow → (accesses : List Access) (next : DriverSlots → DriverSlots) (old new : Device) → Performs accesses AnySlots next ByDeviceAlone old new → (s : DriverSlots) (m : Machine) → IsReachable m → DriverRelation m (driver_state s old)
+    → Passes (driver_state s old) (driver_state (next s) new) m
 passes_performs laws accesses next old new p s m reached knows =
     let c = p.comes s m reached knows tt in
-    let g = laws.slots.acts_go c.acts (at_slots s old) (at_slots (next s) new) m knows c.done in
+    let g = laws.slots.acts_go c.acts (driver_state s old) (driver_state (next s) new) m knows c.done in
     record { steps = act_steps c.acts; only = c.tells; may = g.may; backed = g.backed; knows = g.knows }
 
 -- ---- what is in the slots then
 
 -- Other ports' slots are as they were. What is parked of the port was, or was in one of its slots. No slot serves one that a slot of it served, unless its
 -- engine is stuck; and none of its slots is used, unless it is dead.
-pub record LeavesIn (port : ℕ) (way : Next) (found : ProbeResult) (s t : InSlots) : Type 0 where
+pub record LeavesIn (port : ℕ) (way : Next) (found : ProbeResult) (s t : DriverSlots) : Type 0 where
   pub uses : (q : ℕ) → q ≢ port → t.uses q ≡ s.uses q
   pub parked : (q : ℕ) → q ≢ port → t.parked q ≡ s.parked q
   pub its : (id : RequestId) → Contains (t.parked port) id → Contains (served_ids s.uses port 32 ++ s.parked port) id
@@ -93,48 +93,48 @@ pub record LeavesIn (port : ℕ) (way : Next) (found : ProbeResult) (s t : InSlo
   pub free : found ≢ Unready Dead → AllFree t.uses port
 
 -- The slots of a server whose port was found so then, and uses none, are used so.
-pub uses_then : (port : ℕ) (way : Next) (found : ProbeResult) (ports : List ProbeResult) (slots : List PortSlots) (its : PortSlots) (s t : InSlots) → port < length ports → port < length slots
+pub uses_then : (port : ℕ) (way : Next) (found : ProbeResult) (ports : List ProbeResult) (slots : List PortSlots) (its : PortSlots) (s t : DriverSlots) → port < length ports → port < length slots
     → ((slot : ℕ) → use_at its slot ≡ None) → LeavesIn port way found s t → ((q slot : ℕ) → IsUsedAs (probe_result_of ports q) (used_for slots q slot) (s.uses q slot))
     → (q slot : ℕ) → IsUsedAs (probe_result_of (slice_set ports port found) q) (used_for (slice_set slots port its) q slot) (t.uses q slot)
 uses_then port way found ports slots its s t listed within unused left used q slot = ⊎_elim
     (λ (same : q ≡ port).
     subst (λ (p : ℕ). IsUsedAs (probe_result_of (slice_set ports port found) p) (used_for (slice_set slots port its) p slot) (t.uses p slot)) (sym same)
-    (λ lives. left.free (λ dead. lives (get_or-set_same ports port found Unserved listed ∙ dead)) slot ∙ ap use_of (sym (ap (λ (x : PortSlots). use_at x slot) (get_or-set_same slots port its no_slots within) ∙ unused slot))))
+    (λ lives. left.free (λ dead. lives (get_or-set_same ports port found Unserved listed ∙ dead)) slot ∙ ap slot_state_of (sym (ap (λ (x : PortSlots). use_at x slot) (get_or-set_same slots port its no_slots within) ∙ unused slot))))
     (λ (other : q ≢ port) lives.
     ap (λ (u : ℕ → SlotState). u slot) (left.uses q other) ∙ used q slot (λ dead. lives (get_or-set_other ports port q found Unserved other ∙ dead))
-    ∙ ap (λ (x : PortSlots). use_of (use_at x slot)) (sym (get_or-set_other slots port q its no_slots other)))
+    ∙ ap (λ (x : PortSlots). slot_state_of (use_at x slot)) (sym (get_or-set_other slots port q its no_slots other)))
     (cases_eq q port)
 
 -- the steps lead to that
-pub record IsPassed (port : ℕ) (way : Next) (found : ProbeResult) (old new : Device) (s : InSlots) (m : Machine) : Type 0 where
-  pub slots : InSlots
+pub record IsPassed (port : ℕ) (way : Next) (found : ProbeResult) (old new : Device) (s : DriverSlots) (m : Machine) : Type 0 where
+  pub slots : DriverSlots
   pub left : LeavesIn port way found s slots
-  pub passes : Passes (at_slots s old) (at_slots slots new) m
+  pub passes : Passes (driver_state s old) (driver_state slots new) m
 
-module _ (laws : LawsBelow) (port : ℕ) (s : InSlots) (d : Device) where
+module _ (laws : LawsBelow) (port : ℕ) (s : DriverSlots) (d : Device) where
   free_then : AllFree (given_up port s).uses port
-  free_then = laws.slots.given_free (at_slots s d) port
+  free_then = laws.slots.given_free (driver_state s d) port
 
   its_then : (id : RequestId) → Contains ((given_up port s).parked port) id → Contains (served_ids s.uses port 32 ++ s.parked port) id
-  its_then id here = subst (λ (ids : List RequestId). Contains ids id) (laws.slots.given_parked (at_slots s d) port) here
+  its_then id here = subst (λ (ids : List RequestId). Contains ids id) (laws.slots.given_parked (driver_state s d) port) here
 
   left_given : (way : Next) (found : ProbeResult) → LeavesIn port way found s (given_up port s)
   left_given way found = record {
-    uses = λ q ne. (laws.slots.given_others (at_slots s d) port q ne).0;
-    parked = λ q ne. (laws.slots.given_others (at_slots s d) port q ne).1;
+    uses = λ q ne. (laws.slots.given_others (driver_state s d) port q ne).0;
+    parked = λ q ne. (laws.slots.given_others (driver_state s d) port q ne).1;
     its = its_then;
-    unserved = λ lives apart slot id serves. laws.slots.frees (at_slots s d) port slot id apart serves;
+    unserved = λ lives apart slot id serves. laws.slots.frees (driver_state s d) port slot id apart serves;
     free = λ lives. free_then;
   }
 
   -- with a command of the driver's own in slot 0 of a dead port
   left_own : (way : Next) (found : ProbeResult) (o : Operation) → found ≡ Unready Dead → LeavesIn port way found s (with_own port o (given_up port s))
   left_own way found o dead = record {
-    uses = λ q ne. (λ i slot. laws.recovery.put_other (given_up port s).uses port 0 (Own o) q slot (λ same _. ne same) i) ∙ (laws.slots.given_others (at_slots s d) port q ne).0;
-    parked = λ q ne. (laws.slots.given_others (at_slots s d) port q ne).1;
+    uses = λ q ne. (λ i slot. laws.recovery.put_other (given_up port s).uses port 0 (Own o) q slot (λ same _. ne same) i) ∙ (laws.slots.given_others (driver_state s d) port q ne).0;
+    parked = λ q ne. (laws.slots.given_others (driver_state s d) port q ne).1;
     its = its_then;
     unserved = λ lives apart slot id serves.
-        laws.slots.put_unserved (given_up port s).uses port 0 (Own o) id (laws.slots.frees (at_slots s d) port slot id apart serves) (λ other same. let z : Own o ≡ Serves other = same in absurd cc);
+        laws.slots.put_unserved (given_up port s).uses port 0 (Own o) id (laws.slots.frees (driver_state s d) port slot id apart serves) (λ other same. let z : Own o ≡ Serves other = same in absurd cc);
     free = λ lives. absurd (lives dead);
   }
 
@@ -150,12 +150,12 @@ module _ (laws : LawsBelow) (port : ℕ) (s : InSlots) (d : Device) where
 
 -- ---- recovery, and then a boot
 
-module _ (laws : LawsBelow) (wanted : Wanted) (port : Port) (old mid new : Device) (s : InSlots) (m : Machine) (reached : IsReachable m) (knows : DriverRelation m (at_slots s old)) where
-  abbrev given : InSlots
+module _ (laws : LawsBelow) (wanted : Wanted) (port : Port) (old mid new : Device) (s : DriverSlots) (m : Machine) (reached : IsReachable m) (knows : DriverRelation m (driver_state s old)) where
+  abbrev given : DriverSlots
   given = given_up port.0 s
 
   -- its slots were given up, and then it was booted
-  module _ (x : Passes (at_slots s old) (at_slots given mid) m) where
+  module _ (x : Passes (driver_state s old) (driver_state given mid) m) where
     here : IsReachable (after m x.steps)
     here = laws.basic.reached m x.steps reached x.may
 
@@ -164,7 +164,7 @@ module _ (laws : LawsBelow) (wanted : Wanted) (port : Port) (old mid new : Devic
     booted way (Ready info) boots = record {
       slots = given;
       left = left_given laws port.0 s old way (Ready info);
-      passes = passes_then laws (at_slots s old) (at_slots given mid) (at_slots given new) m x
+      passes = passes_then laws (driver_state s old) (driver_state given mid) (driver_state given new) m x
           (passes_followed laws (IsOfBoot port) (λ uses. AllFree uses port.0) (λ uses. uses) mid new boots.boots.followed given (after m x.steps) (free_then laws port.0 s old) here x.knows);
     }
     booted way (Unready state) boots = by state boots.boots
@@ -173,7 +173,7 @@ module _ (laws : LawsBelow) (wanted : Wanted) (port : Port) (old mid new : Devic
         plainly Tells boots state = record {
           slots = given;
           left = left_given laws port.0 s old way (Unready state);
-          passes = passes_then laws (at_slots s old) (at_slots given mid) (at_slots given new) m x
+          passes = passes_then laws (driver_state s old) (driver_state given mid) (driver_state given new) m x
               (passes_followed laws (IsOfBoot port) (λ uses. AllFree uses port.0) (λ uses. uses) mid new boots.followed given (after m x.steps) (free_then laws port.0 s old) here x.knows);
         }
 
@@ -182,7 +182,7 @@ module _ (laws : LawsBelow) (wanted : Wanted) (port : Port) (old mid new : Devic
         by Dead (inr boots) = record {
           slots = with_own port.0 Identify given;
           left = left_own laws port.0 s old way (Unready Dead) Identify refl;
-          passes = passes_then laws (at_slots s old) (at_slots given mid) (at_slots (with_own port.0 Identify given) new) m x
+          passes = passes_then laws (driver_state s old) (driver_state given mid) (driver_state (with_own port.0 Identify given) new) m x
               (passes_followed laws (IsOfBoot port) (λ uses. AllFree uses port.0) (λ uses. put uses port.0 0 (Own Identify)) mid new boots.followed given (after m x.steps) (free_then laws port.0 s old) here x.knows);
         }
         by Absent boots = plainly (StopsOnWay port Absent) boots Absent
@@ -190,12 +190,12 @@ module _ (laws : LawsBelow) (wanted : Wanted) (port : Port) (old mid new : Devic
         by Foreign boots = plainly (StopsOnWay port Foreign) boots Foreign
         by (Unfit cause) boots = plainly (StopsOnWay port (Unfit cause)) boots (Unfit cause)
 
-pub passed : LawsBelow → (wanted : Wanted) (port : Port) (port_error : PortError) (was : DiskInfo) (way : Next) (accesses : List Access) (old mid new : Device) (found : ProbeResult) → LeavesSlots port.0 way accesses old mid → IsRevalidated wanted port port_error was way mid new found
-    → (s : InSlots) (m : Machine) → IsReachable m → DriverRelation m (at_slots s old) → IsPassed port.0 way found old new s m
+pub passed : LawsBelow → (wanted : Wanted) (port : Port) (port_error : PortError) (was : DiskInfo) (way : Next) (accesses : List Access) (old mid new : Device) (found : ProbeResult) → SlotsAfterRecovery port.0 way accesses old mid → IsRevalidated wanted port port_error was way mid new found
+    → (s : DriverSlots) (m : Machine) → IsReachable m → DriverRelation m (driver_state s old) → IsPassed port.0 way found old new s m
 passed laws wanted port port_error was (Running token) accesses old mid new found performs (is, same) s m reached knows = record {
   slots = given_up port.0 s;
   left = left_given laws port.0 s old (Running token) found;
-  passes = subst (λ (d : Device). Passes (at_slots s old) (at_slots (given_up port.0 s) d) m) (sym same) (passes_performs laws accesses (given_up port.0) old mid performs s m reached knows);
+  passes = subst (λ (d : Device). Passes (driver_state s old) (driver_state (given_up port.0 s) d) m) (sym same) (passes_performs laws accesses (given_up port.0) old mid performs s m reached knows);
 }
 passed laws wanted port port_error was (Restart token) accesses old mid new found performs (its, is, again) s m reached knows =
     subst (λ (f : ProbeResult). IsPassed port.0 (Restart token) f old new s m) is (⊎_elim
@@ -207,26 +207,26 @@ passed laws wanted port port_error was (Restart token) accesses old mid new foun
     })
     (boots_or_absent port_error wanted port its mid new again))
   where
-    x : Passes (at_slots s old) (at_slots (given_up port.0 s) mid) m
+    x : Passes (driver_state s old) (driver_state (given_up port.0 s) mid) m
     x = passes_performs laws accesses (given_up port.0) old mid performs s m reached knows
 
-    started : (d : Device) → IsSimulated (IsSurveyOrBoot port) (λ uses. AllFree uses port.0) mid d → Passes (at_slots s old) (at_slots (given_up port.0 s) d) m
+    started : (d : Device) → IsSimulated (IsSurveyOrBoot port) (λ uses. AllFree uses port.0) mid d → Passes (driver_state s old) (driver_state (given_up port.0 s) d) m
     started d asks =
-        passes_then laws (at_slots s old) (at_slots (given_up port.0 s) mid) (at_slots (given_up port.0 s) d) m x
+        passes_then laws (driver_state s old) (driver_state (given_up port.0 s) mid) (driver_state (given_up port.0 s) d) m x
         (passes_followed laws (IsSurveyOrBoot port) (λ uses. AllFree uses port.0) (λ uses. uses) mid d asks (given_up port.0 s) (after m x.steps) (free_then laws port.0 s old) (laws.basic.reached m x.steps reached x.may) x.knows)
 passed laws wanted port port_error was Stuck accesses old mid new found (inl performs) (is, same) s m reached knows = record {
   slots = s;
   left = left_stuck laws port.0 s old found is;
-  passes = subst (λ (d : Device). Passes (at_slots s old) (at_slots s d) m) (sym same) (passes_performs laws accesses (λ s. s) old mid performs s m reached knows);
+  passes = subst (λ (d : Device). Passes (driver_state s old) (driver_state s d) m) (sym same) (passes_performs laws accesses (λ s. s) old mid performs s m reached knows);
 }
 passed laws wanted port port_error was Stuck accesses old mid new found (inr (inl performs)) (is, same) s m reached knows = record {
   slots = given_up port.0 s;
   left = left_given laws port.0 s old Stuck found;
-  passes = subst (λ (d : Device). Passes (at_slots s old) (at_slots (given_up port.0 s) d) m) (sym same) (passes_performs laws accesses (given_up port.0) old mid performs s m reached knows);
+  passes = subst (λ (d : Device). Passes (driver_state s old) (driver_state (given_up port.0 s) d) m) (sym same) (passes_performs laws accesses (given_up port.0) old mid performs s m reached knows);
 }
 passed laws wanted port port_error was Stuck accesses old mid new found (inr (inr performs)) (is, same) s m reached knows = record {
   slots = with_own port.0 ReadLog (given_up port.0 s);
   left = left_own laws port.0 s old Stuck found ReadLog is;
-  passes = subst (λ (d : Device). Passes (at_slots s old) (at_slots (with_own port.0 ReadLog (given_up port.0 s)) d) m) (sym same)
+  passes = subst (λ (d : Device). Passes (driver_state s old) (driver_state (with_own port.0 ReadLog (given_up port.0 s)) d) m) (sym same)
       (passes_performs laws accesses (λ s. with_own port.0 ReadLog (given_up port.0 s)) old mid performs s m reached knows);
 }

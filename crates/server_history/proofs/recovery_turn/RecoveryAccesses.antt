@@ -16,17 +16,17 @@ use Rattle.adapter.specs.Access.Access.{Loading, Reading, Storing, Writing}
 use Rattle.adapter.specs.Device.{Device}
 use Rattle.adapter.specs.declared.command.Operation.{Operation}
 use Rattle.adapter.specs.declared.command.Operation.TheVariants.{Identify}
-use Rattle.refinement.specs.Driven.{IsDrivenBy, IsSimulated, IsSimulatedTo, IsOf, IsSimulatedAlongTo, SendsNone, known}
+use Rattle.refinement.specs.Driven.{IsDrivenBy, IsSimulated, IsSimulatedTo, SparesOtherPorts, IsSimulatedAlongTo, GainsNoMove, known}
 use Rattle.refinement.specs.Driver.{AllFree, DriverRelation}
-use Rattle.refinement.specs.Links.{SparesRegister}
+use Rattle.refinement.specs.Links.{DoesNotWrite}
 use Rattle.refinement.specs.Slots.{Own, SlotStates, op_of, put}
 use Rattle.server_history.proofs.state.FollowedAccesses.{followed_adds, followed_silent}
 use Rattle.block_machine.specs.Histories.{IsReachable}
 use Rattle.block_machine.specs.Left.{after}
 use Rattle.block_machine.specs.State.{Machine}
-use Rattle.disk_page.specs.Asking.{IsAsking}
-use Rattle.driver_history.specs.Trace.{IsDriversOwn, LeavesCommand, ResetsLink}
-use Rattle.error_recovery.specs.Recovery.{IsRecovering}
+use Rattle.disk_page.specs.Asking.{IsPageAccess}
+use Rattle.driver_history.specs.Trace.{IsDriversOwn, DoesNotWriteCmd, ResetsLink}
+use Rattle.error_recovery.specs.Recovery.{IsRecoveryAccess}
 use Rattle.error_recovery.specs.declared.Next.{Next}
 use Rattle.error_recovery.specs.declared.Next.TheVariants as next
 use Rattle.host_boot.specs.Again.{RebootsPort, BootsStopped, IsSurveyOrBoot}
@@ -54,23 +54,23 @@ use Rattle.server_history.proofs.recovery_turn.BootOrAbsence.{IsFoundAbsent, boo
 
 -- it is of this port, and what it loads or stores is the driver's own
 abbrev pub IsPart : Port → Access → Type 0
-IsPart port access = IsDriversOwn access × IsOf port access
+IsPart port access = IsDriversOwn access × SparesOtherPorts port access
 
 -- and it doesn't write PxCMD
 abbrev pub IsEarlyPart : Port → Access → Type 0
-IsEarlyPart port access = IsPart port access × LeavesCommand port access
+IsEarlyPart port access = IsPart port access × DoesNotWriteCmd port access
 
 module _ (laws : LawsBelow) (port : Port) (low : port.0 < 4) where
-  pub recovering_part : (access : Access) → IsRecovering port access → IsPart port access
+  pub recovering_part : (access : Access) → IsRecoveryAccess port access → IsPart port access
   recovering_part access here = (own access here, laws.recovering_of port access here)
     where
-      own : (access : Access) → IsRecovering port access → IsDriversOwn access
+      own : (access : Access) → IsRecoveryAccess port access → IsDriversOwn access
       own (Reading r v) is = tt
       own (Writing r v) is = tt
       own (Loading at bytes) is = laws.recovering_loads port at bytes low is
       own (Storing at bytes) is = laws.recovering_stores port at bytes low is
 
-  asking_own : (access : Access) → IsAsking port access → IsDriversOwn access
+  asking_own : (access : Access) → IsPageAccess port access → IsDriversOwn access
   asking_own (Reading r v) is = tt
   asking_own (Writing r v) is = tt
   asking_own (Loading at bytes) is = let here = is.0 in let size = is.1 in omega (arith, low, here, size)
@@ -116,12 +116,12 @@ pub record AfterList (port : Port) (port_error : PortError) (then : Next) (found
   pub sticks : found ≡ Unready DeadState → then ≢ next.Dead → Sticks port driven.accesses
   pub stuck : found ≡ Unready DeadState → then ≢ next.Dead → (new.port port.0).notes.engine_count ≡ MOST_READINGS
   pub resets : (token : Stopped) → then ≡ next.Restart token → found ≢ Unready DeadState → ((port_error ≡ LinkChanged) × (found ≡ Unready shown.Absent)) ⊎ ResetsLink port driven.accesses
-  pub unreset : ((token : Stopped) → then ≢ next.Restart token) → All (SparesRegister (Px port Sctl)) driven.accesses
-  pub silent : (q : Port) (o : Operation) → q.0 ≢ port.0 → op_of o ≡ None → ((token : Stopped) → then ≡ next.Restart token → (g : IsGivenUp port old) × (g.uses q.0 0 ≡ Own o → ⊥)) → SendsNone q.0 o old new
+  pub unreset : ((token : Stopped) → then ≢ next.Restart token) → All (DoesNotWrite (Px port Sctl)) driven.accesses
+  pub silent : (q : Port) (o : Operation) → q.0 ≢ port.0 → op_of o ≡ None → ((token : Stopped) → then ≡ next.Restart token → (g : IsGivenUp port old) × (g.uses q.0 0 ≡ Own o → ⊥)) → GainsNoMove q.0 o old new
 
 module _ (laws : LawsBelow) (port : Port) (low : port.0 < 4) (wanted : Wanted) (port_error : PortError) where
   module _ (token : Stopped) (old asked new : Device) (asks : IsSimulated (IsSurveyOrBoot port) (λ uses. AllFree uses port.0) old asked) (then : SlotStates → SlotStates) (boots : IsSimulatedTo (IsOfBoot port) (λ uses. AllFree uses port.0) then asked new) where
-    boot_silent : (q : Port) (o : Operation) → q.0 ≢ port.0 → op_of o ≡ None → (g : IsGivenUp port old) → (g.uses q.0 0 ≡ Own o → ⊥) → SendsNone q.0 o old new
+    boot_silent : (q : Port) (o : Operation) → q.0 ≢ port.0 → op_of o ≡ None → (g : IsGivenUp port old) → (g.uses q.0 0 ≡ Own o → ⊥) → GainsNoMove q.0 o old new
     boot_silent q o other own g none =
         let x = (followed_adds laws asks g.uses g.parked g.free).adds g.machine g.reached g.knows in
         silent_more q.0 o old asked new
@@ -209,7 +209,7 @@ module _ (laws : LawsBelow) (port : Port) (low : port.0 < 4) (wanted : Wanted) (
         sticks = λ dead _. absurd (none dead);
         stuck = λ dead _. absurd (none dead);
         resets = λ other is _. absurd (let z : next.Running token ≡ next.Restart other = is in cc);
-        unreset = λ _. All-nil (SparesRegister (Px port Sctl));
+        unreset = λ _. All-nil (DoesNotWrite (Px port Sctl));
         silent = λ q o other own given. silent_none q.0 o old;
       })
   after_list was (next.Restart token) old new found is = subst (λ (f : ProbeResult). AfterList port port_error (next.Restart token) f old new) is.1 (⊎_elim
@@ -221,6 +221,6 @@ module _ (laws : LawsBelow) (port : Port) (low : port.0 < 4) (wanted : Wanted) (
     sticks = λ _ lives. absurd (lives refl);
     stuck = λ _ lives. absurd (lives refl);
     resets = λ token is _. absurd (let z : next.Dead ≡ next.Restart token = is in cc);
-    unreset = λ _. All-nil (SparesRegister (Px port Sctl));
+    unreset = λ _. All-nil (DoesNotWrite (Px port Sctl));
     silent = λ q o other own given. silent_none q.0 o old;
   })

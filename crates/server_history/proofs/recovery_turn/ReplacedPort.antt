@@ -14,11 +14,11 @@ use Rattle.hba_regs.specs.Bits.{bit}
 use Rattle.adapter.specs.Device.{Device}
 use Rattle.adapter.specs.Rules.{HasPort, IsOn}
 use Rattle.adapter.specs.declared.command.Operation.TheVariants.{Identify}
-use Rattle.refinement.specs.Acts.{InSlots}
+use Rattle.refinement.specs.Acts.{DriverSlots}
 use Rattle.refinement.specs.Relation.{port_at}
-use Rattle.refinement.specs.Driven.{AnyAccess, IsDrivenBy, IsOf, LeavesPort, SendsNone}
-use Rattle.refinement.specs.Halting.{HaltsAsTaken, IsHaltedAsTaken}
-use Rattle.refinement.specs.Links.{HasDeviceOrNone, SameAdapter}
+use Rattle.refinement.specs.Driven.{AnyAccess, IsDrivenBy, SparesOtherPorts, LeavesPort, GainsNoMove}
+use Rattle.refinement.specs.Halting.{HaltIsOfTaken, HaltOfTakenIfSt}
+use Rattle.refinement.specs.Links.{ShowsDiskIfIn, SameAdapter}
 use Rattle.block_machine.specs.Due.{is_plain}
 use Rattle.block_machine.specs.Events.{ShowsDisk}
 use Rattle.block_machine.specs.Histories.{IsReachable}
@@ -26,7 +26,7 @@ use Rattle.block_machine.specs.State.{Machine}
 use Rattle.block_machine.specs.declared.due.QueueMode.{QueueMode}
 use Rattle.dma_frames.specs.Loan.{Lending}
 use Rattle.dma_frames.specs.Table.{Table}
-use Rattle.driver_history.specs.Holds.{Runs}
+use Rattle.driver_history.specs.Holds.{EngineRuns}
 use Rattle.error_recovery.specs.Recovery.{EndsAsNext}
 use Rattle.error_recovery.specs.declared.Next.{Next}
 use Rattle.error_recovery.specs.declared.Next.TheVariants as next
@@ -38,16 +38,16 @@ use Rattle.host_boot.specs.declared.ProbeResult.TheVariants.{Unserved, Ready, Un
 use Rattle.identify.specs.Wanted.{serial_of}
 use Rattle.identify.specs.declared.DiskInfo.{DiskInfo}
 use Rattle.identify.specs.declared.wanted.Wanted.{Wanted}
-use Rattle.port_boot.specs.States.{EndsAs, ShowsOwnDisk}
+use Rattle.port_boot.specs.States.{BacksState, HasDiskIfShown}
 use Rattle.port_control.specs.Ports.{BacksFault}
 use Rattle.port_control.specs.declared.PortFault.TheVariants.{EngineStuck}
 use Rattle.port_control.specs.declared.Running as running_token
-use Rattle.request_queue.specs.Entries.{Held, IsAccepted, BookIsInOrder}
+use Rattle.request_queue.specs.Entries.{BookEntry, IsAccepted, BookIsInOrder}
 use Rattle.slots.specs.Uses.{PortSlots, use_at}
 use Rattle.slots.specs.declared.SlotUse.{SlotUse}
 use Rattle.server_history.specs.Below.{LawsBelow}
 use Rattle.server_history.specs.ErrorHandling.{IsRevalidated, AreUnused}
-use Rattle.server_history.specs.Server.{HasSlots, ServerState, InCallInvariant, IsMachineOf, IsPortOf, is_served, kept_at, mode_at, mode_found, mode_in, no_slots, plain_mode, slots_at, state_of, usable_of, used_for, HasTrueMark}
+use Rattle.server_history.specs.Server.{SlotsInvariant, ServerState, InCallInvariant, MachineRelation, PortInvariant, is_served, quarantined_at, mode_at, probed_mode, mode_in, no_slots, plain_mode, slots_at, state_of, usable_of, used_for, RevokedMarkInvariant}
 use Rattle.port_control.specs.declared.events.PortError.{PortError}
 use Rattle.server_history.proofs.state.PortGrounds.{left_on}
 use Rattle.server_history.proofs.recovery_turn.OtherPorts.{Passes}
@@ -61,17 +61,17 @@ use Rattle.server_history.proofs.recovery_turn.BootOrAbsence.{IsFoundAbsent, boo
 -- What stands behind a port that was found so, as a server has it.
 pub record StandsAt (wanted : Wanted) (found : ProbeResult) (port : ℕ) (d : Device) : Type 0 where
   pub behind : StillStandsBehind wanted found port d
-  pub runs : state_of found ≡ ReadyState → Runs port d
-  pub shown : FoundBadDisk (state_of found) → HasDeviceOrNone (d.port port)
-  pub own : state_of found ≡ ReadyState → ShowsOwnDisk (d.port port)
-  pub halts : state_of found ≡ ReadyState → HaltsAsTaken (d.port port)
+  pub runs : state_of found ≡ ReadyState → EngineRuns port d
+  pub shown : FoundBadDisk (state_of found) → ShowsDiskIfIn (d.port port)
+  pub own : state_of found ≡ ReadyState → HasDiskIfShown (d.port port)
+  pub halts : state_of found ≡ ReadyState → HaltIsOfTaken (d.port port)
 
-its_port : (wanted : List Wanted) (found : List ProbeResult) (port : ℕ) (d : Device) → StandsAt (wanted_of wanted port) (probe_result_of found port) port d → IsPortOf wanted found port d
+its_port : (wanted : List Wanted) (found : List ProbeResult) (port : ℕ) (d : Device) → StandsAt (wanted_of wanted port) (probe_result_of found port) port d → PortInvariant wanted found port d
 its_port wanted found port d s = record { behind = s.behind; runs = s.runs; shown = s.shown; own = s.own; halts = s.halts }
 
 -- another port is left to the device
-other_stands : LawsBelow → (port : Port) (wanted : Wanted) (found : ProbeResult) (q : ℕ) (old new : Device) → q ≢ port.0 → IsOn old → IsDrivenBy (IsOf port) old new → SameAdapter old new
-    → (found ≢ Unready DeadState → SendsNone q Identify old new) → (IsHaltedAsTaken (old.port q) → IsHaltedAsTaken (new.port q)) → StandsAt wanted found q old → StandsAt wanted found q new
+other_stands : LawsBelow → (port : Port) (wanted : Wanted) (found : ProbeResult) (q : ℕ) (old new : Device) → q ≢ port.0 → IsOn old → IsDrivenBy (SparesOtherPorts port) old new → SameAdapter old new
+    → (found ≢ Unready DeadState → GainsNoMove q Identify old new) → (HaltOfTakenIfSt (old.port q) → HaltOfTakenIfSt (new.port q)) → StandsAt wanted found q old → StandsAt wanted found q new
 other_stands laws port wanted found q old new other on driven same silent halts s = record {
   behind = left_on laws wanted found q old new same left silent s.behind;
   runs = λ ready.
@@ -93,8 +93,8 @@ other_stands laws port wanted found q old new other on driven same silent halts 
     left : LeavesPort (old.port q) (new.port q)
     left = laws.looks.other_left port q old new other on driven
 
-pub same_over : LawsBelow → (port : Port) (old new : Device) → IsDrivenBy (IsOf port) old new → SameAdapter old new
-same_over laws port old new driven = laws.looks.same_over old new (driven_as (IsOf port) AnyAccess old new (λ access is. tt) driven)
+pub same_over : LawsBelow → (port : Port) (old new : Device) → IsDrivenBy (SparesOtherPorts port) old new → SameAdapter old new
+same_over laws port old new driven = laws.looks.same_over old new (driven_as (SparesOtherPorts port) AnyAccess old new (λ access is. tt) driven)
 
 pub still_there : (port : ℕ) (old new : Device) → SameAdapter old new → HasPort old port → HasPort new port
 still_there port old new same there = (there.0, ap (λ (pi : ℕ). bit pi port) same.pi ∙ there.1)
@@ -113,7 +113,7 @@ module _ (laws : LawsBelow) (wanted : Wanted) (port : Port) (d new : Device) (on
   }
 
   -- no device showed
-  absent_then : new.pi ≡ d.pi → EndsAs (serial_of wanted) AbsentState port.0 new → StandsAt wanted (Unready AbsentState) port.0 new
+  absent_then : new.pi ≡ d.pi → BacksState (serial_of wanted) AbsentState port.0 new → StandsAt wanted (Unready AbsentState) port.0 new
   absent_then same_pi ended = record {
     behind = ((served.0, ap (λ (pi : ℕ). bit pi port.0) same_pi ∙ served.1), ended);
     runs = λ is. let z : AbsentState ≡ ReadyState = is in absurd cc;
@@ -123,7 +123,7 @@ module _ (laws : LawsBelow) (wanted : Wanted) (port : Port) (d new : Device) (on
   }
 
   module _ (booted : Booted) (b : RebootsPort wanted port booted d new) where
-    runs_as : (f : ProbeResult) → BootsStopped wanted port f b.asked new → state_of f ≡ ReadyState → Runs port.0 new
+    runs_as : (f : ProbeResult) → BootsStopped wanted port f b.asked new → state_of f ≡ ReadyState → EngineRuns port.0 new
     runs_as Unserved none is = absurd none
     runs_as (Ready info) e is = record {
       st = e.ready.runs.st;
@@ -133,22 +133,22 @@ module _ (laws : LawsBelow) (wanted : Wanted) (port : Port) (d new : Device) (on
       saw = e.ready.saw.1;
       recorded = e.news.recorded e.ready.runs.st;
     }
-    runs_as (Unready state) e is = absurd (subst (λ (s : PortState). EndsAs (serial_of wanted) s port.0 new) is e.ended)
+    runs_as (Unready state) e is = absurd (subst (λ (s : PortState). BacksState (serial_of wanted) s port.0 new) is e.ended)
 
-    halts_as : (f : ProbeResult) → BootsStopped wanted port f b.asked new → state_of f ≡ ReadyState → HaltsAsTaken (new.port port.0)
+    halts_as : (f : ProbeResult) → BootsStopped wanted port f b.asked new → state_of f ≡ ReadyState → HaltIsOfTaken (new.port port.0)
     halts_as Unserved none is = absurd none
     halts_as (Ready info) e is = e.halts
-    halts_as (Unready state) e is = absurd (subst (λ (s : PortState). EndsAs (serial_of wanted) s port.0 new) is e.ended)
+    halts_as (Unready state) e is = absurd (subst (λ (s : PortState). BacksState (serial_of wanted) s port.0 new) is e.ended)
 
-    shown_as : (f : ProbeResult) → booted.found ≡ f → FoundBadDisk (state_of f) → HasDeviceOrNone (new.port port.0)
+    shown_as : (f : ProbeResult) → booted.found ≡ f → FoundBadDisk (state_of f) → ShowsDiskIfIn (new.port port.0)
     shown_as Unserved is bad = absurd bad
     shown_as (Ready info) is bad = absurd bad
     shown_as (Unready state) is bad = laws.recovery.again_shown wanted port booted state d new on b bad is
 
     pub asked_on : IsOn b.asked
-    asked_on = laws.of_on port d b.asked on (driven_as (IsSurveyOrBoot port) (IsOf port) d b.asked (laws.recovery.start_of port) b.asks.driven)
+    asked_on = laws.of_on port d b.asked on (driven_as (IsSurveyOrBoot port) (SparesOtherPorts port) d b.asked (laws.recovery.start_of port) b.asks.driven)
 
-    own_as : state_of booted.found ≡ ReadyState → ShowsOwnDisk (new.port port.0)
+    own_as : state_of booted.found ≡ ReadyState → HasDiskIfShown (new.port port.0)
     own_as is =
         let sees = boot_sees laws port wanted booted.found b.asked new asked_on b.boots (subst ShowsDisk (sym is) tt) in
         laws.recovery.own_on port.0 sees.late.accesses sees.seen new sees.late.all sees.own
@@ -184,7 +184,7 @@ is_listed ports port served = ⊎_elim
     (cases_lt port (length ports))
 
 -- the server, with this device and book, and with the port found so, which takes commands so and uses these slots
-abbrev pub with_found : Port → Device → Table → ProbeResult → List (Option DiskInfo) → QueueMode → PortSlots → List (List Lending) → List Held → ServerState → ServerState
+abbrev pub with_found : Port → Device → Table → ProbeResult → List (Option DiskInfo) → QueueMode → PortSlots → List (List Lending) → List BookEntry → ServerState → ServerState
 with_found port device table found remembered mode its kept book s = record s {
   device = device;
   table = table;
@@ -197,16 +197,16 @@ with_found port device table found remembered mode its kept book s = record s {
 }
 
 -- What of a server has to hold then: each request was one of it before, and is of a ready port.
-pub record IsBookLeft (port : Port) (found : ProbeResult) (table : Table) (book : List Held) (s : ServerState) : Type 0 where
+pub record IsBookLeft (port : Port) (found : ProbeResult) (table : Table) (book : List BookEntry) (s : ServerState) : Type 0 where
   pub owners : table.owners ≡ s.table.owners
   pub accepted : All (IsAccepted table) book
   pub ordered : BookIsInOrder book
-  pub from : (e : Held) → Contains book e → WasIn s.book e
-  pub ready : (e : Held) → Contains book e → e.entry.port.0 ≡ port.0 → state_of found ≡ ReadyState
+  pub from : (e : BookEntry) → Contains book e → WasIn s.book e
+  pub ready : (e : BookEntry) → Contains book e → e.entry.port.0 ≡ port.0 → state_of found ≡ ReadyState
 
-module _ (laws : LawsBelow) (port : Port) (s : ServerState) (k : InCallInvariant s) (low : port.0 < 4) (device : Device) (slots : InSlots) (whole : Passes s port slots device) (table : Table)
-    (found : ProbeResult) (remembered : List (Option DiskInfo)) (mode : QueueMode) (its : PortSlots) (kept : List (List Lending)) (book : List Held)
-    (served : is_served (probe_result_of s.ports port.0) ≡ true) (stands : StandsAt (wanted_of s.wanted port.0) found port.0 device) (mode_is : mode ≡ mode_found device.cap found) (unused : AreUnused mode its)
+module _ (laws : LawsBelow) (port : Port) (s : ServerState) (k : InCallInvariant s) (low : port.0 < 4) (device : Device) (slots : DriverSlots) (whole : Passes s port slots device) (table : Table)
+    (found : ProbeResult) (remembered : List (Option DiskInfo)) (mode : QueueMode) (its : PortSlots) (kept : List (List Lending)) (book : List BookEntry)
+    (served : is_served (probe_result_of s.ports port.0) ≡ true) (stands : StandsAt (wanted_of s.wanted port.0) found port.0 device) (mode_is : mode ≡ probed_mode device.cap found) (unused : AreUnused mode its)
     (left : IsBookLeft port found table book s) where
   abbrev then_is : ServerState
   then_is = with_found port device table found remembered mode its kept book s
@@ -240,7 +240,7 @@ module _ (laws : LawsBelow) (port : Port) (s : ServerState) (k : InCallInvariant
       (λ (other : q ≢ port.0). (other, ap (λ (x : PortSlots). use_at x slot) (sym (slots_other q other)) ∙ is))
       (cases_eq q port.0)
 
-  ports_stand : (q : ℕ) → q < 4 → IsPortOf s.wanted then_is.ports q device
+  ports_stand : (q : ℕ) → q < 4 → PortInvariant s.wanted then_is.ports q device
   ports_stand q small = its_port s.wanted then_is.ports q device (⊎_elim
       (λ (same : q ≡ port.0).
       subst (λ (p : ℕ). StandsAt (wanted_of s.wanted p) (probe_result_of then_is.ports p) p device) (sym same) (subst (λ (f : ProbeResult). StandsAt (wanted_of s.wanted port.0) f port.0 device) (sym found_here) stands))
@@ -257,16 +257,16 @@ module _ (laws : LawsBelow) (port : Port) (s : ServerState) (k : InCallInvariant
       (λ (other : q ≢ port.0). k.there q (ap is_served (sym (found_other q other)) ∙ is))
       (cases_eq q port.0))
 
-  modes_are : (q : ℕ) → q < 4 → mode_at then_is.modes q ≡ mode_found device.cap (probe_result_of then_is.ports q)
+  modes_are : (q : ℕ) → q < 4 → mode_at then_is.modes q ≡ probed_mode device.cap (probe_result_of then_is.ports q)
   modes_are q small = ⊎_elim
       (λ (same : q ≡ port.0).
-      subst (λ (p : ℕ). mode_at then_is.modes p ≡ mode_found device.cap (probe_result_of then_is.ports p)) (sym same) (mode_here ∙ mode_is ∙ ap (λ (f : ProbeResult). mode_found device.cap f) (sym found_here)))
-      (λ (other : q ≢ port.0). mode_other q other ∙ k.modes q small ∙ (λ i. mode_found (sym alike.cap i) (sym (found_other q other) i)))
+      subst (λ (p : ℕ). mode_at then_is.modes p ≡ probed_mode device.cap (probe_result_of then_is.ports p)) (sym same) (mode_here ∙ mode_is ∙ ap (λ (f : ProbeResult). probed_mode device.cap f) (sym found_here)))
+      (λ (other : q ≢ port.0). mode_other q other ∙ k.modes q small ∙ (λ i. probed_mode (sym alike.cap i) (sym (found_other q other) i)))
       (cases_eq q port.0)
 
-  slots_are : (q : ℕ) → q < 4 → HasSlots then_is.ports then_is.modes then_is.slots q
+  slots_are : (q : ℕ) → q < 4 → SlotsInvariant then_is.ports then_is.modes then_is.slots q
   slots_are q small = ⊎_elim
-      (λ (same : q ≡ port.0). subst (HasSlots then_is.ports then_is.modes then_is.slots) (sym same) (record {
+      (λ (same : q ≡ port.0). subst (SlotsInvariant then_is.ports then_is.modes then_is.slots) (sym same) (record {
         places = ap (λ (x : PortSlots). length x.places) slots_here ∙ unused.places;
         usable = ap (λ (x : PortSlots). x.usable) slots_here ∙ unused.usable ∙ ap (λ (m : QueueMode). m.usable) (sym mode_here);
         unused = λ slot high. ap (λ (x : PortSlots). use_at x slot) slots_here ∙ unused.free slot;
@@ -285,28 +285,28 @@ module _ (laws : LawsBelow) (port : Port) (s : ServerState) (k : InCallInvariant
 
   -- ---- the requests
 
-  ready_one : (e : Held) → Contains book e → state_of (probe_result_of then_is.ports e.entry.port.0) ≡ ReadyState
+  ready_one : (e : BookEntry) → Contains book e → state_of (probe_result_of then_is.ports e.entry.port.0) ≡ ReadyState
   ready_one e here =
       let w = left.from e here in ⊎_elim
       (λ (same : e.entry.port.0 ≡ port.0). ap (λ (q : ℕ). state_of (probe_result_of then_is.ports q)) same ∙ ap state_of found_here ∙ left.ready e here same)
       (λ (other : e.entry.port.0 ≢ port.0).
       ap state_of (found_other e.entry.port.0 other) ∙ ap (λ (p : Port). state_of (probe_result_of s.ports p.0)) w.port
-      ∙ All-contains (λ (x : Held). state_of (probe_result_of s.ports x.entry.port.0) ≡ ReadyState) s.book w.was k.ready w.there)
+      ∙ All-contains (λ (x : BookEntry). state_of (probe_result_of s.ports x.entry.port.0) ≡ ReadyState) s.book w.was k.ready w.there)
       (cases_eq e.entry.port.0 port.0)
 
-  marked_one : (e : Held) → Contains book e → HasTrueMark s.grants e
+  marked_one : (e : BookEntry) → Contains book e → RevokedMarkInvariant s.grants e
   marked_one e here = marked_from s.grants s.book k.marked e (left.from e here)
 
-  handed_one : (e : Held) → Contains book e → e.entry.id.0 ≤ s.last
+  handed_one : (e : BookEntry) → Contains book e → e.entry.id.0 ≤ s.last
   handed_one e here =
       let w = left.from e here in
-      subst (λ (id : RequestId). id.0 ≤ s.last) (sym w.id) (All-contains (λ (x : Held). x.entry.id.0 ≤ s.last) s.book w.was k.handed_out w.there)
+      subst (λ (id : RequestId). id.0 ≤ s.last) (sym w.id) (All-contains (λ (x : BookEntry). x.entry.id.0 ≤ s.last) s.book w.was k.handed_out w.there)
 
   -- what holds of each that is left
-  each_left : (P : Held → Type 0) → ((e : Held) → Contains book e → P e) → All P book
+  each_left : (P : BookEntry → Type 0) → ((e : BookEntry) → Contains book e → P e) → All P book
   each_left P one = All-weaker (Contains book) P one book (All-contains_itself book)
 
-  kinds_are : (q : Port) (slot : ℕ) (used : SlotUse) (e : Held) → used_for then_is.slots q.0 slot ≡ Some used → Contains book e → e.entry.id ≡ used.id
+  kinds_are : (q : Port) (slot : ℕ) (used : SlotUse) (e : BookEntry) → used_for then_is.slots q.0 slot ≡ Some used → Contains book e → e.entry.id ≡ used.id
       → used.queued ≡ not (is_plain (mode_in then_is q) e.entry.op)
   kinds_are q slot used e is here same =
       let u = used_then q.0 slot used is in
@@ -315,7 +315,7 @@ module _ (laws : LawsBelow) (port : Port) (s : ServerState) (k : InCallInvariant
 
   -- ---- the whole
 
-  pub replaced_kept : length remembered ≡ 4 → length kept ≡ 4 → ((q : ℕ) → length (kept_at kept q) ≤ 32) → (machine : Machine) → IsReachable machine → IsMachineOf then_is machine → InCallInvariant then_is
+  pub replaced_kept : length remembered ≡ 4 → length kept ≡ 4 → ((q : ℕ) → length (quarantined_at kept q) ≤ 32) → (machine : Machine) → IsReachable machine → MachineRelation then_is machine → InCallInvariant then_is
   replaced_kept four_remembered four_kept few_kept machine reached is = record {
     on = whole.on;
     room = let room = k.room in let size = alike.size in omega (arith, room, size);
@@ -340,9 +340,9 @@ module _ (laws : LawsBelow) (port : Port) (s : ServerState) (k : InCallInvariant
         (o.0, subst (λ (n : ℕ). 4096 * frame.0 + 4096 ≤ n) (sym alike.size) o.1);
     accepted = left.accepted;
     ordered = left.ordered;
-    marked = each_left (HasTrueMark s.grants) marked_one;
-    handed_out = each_left (λ (e : Held). e.entry.id.0 ≤ s.last) handed_one;
-    ready = each_left (λ (e : Held). state_of (probe_result_of then_is.ports e.entry.port.0) ≡ ReadyState) ready_one;
+    marked = each_left (RevokedMarkInvariant s.grants) marked_one;
+    handed_out = each_left (λ (e : BookEntry). e.entry.id.0 ≤ s.last) handed_one;
+    ready = each_left (λ (e : BookEntry). state_of (probe_result_of then_is.ports e.entry.port.0) ≡ ReadyState) ready_one;
     machine = machine;
     reached = reached;
     stands = is;

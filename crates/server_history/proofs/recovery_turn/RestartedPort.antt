@@ -5,7 +5,7 @@ use Rattle.ata_types.specs.declared.PortState.TheVariants.{Ready as ReadyState}
 use Rattle.ata_types.specs.declared.request.Reply.{Reply}
 use Rattle.adapter.specs.declared.access.DeviceStep.{DeviceStep}
 use Rattle.refinement.specs.Driven.{AnyUse, IsSimulated}
-use Rattle.block_machine.specs.Events.{AreStepsOfCall, FindsAnother, Tick}
+use Rattle.block_machine.specs.Events.{AreStepsOfCall, UnpluggedLostDisk, Tick}
 use Rattle.block_machine.specs.Histories.{IsReachable}
 use Rattle.block_machine.specs.Ports.{SameDisk}
 use Rattle.block_machine.specs.State.{Machine}
@@ -14,8 +14,8 @@ use Rattle.port_control.specs.Looks.{IsLooking}
 use Rattle.request_queue.specs.declared.disposition.Revalidation.TheVariants.{DiskLost}
 use Rattle.server_history.specs.Below.{LawsBelow}
 use Rattle.server_history.specs.ErrorHandling.{HasResolved, IsRevalidation, HandlesPortError}
-use Rattle.server_history.specs.Server.{InCallInvariant, IsMachineOf, ServerState, ports_of, state_of}
-use Rattle.server_history.specs.Turns.{InRestart, OwesTurn, RestartsPort}
+use Rattle.server_history.specs.Server.{InCallInvariant, MachineRelation, ServerState, ports_of, state_of}
+use Rattle.server_history.specs.Turns.{InRestart, MeetsTurnDuty, RestartsPort}
 use Rattle.port_control.specs.declared.events.PortError.TheVariants.{TaskFileError, TimedOut, LinkChanged}
 use Rattle.server_history.proofs.recovery_turn.MendedPort.{dead_found, disk_same, interrupted, ready_info}
 use Rattle.server_history.proofs.recovery_turn.DecidedSteps.{DecidesTurn, nobody}
@@ -27,7 +27,7 @@ use Rattle.server_history.proofs.recovery_turn.RebootedPort.{restarts}
 use Rattle.server_history.proofs.recovery_turn.TurnParts.{evidence_by, faults_of}
 
 module _ (laws : LawsBelow) (port : Port) (replies : List Reply) (old new : ServerState) (k : InCallInvariant old) (ready : state_of (probe_result_of old.ports port.0) ≡ ReadyState) (r : HandlesPortError port replies old new)
-    (looks : IsSimulated (IsLooking port) AnyUse old.device r.settled.error_handled.seen) (kept : InCallInvariant r.mid) (evident : IsEvident port replies old new r) (m : Machine) (reached : IsReachable m) (is : IsMachineOf old m)
+    (looks : IsSimulated (IsLooking port) AnyUse old.device r.settled.error_handled.seen) (kept : InCallInvariant r.mid) (evident : IsEvident port replies old new r) (m : Machine) (reached : IsReachable m) (is : MachineRelation old m)
     (d : DecidesTurn port replies old new r (evidence_by r.settled) m) (hung : r.settled.error_handled.port_error ≡ TimedOut) where
   abbrev a : HasResolved port r.later old r.mid
   a = r.settled
@@ -42,7 +42,7 @@ module _ (laws : LawsBelow) (port : Port) (replies : List Reply) (old new : Serv
   belongs = belong_tick (ports_of new) d.steps (d.gives unfailed) d.belong
 
   -- who is told Unplugged had another disk
-  another : FindsAnother d.steps (ports_of old) (ports_of new)
+  another : UnpluggedLostDisk d.steps (ports_of old) (ports_of new)
   another e here =
       let why = d.unplugged e here in
       let told : IsRevalidation a.error_handled.port_error a.was a.found DiskLost = subst (IsRevalidation a.error_handled.port_error a.was a.found) why.0 a.expects in
@@ -64,5 +64,5 @@ module _ (laws : LawsBelow) (port : Port) (replies : List Reply) (old new : Serv
     disk = evident.had m is d.steps d.backed;
   }
 
-  pub owes : OwesTurn InRestart port evident.accesses old new m (evidence_by a) d.steps
+  pub owes : MeetsTurnDuty InRestart port evident.accesses old new m (evidence_by a) d.steps
   owes = (restarted, ap faults_of (nobody laws port replies old new k ready r looks kept unfailed))

@@ -11,7 +11,7 @@ use Rattle.block_machine.specs.Due.{mark_waiting, of_port, without_request, with
 use Rattle.block_machine.specs.declared.due.Unanswered.{Unanswered}
 use Rattle.server_history.proofs.state.ListMembers.{map_in}
 use Rattle.host_boot.specs.declared.ProbeResult.TheVariants.{Unserved}
-use Rattle.request_queue.specs.Entries.{Held, BookIsInOrder, asks, asks_of, due_ids, is_of}
+use Rattle.request_queue.specs.Entries.{BookEntry, BookIsInOrder, asks, asks_of, due_ids, is_of}
 use Rattle.request_queue.specs.Dispositions.{Holdings, AreResolved, IsResolved, disposition_of}
 use Rattle.request_queue.specs.declared.PendingRequest.{PendingRequest}
 use Rattle.request_queue.specs.declared.disposition.Disposition.{Disposition}
@@ -97,7 +97,7 @@ module _ (q : Port) (id : RequestId) where
 
 module _ (laws : LawsBelow) (q : Port) where
   -- one request met its fate
-  one_apart : (e : Held) (disposition : Disposition) (replies : List Reply) (old new : Holdings) → IsResolved e disposition replies old new → IsNoneOf q e.entry.id (asks_of old.book)
+  one_apart : (e : BookEntry) (disposition : Disposition) (replies : List Reply) (old new : Holdings) → IsResolved e disposition replies old new → IsNoneOf q e.entry.id (asks_of old.book)
       → (of_port q (asks_of new.book) ≡ of_port q (asks_of old.book)) × ((id : RequestId) → IsNoneOf q id (asks_of old.book) → IsNoneOf q id (asks_of new.book))
   one_apart e Wait replies old new meets none =
       let same : asks_of new.book ≡ asks_of old.book = ap (λ (h : Holdings). asks_of h.book) meets.1 in
@@ -110,33 +110,33 @@ module _ (laws : LawsBelow) (q : Port) where
       (ap (of_port q) same ∙ none_apart q e.entry.id (asks_of old.book) none, λ id is. subst (IsNoneOf q id) (sym same) (none_none q e.entry.id id (asks_of old.book) is))
 
   -- and so did these
-  pub fates_apart : (disposition : PendingRequest → Disposition) (requests : List Held) (replies : List Reply) (old new : Holdings) → AreResolved disposition requests replies old new → All (λ (e : Held). IsNoneOf q e.entry.id (asks_of old.book)) requests
+  pub fates_apart : (disposition : PendingRequest → Disposition) (requests : List BookEntry) (replies : List Reply) (old new : Holdings) → AreResolved disposition requests replies old new → All (λ (e : BookEntry). IsNoneOf q e.entry.id (asks_of old.book)) requests
       → of_port q (asks_of new.book) ≡ of_port q (asks_of old.book)
   fates_apart disposition [] replies old new meets none = ap (λ (h : Holdings). of_port q (asks_of h.book)) meets.1
   fates_apart disposition (e ∷ requests) replies old new (mid, its, later, split, one, more) none =
-      let x = one_apart e (disposition e.entry) its old mid one (All-head (λ (e : Held). IsNoneOf q e.entry.id (asks_of old.book)) e requests none) in
+      let x = one_apart e (disposition e.entry) its old mid one (All-head (λ (e : BookEntry). IsNoneOf q e.entry.id (asks_of old.book)) e requests none) in
       fates_apart disposition requests later mid new more
-      (All-weaker (λ (e : Held). IsNoneOf q e.entry.id (asks_of old.book)) (λ (e : Held). IsNoneOf q e.entry.id (asks_of mid.book)) (λ e is. x.1 e.entry.id is) requests
-      (All-tail (λ (e : Held). IsNoneOf q e.entry.id (asks_of old.book)) e requests none))
+      (All-weaker (λ (e : BookEntry). IsNoneOf q e.entry.id (asks_of old.book)) (λ (e : BookEntry). IsNoneOf q e.entry.id (asks_of mid.book)) (λ e is. x.1 e.entry.id is) requests
+      (All-tail (λ (e : BookEntry). IsNoneOf q e.entry.id (asks_of old.book)) e requests none))
       ∙ x.0
 
   -- no request of one port has the id of one of another
-  pub none_of_one : (port : Port) (book : List Held) → q ≢ port → BookIsInOrder book → (e : Held) → Contains book e × (e.entry.port ≡ port) → IsNoneOf q e.entry.id (asks_of book)
+  pub none_of_one : (port : Port) (book : List BookEntry) → q ≢ port → BookIsInOrder book → (e : BookEntry) → Contains book e × (e.entry.port ≡ port) → IsNoneOf q e.entry.id (asks_of book)
   none_of_one port book ne order e its = All-weaker (Contains (asks_of book)) (λ (r : Unanswered). r.port ≡ q → r.id ≢ e.entry.id) (λ r there is same.
-      let y = map_in (λ (x : Held). asks x.entry) book r there in
+      let y = map_in (λ (x : BookEntry). asks x.entry) book r there in
       let one : y.0 ≡ e = laws.one book y.0 e order y.1 its.0 (sym (ap (λ (u : Unanswered). u.id) y.2) ∙ same) in
-      ne (sym is ∙ ap (λ (u : Unanswered). u.port) y.2 ∙ ap (λ (x : Held). x.entry.port) one ∙ its.1)) (asks_of book) (All-contains_itself (asks_of book))
+      ne (sym is ∙ ap (λ (u : Unanswered). u.port) y.2 ∙ ap (λ (x : BookEntry). x.entry.port) one ∙ its.1)) (asks_of book) (All-contains_itself (asks_of book))
 
-  pub none_of_port : (port : Port) (book : List Held) → q ≢ port → BookIsInOrder book → All (λ (e : Held). IsNoneOf q e.entry.id (asks_of book)) (requests_of port book)
+  pub none_of_port : (port : Port) (book : List BookEntry) → q ≢ port → BookIsInOrder book → All (λ (e : BookEntry). IsNoneOf q e.entry.id (asks_of book)) (requests_of port book)
   none_of_port port book ne order =
-      All-weaker (Contains (requests_of port book)) (λ (e : Held). IsNoneOf q e.entry.id (asks_of book)) (λ e here. none_of_one port book ne order e (booked e here, its_port e here)) (requests_of port book)
+      All-weaker (Contains (requests_of port book)) (λ (e : BookEntry). IsNoneOf q e.entry.id (asks_of book)) (λ e here. none_of_one port book ne order e (booked e here, its_port e here)) (requests_of port book)
       (All-contains_itself (requests_of port book))
     where
-      its_port : (e : Held) → Contains (requests_of port book) e → e.entry.port ≡ port
-      its_port e here = ap (λ (n : ℕ). record { 0 = n }) (eqb-true e.entry.port.0 port.0 (All-contains (λ (x : Held). is_of port x.entry ≡ true) (requests_of port book) e (filter_passes (λ (x : Held). is_of port x.entry) book) here))
+      its_port : (e : BookEntry) → Contains (requests_of port book) e → e.entry.port ≡ port
+      its_port e here = ap (λ (n : ℕ). record { 0 = n }) (eqb-true e.entry.port.0 port.0 (All-contains (λ (x : BookEntry). is_of port x.entry ≡ true) (requests_of port book) e (filter_passes (λ (x : BookEntry). is_of port x.entry) book) here))
 
-      booked : (e : Held) → Contains (requests_of port book) e → Contains book e
-      booked e here = All-contains (Contains book) (requests_of port book) e (All-filter (λ (x : Held). is_of port x.entry) (Contains book) book (All-contains_itself book)) here
+      booked : (e : BookEntry) → Contains (requests_of port book) e → Contains book e
+      booked e here = All-contains (Contains book) (requests_of port book) e (All-filter (λ (x : BookEntry). is_of port x.entry) (Contains book) book (All-contains_itself book)) here
 
 -- ---- the whole
 

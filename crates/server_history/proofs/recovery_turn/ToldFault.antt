@@ -25,15 +25,15 @@ use Rattle.block_machine.specs.Steps.{Answer, May, Step}
 use Rattle.server_history.proofs.state.ListMembers.{contains_cases, contains_here, map_in, in_filter}
 use Rattle.driver_history.specs.Histories.{IsAnsweredFaulty, IsIssuedOn}
 use Rattle.identify.specs.declared.error_log.FailedSlot.{FailedSlot}
-use Rattle.error_recovery.specs.Recovery.{MayRecover, Rests, TellsRecovery}
+use Rattle.error_recovery.specs.Recovery.{MayRecover, BacksFailure, TellsRecovery}
 use Rattle.error_recovery.specs.declared.Next.{Next}
 use Rattle.error_recovery.specs.declared.Next.TheVariants as next
 use Rattle.host_boot.specs.Taken.{probe_result_of}
 use Rattle.port_control.specs.Looks.{IsLooking}
 use Rattle.port_control.specs.declared.events.PortError.{PortError}
 use Rattle.port_control.specs.declared.events.PortError.TheVariants.{TaskFileError}
-use Rattle.request_queue.specs.Entries.{Held, is_of}
-use Rattle.request_queue.specs.Dispositions.{Holdings, AreResolved, IsResolved, disposition_of, disposition_on, reply_to}
+use Rattle.request_queue.specs.Entries.{BookEntry, is_of}
+use Rattle.request_queue.specs.Dispositions.{Holdings, AreResolved, IsResolved, disposition_of, disposition_of_unfailed, reply_to}
 use Rattle.request_queue.specs.declared.PendingRequest.{PendingRequest}
 use Rattle.request_queue.specs.declared.disposition.FailedRequest.{FailedRequest}
 use Rattle.request_queue.specs.declared.disposition.Disposition.{Disposition}
@@ -41,9 +41,9 @@ use Rattle.request_queue.specs.declared.disposition.Disposition.TheVariants.{Com
 use Rattle.request_queue.specs.declared.disposition.Revalidation.{Revalidation}
 use Rattle.slots.specs.declared.SlotUse.{SlotUse}
 use Rattle.server_history.specs.Below.{LawsBelow}
-use Rattle.server_history.specs.ErrorHandling.{IsFailed, ErrorIsFound, IsErrorHandled, HasResolved, HandlesPortError, holdings_of, requests_of, TellsErrorHandling}
+use Rattle.server_history.specs.ErrorHandling.{IsFailedRequest, ErrorIsFound, IsErrorHandled, HasResolved, HandlesPortError, holdings_of, requests_of, TellsErrorHandling}
 use Rattle.server_history.specs.Served.{AnswersEach, is_used}
-use Rattle.server_history.specs.Server.{ServerState, InCallInvariant, IsMachineOf, ports_of, slots_at, state_of, used_for}
+use Rattle.server_history.specs.Server.{ServerState, InCallInvariant, MachineRelation, ports_of, slots_at, state_of, used_for}
 use Rattle.server_history.specs.Turns.{IsOfTurn}
 use Rattle.server_history.proofs.healthy_turn.OneAnswer.{answer_kept}
 use Rattle.server_history.proofs.recovery_turn.MendedPort.{next_dead, state_new}
@@ -63,7 +63,7 @@ use Rattle.server_history.proofs.state.FirstMembers.{nowhere}
 -- ---- what wasn't done
 
 -- a slot that wasn't found done is used still
-left_used : (laws : LawsBelow) (port : Port) → port.0 < 4 → (done : ℕ) (requests : List Held) (old new : ServerState) → InCallInvariant old → state_of (probe_result_of old.ports port.0) ≡ ReadyState → AreOver port done old.device
+left_used : (laws : LawsBelow) (port : Port) → port.0 < 4 → (done : ℕ) (requests : List BookEntry) (old new : ServerState) → InCallInvariant old → state_of (probe_result_of old.ports port.0) ≡ ReadyState → AreOver port done old.device
     → AnswersEach port done requests old new → (slot : ℕ) (used : SlotUse) → bit done slot ≡ false → used_for old.slots port.0 slot ≡ Some used → used_for new.slots port.0 slot ≡ Some used
 left_used laws port low done [] old new k ready over none slot used clear is = ap (λ (n : ServerState). used_for n.slots port.0 slot) none ∙ is
 left_used laws port low done (e ∷ requests) old new k ready over (mid, one, its, more) slot used clear is =
@@ -77,13 +77,13 @@ left_used laws port low done (e ∷ requests) old new k ready over (mid, one, it
 -- ---- what is told
 
 -- who ends is told so
-fate_told : (disposition : PendingRequest → Disposition) (requests : List Held) (replies : List Reply) (old new : Holdings) → AreResolved disposition requests replies old new → (e : Held) (o : Outcome) → Contains requests e → disposition e.entry ≡ Complete o
+fate_told : (disposition : PendingRequest → Disposition) (requests : List BookEntry) (replies : List Reply) (old new : Holdings) → AreResolved disposition requests replies old new → (e : BookEntry) (o : Outcome) → Contains requests e → disposition e.entry ≡ Complete o
     → Contains replies (reply_to e o)
 fate_told disposition [] replies old new none e o here ends = absurd (nowhere e here)
 fate_told disposition (request ∷ requests) replies old new (mid, its, later, split, meets, more) e o here ends = subst (λ (list : List Reply). Contains list (reply_to e o)) (sym split) (⊎_elim
     (λ (same : e ≡ request).
-    let m : IsResolved request (Complete o) its old mid = subst (λ (f : Disposition). IsResolved request f its old mid) (ap (λ (h : Held). disposition h.entry) (sym same) ∙ ends) meets in
-    Contains-append_left its later (reply_to e o) (subst (λ (list : List Reply). Contains list (reply_to e o)) (sym m.0) (contains_here (reply_to request o) [] (reply_to e o) (ap (λ (h : Held). reply_to h o) same))))
+    let m : IsResolved request (Complete o) its old mid = subst (λ (f : Disposition). IsResolved request f its old mid) (ap (λ (h : BookEntry). disposition h.entry) (sym same) ∙ ends) meets in
+    Contains-append_left its later (reply_to e o) (subst (λ (list : List Reply). Contains list (reply_to e o)) (sym m.0) (contains_here (reply_to request o) [] (reply_to e o) (ap (λ (h : BookEntry). reply_to h o) same))))
     (λ (there : Contains requests e). Contains-append_right its later (reply_to e o) (fate_told disposition requests later mid new more e o there ends))
     (contains_cases request requests e here))
 
@@ -99,12 +99,12 @@ answer_stood laws port m (step ∷ steps) may own e o here = ⊎_elim
 failed_fate : (its : FailedRequest) (failed : Option FailedRequest) (revalidation : Revalidation) (e : PendingRequest) → failed ≡ Some its → its.id ≡ e.id → disposition_of failed revalidation e ≡ Complete (outcome.DeviceError its.status its.error)
 failed_fate its failed revalidation e is same =
     ap (λ (f : Option FailedRequest). disposition_of f revalidation e) is
-    ∙ ap (λ (b : Bool). if b then Complete (outcome.DeviceError its.status its.error) else disposition_on revalidation e) (eq-eqb its.id.0 e.id.0 (ap (λ (i : RequestId). i.0) same))
+    ∙ ap (λ (b : Bool). if b then Complete (outcome.DeviceError its.status its.error) else disposition_of_unfailed revalidation e) (eq-eqb its.id.0 e.id.0 (ap (λ (i : RequestId). i.0) same))
 
 -- ---- the whole
 
 module _ (laws : LawsBelow) (port : Port) (replies : List Reply) (old new : ServerState) (k : InCallInvariant old) (ready : state_of (probe_result_of old.ports port.0) ≡ ReadyState) (r : HandlesPortError port replies old new)
-    (looks : IsSimulated (IsLooking port) AnyUse old.device r.settled.error_handled.seen) (kept : InCallInvariant r.mid) (m : Machine) (reached : IsReachable m) (is : IsMachineOf old m)
+    (looks : IsSimulated (IsLooking port) AnyUse old.device r.settled.error_handled.seen) (kept : InCallInvariant r.mid) (m : Machine) (reached : IsReachable m) (is : MachineRelation old m)
     (d : DecidesTurn port replies old new r (evidence_by r.settled) m) where
   abbrev a : HasResolved port r.later old r.mid
   a = r.settled
@@ -181,17 +181,17 @@ module _ (laws : LawsBelow) (port : Port) (replies : List Reply) (old new : Serv
     request = served_request a.mid then_kept.machine port.0 slot then_kept.stands then_ready used.id (serves_used a.mid then_kept.machine port.0 then_kept.stands then_ready slot used still)
 
     in_its : Contains (requests_of port a.mid.book) request.request
-    in_its = in_filter (λ (y : Held). is_of port y.entry) a.mid.book request.request request.there (eq-eqb request.request.entry.port.0 port.0 request.port_is)
+    in_its = in_filter (λ (y : BookEntry). is_of port y.entry) a.mid.book request.request request.there (eq-eqb request.request.entry.port.0 port.0 request.port_is)
 
     module _ (e : Pending) (here : Contains m.book e) (id_is : used.id ≡ e.request.id) where
       told : (its_failure : FailedSlot) → x.result.failed ≡ Some its_failure → IsAnsweredFaulty e d.steps
-      told its_failure named = by (subst (λ (f : Option FailedSlot). IsFailed (slots_at a.mid.slots port.0) f a.failed) named a.names)
+      told its_failure named = by (subst (λ (f : Option FailedSlot). IsFailedRequest (slots_at a.mid.slots port.0) f a.failed) named a.names)
         where
           zero_named : its_failure.slot.0 ≡ 0
-          zero_named = (subst (λ (queued : Bool). Rests queued port x.outstanding x.handling.accesses a.mid.device a.device (Some its_failure)) mid_queued
-              (subst (Rests x.queued port x.outstanding x.handling.accesses a.mid.device a.device) named x.handling.tells.rests)).slot_is
+          zero_named = (subst (λ (queued : Bool). BacksFailure queued port x.outstanding x.handling.accesses a.mid.device a.device (Some its_failure)) mid_queued
+              (subst (BacksFailure x.queued port x.outstanding x.handling.accesses a.mid.device a.device) named x.handling.tells.rests)).slot_is
 
-          by : IsFailed (slots_at a.mid.slots port.0) (Some its_failure) a.failed → IsAnsweredFaulty e d.steps
+          by : IsFailedRequest (slots_at a.mid.slots port.0) (Some its_failure) a.failed → IsAnsweredFaulty e d.steps
           by (other, at, names) =
               let z : Some other ≡ Some used = sym at ∙ ap (used_for a.mid.slots port.0) (zero_named ∙ sym is_zero) ∙ still in
               let same : other ≡ used = cc in

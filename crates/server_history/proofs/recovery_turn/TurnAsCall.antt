@@ -11,14 +11,14 @@ use Rattle.refinement.specs.Recovering.{WorksPlainly}
 use Rattle.block_machine.specs.Events.{Service}
 use Rattle.block_machine.specs.Histories.{IsReachable}
 use Rattle.block_machine.specs.State.{Machine}
-use Rattle.driver_history.specs.Histories.{IsUnfitOrForeign, HasFaultAlone}
+use Rattle.driver_history.specs.Histories.{HasUnservedDisk, HasOnlyTaskFileError}
 use Rattle.host_boot.specs.Taken.{probe_result_of}
 use Rattle.port_control.specs.Looks.{IsLooking}
 use Rattle.port_control.specs.declared.events.PortError.{PortError}
 use Rattle.port_control.specs.declared.events.PortError.TheVariants.{FatalError, TaskFileError, TimedOut, LinkChanged}
 use Rattle.server_history.specs.Below.{LawsBelow}
-use Rattle.server_history.specs.ErrorHandling.{AreQueued, HandlesPortError}
-use Rattle.server_history.specs.Server.{ServerState, InCallInvariant, IsMachineOf, ports_of, slots_at, state_of}
+use Rattle.server_history.specs.ErrorHandling.{AreAllQueuedAs, HandlesPortError}
+use Rattle.server_history.specs.Server.{ServerState, InCallInvariant, MachineRelation, ports_of, slots_at, state_of}
 use Rattle.server_history.specs.Turns.{HandlesShownErrors, InService, TurnCorresponds, joint_state_of}
 use Rattle.server_history.proofs.recovery_turn.DecidedSteps.{DecidesTurn}
 use Rattle.server_history.proofs.recovery_turn.TurnEvidence.{IsEvident}
@@ -34,17 +34,17 @@ use Rattle.server_history.proofs.recovery_turn.TurnParts.{evidence_by, fatal_of,
 use Rattle.server_history.proofs.state.PortSlots.{ready_found}
 use Rattle.server_history.proofs.recovery_turn.HealthyPort.{going_well}
 use Rattle.server_history.proofs.state.FirstMembers.{first_here}
-use Rattle.refinement.specs.Links.{IsPlugging}
+use Rattle.refinement.specs.Links.{IsPlugEvent}
 
 module _ (laws : LawsBelow) (port : Port) (replies : List Reply) (old new : ServerState) (k : InCallInvariant old) (ready : state_of (probe_result_of old.ports port.0) ≡ ReadyState) (r : HandlesPortError port replies old new)
     (looks : IsSimulated (IsLooking port) AnyUse old.device r.settled.error_handled.seen) (kept : InCallInvariant r.mid) (evident : IsEvident port replies old new r)
-    (m : Machine) (reached : IsReachable m) (is : IsMachineOf old m)
+    (m : Machine) (reached : IsReachable m) (is : MachineRelation old m)
     (d : DecidesTurn port replies old new r (evidence_by r.settled) m) where
   -- the port was ready when the turn began
   not_absent : (ports_of old).state port ≡ shown.Absent → ⊥
   not_absent absent = let z : ReadyState ≡ shown.Absent = sym ready ∙ absent in cc
 
-  not_bad : IsUnfitOrForeign (ports_of old) port → ⊥
+  not_bad : HasUnservedDisk (ports_of old) port → ⊥
   not_bad bad = ⊎_elim
       (λ foreign. let z : ReadyState ≡ shown.Foreign = sym ready ∙ foreign in absurd cc)
       (λ unfit. let z : ReadyState ≡ shown.Unfit unfit.0 = sym ready ∙ unfit.1 in absurd cc)
@@ -58,10 +58,10 @@ module _ (laws : LawsBelow) (port : Port) (replies : List Reply) (old new : Serv
 
   -- with plain commands outstanding, it has worked on plain ones alone
   plainly : r.settled.error_handled.queued ≡ false → WorksPlainly (r.settled.mid.device.port port.0)
-  plainly plain = works_plainly laws r.settled.mid then_kept port then_ready (subst (λ (queued : Bool). AreQueued queued (slots_at r.settled.mid.slots port.0)) plain r.settled.error_handled.alike) ((then_kept.behind port.0 (ready_found old port.0 k ready).0).halts then_ready)
+  plainly plain = works_plainly laws r.settled.mid then_kept port then_ready (subst (λ (queued : Bool). AreAllQueuedAs queued (slots_at r.settled.mid.slots port.0)) plain r.settled.error_handled.alike) ((then_kept.behind port.0 (ready_found old port.0 k ready).0).halts then_ready)
 
   -- where TFES alone was shown, and no fatal error came, a command had failed
-  failing : r.settled.error_handled.port_error ≢ TimedOut → HasFaultAlone port (joint_state_of old m) new.device → r.settled.error_handled.port_error ≡ TaskFileError
+  failing : r.settled.error_handled.port_error ≢ TimedOut → HasOnlyTaskFileError port (joint_state_of old m) new.device → r.settled.error_handled.port_error ≡ TaskFileError
   failing unhung alone = by r.settled.error_handled.port_error refl
     where
       by : (t : PortError) → r.settled.error_handled.port_error ≡ t → r.settled.error_handled.port_error ≡ TaskFileError
@@ -72,7 +72,7 @@ module _ (laws : LawsBelow) (port : Port) (replies : List Reply) (old new : Serv
       by LinkChanged is =
           let here : Contains (gone_of port r.settled.error_handled.port_error (old.device.port port.0)) port = subst (λ (t : PortError). Contains (gone_of port t (old.device.port port.0)) port) (sym is) (first_here port []) in
           absurd (⊎_elim alone.shows.change
-          (λ more. ⊎_elim (λ (out : (old.device.port port.0).ssts_det ≢ 3). out alone.shows.device) (gains_none (IsPlugging port.0) old.device new.device alone.plugged.gained alone.plugged.tape alone.plugged.none) more)
+          (λ more. ⊎_elim (λ (out : (old.device.port port.0).ssts_det ≢ 3). out alone.shows.device) (gains_none (IsPlugEvent port.0) old.device new.device alone.plugged.gained alone.plugged.tape alone.plugged.none) more)
           ((evident.evidenced Service m).gone_only here).1)
       by TimedOut is = absurd (unhung is)
 

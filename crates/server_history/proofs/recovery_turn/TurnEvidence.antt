@@ -13,10 +13,10 @@ use Rattle.adapter.specs.Access.{Access, DoesAll}
 use Rattle.adapter.specs.Device.{Device}
 use Rattle.adapter.specs.declared.command.Operation.TheVariants.{ReadLog}
 use Rattle.adapter.specs.declared.tape.Fault as tape_fault
-use Rattle.refinement.specs.Driven.{AnyUse, Grows, IsSimulated, IsOf, SendsNone}
+use Rattle.refinement.specs.Driven.{AnyUse, Grows, IsSimulated, SparesOtherPorts, GainsNoMove}
 use Rattle.refinement.specs.Driver.{IsBacked}
-use Rattle.refinement.specs.Links.{SparesRegister}
-use Rattle.block_machine.specs.Events.{Ask, HadDisk, Served, ShowsDisk, changes_disk}
+use Rattle.refinement.specs.Links.{DoesNotWrite}
+use Rattle.block_machine.specs.Events.{AbstractCall, ShowsRealDisk, Served, ShowsDisk, changes_disk}
 use Rattle.adapter.specs.declared.access.DeviceStep.{DeviceStep}
 use Rattle.block_machine.specs.Left.{after}
 use Rattle.block_machine.specs.Ports.{RequestFault, IsServiced}
@@ -26,7 +26,7 @@ use Rattle.server_history.proofs.state.ListMembers.{contains_cases}
 use Rattle.driver_history.specs.Evidence.{IsEvidencedOf}
 use Rattle.driver_history.specs.Trace.{IsDriversOwn}
 use Rattle.error_recovery.specs.Evidence.{HasFailed}
-use Rattle.error_recovery.specs.Recovery.{EndsAsNext, Rests, TellsEngine}
+use Rattle.error_recovery.specs.Recovery.{EndsAsNext, BacksFailure, TellsEngine}
 use Rattle.error_recovery.specs.declared.Next.{Next}
 use Rattle.error_recovery.specs.declared.Next.TheVariants as next
 use Rattle.identify.specs.declared.error_log.FailedSlot.{FailedSlot}
@@ -35,16 +35,16 @@ use Rattle.host_boot.specs.declared.ProbeResult.TheVariants.{Ready, Unready}
 use Rattle.port_control.specs.Engines.{Sticks, Stops}
 use Rattle.port_control.specs.Looks.{IsLooking, LooksAt}
 use Rattle.port_control.specs.declared.events.PortEvent.{PortEvent}
-use Rattle.request_queue.specs.Entries.{Held, asks_of, due_ids}
+use Rattle.request_queue.specs.Entries.{BookEntry, asks_of, due_ids}
 use Rattle.request_queue.specs.declared.disposition.FailedRequest as failed_request
 use Rattle.request_queue.specs.declared.disposition.Revalidation.TheVariants.{DiskLost}
 use Rattle.slots.specs.Uses.{use_at}
 use Rattle.slots.specs.declared.SlotUse.{SlotUse}
 use Rattle.server_history.specs.Below.{LawsBelow}
 use Rattle.server_history.proofs.any_turn.ShownTrouble.{grows_over}
-use Rattle.server_history.specs.ErrorHandling.{IsFailed, IsRevalidated, ErrorIsFound, IsRevalidation, IsErrorHandled, HasResolved, HandlesPortError}
+use Rattle.server_history.specs.ErrorHandling.{IsFailedRequest, IsRevalidated, ErrorIsFound, IsRevalidation, IsErrorHandled, HasResolved, HandlesPortError}
 use Rattle.server_history.specs.Served.{AnswersEach}
-use Rattle.server_history.specs.Server.{ServerState, InCallInvariant, IsMachineOf, ports_of, slots_at, state_of, used_for, mode_in}
+use Rattle.server_history.specs.Server.{ServerState, InCallInvariant, MachineRelation, ports_of, slots_at, state_of, used_for, mode_in}
 use Rattle.server_history.specs.Turns.{IsOfCommand, LeavesOthers, NamesOnly, TellsFault, joint_state_of, abstract_state_of}
 use Rattle.server_history.proofs.healthy_turn.OneAnswer.{answer_kept}
 use Rattle.server_history.proofs.recovery_turn.SparedPorts.{leaves_others}
@@ -92,7 +92,7 @@ module _ (laws : LawsBelow) (port : Port) (early part late : List Access) where
 -- ---- slots
 
 -- what a slot is used for once requests were answered, it was used for before
-pub slots_were : (laws : LawsBelow) (port : Port) → port.0 < 4 → (done : ℕ) (requests : List Held) (old new : ServerState) → InCallInvariant old → state_of (probe_result_of old.ports port.0) ≡ ReadyState → AreOver port done old.device → AnswersEach port done requests old new
+pub slots_were : (laws : LawsBelow) (port : Port) → port.0 < 4 → (done : ℕ) (requests : List BookEntry) (old new : ServerState) → InCallInvariant old → state_of (probe_result_of old.ports port.0) ≡ ReadyState → AreOver port done old.device → AnswersEach port done requests old new
     → (slot : ℕ) (used : SlotUse) → used_for new.slots port.0 slot ≡ Some used → used_for old.slots port.0 slot ≡ Some used
 slots_were laws port low done [] old new k ready over none slot used is = ap (λ (n : ServerState). used_for n.slots port.0 slot) (sym none) ∙ is
 slots_were laws port low done (e ∷ requests) old new k ready over (mid, one, its, more) slot used is =
@@ -110,16 +110,16 @@ pub record IsEvident (port : Port) (replies : List Reply) (old new : ServerState
   pub accesses : List Access
   pub accesses_are : accesses ≡ accesses_in parts
   pub does : DoesAll accesses old.device new.device
-  pub of : All (IsOf port) accesses
+  pub of : All (SparesOtherPorts port) accesses
   pub own : All IsDriversOwn accesses
   pub others : LeavesOthers port old new
-  pub silent : (q : ℕ) → q ≢ port.0 → state_of (probe_result_of old.ports q) ≢ DeadState → SendsNone q ReadLog old.device new.device
+  pub silent : (q : ℕ) → q ≢ port.0 → state_of (probe_result_of old.ports q) ≢ DeadState → GainsNoMove q ReadLog old.device new.device
   pub names : NamesOnly port (evidence_by r.settled)
   pub becomes : IsServiced (ports_of old) (evidence_by r.settled) (ports_of new) port
-  pub evidenced : (ask : Ask DeviceStep) (m : Machine) → IsEvidencedOf ask (Served replies) accesses (joint_state_of old m) (ports_of new) new.device (evidence_by r.settled) port
+  pub evidenced : (ask : AbstractCall DeviceStep) (m : Machine) → IsEvidencedOf ask (Served replies) accesses (joint_state_of old m) (ports_of new) new.device (evidence_by r.settled) port
   pub faults : (told : RequestFault) → Contains (evidence_by r.settled).faults told → TellsFault port accesses old new told
-  pub had : (m : Machine) → IsMachineOf old m → (steps : List Step) → IsBacked old.device new.device m steps
-      → HadDisk (abstract_state_of old m) steps (abstract_state_of new (after m steps)) port
+  pub had : (m : Machine) → MachineRelation old m → (steps : List Step) → IsBacked old.device new.device m steps
+      → ShowsRealDisk (abstract_state_of old m) steps (abstract_state_of new (after m steps)) port
 
 module _ (laws : LawsBelow) (port : Port) (replies : List Reply) (old new : ServerState) (k : InCallInvariant old) (ready : state_of (probe_result_of old.ports port.0) ≡ ReadyState) (r : HandlesPortError port replies old new)
     (looks : IsSimulated (IsLooking port) AnyUse old.device r.settled.error_handled.seen) (kept : InCallInvariant r.mid) where
@@ -162,10 +162,10 @@ module _ (laws : LawsBelow) (port : Port) (replies : List Reply) (old new : Serv
       by (next.Restart token) is = t.stuck dead (λ e. let z : next.Restart token ≡ next.Dead = sym is ∙ e in cc)
       by next.Dead is =
           let still : IsRevalidated (wanted_of old.wanted port.0) port x.port_error a.was next.Dead a.device r.mid.device a.found = subst (λ (n : Next). IsRevalidated (wanted_of old.wanted port.0) port x.port_error a.was n a.device r.mid.device a.found) is a.is in
-          ap (λ (s : ServerState). (s.device.port port.0).notes.engine_count) (t.unissued dead) ∙ ap (λ (d : Device). (d.port port.0).notes.engine_count) still.1
+          ap (λ (s : ServerState). (s.device.port port.0).notes.engine_count) (t.with_issue_undone dead) ∙ ap (λ (d : Device). (d.port port.0).notes.engine_count) still.1
           ∙ ends_stuck laws port [] [] [] x.queued x.result.next a.mid.device a.device x.handling.leaves.ends is
 
-  evidenced : (ask : Ask DeviceStep) (m : Machine) → IsEvidencedOf ask (Served replies) (accesses_in t) (joint_state_of old m) (ports_of new) new.device (its laws port replies old new k ready r looks kept) port
+  evidenced : (ask : AbstractCall DeviceStep) (m : Machine) → IsEvidencedOf ask (Served replies) (accesses_in t) (joint_state_of old m) (ports_of new) new.device (its laws port replies old new k ready r looks kept) port
   evidenced ask m = record {
     lost = λ here.
         let other = lost_is port a.revalidation here in
@@ -209,18 +209,18 @@ module _ (laws : LawsBelow) (port : Port) (replies : List Reply) (old new : Serv
     lives_then queued dead = let z : ReadyState ≡ DeadState = sym (ap state_of (runs_then queued).0) ∙ sym (state_new laws port replies old new k ready r looks kept) ∙ dead in cc
 
     -- so its disk sends no page of the log after that of recovery
-    quiet_then : x.queued ≡ true → SendsNone port.0 ReadLog a.device new.device
+    quiet_then : x.queued ≡ true → GainsNoMove port.0 ReadLog a.device new.device
     quiet_then queued =
         let then = runs_then queued in
-        subst (λ (d : Device). SendsNone port.0 ReadLog d new.device) then.1
+        subst (λ (d : Device). GainsNoMove port.0 ReadLog d new.device) then.1
         (t.issuing_silent (λ dead. let z : ReadyState ≡ DeadState = sym (ap state_of (found_is laws port replies old new k ready r looks kept ∙ then.0)) ∙ dead in absurd cc))
 
     stays_failed : (fault : tape_fault.Fault) → HasFailed port part a.mid.device a.device fault → HasFailed port (accesses_in t) old.device new.device fault
     stays_failed fault = laws.failed_stays port t.early.accesses part t.late.accesses old.device a.mid.device a.device new.device fault k.on
-        (All-weaker (IsEarlyPart port) (SparesRegister Ghc) (λ access is. laws.of_host port access is.0.1) t.early.accesses t.early.only)
-        (All-weaker (IsEarlyPart port) (SparesRegister (Px port Cmd)) (λ access is. is.1) t.early.accesses t.early.only) t.early.all t.late.all
+        (All-weaker (IsEarlyPart port) (DoesNotWrite Ghc) (λ access is. laws.of_host port access is.0.1) t.early.accesses t.early.only)
+        (All-weaker (IsEarlyPart port) (DoesNotWrite (Px port Cmd)) (λ access is. is.1) t.early.accesses t.early.only) t.early.all t.late.all
 
-    told_so : (queued : Bool) → x.queued ≡ queued → Rests queued port x.outstanding part a.mid.device a.device (Some its_failure) → (id : RequestId)
+    told_so : (queued : Bool) → x.queued ≡ queued → BacksFailure queued port x.outstanding part a.mid.device a.device (Some its_failure) → (id : RequestId)
         → IsOfCommand queued port (accesses_in t) old.device new.device its_failure.slot.0 (record { id = id; status = its_failure.status; error = its_failure.error })
     told_so false is rests id = (rests.fault, stays_failed rests.fault rests.has_failed, rests.at ∙ sym rests.slot_is, rests.status_is, rests.error_is)
     told_so true is rests id = (
@@ -237,14 +237,14 @@ module _ (laws : LawsBelow) (port : Port) (replies : List Reply) (old new : Serv
           served = slots_were laws port low x.done x.requests (record old { device = x.found }) a.mid (found_kept laws port replies old new k ready r looks kept) ready (done_over laws port replies old new k ready r looks kept) x.each its_failure.slot.0 used there;
           id_is = refl;
           its = subst (λ (queued : Bool). IsOfCommand queued port (accesses_in t) old.device new.device its_failure.slot.0 (record { id = used.id; status = its_failure.status; error = its_failure.error })) (sym alike)
-              (told_so x.queued refl (subst (Rests x.queued port x.outstanding part a.mid.device a.device) named x.handling.tells.rests) used.id);
+              (told_so x.queued refl (subst (BacksFailure x.queued port x.outstanding part a.mid.device a.device) named x.handling.tells.rests) used.id);
           lives = λ queued. lives_then (sym alike ∙ queued);
         }
 
   faults : (told : RequestFault) → Contains (faults_of a.failed) told → TellsFault port (accesses_in t) old new told
   faults told here = by a.failed refl here
     where
-      by_failure : (failed : failed_request.FailedRequest) → a.failed ≡ Some failed → (o : Option FailedSlot) → x.result.failed ≡ o → IsFailed (slots_at a.mid.slots port.0) o a.failed
+      by_failure : (failed : failed_request.FailedRequest) → a.failed ≡ Some failed → (o : Option FailedSlot) → x.result.failed ≡ o → IsFailedRequest (slots_at a.mid.slots port.0) o a.failed
           → TellsFault port (accesses_in t) old new (record { id = failed.id; status = failed.status; error = failed.error })
       by_failure failed is None none names = let z : Some failed ≡ None = sym is ∙ names in absurd cc
       by_failure failed is (Some its_failure) named names =
@@ -264,7 +264,7 @@ module _ (laws : LawsBelow) (port : Port) (replies : List Reply) (old new : Serv
   own_at : (accesses : List Access) (d : Device) → DoesAll accesses old.device d → (d.port port.0).ssts_det ≡ 3 → (d.port port.0).present ≡ true
   own_at accesses d does = laws.recovery.own_on port.0 accesses old.device d does ((k.behind port.0 low).own ready)
 
-  had_at : (accesses : List Access) (d : Device) → DoesAll accesses old.device d → (d.port port.0).ssts_det ≡ 3 → Grows d new.device → (m : Machine) → IsMachineOf old m → (steps : List Step) → IsBacked old.device new.device m steps
+  had_at : (accesses : List Access) (d : Device) → DoesAll accesses old.device d → (d.port port.0).ssts_det ≡ 3 → Grows d new.device → (m : Machine) → MachineRelation old m → (steps : List Step) → IsBacked old.device new.device m steps
       → (m.present port ≡ true) ⊎ (list_any (changes_disk port) steps ≡ true)
   had_at accesses d does shows grows m is steps backed = had_disk laws port old d new.device m accesses does (own_at accesses d does shows) is grows steps backed
 
@@ -272,7 +272,7 @@ module _ (laws : LawsBelow) (port : Port) (replies : List Reply) (old new : Serv
   grown_issuing = let issued = each_driven laws port (due_ids (mode_in r.mid port) port (asks_of r.mid.book)) r.mid new r.issued in grows_over laws issued.accesses r.mid.device new.device issued.all
 
   -- a boot that finds a disk sees a device; so did the look that told of an error
-  module _ (m : Machine) (stands : IsMachineOf old m) (steps : List Step) (backed : IsBacked old.device new.device m steps) where
+  module _ (m : Machine) (stands : MachineRelation old m) (steps : List Step) (backed : IsBacked old.device new.device m steps) where
     abbrev Had : Type 0
     Had = (m.present port ≡ true) ⊎ (list_any (changes_disk port) steps ≡ true)
 
@@ -283,7 +283,7 @@ module _ (laws : LawsBelow) (port : Port) (replies : List Reply) (old new : Serv
     had_booted : (booted : Booted) → RebootsPort (wanted_of old.wanted port.0) port booted a.device r.mid.device → ShowsDisk (state_of booted.found) → Had
     had_booted booted b shows =
         booted_had laws port old (wanted_of old.wanted port.0) booted (t.early.accesses ++ part) a.device r.mid.device new.device k.on (laws.basic.does_append t.early.accesses part old.device a.mid.device a.device t.early.all t.does)
-        (All-append (IsOf port) t.early.accesses part (All-weaker (IsEarlyPart port) (IsOf port) (λ access is. is.0.1) t.early.accesses t.early.only) (All-weaker (IsPart port) (IsOf port) (λ access is. is.1) part t.kinds))
+        (All-append (SparesOtherPorts port) t.early.accesses part (All-weaker (IsEarlyPart port) (SparesOtherPorts port) (λ access is. is.0.1) t.early.accesses t.early.only) (All-weaker (IsPart port) (SparesOtherPorts port) (λ access is. is.1) part t.kinds))
         b shows grown_issuing m stands steps backed
 
     -- where no command had failed, the port was booted
@@ -301,7 +301,7 @@ module _ (laws : LawsBelow) (port : Port) (replies : List Reply) (old new : Serv
             after : IsRevalidated (wanted_of old.wanted port.0) port x.port_error a.was (next.Restart token) a.device r.mid.device a.found
             after = subst (λ (n : Next). IsRevalidated (wanted_of old.wanted port.0) port x.port_error a.was n a.device r.mid.device a.found) is a.is
 
-    had : HadDisk (abstract_state_of old m) steps (abstract_state_of new (after m steps)) port
+    had : ShowsRealDisk (abstract_state_of old m) steps (abstract_state_of new (after m steps)) port
     had shows = by x.port_error refl x.finds
       where
         shows_found : ShowsDisk (state_of a.found)
@@ -326,7 +326,7 @@ module _ (laws : LawsBelow) (port : Port) (replies : List Reply) (old new : Serv
     accesses = accesses_in t;
     accesses_are = refl;
     does = laws.basic.does_append t.early.accesses (part ++ t.late.accesses) old.device a.mid.device new.device t.early.all (laws.basic.does_append part t.late.accesses a.mid.device a.device new.device t.does t.late.all);
-    of = All-weaker (IsPart port) (IsOf port) (λ access is. is.1) (accesses_in t) kinds;
+    of = All-weaker (IsPart port) (SparesOtherPorts port) (λ access is. is.1) (accesses_in t) kinds;
     own = All-weaker (IsPart port) IsDriversOwn (λ access is. is.0) (accesses_in t) kinds;
     others = leaves_others laws port replies old new k r kept;
     silent = t.silent;

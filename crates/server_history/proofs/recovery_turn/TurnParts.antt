@@ -6,24 +6,24 @@ use Rattle.ata_types.specs.declared.request.Outcome.{Outcome}
 use Rattle.ata_types.specs.declared.request.Reply.{Reply}
 use Rattle.adapter.specs.Device.{Device, DevicePort}
 use Rattle.refinement.specs.Driver.{IsBacked}
-use Rattle.block_machine.specs.Events.{AllDevices, AllMay, Tells}
+use Rattle.block_machine.specs.Events.{AllByDevice, AllMay, RepliesMatch}
 use Rattle.block_machine.specs.Left.{after}
 use Rattle.block_machine.specs.Ports.{Evidence, RequestFault}
 use Rattle.block_machine.specs.State.{Machine, Pending}
 use Rattle.block_machine.specs.Steps.{Step, Again, Answer}
 use Rattle.error_recovery.specs.declared.Next.{Next}
 use Rattle.error_recovery.specs.declared.Next.TheVariants as next
-use Rattle.request_queue.specs.Entries.{Held}
+use Rattle.request_queue.specs.Entries.{BookEntry}
 use Rattle.request_queue.specs.Dispositions.{disposition_of}
-use Rattle.request_queue.specs.Machine.{IsEntry}
+use Rattle.request_queue.specs.Machine.{EntryRelation}
 use Rattle.request_queue.specs.declared.disposition.FailedRequest.{FailedRequest}
 use Rattle.request_queue.specs.declared.disposition.Disposition.TheVariants.{Complete, Requeue}
 use Rattle.request_queue.specs.declared.disposition.Revalidation.{Revalidation}
 use Rattle.request_queue.specs.declared.disposition.Revalidation.TheVariants.{SameDisk, DiskLost, Dead}
-use Rattle.server_history.specs.Dispositions.{DecidesOn}
+use Rattle.server_history.specs.Dispositions.{IsResolveStep}
 use Rattle.server_history.specs.ErrorHandling.{IsErrorHandled, HasResolved, requests_of}
-use Rattle.server_history.specs.Served.{HasEnded, answers_in}
-use Rattle.server_history.specs.Server.{ServerState, IsMachineOf}
+use Rattle.server_history.specs.Served.{HasEnded, ok_answers_of}
+use Rattle.server_history.specs.Server.{ServerState, MachineRelation}
 use Rattle.port_control.specs.declared.events.PortError.{PortError}
 use Rattle.port_control.specs.declared.events.PortError.TheVariants.{FatalError, TimedOut, LinkChanged}
 use Rattle.server_history.proofs.state.CallEvidence.{shows_failure, shows_fatal, shows_loss}
@@ -103,9 +103,9 @@ pub record AddsFirst (port : Port) (old mid : ServerState) (new : Device) (r : I
   pub looked : List Step
   pub later : List Step
   pub first_is : first ≡ later ++ looked
-  pub seen : IsMachineOf (record old { device = r.seen }) (after m looked)
+  pub seen : MachineRelation (record old { device = r.seen }) (after m looked)
   pub seen_backed : IsBacked old.device r.seen m looked
-  pub found : IsMachineOf (record old { device = r.found }) (after m first)
+  pub found : MachineRelation (record old { device = r.found }) (after m first)
   pub found_backed : IsBacked old.device r.found m first
 
 -- From a machine that stands for the old server: the device's steps until the masks were read, the answers of what was done, the device's steps while the
@@ -115,20 +115,20 @@ pub record AddsFates (port : Port) (later : List Reply) (old new : ServerState) 
   pub ended : List Pending
   pub middle : List Step
   pub dispositions : List Step
-  pub first_only : AllDevices first
+  pub first_only : AllByDevice first
   pub early : AddsFirst port old a.mid a.device a.error_handled m first
   pub each : AllZip (HasEnded port) a.error_handled.requests ended
-  pub middle_only : AllDevices middle
-  pub may : AllMay m (dispositions ++ (middle ++ (answers_in ended ++ first)))
-  pub backed : IsBacked old.device new.device m (dispositions ++ (middle ++ (answers_in ended ++ first)))
-  pub stands : IsMachineOf new (after m (dispositions ++ (middle ++ (answers_in ended ++ first))))
-  pub own : All (DecidesOn port) dispositions
+  pub middle_only : AllByDevice middle
+  pub may : AllMay m (dispositions ++ (middle ++ (ok_answers_of ended ++ first)))
+  pub backed : IsBacked old.device new.device m (dispositions ++ (middle ++ (ok_answers_of ended ++ first)))
+  pub stands : MachineRelation new (after m (dispositions ++ (middle ++ (ok_answers_of ended ++ first))))
+  pub own : All (IsResolveStep port) dispositions
   pub answered : (e : Pending) (outcome : Outcome) → Contains dispositions (Answer e outcome)
-      → (request : Held) × Contains (requests_of port a.mid.book) request × IsEntry request e × (disposition_of a.failed a.revalidation request.entry ≡ Complete outcome)
+      → (request : BookEntry) × Contains (requests_of port a.mid.book) request × EntryRelation request e × (disposition_of a.failed a.revalidation request.entry ≡ Complete outcome)
   pub again : (e : Pending) → Contains dispositions (Again e)
-      → (request : Held) × Contains (requests_of port a.mid.book) request × IsEntry request e × (disposition_of a.failed a.revalidation request.entry ≡ Requeue)
-  pub tells : Tells dispositions later
+      → (request : BookEntry) × Contains (requests_of port a.mid.book) request × EntryRelation request e × (disposition_of a.failed a.revalidation request.entry ≡ Requeue)
+  pub tells : RepliesMatch dispositions later
 
 -- all those steps
 abbrev pub until_issues : {port : Port} {later : List Reply} {old new : ServerState} {a : HasResolved port later old new} {m : Machine} → AddsFates port later old new a m → List Step
-until_issues f = f.dispositions ++ (f.middle ++ (answers_in f.ended ++ f.first))
+until_issues f = f.dispositions ++ (f.middle ++ (ok_answers_of f.ended ++ f.first))

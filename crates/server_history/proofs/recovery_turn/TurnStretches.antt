@@ -17,18 +17,18 @@ use Rattle.adapter.specs.Access.Access.{Reading}
 use Rattle.adapter.specs.Device.{Device}
 use Rattle.adapter.specs.declared.command.Operation.TheVariants.{ReadLog}
 use Rattle.adapter.specs.Memory.{changed}
-use Rattle.refinement.specs.Acts.{AnySlots, ByDeviceAlone, InSlots, Performs, at_slots, act_steps}
+use Rattle.refinement.specs.Acts.{AnySlots, ByDeviceAlone, DriverSlots, Performs, driver_state, act_steps}
 use Rattle.refinement.specs.Relation.{port_at}
-use Rattle.refinement.specs.Driven.{AnyUse, IsDrivenBy, IsSimulated, SendsNone}
+use Rattle.refinement.specs.Driven.{AnyUse, IsDrivenBy, IsSimulated, GainsNoMove}
 use Rattle.refinement.specs.GivingUp.{given_up}
-use Rattle.refinement.specs.Links.{SparesRegister}
+use Rattle.refinement.specs.Links.{DoesNotWrite}
 use Rattle.refinement.specs.Slots.{Free, Own, SlotState}
 use Rattle.block_machine.specs.Due.{due_of}
 use Rattle.block_machine.specs.Left.{after}
 use Rattle.block_machine.specs.declared.due.Unanswered.{Unanswered}
 use Rattle.server_history.proofs.state.ListMembers.{map_in}
-use Rattle.driver_history.specs.Trace.{LeavesCommand, ReadsMasks, ResetsLink}
-use Rattle.error_recovery.specs.Recovery.{IsRecovering, LeavesSlots}
+use Rattle.driver_history.specs.Trace.{DoesNotWriteCmd, ReadsCiAndSact, ResetsLink}
+use Rattle.error_recovery.specs.Recovery.{IsRecoveryAccess, SlotsAfterRecovery}
 use Rattle.error_recovery.specs.declared.Next.{Next}
 use Rattle.error_recovery.specs.declared.Next.TheVariants as next
 use Rattle.host_boot.specs.Taken.{probe_result_of, wanted_of}
@@ -38,10 +38,10 @@ use Rattle.port_control.specs.declared.Stopped.{Stopped}
 use Rattle.port_control.specs.Looks.{IsLooking, LooksAt}
 use Rattle.port_control.specs.declared.events.PortEvent.{PortEvent}
 use Rattle.port_control.specs.declared.events.PortEvent.TheVariants as look
-use Rattle.request_queue.specs.Entries.{Held, asks, asks_of, due_ids}
+use Rattle.request_queue.specs.Entries.{BookEntry, asks, asks_of, due_ids}
 use Rattle.server_history.specs.Below.{LawsBelow}
 use Rattle.server_history.specs.ErrorHandling.{ErrorIsFound, IsErrorHandled, HasResolved, HandlesPortError}
-use Rattle.server_history.specs.Served.{IssuesEach, IssuesIn}
+use Rattle.server_history.specs.Served.{IssuesEach, IsIssuingAnySlot}
 use Rattle.server_history.specs.Server.{ServerState, InCallInvariant, mode_in, state_of, used_for}
 use Rattle.port_control.specs.declared.events.PortError.{PortError}
 use Rattle.port_control.specs.declared.events.PortError.TheVariants.{FatalError, TaskFileError, TimedOut, LinkChanged}
@@ -57,7 +57,7 @@ use Rattle.server_history.proofs.state.PortSlots.{AreOver, not_own, of_ready, re
 use Rattle.server_history.proofs.state.FirstMembers.{first_here}
 
 -- recovery's accesses were made
-pub recovery_does : (port : ℕ) (then : Next) (accesses : List Access) (old new : Device) → LeavesSlots port then accesses old new → DoesAll accesses old new
+pub recovery_does : (port : ℕ) (then : Next) (accesses : List Access) (old new : Device) → SlotsAfterRecovery port then accesses old new → DoesAll accesses old new
 recovery_does port (next.Running token) accesses old new p = p.does
 recovery_does port (next.Restart token) accesses old new p = p.does
 recovery_does port next.Dead accesses old new p = ⊎_elim (λ a. a.does) (λ b. ⊎_elim (λ x. x.does) (λ x. x.does) b) p
@@ -66,7 +66,7 @@ recovery_does port next.Dead accesses old new p = ⊎_elim (λ a. a.does) (λ b.
 -- No page of the log comes on another port that isn't dead.
 pub record TurnParts (port : Port) (replies : List Reply) (old new : ServerState) (r : HandlesPortError port replies old new) : Type 0 where
   pub early : IsDrivenBy (IsEarlyPart port) old.device r.settled.mid.device
-  pub masks : ReadsMasks port r.settled.error_handled.reads.issued r.settled.error_handled.reads.active early.accesses
+  pub masks : ReadsCiAndSact port r.settled.error_handled.reads.issued r.settled.error_handled.reads.active early.accesses
   pub does : DoesAll r.settled.error_handled.handling.accesses r.settled.mid.device r.settled.device
   pub kinds : All (IsPart port) r.settled.error_handled.handling.accesses
   pub late : IsDrivenBy (IsPart port) r.settled.device new.device
@@ -74,10 +74,10 @@ pub record TurnParts (port : Port) (replies : List Reply) (old new : ServerState
   pub stuck : r.settled.found ≡ Unready DeadState → r.settled.error_handled.result.next ≢ next.Dead → (new.device.port port.0).notes.engine_count ≡ MOST_READINGS
   pub resets : (token : Stopped) → r.settled.error_handled.result.next ≡ next.Restart token → r.settled.found ≢ Unready DeadState
       → ((r.settled.error_handled.port_error ≡ LinkChanged) × (r.settled.found ≡ Unready AbsentState)) ⊎ ResetsLink port late.accesses
-  pub unreset : ((token : Stopped) → r.settled.error_handled.result.next ≢ next.Restart token) → All (SparesRegister (Px port Sctl)) (early.accesses ++ (r.settled.error_handled.handling.accesses ++ late.accesses))
-  pub unissued : r.settled.found ≡ Unready DeadState → new ≡ r.mid
-  pub silent : (q : ℕ) → q ≢ port.0 → state_of (probe_result_of old.ports q) ≢ DeadState → SendsNone q ReadLog old.device new.device
-  pub issuing_silent : state_of (probe_result_of r.mid.ports port.0) ≢ DeadState → SendsNone port.0 ReadLog r.mid.device new.device
+  pub unreset : ((token : Stopped) → r.settled.error_handled.result.next ≢ next.Restart token) → All (DoesNotWrite (Px port Sctl)) (early.accesses ++ (r.settled.error_handled.handling.accesses ++ late.accesses))
+  pub with_issue_undone : r.settled.found ≡ Unready DeadState → new ≡ r.mid
+  pub silent : (q : ℕ) → q ≢ port.0 → state_of (probe_result_of old.ports q) ≢ DeadState → GainsNoMove q ReadLog old.device new.device
+  pub issuing_silent : state_of (probe_result_of r.mid.ports port.0) ≢ DeadState → GainsNoMove port.0 ReadLog r.mid.device new.device
 
 abbrev pub accesses_in : {port : Port} {replies : List Reply} {old new : ServerState} {r : HandlesPortError port replies old new} → TurnParts port replies old new r → List Access
 accesses_in {port} {replies} {old} {new} {r} t = t.early.accesses ++ (r.settled.error_handled.handling.accesses ++ t.late.accesses)
@@ -129,7 +129,7 @@ module _ (laws : LawsBelow) (port : Port) (replies : List Reply) (old new : Serv
 
   -- one of those before recovery, and it doesn't write PxSCTL
   abbrev IsLookingOn : Access → Type 0
-  IsLookingOn access = IsEarlyPart port access × SparesRegister (Px port Sctl) access
+  IsLookingOn access = IsEarlyPart port access × DoesNotWrite (Px port Sctl) access
 
   -- those of a look; where a request is hung there are none
   looking : IsDrivenBy IsLookingOn old.device x.seen
@@ -169,34 +169,34 @@ module _ (laws : LawsBelow) (port : Port) (replies : List Reply) (old new : Serv
     only = All-append (IsEarlyPart port) looking.accesses finding.accesses looking_early finding.only;
   }
 
-  early_spares : All (SparesRegister (Px port Sctl)) early.accesses
+  early_spares : All (DoesNotWrite (Px port Sctl)) early.accesses
   unfolding early finding
-  early_spares = All-append (SparesRegister (Px port Sctl)) looking.accesses finding.accesses
-      (All-weaker IsLookingOn (SparesRegister (Px port Sctl)) (λ access is. is.1) looking.accesses looking.only)
-      (All-cons (SparesRegister (Px port Sctl)) (Reading (Px port Ci) x.reads.issued) (Reading (Px port Sact) x.reads.active ∷ []) tt
-      (All-cons (SparesRegister (Px port Sctl)) (Reading (Px port Sact) x.reads.active) [] tt (All-nil (SparesRegister (Px port Sctl)))))
+  early_spares = All-append (DoesNotWrite (Px port Sctl)) looking.accesses finding.accesses
+      (All-weaker IsLookingOn (DoesNotWrite (Px port Sctl)) (λ access is. is.1) looking.accesses looking.only)
+      (All-cons (DoesNotWrite (Px port Sctl)) (Reading (Px port Ci) x.reads.issued) (Reading (Px port Sact) x.reads.active ∷ []) tt
+      (All-cons (DoesNotWrite (Px port Sctl)) (Reading (Px port Sact) x.reads.active) [] tt (All-nil (DoesNotWrite (Px port Sctl)))))
 
-  masks : ReadsMasks port x.reads.issued x.reads.active early.accesses
+  masks : ReadsCiAndSact port x.reads.issued x.reads.active early.accesses
   unfolding early finding
   masks = record {
     before = looking.accesses;
     later = [];
     here = refl;
-    running = All-weaker (IsEarlyPart port) (LeavesCommand port) (λ access is. is.1) looking.accesses looking_early;
+    running = All-weaker (IsEarlyPart port) (DoesNotWriteCmd port) (λ access is. is.1) looking.accesses looking_early;
   }
 
   afterwards : AfterList port x.port_error x.result.next a.found a.device r.mid.device
   afterwards = after_list laws port low (wanted_of old.wanted port.0) x.port_error a.was x.result.next a.device r.mid.device a.found a.is
 
-  each : IsDrivenBy (IssuesIn port) r.mid.device new.device
+  each : IsDrivenBy (IsIssuingAnySlot port) r.mid.device new.device
   each = each_driven laws port (due_ids (mode_in r.mid port) port (asks_of r.mid.book)) r.mid new r.issued
 
   issuing : IsDrivenBy (IsPart port) r.mid.device new.device
-  issuing = record { accesses = each.accesses; all = each.all; only = All-weaker (IssuesIn port) (IsPart port) (λ access is. (issuing_turns laws port low access is).1) each.accesses each.only }
+  issuing = record { accesses = each.accesses; all = each.all; only = All-weaker (IsIssuingAnySlot port) (IsPart port) (λ access is. (issuing_turns laws port low access is).1) each.accesses each.only }
 
-  issuing_spares : All (SparesRegister (Px port Sctl)) issuing.accesses
+  issuing_spares : All (DoesNotWrite (Px port Sctl)) issuing.accesses
   unfolding issuing
-  issuing_spares = All-weaker (IssuesIn port) (SparesRegister (Px port Sctl)) (λ access is. (issuing_leaves laws port port access is).1) each.accesses each.only
+  issuing_spares = All-weaker (IsIssuingAnySlot port) (DoesNotWrite (Px port Sctl)) (λ access is. (issuing_leaves laws port port access is).1) each.accesses each.only
 
   -- nothing is issued on a dead port, of which there are no requests
   none_issued : state_of (probe_result_of r.mid.ports port.0) ≡ DeadState → new ≡ r.mid
@@ -205,7 +205,7 @@ module _ (laws : LawsBelow) (port : Port) (replies : List Reply) (old new : Serv
       none : (u : Unanswered) → Contains (due_of (mode_in r.mid port) port (asks_of r.mid.book)) u → ⊥
       none u here =
           let due = (laws.exact (mode_in r.mid port) port (asks_of r.mid.book) u (laws.own (mode_in r.mid port) port (asks_of r.mid.book) u here)).0 here in
-          let e = map_in (λ (y : Held). asks y.entry) r.mid.book u due.here in
+          let e = map_in (λ (y : BookEntry). asks y.entry) r.mid.book u due.here in
           let its : e.0.entry.port ≡ port = sym (ap (λ (v : Unanswered). v.port) e.2) ∙ laws.own (mode_in r.mid port) port (asks_of r.mid.book) u here in
           let z : ReadyState ≡ DeadState = sym (of_ready r.mid kept e.0 e.1) ∙ ap (λ (q : Port). state_of (probe_result_of r.mid.ports q.0)) its ∙ dead in
           absurd cc
@@ -235,34 +235,34 @@ module _ (laws : LawsBelow) (port : Port) (replies : List Reply) (old new : Serv
     given : (token : Stopped) → x.result.next ≡ next.Restart token → (g : IsGivenUp port a.device) × (g.uses q 0 ≡ Own ReadLog → ⊥)
     given token is =
         let m = mid_kept.machine in
-        let s : InSlots = record { uses = mid_kept.stands.uses; parked = mid_kept.stands.parked } in
-        let p : Performs x.handling.accesses AnySlots (given_up port.0) ByDeviceAlone a.mid.device a.device = subst (λ (n : Next). LeavesSlots port.0 n x.handling.accesses a.mid.device a.device) is x.handling.does.slots in
+        let s : DriverSlots = record { uses = mid_kept.stands.uses; parked = mid_kept.stands.parked } in
+        let p : Performs x.handling.accesses AnySlots (given_up port.0) ByDeviceAlone a.mid.device a.device = subst (λ (n : Next). SlotsAfterRecovery port.0 n x.handling.accesses a.mid.device a.device) is x.handling.does.slots in
         let c = p.comes s m mid_kept.reached mid_kept.stands.knows tt in
-        let g = laws.slots.acts_go c.acts (at_slots s a.mid.device) (at_slots (given_up port.0 s) a.device) m mid_kept.stands.knows c.done in (
+        let g = laws.slots.acts_go c.acts (driver_state s a.mid.device) (driver_state (given_up port.0 s) a.device) m mid_kept.stands.knows c.done in (
           record {
             uses = changed s.uses port.0 (λ slot. Free);
             parked = (given_up port.0 s).parked;
             machine = after m (act_steps c.acts);
-            free = laws.slots.given_free (at_slots s a.mid.device) port.0;
+            free = laws.slots.given_free (driver_state s a.mid.device) port.0;
             reached = laws.basic.reached m (act_steps c.acts) mid_kept.reached g.may;
             knows = g.knows;
           },
-          λ own. none_own (ap (λ (f : ℕ → SlotState). f 0) (sym (laws.slots.given_others (at_slots s a.mid.device) port.0 q other).0) ∙ own),
+          λ own. none_own (ap (λ (f : ℕ → SlotState). f 0) (sym (laws.slots.given_others (driver_state s a.mid.device) port.0 q other).0) ∙ own),
         )
 
-    early_silent : SendsNone q ReadLog old.device a.mid.device
-    early_silent = subst (SendsNone q ReadLog old.device) (sym mid_device)
+    early_silent : GainsNoMove q ReadLog old.device a.mid.device
+    early_silent = subst (GainsNoMove q ReadLog old.device) (sym mid_device)
         (silent_more q ReadLog old.device x.seen x.found (looking_silent old x.seen port k laws looks q ReadLog refl (λ dead. lives (ap state_of dead)))
         (finding_silent (record old { device = x.seen }) x.found port seen_kept ready laws x.mask x.done x.reads q ReadLog refl (λ dead. lives (ap state_of dead))))
 
-    recovery_silent : SendsNone q ReadLog a.mid.device a.device
+    recovery_silent : GainsNoMove q ReadLog a.mid.device a.device
     recovery_silent = x.handling.leaves.others (port_at q) ReadLog other refl
         (mid_kept.stands.uses, none_own, record { machine = mid_kept.machine; parked = mid_kept.stands.parked; reached = mid_kept.reached; knows = mid_kept.stands.knows })
 
     later_found : probe_result_of r.mid.ports q ≡ probe_result_of old.ports q
     later_found = ap (λ (n : ServerState). probe_result_of n.ports q) a.server ∙ get_or-set_other a.mid.ports port.0 q a.found Unserved other ∙ mid_found q
 
-    whole_silent : SendsNone q ReadLog old.device new.device
+    whole_silent : GainsNoMove q ReadLog old.device new.device
     whole_silent =
         silent_more q ReadLog old.device a.mid.device new.device early_silent
         (silent_more q ReadLog a.mid.device a.device new.device recovery_silent
@@ -290,24 +290,24 @@ module _ (laws : LawsBelow) (port : Port) (replies : List Reply) (old new : Serv
   unfolding late
   late_resets token is lives = ⊎_elim (λ absent. inl absent) (λ resets. inr (resets_more port [] afterwards.driven.accesses issuing.accesses resets issuing_spares)) (afterwards.resets token is lives)
 
-  late_spares : ((token : Stopped) → x.result.next ≢ next.Restart token) → All (SparesRegister (Px port Sctl)) late.accesses
+  late_spares : ((token : Stopped) → x.result.next ≢ next.Restart token) → All (DoesNotWrite (Px port Sctl)) late.accesses
   unfolding late
-  late_spares never = All-append (SparesRegister (Px port Sctl)) afterwards.driven.accesses issuing.accesses (afterwards.unreset never) issuing_spares
+  late_spares never = All-append (DoesNotWrite (Px port Sctl)) afterwards.driven.accesses issuing.accesses (afterwards.unreset never) issuing_spares
 
   pub turn_parts : TurnParts port replies old new r
   turn_parts = record {
     early = early;
     masks = masks;
     does = recovery_does port.0 x.result.next x.handling.accesses a.mid.device a.device x.handling.does.slots;
-    kinds = All-weaker (IsRecovering port) (IsPart port) (recovering_part laws port low) x.handling.accesses x.handling.does.only;
+    kinds = All-weaker (IsRecoveryAccess port) (IsPart port) (recovering_part laws port low) x.handling.accesses x.handling.does.only;
     late = late;
     sticks = late_sticks;
     stuck = λ dead lives. ap (λ (n : ServerState). (n.device.port port.0).notes.engine_count) (dead_unissued dead) ∙ afterwards.stuck dead lives;
     resets = late_resets;
-    unreset = λ never. All-append (SparesRegister (Px port Sctl)) early.accesses (x.handling.accesses ++ late.accesses) early_spares
-        (All-append (SparesRegister (Px port Sctl)) x.handling.accesses late.accesses
-        (All-weaker (IsRecovering port) (SparesRegister (Px port Sctl)) (recovering_spares laws port) x.handling.accesses x.handling.does.only) (late_spares never));
-    unissued = dead_unissued;
+    unreset = λ never. All-append (DoesNotWrite (Px port Sctl)) early.accesses (x.handling.accesses ++ late.accesses) early_spares
+        (All-append (DoesNotWrite (Px port Sctl)) x.handling.accesses late.accesses
+        (All-weaker (IsRecoveryAccess port) (DoesNotWrite (Px port Sctl)) (recovering_spares laws port) x.handling.accesses x.handling.does.only) (late_spares never));
+    with_issue_undone = dead_unissued;
     silent = whole_silent;
     issuing_silent = λ lives. each_silent laws port (due_ids (mode_in r.mid port) port (asks_of r.mid.book)) r.mid new kept r.issued port.0 ReadLog refl (λ dead. lives (ap state_of dead));
   }

@@ -10,8 +10,8 @@ use Rattle.adapter.specs.Access.{Access}
 use Rattle.adapter.specs.Access.Access.{Loading, Reading, Storing, Writing}
 use Rattle.adapter.specs.Device.{Device}
 use Rattle.refinement.specs.Relation.{port_at}
-use Rattle.refinement.specs.Driven.{IsControl, IsDrivenBy}
-use Rattle.driver_history.specs.Parts.{HasTurnIn, IsOfOther, all_of}
+use Rattle.refinement.specs.Driven.{OnPortWriting, IsDrivenBy}
+use Rattle.driver_history.specs.Parts.{HasTurnIn, IsOfOther, call_accesses}
 use Rattle.driver_history.specs.Trace.{ResetsLink}
 use Rattle.host_boot.specs.Taken.{StopsAndBootsPort, FindsEachPort, probe_result_of}
 use Rattle.host_boot.specs.declared.ProbeResult.{ProbeResult}
@@ -28,7 +28,7 @@ use Rattle.server_history.proofs.recovery_turn.LinkResets.{ResetsBy, early_reset
 -- What was done of a port that was found to be this. One that is ready got so once it was stopped. Its link was reset, unless it is dead: then one of its engines was seen to be stuck.
 abbrev pub DidBoot : Port → ProbeResult → List Access → Device → Device → Type 0
 DidBoot port Unserved accesses old new = Unit {0}
-DidBoot port (Ready info) accesses old new = ResetsLink port accesses × ((stopped : Device) × IsDrivenBy (IsControl IsCommandRegister port) old stopped × BringsReady port stopped new)
+DidBoot port (Ready info) accesses old new = ResetsLink port accesses × ((stopped : Device) × IsDrivenBy (OnPortWriting IsCommandRegister port) old stopped × BringsReady port stopped new)
 DidBoot port (Unready state) accesses old new = (state ≡ DeadState → Sticks port accesses) × (state ≢ DeadState → state ≢ ReadyState → ResetsLink port accesses)
 
 -- an access of the port's boot, if it is served
@@ -39,7 +39,7 @@ IsBootOf port found access = (found ≢ Unserved) × IsOfBoot port access
 abbrev BootsBy : Port → ProbeResult → Device → Device → Type 0
 BootsBy port found old new = (driven : IsDrivenBy (IsBootOf port found) old new) × DidBoot port found driven.accesses old new
 
-pub command_boots : (port : Port) (access : Access) → IsControl IsCommandRegister port access → IsOfBoot port access
+pub command_boots : (port : Port) (access : Access) → OnPortWriting IsCommandRegister port access → IsOfBoot port access
 command_boots port (Reading (Px at r) v) is = inl is
 command_boots port (Reading r v) is = absurd is
 command_boots port (Writing (Px at r) v) is = inl (is.0, inl (inl is.1))
@@ -48,14 +48,14 @@ command_boots port (Loading at bytes) is = absurd is
 command_boots port (Storing at bytes) is = absurd is
 
 module _ (laws : LawsBelow) where
-  module _ (port : Port) (found : ProbeResult) (served : found ≢ Unserved) (old stopped new : Device) (stops : IsDrivenBy (IsControl IsCommandRegister port) old stopped) where
+  module _ (port : Port) (found : ProbeResult) (served : found ≢ Unserved) (old stopped new : Device) (stops : IsDrivenBy (OnPortWriting IsCommandRegister port) old stopped) where
     -- the stop, and then a boot
     then_boots : IsDrivenBy (IsOfBoot port) stopped new → IsDrivenBy (IsBootOf port found) old new
     then_boots boot = record {
       accesses = stops.accesses ++ boot.accesses;
       all = laws.basic.does_append stops.accesses boot.accesses old stopped new stops.all boot.all;
       only = All-append (IsBootOf port found) stops.accesses boot.accesses
-          (All-weaker (IsControl IsCommandRegister port) (IsBootOf port found) (λ access is. (served, command_boots port access is)) stops.accesses stops.only)
+          (All-weaker (OnPortWriting IsCommandRegister port) (IsBootOf port found) (λ access is. (served, command_boots port access is)) stops.accesses stops.only)
           (All-weaker (IsOfBoot port) (IsBootOf port found) (λ access is. (served, is)) boot.accesses boot.only);
     }
 
@@ -63,7 +63,7 @@ module _ (laws : LawsBelow) where
     unfolding then_boots
     reset_by r = (then_boots r.driven, resets_since port stops.accesses r.driven.accesses r.resets)
 
-  module _ (port : Port) (old stopped new : Device) (stops : IsDrivenBy (IsControl IsCommandRegister port) old stopped) where
+  module _ (port : Port) (old stopped new : Device) (stops : IsDrivenBy (OnPortWriting IsCommandRegister port) old stopped) where
     resets_by : (state : PortState) → state ≢ DeadState → ResetsBy port stopped new → BootsBy port (Unready state) old new
     resets_by state lives r =
         let x = reset_by port (Unready state) (λ e. let z : Unready state ≡ Unserved = e in cc) old stopped new stops r in (x.0, ((λ dead. absurd (lives dead)), λ _ _. x.1))
@@ -103,7 +103,7 @@ IsOfFound first ports access = (port : Port) × (k : ℕ) × (port.0 ≡ first +
 -- a port's part of these accesses
 pub record TookTurn (port : Port) (found : ProbeResult) (accesses : List Access) (old new : Device) : Type 0 where
   pub turn : HasTurnIn port old new
-  pub all : all_of turn ≡ accesses
+  pub all : call_accesses turn ≡ accesses
   pub did : DidBoot port found turn.turn turn.start turn.end
 
 -- These ports went their way, by accesses of which each has a part.

@@ -32,9 +32,9 @@ use Rattle.host_boot.specs.Taken.{IsUnusedOrDead, probe_result_of}
 use Rattle.host_boot.specs.declared.ProbeResult.{ProbeResult}
 use Rattle.host_boot.specs.declared.ProbeResult.TheVariants.{Unready}
 use Rattle.identify.specs.declared.DiskInfo.{DiskInfo}
-use Rattle.request_queue.specs.Entries.{Held, IsAccepted, IsEarlier, BookIsInOrder, is_of, requeued_entry}
+use Rattle.request_queue.specs.Entries.{BookEntry, IsAccepted, IsEarlier, BookIsInOrder, is_of, requeued_entry}
 use Rattle.request_queue.specs.Dispositions.{Holdings, AreResolved, IsResolved, disposition_of}
-use Rattle.request_queue.specs.Machine.{IsBook, IsEntry}
+use Rattle.request_queue.specs.Machine.{BookRelation, EntryRelation}
 use Rattle.request_queue.specs.declared.PendingRequest.{PendingRequest}
 use Rattle.request_queue.specs.declared.disposition.Disposition.{Disposition}
 use Rattle.request_queue.specs.declared.disposition.Disposition.TheVariants.{Complete, Requeue, Wait}
@@ -48,26 +48,26 @@ use Rattle.server_history.proofs.dispositions.FittingFates.{fits_each, kept_dead
 use Rattle.server_history.proofs.dispositions.MetFates.{meet, none_parked}
 use Rattle.server_history.proofs.dispositions.RemainingBook.{IsLeft, WasIn, ends_of, fated, marked_from, was_itself, was_more}
 use Rattle.server_history.specs.Below.{LawsBelow}
-use Rattle.server_history.specs.Dispositions.{DecidesOn, AreResolvable, AreResolvedInMachine, keeps_frames_lent}
+use Rattle.server_history.specs.Dispositions.{IsResolveStep, AreResolvable, AreResolvedInMachine, keeps_frames_lent}
 use Rattle.server_history.specs.ErrorHandling.{holdings_of, requests_of}
-use Rattle.server_history.specs.Resets.{IsResetRevalidation, SettlePorts, SettlesPort, with_holdings}
-use Rattle.server_history.specs.Server.{AreKept, ServerState, kept_at, remembered_at, HasTrueMark}
+use Rattle.server_history.specs.Resets.{IsResetRevalidation, ResolvePorts, ResolvesPort, with_holdings}
+use Rattle.server_history.specs.Server.{QuarantineRelation, ServerState, quarantined_at, remembered_at, RevokedMarkInvariant}
 use Rattle.server_history.proofs.state.RevokedMarks.{tells_of}
 
 -- ---- a port's requests
 
-pub of_requests : (port : Port) (book : List Held) (e : Held) → Contains (requests_of port book) e → Contains book e × (e.entry.port ≡ port)
+pub of_requests : (port : Port) (book : List BookEntry) (e : BookEntry) → Contains (requests_of port book) e → Contains book e × (e.entry.port ≡ port)
 of_requests port book e here = (
-  All-contains (Contains book) (requests_of port book) e (All-filter (λ (x : Held). is_of port x.entry) (Contains book) book (All-contains_itself book)) here,
-  ap port_at (eqb-true e.entry.port.0 port.0 (All-contains (λ (x : Held). is_of port x.entry ≡ true) (requests_of port book) e (filter_passes (λ (x : Held). is_of port x.entry) book) here)),
+  All-contains (Contains book) (requests_of port book) e (All-filter (λ (x : BookEntry). is_of port x.entry) (Contains book) book (All-contains_itself book)) here,
+  ap port_at (eqb-true e.entry.port.0 port.0 (All-contains (λ (x : BookEntry). is_of port x.entry ≡ true) (requests_of port book) e (filter_passes (λ (x : BookEntry). is_of port x.entry) book) here)),
 )
 
-pub in_requests : (port : Port) (book : List Held) (e : Held) → Contains book e → e.entry.port.0 ≡ port.0 → Contains (requests_of port book) e
-in_requests port book e here same = in_filter (λ (x : Held). is_of port x.entry) book e here (eq-eqb e.entry.port.0 port.0 same)
+pub in_requests : (port : Port) (book : List BookEntry) (e : BookEntry) → Contains book e → e.entry.port.0 ≡ port.0 → Contains (requests_of port book) e
+in_requests port book e here same = in_filter (λ (x : BookEntry). is_of port x.entry) book e here (eq-eqb e.entry.port.0 port.0 same)
 
 -- one that is none of those that meet their fates stays as it is
-fates_spare : LawsBelow → (disposition : PendingRequest → Disposition) (requests : List Held) (replies : List Reply) (old new : Holdings) → AreResolved disposition requests replies old new → (e : Held) → Contains old.book e
-    → ((r : Held) → Contains requests r → e.entry.id ≢ r.entry.id) → Contains new.book e
+fates_spare : LawsBelow → (disposition : PendingRequest → Disposition) (requests : List BookEntry) (replies : List Reply) (old new : Holdings) → AreResolved disposition requests replies old new → (e : BookEntry) → Contains old.book e
+    → ((r : BookEntry) → Contains requests r → e.entry.id ≢ r.entry.id) → Contains new.book e
 fates_spare laws disposition [] replies old new (none, is) e here apart = subst (λ (h : Holdings). Contains h.book e) (sym is) here
 fates_spare laws disposition (request ∷ requests) replies old new (mid, its, later, split, meets, more) e here apart =
     fates_spare laws disposition requests later mid new more e (spared (disposition request.entry) meets) (λ r there. apart r (contains_there request requests r there))
@@ -78,7 +78,7 @@ fates_spare laws disposition (request ∷ requests) replies old new (mid, its, l
     spared : (f : Disposition) → IsResolved request f its old mid → Contains mid.book e
     spared Wait m = subst (λ (h : Holdings). Contains h.book e) (sym m.1) here
     spared Requeue m = subst (λ (h : Holdings). Contains h.book e) (sym m.1) (laws.others old.book request.entry.id requeued_entry e here differs)
-    spared (Complete o) m = subst (λ (book : List Held). Contains book e) (sym m.1) ((laws.left old.book request.entry.id e).1 (here, differs))
+    spared (Complete o) m = subst (λ (book : List BookEntry). Contains book e) (sym m.1) ((laws.left old.book request.entry.id e).1 (here, differs))
 
 -- a slot that was left so serves no request
 pub serves_none : (ports : List ProbeResult) (uses : SlotStates) (port slot : ℕ) → IsUnusedOrDead ports uses port slot → (id : RequestId) → uses port slot ≡ Serves id → ⊥
@@ -101,29 +101,29 @@ pub record IsFatedTo (n : ℕ) (c : ServerState) (m : Machine) : Type 0 where
   pub knows : DriverRelation m (known uses parked c.device)
   pub unparked : (port : ℕ) → port < n → probe_result_of c.ports port ≢ Unready Dead → parked port ≡ []
   pub its : (port : ℕ) → n ≤ port → (id : RequestId) → Contains (parked port) id
-      → (e : Held) × Contains c.book e × (e.entry.id ≡ id) × (e.entry.issued ≡ true) × (e.entry.port.0 ≡ port)
-  pub book : IsBook c.book m.book
-  pub kept : AreKept c.ports c.kept m.kept
-  pub unkept : (port : ℕ) → n ≤ port → kept_at c.kept port ≡ []
+      → (e : BookEntry) × Contains c.book e × (e.entry.id ≡ id) × (e.entry.issued ≡ true) × (e.entry.port.0 ≡ port)
+  pub book : BookRelation c.book m.book
+  pub kept : QuarantineRelation c.ports c.kept m.kept
+  pub unkept : (port : ℕ) → n ≤ port → quarantined_at c.kept port ≡ []
   pub rows : m.rows ≡ c.grants
   pub owner : (frame : Frame) → m.owner frame ≡ owner_of c.table frame
   pub lent : (frame : Frame) → m.lent frame ≡ lent_to c.table frame
   pub next : m.next ≡ c.last + 1
   pub ordered : BookIsInOrder c.book
   pub accepted : All (IsAccepted c.table) c.book
-  pub marked : All (HasTrueMark c.grants) c.book
-  pub alive : (e : Held) → Contains c.book e → e.entry.port.0 < n → HasItsDisk c.remembered c.ports e.entry.port.0
+  pub marked : All (RevokedMarkInvariant c.grants) c.book
+  pub alive : (e : BookEntry) → Contains c.book e → e.entry.port.0 < n → HasItsDisk c.remembered c.ports e.entry.port.0
 
 -- ---- one port
 
-module _ (laws : LawsBelow) (n : ℕ) (low : n < 4) (replies : List Reply) (old mid : ServerState) (m : Machine) (reached : IsReachable m) (s : SettlesPort (port_at n) replies old mid) (at : IsFatedTo n old m) where
+module _ (laws : LawsBelow) (n : ℕ) (low : n < 4) (replies : List Reply) (old mid : ServerState) (m : Machine) (reached : IsReachable m) (s : ResolvesPort (port_at n) replies old mid) (at : IsFatedTo n old m) where
   abbrev port : Port
   port = port_at n
 
   abbrev disposition : PendingRequest → Disposition
   disposition = disposition_of None s.revalidation
 
-  abbrev its : List Held
+  abbrev its : List BookEntry
   its = requests_of port old.book
 
   abbrev was : Option DiskInfo
@@ -140,9 +140,9 @@ module _ (laws : LawsBelow) (n : ℕ) (low : n < 4) (replies : List Reply) (old 
     lent = at.lent;
     ordered = at.ordered;
     accepted = at.accepted;
-    marked = λ e here. tells_of m.rows old.grants e.entry at.rows (All-contains (HasTrueMark old.grants) old.book e at.marked (of_requests port old.book e here).0).tells;
+    marked = λ e here. tells_of m.rows old.grants e.entry at.rows (All-contains (RevokedMarkInvariant old.grants) old.book e at.marked (of_requests port old.book e here).0).tells;
     here = of_requests port old.book;
-    earlier = AllPairs-filter IsEarlier (λ (x : Held). is_of port x.entry) old.book at.ordered.ordered;
+    earlier = AllPairs-filter IsEarlier (λ (x : BookEntry). is_of port x.entry) old.book at.ordered.ordered;
     unserved = λ e here never q slot serves. serves_none old.ports at.uses q slot (at.left q slot) e.entry.id serves;
   }
 
@@ -162,7 +162,7 @@ module _ (laws : LawsBelow) (n : ℕ) (low : n < 4) (replies : List Reply) (old 
   dies : (e : Pending) → Contains met.held e → (e.request.port ≡ port) × (found ≡ Unready Dead)
   dies e here = (x.2.port ∙ (of_requests port old.book x.0 x.1).1, by s.revalidation refl)
     where
-      x : (request : Held) × Contains its request × IsEntry request e × (keeps_frames_lent (disposition request.entry) request.entry ≡ true)
+      x : (request : BookEntry) × Contains its request × EntryRelation request e × (keeps_frames_lent (disposition request.entry) request.entry ≡ true)
       x = met.whose e here
 
       lives : s.revalidation ≢ NoEnd → ⊥
@@ -185,8 +185,8 @@ module _ (laws : LawsBelow) (n : ℕ) (low : n < 4) (replies : List Reply) (old 
   abbrev new : ServerState
   new = with_holdings port s.now old
 
-  are_kept : AreKept new.ports new.kept z.kept
-  are_kept = subst (AreKept new.ports new.kept) (sym met.kept)
+  are_kept : QuarantineRelation new.ports new.kept z.kept
+  are_kept = subst (QuarantineRelation new.ports new.kept) (sym met.kept)
       (more_kept port old.ports old.ports old.kept new.kept met.held m.kept at.kept
       (get_or-set_same old.kept n s.now.kept [] (let four = at.four_kept in omega (arith, four, low)) ∙ met.loans)
       (λ q ne. get_or-set_other old.kept n q s.now.kept [] ne) at.kept.dead dies met.two
@@ -194,7 +194,7 @@ module _ (laws : LawsBelow) (n : ℕ) (low : n < 4) (replies : List Reply) (old 
 
   -- ---- who is left
 
-  its_then : (q : ℕ) → n + 1 ≤ q → (id : RequestId) → Contains (met.parked q) id → (e : Held) × Contains s.now.book e × (e.entry.id ≡ id) × (e.entry.issued ≡ true) × (e.entry.port.0 ≡ q)
+  its_then : (q : ℕ) → n + 1 ≤ q → (id : RequestId) → Contains (met.parked q) id → (e : BookEntry) × Contains s.now.book e × (e.entry.id ≡ id) × (e.entry.issued ≡ true) × (e.entry.port.0 ≡ q)
   its_then q high id here =
       let other : q ≢ n = λ same. omega (arith, high, same) in
       let w = at.its q (omega (arith, high)) id (subst (λ (ids : List RequestId). Contains ids id) (met.others q other) here) in (
@@ -202,13 +202,13 @@ module _ (laws : LawsBelow) (n : ℕ) (low : n < 4) (replies : List Reply) (old 
         fates_spare laws disposition its replies (holdings_of port old) s.now s.meets w.0 w.1 (λ r there same.
             let o = of_requests port old.book r there in
             let one : w.0 ≡ r = laws.one old.book w.0 r at.ordered w.1 o.0 same in
-            other (sym w.4 ∙ ap (λ (x : Held). x.entry.port.0) one ∙ ap (λ (p : Port). p.0) o.1)),
+            other (sym w.4 ∙ ap (λ (x : BookEntry). x.entry.port.0) one ∙ ap (λ (p : Port). p.0) o.1)),
         w.2,
         w.3,
         w.4,
       )
 
-  alive_then : (e : Held) → Contains s.now.book e → e.entry.port.0 < n + 1 → HasItsDisk old.remembered old.ports e.entry.port.0
+  alive_then : (e : BookEntry) → Contains s.now.book e → e.entry.port.0 < n + 1 → HasItsDisk old.remembered old.ports e.entry.port.0
   alive_then e here lt = ⊎_elim
       (λ (same : e.entry.port.0 ≡ n). subst (HasItsDisk old.remembered old.ports) (sym same) (by same s.revalidation refl s.expects))
       (λ (ne : e.entry.port.0 ≢ n). subst (λ (p : Port). HasItsDisk old.remembered old.ports p.0) (sym w.port) (at.alive w.was w.there (let own = ap (λ (p : Port). p.0) w.port in omega (arith, lt, ne, own))))
@@ -251,7 +251,7 @@ module _ (laws : LawsBelow) (n : ℕ) (low : n < 4) (replies : List Reply) (old 
     next = leaves.2 ∙ at.next;
     ordered = left.ordered;
     accepted = left.accepted;
-    marked = All-weaker (Contains s.now.book) (HasTrueMark old.grants) (λ e here. marked_from old.grants old.book at.marked e (left.from e here)) s.now.book (All-contains_itself s.now.book);
+    marked = All-weaker (Contains s.now.book) (RevokedMarkInvariant old.grants) (λ e here. marked_from old.grants old.book at.marked e (left.from e here)) s.now.book (All-contains_itself s.now.book);
     alive = alive_then;
   })
 
@@ -259,8 +259,8 @@ module _ (laws : LawsBelow) (n : ℕ) (low : n < 4) (replies : List Reply) (old 
 
 -- The request, which was in the book, has this fate, by what its port is.
 pub record HasFate (c : ServerState) (e : Pending) (f : Disposition) : Type 0 where
-  pub request : Held
-  pub entry : IsEntry request e
+  pub request : BookEntry
+  pub entry : EntryRelation request e
   pub from : WasIn c.book request
   pub revalidation : Revalidation
   pub expects : IsResetRevalidation (remembered_at c.remembered e.request.port.0) (probe_result_of c.ports e.request.port.0) revalidation
@@ -268,7 +268,7 @@ pub record HasFate (c : ServerState) (e : Pending) (f : Disposition) : Type 0 wh
 
 -- a step that decides on a request of some port
 abbrev pub Decides : Step → Type 0
-Decides step = (port : Port) × DecidesOn port step
+Decides step = (port : Port) × IsResolveStep port step
 
 -- Requests of so many ports, of which the first has this number, met their fates by steps that decide on them; these are told by port, and then by id.
 pub record AreFated (n : ℕ) (found : List ProbeResult) (replies : List Reply) (old new : ServerState) (m : Machine) : Type 0 where
@@ -284,17 +284,17 @@ pub record AreFated (n : ℕ) (found : List ProbeResult) (replies : List Reply) 
   pub ordered : AllPairs IsToldBefore answers
   pub high : All (λ a. n ≤ a.0.request.port.0) answers
   pub told : replies ≡ map reply_of answers
-  pub from : (e : Held) → Contains new.book e → WasIn old.book e
+  pub from : (e : BookEntry) → Contains new.book e → WasIn old.book e
   pub owners : new.table.owners ≡ old.table.owners
   pub settings : new ≡ record old { table = new.table; kept = new.kept; book = new.book }
 
 module _ (laws : LawsBelow) (n : ℕ) (low : n < 4) (found : ProbeResult) (rest : List ProbeResult) (replies its later : List Reply) (split : replies ≡ its ++ later) (old mid new : ServerState) (m : Machine) (reached : IsReachable m)
-    (s : SettlesPort (port_at n) its old mid) (at : IsFatedTo n old m) where
+    (s : ResolvesPort (port_at n) its old mid) (at : IsFatedTo n old m) where
   abbrev one : AreResolvedInMachine (port_at n) (disposition_of None s.revalidation) (requests_of (port_at n) old.book) its (holdings_of (port_at n) old) s.now (known at.uses at.parked old.device) m
   one = met laws n low its old mid m reached s at
 
   -- a request of the port has its fate
-  its_fate : (e : Pending) (f : Disposition) → (request : Held) × Contains (requests_of (port_at n) old.book) request × IsEntry request e × (disposition_of None s.revalidation request.entry ≡ f) → HasFate old e f
+  its_fate : (e : Pending) (f : Disposition) → (request : BookEntry) × Contains (requests_of (port_at n) old.book) request × EntryRelation request e × (disposition_of None s.revalidation request.entry ≡ f) → HasFate old e f
   its_fate e f (request, here, entry, is) =
       let its = of_requests (port_at n) old.book request here in
       let own : e.request.port ≡ port_at n = entry.port ∙ its.1 in
@@ -310,7 +310,7 @@ module _ (laws : LawsBelow) (n : ℕ) (low : n < 4) (found : ProbeResult) (rest 
   one_left : IsLeft (port_at n) (disposition_of None s.revalidation) (requests_of (port_at n) old.book) (holdings_of (port_at n) old) s.now
   one_left = left laws n low its old mid m reached s at
 
-  mid_from : (e : Held) → Contains mid.book e → WasIn old.book e
+  mid_from : (e : BookEntry) → Contains mid.book e → WasIn old.book e
   mid_from e here = one_left.from e (subst (λ (c : ServerState). Contains c.book e) s.server here)
 
   as_before : (e : Pending) (f : Disposition) → HasFate mid e f → HasFate old e f
@@ -337,7 +337,7 @@ module _ (laws : LawsBelow) (n : ℕ) (low : n < 4) (found : ProbeResult) (rest 
     may = laws.basic.may m r.steps one.steps one.may r.may;
     backed = λ d. laws.backed_parts d d d m one.steps r.steps (one.backed d) (r.backed d);
     fated = subst (IsFatedTo (n + length (found ∷ rest)) new) (sym (laws.basic.joined m r.steps one.steps)) (subst (λ (k : ℕ). IsFatedTo k new (after (after m one.steps) r.steps)) (omega arith) r.fated);
-    decides = All-append Decides r.steps one.steps r.decides (All-weaker (DecidesOn (port_at n)) Decides (λ step is. (port_at n, is)) one.steps one.own);
+    decides = All-append Decides r.steps one.steps r.decides (All-weaker (IsResolveStep (port_at n)) Decides (λ step is. (port_at n, is)) one.steps one.own);
     answered = λ e o here. ⊎_elim (λ late. as_before e (Complete o) (r.answered e o late)) (λ early. its_fate e (Complete o) (one.answered e o early)) (Contains-append_cases r.steps one.steps (Answer e o) here);
     again = λ e here. ⊎_elim (λ late. as_before e Requeue (r.again e late)) (λ early. its_fate e Requeue (one.again e early)) (Contains-append_cases r.steps one.steps (Again e) here);
     answers = one.tells.answers ++ r.answers;
@@ -356,7 +356,7 @@ module _ (laws : LawsBelow) (n : ℕ) (low : n < 4) (found : ProbeResult) (rest 
     settings = r.settings ∙ ap (λ (c : ServerState). record c { table = new.table; kept = new.kept; book = new.book }) s.server;
   }
 
-pub fate_all : LawsBelow → (found : List ProbeResult) (n : ℕ) → n + length found ≤ 4 → (replies : List Reply) (old new : ServerState) → SettlePorts n found replies old new → (m : Machine) → IsReachable m → IsFatedTo n old m
+pub fate_all : LawsBelow → (found : List ProbeResult) (n : ℕ) → n + length found ≤ 4 → (replies : List Reply) (old new : ServerState) → ResolvePorts n found replies old new → (m : Machine) → IsReachable m → IsFatedTo n old m
     → AreFated n found replies old new m
 fate_all laws [] n few replies old new (none, same) m reached at = record {
   steps = [];

@@ -7,7 +7,7 @@ use Rattle.adapter.specs.Device.{Device}
 use Rattle.adapter.specs.Idle.{IsIdle}
 use Rattle.adapter.specs.Rules.{IsOn}
 use Rattle.refinement.specs.Relation.{port_at}
-use Rattle.refinement.specs.Driven.{Grows, IsControl, IsDrivenBy, IsOf}
+use Rattle.refinement.specs.Driven.{Grows, OnPortWriting, IsDrivenBy, SparesOtherPorts}
 use Rattle.ata_types.specs.declared.Port.{Port}
 use Rattle.ata_types.specs.declared.PortState.{PortState as ShownState}
 use Rattle.ata_types.specs.declared.PortState.TheVariants.{Ready as ReadyState}
@@ -50,21 +50,21 @@ module _ (laws : LawsBelow) where
 
   -- ---- one port's way
 
-  boot_of : (port : Port) (old new : Device) → IsDrivenBy (IsOfBoot port) old new → IsDrivenBy (IsOf port) old new
-  boot_of port old new driven = driven_as (IsOfBoot port) (IsOf port) old new (laws.booting_of port) driven
+  boot_of : (port : Port) (old new : Device) → IsDrivenBy (IsOfBoot port) old new → IsDrivenBy (SparesOtherPorts port) old new
+  boot_of port old new driven = driven_as (IsOfBoot port) (SparesOtherPorts port) old new (laws.booting_of port) driven
 
-  stopping_of : (port : Port) (old new : Device) → IsDrivenBy (IsControl IsCommandRegister port) old new → IsDrivenBy (IsOf port) old new
+  stopping_of : (port : Port) (old new : Device) → IsDrivenBy (OnPortWriting IsCommandRegister port) old new → IsDrivenBy (SparesOtherPorts port) old new
   stopping_of port old new driven = boot_of port old new (driven_as (IsBeside port) (IsOfBoot port) old new (λ access is. is.0) (commanding laws port old new driven))
 
-  of_both : (port : Port) (old mid new : Device) → IsDrivenBy (IsOf port) old mid → IsDrivenBy (IsOf port) mid new → IsDrivenBy (IsOf port) old new
+  of_both : (port : Port) (old mid new : Device) → IsDrivenBy (SparesOtherPorts port) old mid → IsDrivenBy (SparesOtherPorts port) mid new → IsDrivenBy (SparesOtherPorts port) old new
   of_both port old mid new early late = record {
     accesses = early.accesses ++ late.accesses;
     all = laws.basic.does_append early.accesses late.accesses old mid new early.all late.all;
-    only = All-append (IsOf port) early.accesses late.accesses early.only late.only;
+    only = All-append (SparesOtherPorts port) early.accesses late.accesses early.only late.only;
   }
 
-  through_of : (port : Port) (found : ProbeResult) (old new : Device) → StopsAndBootsPort port found old new → IsDrivenBy (IsOf port) old new
-  through_of port Unserved old new same = subst (IsDrivenBy (IsOf port) old) (sym same) (by_none (IsOf port) old)
+  through_of : (port : Port) (found : ProbeResult) (old new : Device) → StopsAndBootsPort port found old new → IsDrivenBy (SparesOtherPorts port) old new
+  through_of port Unserved old new same = subst (IsDrivenBy (SparesOtherPorts port) old) (sym same) (by_none (SparesOtherPorts port) old)
   through_of port (Ready info) old new (stopped, stops, boots, gets, shows) = of_both port old stopped new (stopping_of port old stopped stops) (boot_of port stopped new boots)
   through_of port (Unready state) old new (stopped, stops, boots, first, last, sticks) = of_both port old stopped new (stopping_of port old stopped stops) (boot_of port stopped new boots)
 
@@ -104,7 +104,7 @@ module _ (laws : LawsBelow) where
 
   -- ---- the whole
 
-  survey_of : (port : Port) (access : Access) → IsSurvey access → IsOf port access
+  survey_of : (port : Port) (access : Access) → IsSurvey access → SparesOtherPorts port access
   survey_of port (Reading Cap v) is = tt
   survey_of port (Reading Pi v) is = tt
   survey_of port (Reading r v) is = absurd is
@@ -117,7 +117,7 @@ pub taken_saw : (laws : ResetLaws) (port : Port) (found : ProbeResult) → ((sta
 taken_saw laws port found other shows ports old new rest is way =
     let below : LawsBelow = laws.below in
     let on = laws.below.switches_on 0x80000000 old way.switched rest.no_reset refl refl way.switches in
-    let surveys = driven_as IsSurvey (IsOf port) way.switched way.surveyed (survey_of below port) way.surveys in
+    let surveys = driven_as IsSurvey (SparesOtherPorts port) way.switched way.surveyed (survey_of below port) way.surveys in
     saw_before below port (Writing Ghc 0x80000000 ∷ surveys.accesses) old way.surveyed new (way.switched, way.switches, surveys.all)
     (saw_after below port way.surveyed way.booted new (below.looks.tape.access_grows (Writing Ghc 0x80000002) way.booted new way.enables)
     (go_saw below port found other shows 0 ports port.0 way.surveyed way.booted (omega arith) is (below.of_on port way.switched way.surveyed on surveys) way.boots))

@@ -23,7 +23,7 @@ use Rattle.host_boot.specs.Taken.{probe_result_of}
 use Rattle.host_boot.specs.declared.ProbeResult.{ProbeResult}
 use Rattle.host_boot.specs.declared.ProbeResult.TheVariants.{Ready, Unready, Unserved}
 use Rattle.identify.specs.declared.DiskInfo.{DiskInfo}
-use Rattle.request_queue.specs.Entries.{Held, asks, asks_of, at_entry, due_ids, has_id, issue}
+use Rattle.request_queue.specs.Entries.{BookEntry, asks, asks_of, update_if_id, due_ids, has_id, issue}
 use Rattle.server_history.proofs.state.DueRequests.{same_book}
 use Rattle.server_history.proofs.any_turn.JoinedParts.{ready_or_not}
 use Rattle.server_history.proofs.recovery_turn.CallPart.{none_due_unready}
@@ -32,8 +32,8 @@ use Rattle.server_history.proofs.plain_calls.IssueRounds.{AreIssued, any_append,
 use Rattle.server_history.proofs.state.PortSlots.{ready_found}
 use Rattle.server_history.specs.Below.{LawsBelow}
 use Rattle.server_history.specs.Resets.{IssuePorts}
-use Rattle.server_history.specs.Served.{IssuesAll, IssuesEach, IssuesOnly}
-use Rattle.server_history.specs.Server.{InCallInvariant, IsMachineOf, SettledInvariant, ServerState, mode_in, ports_of, state_of}
+use Rattle.server_history.specs.Served.{IssuesAll, IssuesEach, AllByDeviceOrIssue}
+use Rattle.server_history.specs.Server.{InCallInvariant, MachineRelation, SettledInvariant, ServerState, mode_in, ports_of, state_of}
 
 -- the step is the device's, or issues a request of a ready port in the port's mode
 abbrev pub IsReissue : Ports → Step → Type 0
@@ -44,7 +44,7 @@ reissue_device : (ports : Ports) (step : Step) → IsByDevice step → IsReissue
 reissue_device ports (Issue mode e) is = absurd is
 reissue_device ports step is = is
 
-only_reissues : (ports : Ports) (mode : QueueMode) (port : Port) → ports.state port ≡ ReadyState → ports.mode port ≡ mode → (steps : List Step) → IssuesOnly mode port steps → All (IsReissue ports) steps
+only_reissues : (ports : Ports) (mode : QueueMode) (port : Port) → ports.state port ≡ ReadyState → ports.mode port ≡ mode → (steps : List Step) → AllByDeviceOrIssue mode port steps → All (IsReissue ports) steps
 only_reissues ports mode port ready its [] only = All-nil (IsReissue ports)
 only_reissues ports mode port ready its (Issue other e ∷ steps) only =
     All-cons (IsReissue ports) (Issue other e) steps (ap ports.state only.1 ∙ ready, ap ports.mode only.1 ∙ its ∙ sym only.0) (only_reissues ports mode port ready its steps only.2)
@@ -52,23 +52,23 @@ only_reissues ports mode port ready its (step ∷ steps) only = All-cons (IsReis
 
 -- ---- who was in the book
 
-issued_was : (id : RequestId) (book : List Held) (e : Held) → Contains (map (at_entry id issue) book) e → WasIn book e
+issued_was : (id : RequestId) (book : List BookEntry) (e : BookEntry) → Contains (map (update_if_id id issue) book) e → WasIn book e
 issued_was id book e here =
-    let w = map_in (at_entry id issue) book e here in
+    let w = map_in (update_if_id id issue) book e here in
     subst (WasIn book) (sym w.2) (by w.0 w.1 (has_id id w.0))
   where
-    by : (x : Held) → Contains book x → (b : Bool) → WasIn book (if b then record x { entry = issue x.entry } else x)
+    by : (x : BookEntry) → Contains book x → (b : Bool) → WasIn book (if b then record x { entry = issue x.entry } else x)
     by x here true = record { was = x; there = here; id = refl; client = refl; grant = refl; port = refl; op = refl; revoked = refl; waiting = λ waits. absurd (false≢true (sym waits)) }
     by x here false = was_itself book x here
 
-each_from : (port : Port) (ids : List RequestId) (old new : ServerState) → IssuesEach port ids old new → (e : Held) → Contains new.book e → WasIn old.book e
+each_from : (port : Port) (ids : List RequestId) (old new : ServerState) → IssuesEach port ids old new → (e : BookEntry) → Contains new.book e → WasIn old.book e
 each_from port [] old new none e here = was_itself old.book e (subst (λ (c : ServerState). Contains c.book e) none here)
 each_from port (id ∷ ids) old new (mid, one, more) e here =
     was_more old.book mid.book e (λ x there. issued_was id old.book x (subst (λ (c : ServerState). Contains c.book x) one.server there)) (each_from port ids mid new more e here)
 
 -- ---- so far
 
-module _ (laws : LawsBelow) (old : ServerState) (k : InCallInvariant old) (m : Machine) (reached : IsReachable m) (is : IsMachineOf old m) where
+module _ (laws : LawsBelow) (old : ServerState) (k : InCallInvariant old) (m : Machine) (reached : IsReachable m) (is : MachineRelation old m) where
   abbrev IsReady : Port → Type 0
   IsReady port = state_of (probe_result_of old.ports port.0) ≡ ReadyState
 
@@ -77,13 +77,13 @@ module _ (laws : LawsBelow) (old : ServerState) (k : InCallInvariant old) (m : M
     pub steps : List Step
     pub may : AllMay m steps
     pub backed : IsBacked old.device c.device m steps
-    pub stands : IsMachineOf c (after m steps)
+    pub stands : MachineRelation c (after m steps)
     pub kept : InCallInvariant c
     pub settings : c ≡ record old { device = c.device; slots = c.slots; book = c.book }
     pub only : All (IsReissue (ports_of old)) steps
     pub last : IssuesLast steps
-    pub from : (e : Held) → Contains c.book e → WasIn old.book e
-    pub issued : (id : RequestId) → IsIssuedIn id steps → (e : Held) × Contains old.book e × (e.entry.id ≡ id) × (e.entry.port.0 < n)
+    pub from : (e : BookEntry) → Contains c.book e → WasIn old.book e
+    pub issued : (id : RequestId) → IsIssuedIn id steps → (e : BookEntry) × Contains old.book e × (e.entry.id ≡ id) × (e.entry.port.0 < n)
     pub none : (port : Port) → port.0 < n → IsReady port → NoneDue (mode_in old port) (asks_of c.book) port
     pub dues : (port : Port) → port.0 < n → IsReady port → IssuesDue (mode_in old port) steps (after m steps) port
 
@@ -154,27 +154,27 @@ module _ (laws : LawsBelow) (old : ServerState) (k : InCallInvariant old) (m : M
     mode_same q = ap (λ (s : ServerState). mode_in s q) a.settings
 
     -- one that is due is of the port
-    its : (id : RequestId) → Contains ids id → (e : Held) × Contains c.book e × (e.entry.id ≡ id) × (e.entry.port ≡ port)
+    its : (id : RequestId) → Contains ids id → (e : BookEntry) × Contains c.book e × (e.entry.id ≡ id) × (e.entry.port ≡ port)
     its id there =
         let y = map_in (λ (u : Unanswered). u.id) (due_of (mode_in c port) port (asks_of c.book)) id there in
         let own : y.0.port ≡ port = laws.own (mode_in c port) port (asks_of c.book) y.0 y.1 in
         let due = (laws.exact (mode_in c port) port (asks_of c.book) y.0 own).0 y.1 in
-        let w = map_in (λ (e : Held). asks e.entry) c.book y.0 due.here in
+        let w = map_in (λ (e : BookEntry). asks e.entry) c.book y.0 due.here in
         (w.0, w.1, ap (λ (u : Unanswered). u.id) (sym w.2) ∙ sym y.2, ap (λ (u : Unanswered). u.port) (sym w.2) ∙ own)
 
     -- one of another port isn't issued here, nor one of the port before
-    not_here : (e : Held) → Contains c.book e → e.entry.port.0 ≢ n → IsIssuedIn e.entry.id x.steps → ⊥
+    not_here : (e : BookEntry) → Contains c.book e → e.entry.port.0 ≢ n → IsIssuedIn e.entry.id x.steps → ⊥
     not_here e here other i =
         let w = its e.entry.id (x.named e.entry.id i) in
         let one : w.0 ≡ e = laws.one c.book w.0 e a.kept.ordered w.1 here w.2 in
-        other (ap (λ (y : Held). y.entry.port.0) (sym one) ∙ ap (λ (p : Port). p.0) w.3)
+        other (ap (λ (y : BookEntry). y.entry.port.0) (sym one) ∙ ap (λ (p : Port). p.0) w.3)
 
-    not_before : (e : Held) → Contains old.book e → n ≤ e.entry.port.0 → IsIssuedIn e.entry.id a.steps → ⊥
+    not_before : (e : BookEntry) → Contains old.book e → n ≤ e.entry.port.0 → IsIssuedIn e.entry.id a.steps → ⊥
     not_before e here high i =
         let w = a.issued e.entry.id i in
         let one : w.0 ≡ e = laws.one old.book w.0 e k.ordered w.1 here w.2 in
         let lt = w.3 in
-        let same = ap (λ (y : Held). y.entry.port.0) one in omega (arith, lt, same, high)
+        let same = ap (λ (y : BookEntry). y.entry.port.0) one in omega (arith, lt, same, high)
 
     apart : (id : RequestId) → IsIssuedIn id x.steps → IsIssuedIn id a.steps → ⊥
     apart id late early =
@@ -207,7 +207,7 @@ module _ (laws : LawsBelow) (old : ServerState) (k : InCallInvariant old) (m : M
     -- a request of the port isn't issued before
     alike_here : (r : Unanswered) → Contains (map unanswered (after stood x.steps).book) r → r.port ≡ port → list_any (issues_it r.id) x.steps ≡ list_any (issues_it r.id) all
     alike_here r here own = ⊎_elim
-        (λ early. absurd (let w = map_in (λ (e : Held). asks e.entry) mid.book r (subst (λ (us : List Unanswered). Contains us r) asks_last here) in
+        (λ early. absurd (let w = map_in (λ (e : BookEntry). asks e.entry) mid.book r (subst (λ (us : List Unanswered). Contains us r) asks_last here) in
         let v = a.from (each_from port ids c mid issues w.0 w.1).was (each_from port ids c mid issues w.0 w.1).there in
         let u = each_from port ids c mid issues w.0 w.1 in
         not_before v.was v.there
@@ -219,7 +219,7 @@ module _ (laws : LawsBelow) (old : ServerState) (k : InCallInvariant old) (m : M
     -- and one of another port isn't here
     alike_other : (q : Port) → q.0 ≢ n → (r : Unanswered) → Contains (map unanswered stood.book) r → r.port ≡ q → list_any (issues_it r.id) a.steps ≡ list_any (issues_it r.id) all
     alike_other q ne r here own = ⊎_elim
-        (λ late. absurd (let w = map_in (λ (e : Held). asks e.entry) c.book r (subst (λ (us : List Unanswered). Contains us r) asks_then here) in
+        (λ late. absurd (let w = map_in (λ (e : BookEntry). asks e.entry) c.book r (subst (λ (us : List Unanswered). Contains us r) asks_then here) in
         not_here w.0 w.1 (λ same. ne (ap (λ (p : Port). p.0) (sym own) ∙ ap (λ (y : Unanswered). y.port.0) w.2 ∙ same)) (subst (λ (i : RequestId). IsIssuedIn i x.steps) (ap (λ (y : Unanswered). y.id) w.2) late)))
         (λ none. sym (any_append (issues_it r.id) x.steps a.steps ∙ ap (λ (b : Bool). b || list_any (issues_it r.id) a.steps) none))
         (cases_Bool (list_any (issues_it r.id) x.steps))
@@ -236,7 +236,7 @@ module _ (laws : LawsBelow) (old : ServerState) (k : InCallInvariant old) (m : M
         (ap (of_port q) asks_then ∙ sym (apart_same q ne) ∙ ap (of_port q) (sym asks_last ∙ last_machine)) (alike_other q ne) (a.dues q (omega (arith, lt, ne)) its_ready))
         (cases_eq q.0 n)
 
-    issued_then : (id : RequestId) → IsIssuedIn id all → (e : Held) × Contains old.book e × (e.entry.id ≡ id) × (e.entry.port.0 < n + 1)
+    issued_then : (id : RequestId) → IsIssuedIn id all → (e : BookEntry) × Contains old.book e × (e.entry.id ≡ id) × (e.entry.port.0 < n + 1)
     issued_then id i = ⊎_elim
         (λ late.
         let w = its id (x.named id late) in
@@ -250,7 +250,7 @@ module _ (laws : LawsBelow) (old : ServerState) (k : InCallInvariant old) (m : M
       steps = all;
       may = laws.basic.may m x.steps a.steps a.may x.may;
       backed = laws.backed_parts old.device c.device mid.device m a.steps x.steps a.backed x.backed;
-      stands = subst (IsMachineOf mid) (sym all_is) x.stands;
+      stands = subst (MachineRelation mid) (sym all_is) x.stands;
       kept = each_kept laws port ids c mid a.kept issues;
       settings = each_settings laws port ids c mid issues ∙ ap (λ (s : ServerState). record s { device = mid.device; slots = mid.slots; book = mid.book }) a.settings;
       only = All-append (IsReissue (ports_of old)) x.steps a.steps (only_reissues (ports_of old) (mode_in c port) port ready (sym (mode_same port)) x.steps x.only) a.only;
@@ -264,23 +264,23 @@ module _ (laws : LawsBelow) (old : ServerState) (k : InCallInvariant old) (m : M
   -- ---- all ports
 
   not_ready : (found : ProbeResult) (n : ℕ) → probe_result_of old.ports n ≡ found → (state_of found ≢ ReadyState) → state_of (probe_result_of old.ports n) ≢ ReadyState
-  not_ready found n at_entry other ready = other (ap state_of (sym at_entry) ∙ ready)
+  not_ready found n update_if_id other ready = other (ap state_of (sym update_if_id) ∙ ready)
 
   pub reissue_all : (found : List ProbeResult) (n : ℕ) → ((i : ℕ) → probe_result_of old.ports (n + i) ≡ probe_result_of found i) → (c new : ServerState) → AreReissued n c → IssuePorts n found c new → AreReissued (n + length found) new
-  reissue_all [] n at_entry c new a same = subst (λ (q : ℕ). AreReissued q new) (omega arith) (subst (AreReissued n) (sym same) a)
-  reissue_all (Ready info ∷ rest) n at_entry c new a (mid, issues, more) =
-      let here : probe_result_of old.ports n ≡ Ready info = ap (probe_result_of old.ports) (omega arith) ∙ at_entry 0 in
+  reissue_all [] n update_if_id c new a same = subst (λ (q : ℕ). AreReissued q new) (omega arith) (subst (AreReissued n) (sym same) a)
+  reissue_all (Ready info ∷ rest) n update_if_id c new a (mid, issues, more) =
+      let here : probe_result_of old.ports n ≡ Ready info = ap (probe_result_of old.ports) (omega arith) ∙ update_if_id 0 in
       subst (λ (q : ℕ). AreReissued q new) (omega arith)
-      (reissue_all rest (n + 1) (λ i. ap (probe_result_of old.ports) (omega arith) ∙ at_entry (suc i)) mid new (reissued_more n (ap state_of here) c mid a issues) more)
-  reissue_all (Unserved ∷ rest) n at_entry c new a more =
-      let here : probe_result_of old.ports n ≡ Unserved = ap (probe_result_of old.ports) (omega arith) ∙ at_entry 0 in
+      (reissue_all rest (n + 1) (λ i. ap (probe_result_of old.ports) (omega arith) ∙ update_if_id (suc i)) mid new (reissued_more n (ap state_of here) c mid a issues) more)
+  reissue_all (Unserved ∷ rest) n update_if_id c new a more =
+      let here : probe_result_of old.ports n ≡ Unserved = ap (probe_result_of old.ports) (omega arith) ∙ update_if_id 0 in
       subst (λ (q : ℕ). AreReissued q new) (omega arith)
-      (reissue_all rest (n + 1) (λ i. ap (probe_result_of old.ports) (omega arith) ∙ at_entry (suc i)) c new
+      (reissue_all rest (n + 1) (λ i. ap (probe_result_of old.ports) (omega arith) ∙ update_if_id (suc i)) c new
       (passed_over n c (not_ready Unserved n here (λ ready. let z : Absent ≡ ReadyState = ready in absurd cc)) a) more)
-  reissue_all (Unready state ∷ rest) n at_entry c new a more =
-      let here : probe_result_of old.ports n ≡ Unready state = ap (probe_result_of old.ports) (omega arith) ∙ at_entry 0 in
+  reissue_all (Unready state ∷ rest) n update_if_id c new a more =
+      let here : probe_result_of old.ports n ≡ Unready state = ap (probe_result_of old.ports) (omega arith) ∙ update_if_id 0 in
       subst (λ (q : ℕ). AreReissued q new) (omega arith)
-      (reissue_all rest (n + 1) (λ i. ap (probe_result_of old.ports) (omega arith) ∙ at_entry (suc i)) c new
+      (reissue_all rest (n + 1) (λ i. ap (probe_result_of old.ports) (omega arith) ∙ update_if_id (suc i)) c new
       (passed_over n c (λ ready. unready (ready_found old n k ready).1 here) a) more)
     where
       unready : (info : DiskInfo) × (probe_result_of old.ports n ≡ Ready info) → probe_result_of old.ports n ≡ Unready state → ⊥

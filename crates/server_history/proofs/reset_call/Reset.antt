@@ -17,7 +17,7 @@ use Rattle.ata_types.specs.declared.request.Reply.{Reply}
 use Rattle.ata_types.specs.declared.request.RequestId.{RequestId}
 use Rattle.server_history.proofs.state.ListMembers.{contains_cases}
 use Rattle.block_machine.specs.Due.{of_port}
-use Rattle.block_machine.specs.Events.{AllLawful, AllMay, AnswersReset, AreStepsOfCall, FindsAnother, EndsUndone, HadDisk, IsLawful, IssuesLast, KeepsDisks, AbstractState, NoneKeepsIssue, ReleasesOnce, Reset, ShowsDisk, Tells, UnplugsAll, WasIssued, WasReset, answers_of, issues_it, IsReadyAgain}
+use Rattle.block_machine.specs.Events.{AllLawful, AllMay, AnswersReset, AreStepsOfCall, UnpluggedLostDisk, EndsUndone, ShowsRealDisk, IsLawful, IssuesLast, UnansweredKeepDisk, AbstractState, NoneKeepsIssue, ReleasesOnce, Reset, ShowsDisk, RepliesMatch, AnswersAllUnplugged, WasIssued, WasReset, answers_of, issues_it, IsReadyAgain}
 use Rattle.block_machine.specs.Histories.{Happening, JointState, IsReachable, now}
 use Rattle.block_machine.specs.Left.{after}
 use Rattle.block_machine.specs.Ports.{MayBecome, Ports, SameDisk}
@@ -32,8 +32,8 @@ use Rattle.host_boot.specs.Taken.{IsServed, StandsBehind, StillStandsBehind, pro
 use Rattle.host_boot.specs.declared.ProbeResult.{ProbeResult}
 use Rattle.host_boot.specs.declared.ProbeResult.TheVariants.{Ready, Unready, Unserved}
 use Rattle.identify.specs.declared.DiskInfo.{DiskInfo}
-use Rattle.request_queue.specs.Entries.{Held, at_entry}
-use Rattle.request_queue.specs.Machine.{IsEntry}
+use Rattle.request_queue.specs.Entries.{BookEntry, update_if_id}
+use Rattle.request_queue.specs.Machine.{EntryRelation}
 use Rattle.request_queue.specs.declared.disposition.Disposition.{Disposition}
 use Rattle.request_queue.specs.declared.disposition.Disposition.TheVariants.{Complete, Requeue}
 use Rattle.request_queue.specs.declared.disposition.Revalidation.{Revalidation}
@@ -62,9 +62,9 @@ use Rattle.server_history.proofs.state.PairedLists.{at_right}
 use Rattle.server_history.specs.Ended.{ResetLaws}
 use Rattle.server_history.specs.Histories.{ExtendsSettled, LeadsToServer}
 use Rattle.server_history.proofs.reset_call.ResetDevice.{IsRebootedBy}
-use Rattle.server_history.specs.Resets.{IsResetRevalidation, IsReinitialized, IssuePorts, ResetsServer, SettlePorts}
-use Rattle.server_history.specs.Server.{InCallInvariant, IsMachineOf, SettledInvariant, ServerState, last_disk_in, last_disk_of, is_served, mode_in, ports_of, remembered_at, last_sectors_of, last_serial_of, state_of}
-use Rattle.server_history.specs.Stalled.{BookInvariant}
+use Rattle.server_history.specs.Resets.{IsResetRevalidation, IsReinitialized, IssuePorts, ResetsServer, ResolvePorts}
+use Rattle.server_history.specs.Server.{InCallInvariant, MachineRelation, SettledInvariant, ServerState, last_disk_in, last_disk_of, is_served, mode_in, ports_of, remembered_at, last_sectors_of, last_serial_of, state_of}
+use Rattle.server_history.specs.StuckServer.{ServerInvariant}
 use Rattle.server_history.specs.Turns.{joint_state_of, abstract_state_of}
 use Rattle.ata_types.specs.declared.request.Outcome.TheVariants as outcome
 
@@ -80,7 +80,7 @@ remembers Unserved remembered other = refl
 remembers (Ready info) remembered other = absurd (other refl)
 remembers (Unready state) remembered other = refl
 
-module _ (laws : ResetLaws) (s taken settled new : ServerState) (replies : List Reply) (booked : BookInvariant s) (takes : IsReinitialized s taken) (settles : SettlePorts 0 taken.ports replies taken settled) (issues : IssuePorts 0 taken.ports settled new)
+module _ (laws : ResetLaws) (s taken settled new : ServerState) (replies : List Reply) (booked : ServerInvariant s) (takes : IsReinitialized s taken) (settles : ResolvePorts 0 taken.ports replies taken settled) (issues : IssuePorts 0 taken.ports settled new)
     (by : IsRebootedBy s new replies) (first : JointState Device) (past : List (Happening Device DeviceStep)) (leads : LeadsToServer first past s) where
   abbrev was : AbstractState
   was = (now first past).abstract
@@ -88,7 +88,7 @@ module _ (laws : ResetLaws) (s taken settled new : ServerState) (replies : List 
   abbrev m : Machine
   m = was.machine
 
-  is : IsMachineOf s m
+  is : MachineRelation s m
   is = leads.stands.machine
 
   same : was.ports ≡ ports_of s
@@ -117,7 +117,7 @@ module _ (laws : ResetLaws) (s taken settled new : ServerState) (replies : List 
   abbrev kept : InCallInvariant settled
   kept = keeps_all laws s taken settled booked takes replies settles m reached is
 
-  abbrev stands : IsMachineOf settled z
+  abbrev stands : MachineRelation settled z
   stands = stands_regained laws s taken settled booked takes replies settles m reached is
 
   abbrev a : AreReissued laws.below settled kept z (z_reached laws s taken settled booked takes replies settles m reached is) stands 4 new
@@ -146,8 +146,8 @@ module _ (laws : ResetLaws) (s taken settled new : ServerState) (replies : List 
       (laws.below.backed_parts s.device taken.device taken.device m begun f.steps r.backed (f.backed taken.device))
       (subst (λ (n : Machine). IsBacked taken.device new.device n a.steps) (sym base_is) (subst (λ (d : Device). IsBacked d new.device z a.steps) device_same a.backed))
 
-  stands_new : IsMachineOf new (after m steps)
-  stands_new = subst (IsMachineOf new) (sym whole_is) a.stands
+  stands_new : MachineRelation new (after m steps)
+  stands_new = subst (MachineRelation new) (sym whole_is) a.stands
 
   -- ---- ports
 
@@ -199,18 +199,18 @@ module _ (laws : ResetLaws) (s taken settled new : ServerState) (replies : List 
               (cases_Bool (is_served (probe_result_of s.ports port)))
 
           alike : (found : ProbeResult) → probe_result_of taken.ports port ≡ found → StandsBehind (wanted_of s.wanted port) found port taken.device → is_served (probe_result_of taken.ports port) ≡ is_served (probe_result_of s.ports port)
-          alike Unserved at_entry stood = ap is_served at_entry ∙ sym (none stood.0)
-          alike (Ready info) at_entry stood = ap is_served at_entry ∙ sym (over stood.0)
-          alike (Unready state) at_entry stood = ap is_served at_entry ∙ sym (over stood.0)
+          alike Unserved update_if_id stood = ap is_served update_if_id ∙ sym (none stood.0)
+          alike (Ready info) update_if_id stood = ap is_served update_if_id ∙ sym (over stood.0)
+          alike (Unready state) update_if_id stood = ap is_served update_if_id ∙ sym (over stood.0)
 
   -- ---- who has a fate
 
   -- it is of a port that was served
   of_served : (e : Pending) (disposition : Disposition) → HasFate taken e disposition → (ports_of s).served e.request.port ≡ true
   of_served e disposition has =
-      let here : Contains s.book has.from.was = subst (λ (book : List Held). Contains book has.from.was) (ap (λ (c : ServerState). c.book) takes.server) has.from.there in
+      let here : Contains s.book has.from.was = subst (λ (book : List BookEntry). Contains book has.from.was) (ap (λ (c : ServerState). c.book) takes.server) has.from.there in
       subst (λ (p : Port). is_served (probe_result_of s.ports p.0) ≡ true) (sym (has.entry.port ∙ has.from.port))
-      (All-contains (λ (x : Held). is_served (probe_result_of s.ports x.entry.port.0) ≡ true) s.book has.from.was booked.asked here)
+      (All-contains (λ (x : BookEntry). is_served (probe_result_of s.ports x.entry.port.0) ≡ true) s.book has.from.was booked.asked here)
 
   -- its port is what it expects
   expects_new : (e : Pending) (disposition : Disposition) (has : HasFate taken e disposition) → IsResetRevalidation (last_disk_in s e.request.port) (probe_result_of new.ports e.request.port.0) has.revalidation
@@ -257,10 +257,10 @@ module _ (laws : ResetLaws) (s taken settled new : ServerState) (replies : List 
         counts = sym (ap last_sectors_of now_is) ∙ alike.1
 
         by_disk : (disk : Option DiskInfo) → last_disk_in s port ≡ disk → ⊥
-        by_disk None at_entry =
+        by_disk None update_if_id =
             let long = fit.1.fit.tells.serial.size in
-            let short : length info.serial ≡ 0 = ap (λ (serial : List ℕ). length serial) (serials ∙ ap last_serial_of at_entry) in omega (arith, long, short)
-        by_disk (Some before) at_entry = expects.1 before info at_entry found.1.1 (serials ∙ ap last_serial_of at_entry, counts ∙ ap last_sectors_of at_entry)
+            let short : length info.serial ≡ 0 = ap (λ (serial : List ℕ). length serial) (serials ∙ ap last_serial_of update_if_id) in omega (arith, long, short)
+        by_disk (Some before) update_if_id = expects.1 before info update_if_id found.1.1 (serials ∙ ap last_serial_of update_if_id, counts ∙ ap last_sectors_of update_if_id)
 
   -- ---- what its steps are
 
@@ -337,7 +337,7 @@ module _ (laws : ResetLaws) (s taken settled new : ServerState) (replies : List 
       stopped = by.stopped e.request.port (of_served e (Complete o) has)
 
       expects : (p : Revalidation) → has.revalidation ≡ p → IsResetRevalidation (last_disk_in s e.request.port) (probe_result_of new.ports e.request.port.0) p
-      expects p at_entry = subst (IsResetRevalidation (last_disk_in s e.request.port) (probe_result_of new.ports e.request.port.0)) at_entry (expects_new e (Complete o) has)
+      expects p update_if_id = subst (IsResetRevalidation (last_disk_in s e.request.port) (probe_result_of new.ports e.request.port.0)) update_if_id (expects_new e (Complete o) has)
 
       goes_on : has.revalidation ≡ Same → IsReadyAgain was by.evidence (ports_of new) e.request.port
       goes_on as_before = (
@@ -368,7 +368,7 @@ module _ (laws : ResetLaws) (s taken settled new : ServerState) (replies : List 
 
   -- ---- what it says and does
 
-  tells : Tells steps replies
+  tells : RepliesMatch steps replies
   tells = record { answers = f.answers; same = subst (IsPermutation f.answers) (sym answers_are) f.permuted; ordered = f.ordered; told = f.told }
     where
       begun_answers : answers_of begun ≡ []
@@ -420,7 +420,7 @@ module _ (laws : ResetLaws) (s taken settled new : ServerState) (replies : List 
   -- who is left is of a port that has its disk
   left_has : (e : Pending) → Contains (after m steps).book e → HasItsDisk settled.remembered settled.ports e.request.port.0
   left_has e here =
-      let h = at_right IsEntry new.book (after m steps).book stands_new.book e here in
+      let h = at_right EntryRelation new.book (after m steps).book stands_new.book e here in
       let w = a.from h.0 h.1 in
       subst (λ (p : Port). HasItsDisk settled.remembered settled.ports p.0) (sym (h.2.port ∙ w.port)) (its_disk laws s taken settled booked takes replies settles m reached is w.was w.there)
 
@@ -429,7 +429,7 @@ module _ (laws : ResetLaws) (s taken settled new : ServerState) (replies : List 
       let has = left_has e here in
       (has.0, has.1, sym (remembered_new e.request.port) ∙ ap (λ (c : ServerState). remembered_at c.remembered e.request.port.0) a.settings ∙ has.2, found_new e.request.port.0 ∙ has.3, has.4)
 
-  unplugs : UnplugsAll steps (after m steps)
+  unplugs : AnswersAllUnplugged steps (after m steps)
   unplugs = record {
     emptied = λ e other here there own.
         let lost = unplugged_expects e here in
@@ -438,7 +438,7 @@ module _ (laws : ResetLaws) (s taken settled new : ServerState) (replies : List 
     alike = λ e other here there own. (unplugged_expects e here).0 (ap (λ (p : Port). probe_result_of new.ports p.0) (sym own) ∙ dead_expects other there);
   }
 
-  finds : FindsAnother steps (ports_of s) (ports_of new)
+  finds : UnpluggedLostDisk steps (ports_of s) (ports_of new)
   finds e here = let lost = unplugged_expects e here in (not_dead e.request.port lost, other_disk e.request.port lost)
 
   -- no request keeps its issue
@@ -450,7 +450,7 @@ module _ (laws : ResetLaws) (s taken settled new : ServerState) (replies : List 
     where
       none_before : WasIssued z e.request.id → ⊥
       none_before w =
-          let h = at_right IsEntry settled.book z.book stands.book w.pending w.here in
+          let h = at_right EntryRelation settled.book z.book stands.book w.pending w.here in
           let ready : state_of (probe_result_of settled.ports w.pending.request.port.0) ≡ ReadyState = ap (λ (p : Port). state_of (probe_result_of settled.ports p.0)) h.2.port ∙ of_ready settled kept h.0 h.1 in
           let slot = issued_has settled z w.pending.request.port stands kept ready w.pending w.here refl w.issued in
           let y : None ≡ Some slot.used = sym (unused_then laws s taken settled booked takes replies settles m reached is w.pending.request.port.0 slot.slot) ∙ slot.used_is in absurd cc
@@ -474,17 +474,17 @@ module _ (laws : ResetLaws) (s taken settled new : ServerState) (replies : List 
   -- ---- the disks that it shows
 
   -- a port that shows a disk had one in at some moment
-  had : (port : Port) → HadDisk (abstract_state_of s m) steps end port
+  had : (port : Port) → ShowsRealDisk (abstract_state_of s m) steps end port
   had port shows = had_disk laws.below port s saw.seen new.device m saw.accesses saw.does saw.present is (laws.below.looks.tape.grows_more saw.seen taken.device new.device saw.later grows) steps backed
     where
       found_is : probe_result_of new.ports port.0 ≡ probe_result_of takes.host.ports port.0
       found_is = found_new port.0 ∙ found_taken port.0 ∙ ap (λ (ports : List ProbeResult). probe_result_of ports port.0) (ports_are laws s taken settled booked takes replies settles m reached is)
 
       never : (state : ShownState) → probe_result_of takes.host.ports port.0 ≡ Unready state → state ≢ ReadyState
-      never state at_entry ready = ⊎_elim
+      never state update_if_id ready = ⊎_elim
           (λ (low : port.0 < 4). (subst (λ (x : ShownState). StandsBehind (wanted_of s.wanted port.0) (Unready x) port.0 taken.device) ready
-          (subst (λ (x : ProbeResult). StandsBehind (wanted_of s.wanted port.0) x port.0 taken.device) at_entry (takes.takes.stands port.0 low))).1)
-          (λ (high : 4 ≤ port.0). absurd (let four = takes.four in let y : Unserved ≡ Unready state = sym (none_past takes.host.ports port.0 (omega (arith, four, high))) ∙ at_entry in cc))
+          (subst (λ (x : ProbeResult). StandsBehind (wanted_of s.wanted port.0) x port.0 taken.device) update_if_id (takes.takes.stands port.0 low))).1)
+          (λ (high : 4 ≤ port.0). absurd (let four = takes.four in let y : Unserved ≡ Unready state = sym (none_past takes.host.ports port.0 (omega (arith, four, high))) ∙ update_if_id in cc))
           (cases_lt port.0 4)
 
       grows : Grows taken.device new.device
@@ -514,7 +514,7 @@ module _ (laws : ResetLaws) (s taken settled new : ServerState) (replies : List 
   instant_is : joint_state_of s m ≡ with_device s.device (now first past)
   instant_is = ap (λ (abstract : AbstractState). record { device = s.device; abstract = abstract }) was_is
 
-  disks : KeepsDisks was end
+  disks : UnansweredKeepDisk was end
   disks e o here there same_id = subst (λ (ports : Ports). SameDisk ports (ports_of new) e.request.port) (sym same) (same_disk e.request.port (left_expects e here))
 
   evidenced : IsEvidenced Reset (WasReset (Some replies)) by.accesses (with_device s.device (now first past)) (ports_of new) new.device by.evidence
@@ -555,7 +555,7 @@ module _ (laws : ResetLaws) (s taken settled new : ServerState) (replies : List 
 
 -- ---- the whole
 
-pub resets_add_given : ResetLaws → (s new : ServerState) (replies : List Reply) → IsRebootedBy s new replies → BookInvariant s → ResetsServer replies s new → ExtendsSettled s new Reset (WasReset (Some replies))
+pub resets_add_given : ResetLaws → (s new : ServerState) (replies : List Reply) → IsRebootedBy s new replies → ServerInvariant s → ResetsServer replies s new → ExtendsSettled s new Reset (WasReset (Some replies))
 resets_add_given laws s new replies by booked resets = record {
   settled = settled_at_last laws s resets.taken resets.settled booked resets.takes replies resets.settles booked.machine booked.reached booked.stands new resets.issues;
   adds = λ first past leads. reset_event laws s resets.taken resets.settled new replies booked resets.takes resets.settles resets.issues by first past leads;

@@ -14,12 +14,12 @@ use Rattle.adapter.specs.Device.{Device}
 use Rattle.adapter.specs.Rules.{IsOn}
 use Rattle.adapter.specs.Steps.{Steps}
 use Rattle.refinement.specs.Relation.{port_at}
-use Rattle.refinement.specs.Driven.{Grows, IsControl, IsDrivenBy, IsOf}
+use Rattle.refinement.specs.Driven.{Grows, OnPortWriting, IsDrivenBy, SparesOtherPorts}
 use Rattle.refinement.specs.Errors.{IsFatalOf}
 use Rattle.refinement.specs.Facts.{IsFaultOf, RunsWell}
-use Rattle.refinement.specs.Links.{PlugsNone, SparesRegister}
-use Rattle.error_recovery.specs.Evidence.{GainsRunning, ShowsTrouble}
-use Rattle.driver_history.specs.Histories.{IsOnAndTells, IsPortServed}
+use Rattle.refinement.specs.Links.{NoPlugEvents, DoesNotWrite}
+use Rattle.error_recovery.specs.Evidence.{GainsSinceStart, HidesNoTrouble}
+use Rattle.driver_history.specs.Histories.{HasAeAndIe, IsPortServed}
 use Rattle.driver_history.specs.Parts.{HasTurnIn, IsOfOther}
 use Rattle.driver_history.specs.Trace.{IsDriversOwn, IsOfPorts, ResetsLink}
 use Rattle.host_boot.specs.Resets.{BeginsReset, IsOfReset}
@@ -32,10 +32,10 @@ use Rattle.port_control.specs.Engines.{Sticks}
 use Rattle.port_control.specs.Ports.{IsCommandRegister}
 use Rattle.request_queue.specs.Entries.{asks_of, due_ids}
 use Rattle.server_history.specs.Below.{LawsBelow}
-use Rattle.server_history.specs.Resets.{IsReinitialized, IssuePorts, ResetsServer, SettlePorts}
-use Rattle.server_history.specs.Served.{IssuesIn}
+use Rattle.server_history.specs.Resets.{IsReinitialized, IssuePorts, ResetsServer, ResolvePorts}
+use Rattle.server_history.specs.Served.{IsIssuingAnySlot}
 use Rattle.server_history.specs.Server.{ServerState, is_served, mode_in, ports_of}
-use Rattle.server_history.specs.Stalled.{BookInvariant}
+use Rattle.server_history.specs.StuckServer.{ServerInvariant}
 use Rattle.server_history.proofs.reset_call.BootedPorts.{DidBoot, IsOfFound, TookTurn, WentBy, command_boots, went_by}
 use Rattle.server_history.proofs.state.TurnAccesses.{issuing_turns}
 use Rattle.server_history.proofs.state.DrivenAccesses.{driven_as}
@@ -50,14 +50,14 @@ use Rattle.server_history.proofs.recovery_turn.HealthyPort.{ready_well}
 -- ---- what is left of the server
 
 -- while requests meet their fates
-pub settles_as : (port : ℕ) (found : List ProbeResult) (replies : List Reply) (old new : ServerState) → SettlePorts port found replies old new → new ≡ record old { table = new.table; kept = new.kept; book = new.book }
+pub settles_as : (port : ℕ) (found : List ProbeResult) (replies : List Reply) (old new : ServerState) → ResolvePorts port found replies old new → new ≡ record old { table = new.table; kept = new.kept; book = new.book }
 settles_as port [] replies old new is = is.1 ∙ ap (λ (n : ServerState). record old { table = n.table; kept = n.kept; book = n.book }) (sym is.1)
 settles_as port (found ∷ rest) replies old new (mid, its, later, are, one, more) =
     settles_as (port + 1) rest later mid new more ∙ ap (λ (n : ServerState). record n { table = new.table; kept = new.kept; book = new.book }) one.server
 
 -- an access that issues requests of one of these ports, which is ready; the first of them has this number
 abbrev pub IsOfReady : ℕ → List ProbeResult → Access → Type 0
-IsOfReady first ports access = (port : Port) × (k : ℕ) × (info : DiskInfo) × (port.0 ≡ first + k) × (probe_result_of ports k ≡ Ready info) × IssuesIn port access
+IsOfReady first ports access = (port : Port) × (k : ℕ) × (info : DiskInfo) × (port.0 ≡ first + k) × (probe_result_of ports k ≡ Ready info) × IsIssuingAnySlot port access
 
 ready_later : (first : ℕ) (found : ProbeResult) (rest : List ProbeResult) (access : Access) → IsOfReady (first + 1) rest access → IsOfReady first (found ∷ rest) access
 ready_later first found rest access (port, k, info, at, is, its) = (port, suc k, info, (omega (arith, at)), is, its)
@@ -82,7 +82,7 @@ module _ (laws : LawsBelow) where
         accesses = early.accesses ++ late.accesses;
         all = laws.basic.does_append early.accesses late.accesses old.device mid.device new.device early.all late.all;
         only = All-append (IsOfReady first (Ready info ∷ rest)) early.accesses late.accesses
-            (All-weaker (IssuesIn (port_at first)) (IsOfReady first (Ready info ∷ rest)) (λ access is. (port_at first, 0, info, (omega arith), refl, is)) early.accesses early.only)
+            (All-weaker (IsIssuingAnySlot (port_at first)) (IsOfReady first (Ready info ∷ rest)) (λ access is. (port_at first, 0, info, (omega arith), refl, is)) early.accesses early.only)
             (All-weaker (IsOfReady (first + 1) rest) (IsOfReady first (Ready info ∷ rest)) (ready_later first (Ready info) rest) late.accesses late.only);
       }
   issues_driven first (Unserved ∷ rest) old new more = driven_as (IsOfReady (first + 1) rest) (IsOfReady first (Unserved ∷ rest)) old.device new.device (ready_later first Unserved rest) (issues_driven (first + 1) rest old new more)
@@ -115,18 +115,18 @@ module _ (laws : LawsBelow) where
   steps_same : (old new : Device) → old.hr ≡ false → Steps old new → new.ie ≡ old.ie
   steps_same old new off steps = ((laws.basic.keeps old new steps).on off).ie
 
-  interrupts_one : (access : Access) (old new : Device) → old.hr ≡ false → SparesRegister Ghc access → Does access old new → new.ie ≡ old.ie
+  interrupts_one : (access : Access) (old new : Device) → old.hr ≡ false → DoesNotWrite Ghc access → Does access old new → new.ie ≡ old.ie
   interrupts_one (Reading r v) old new off spares does = ap (λ (d : Device). d.ie) does.effect ∙ noted_same r v does.mid ∙ steps_same old does.mid off does.steps
   interrupts_one (Writing r v) old new off spares does = ap (λ (d : Device). d.ie) does.effect ∙ written_same r v does.mid spares ∙ steps_same old does.mid off does.steps
   interrupts_one (Loading at bytes) old new off spares does = steps_same old new off does.steps
   interrupts_one (Storing at bytes) old new off spares does = ap (λ (d : Device). d.ie) does.effect ∙ steps_same old does.mid off does.steps
 
   -- it does so still over accesses that don't write GHC
-  interrupts_over : (accesses : List Access) (old new : Device) → IsOn old → All (SparesRegister Ghc) accesses → DoesAll accesses old new → new.ie ≡ old.ie
+  interrupts_over : (accesses : List Access) (old new : Device) → IsOn old → All (DoesNotWrite Ghc) accesses → DoesAll accesses old new → new.ie ≡ old.ie
   interrupts_over [] old new on all is = ap (λ (d : Device). d.ie) is
   interrupts_over (access ∷ accesses) old new on all (mid, does, rest) =
-      let spares = All-head (SparesRegister Ghc) access accesses all in
-      interrupts_over accesses mid new (laws.looks.access_on access old mid on (stays_on access spares) does) (All-tail (SparesRegister Ghc) access accesses all) rest
+      let spares = All-head (DoesNotWrite Ghc) access accesses all in
+      interrupts_over accesses mid new (laws.looks.access_on access old mid on (stays_on access spares) does) (All-tail (DoesNotWrite Ghc) access accesses all) rest
       ∙ interrupts_one access old mid on.no_reset spares does
 
 -- ---- kinds of accesses
@@ -143,7 +143,7 @@ survey_own (Writing r v) is = tt
 survey_own (Loading at bytes) is = absurd is
 survey_own (Storing at bytes) is = absurd is
 
-survey_spares : (access : Access) → IsSurvey access → SparesRegister Ghc access
+survey_spares : (access : Access) → IsSurvey access → DoesNotWrite Ghc access
 survey_spares (Reading r v) is = tt
 survey_spares (Writing r v) is = absurd is
 survey_spares (Loading at bytes) is = tt
@@ -165,7 +165,7 @@ module _ (Such : Port → Type 0) where
   survey_of (Loading at bytes) is = tt
   survey_of (Storing at bytes) is = tt
 
-  its_of : (port : Port) → Such port → (access : Access) → IsOf port access → IsOfPorts Such access
+  its_of : (port : Port) → Such port → (access : Access) → SparesOtherPorts port access → IsOfPorts Such access
   its_of port such (Reading (Px at r) v) is = subst Such (sym is) such
   its_of port such (Reading r v) is = tt
   its_of port such (Writing (Px at r) v) is = subst Such (sym is) such
@@ -200,7 +200,7 @@ served_if Unserved other = absurd (other refl)
 served_if (Ready info) other = refl
 served_if (Unready state) other = refl
 
-module _ (laws : LawsBelow) (s new : ServerState) (replies : List Reply) (k : BookInvariant s) (r : ResetsServer replies s new) where
+module _ (laws : LawsBelow) (s new : ServerState) (replies : List Reply) (k : ServerInvariant s) (r : ResetsServer replies s new) where
   abbrev t : IsReinitialized s r.taken
   t = r.takes
 
@@ -314,13 +314,13 @@ module _ (laws : LawsBelow) (s new : ServerState) (replies : List Reply) (k : Bo
 
   -- ---- the adapter
 
-  issuing_host : (access : Access) → IsOfReady 0 ports access → SparesRegister Ghc access
+  issuing_host : (access : Access) → IsOfReady 0 ports access → DoesNotWrite Ghc access
   issuing_host access (port, n, info, at, is, its) = laws.of_host port access (laws.issuing_of port its.0 access its.2)
 
-  pub tells : IsOnAndTells new.device
+  pub tells : HasAeAndIe new.device
   tells =
-      let spares = All-weaker (IsOfReady 0 ports) (SparesRegister Ghc) issuing_host issues.accesses issues.only in (
-        on_over laws issues.accesses r.taken.device new.device t.takes.on (All-weaker (SparesRegister Ghc) StaysOn stays_on issues.accesses spares) issues.all,
+      let spares = All-weaker (IsOfReady 0 ports) (DoesNotWrite Ghc) issuing_host issues.accesses issues.only in (
+        on_over laws issues.accesses r.taken.device new.device t.takes.on (All-weaker (DoesNotWrite Ghc) StaysOn stays_on issues.accesses spares) issues.all,
         interrupts_over laws issues.accesses r.taken.device new.device t.takes.on spares issues.all ∙ t.takes.interrupts,
       )
 
@@ -345,10 +345,10 @@ module _ (laws : LawsBelow) (s new : ServerState) (replies : List Reply) (k : Bo
     -- what resets its link in its part does so in the whole
     pub resets : ResetsLink port turn.turn.turn → ResetsLink port accesses
     resets is =
-        let later = All-weaker (IsOfOther port) (SparesRegister (Px port Sctl)) (λ access other. (other_leaves laws port access other).3) its.later its.others_later in
+        let later = All-weaker (IsOfOther port) (DoesNotWrite (Px port Sctl)) (λ access other. (other_leaves laws port access other).3) its.later its.others_later in
         let part = subst (ResetsLink port) turn.all (resets_more port its.before its.turn its.later is later) in
         resets_since port first (Writing Ghc 0x80000000 ∷ (survey ++ (went.driven.accesses ++ last))) (resets_since port (Writing Ghc 0x80000000 ∷ []) (survey ++ (went.driven.accesses ++ last))
-        (resets_more port survey went.driven.accesses last part (All-weaker (LeavesTrouble port) (SparesRegister (Px port Sctl)) (λ access leaves. leaves.3) last (last_leaves port))))
+        (resets_more port survey went.driven.accesses last part (All-weaker (LeavesTrouble port) (DoesNotWrite (Px port Sctl)) (λ access leaves. leaves.3) last (last_leaves port))))
 
     -- and what tells of an engine that is stuck
     pub sticks : Sticks port turn.turn.turn → Sticks port accesses
@@ -372,10 +372,10 @@ module _ (laws : LawsBelow) (s new : ServerState) (replies : List Reply) (k : Bo
       start_on = on_over laws its.before way.surveyed its.start surveyed_on (All-weaker (IsOfOther port) StaysOn (λ access other. (other_leaves laws port access other).4) its.before its.others) its.first
 
       stopped_on : IsOn stopped
-      stopped_on = laws.of_on port its.start stopped start_on (driven_as (IsControl IsCommandRegister port) (IsOf port) its.start stopped (λ access x. laws.booting_of port access (command_boots port access x)) did.1.1)
+      stopped_on = laws.of_on port its.start stopped start_on (driven_as (OnPortWriting IsCommandRegister port) (SparesOtherPorts port) its.start stopped (λ access x. laws.booting_of port access (command_boots port access x)) did.1.1)
 
       end_on : IsOn its.end
-      end_on = laws.of_on port stopped its.end stopped_on (driven_as (IsOfBoot port) (IsOf port) stopped its.end (laws.booting_of port) (ready_resets laws port stopped its.end gets).driven)
+      end_on = laws.of_on port stopped its.end stopped_on (driven_as (IsOfBoot port) (SparesOtherPorts port) stopped its.end (laws.booting_of port) (ready_resets laws port stopped its.end gets).driven)
 
       early : Grows s.device stopped
       early =
@@ -392,9 +392,9 @@ module _ (laws : LawsBelow) (s new : ServerState) (replies : List Reply) (k : Bo
       }
 
       -- what came since ST was set is shown
-      pub shows : ShowsTrouble port.0 s.device new.device
+      pub shows : HidesNoTrouble port.0 s.device new.device
       shows = ready_shows laws port s.device stopped its.end new.device stopped_on gets later
 
       -- and where nothing did, it runs well
-      pub goes_well : PlugsNone port.0 s.device new.device → (GainsRunning (IsFaultOf port.0) port.0 s.device new.device → ⊥) → (GainsRunning (IsFatalOf port.0) port.0 s.device new.device → ⊥) → RunsWell (new.device.port port.0)
+      pub goes_well : NoPlugEvents port.0 s.device new.device → (GainsSinceStart (IsFaultOf port.0) port.0 s.device new.device → ⊥) → (GainsSinceStart (IsFatalOf port.0) port.0 s.device new.device → ⊥) → RunsWell (new.device.port port.0)
       goes_well = ready_well laws port s.device stopped its.end new.device stopped_on gets later end_on early

@@ -8,7 +8,7 @@ use Rattle.block_machine.specs.Events.{Reset, WasReset}
 use Rattle.block_machine.specs.Ports.{Evidence, SameDisk}
 use Rattle.block_machine.specs.State.{Machine}
 use Rattle.driver_history.specs.Evidence.{IsEvidencedOf}
-use Rattle.driver_history.specs.Histories.{BootsAnew, IsOnAndTells, LosesNoPortError, RunsWellAnew, IsPortServed}
+use Rattle.driver_history.specs.Histories.{BootsAnew, HasAeAndIe, LosesNoPortError, RunsWellAnew, IsPortServed}
 use Rattle.driver_history.specs.Trace.{IsDriversOwn, IsOfPorts}
 use Rattle.host_boot.specs.Resets.{BeginsReset}
 use Rattle.server_history.specs.Server.{ServerState, ports_of}
@@ -23,7 +23,7 @@ pub record IsRebootedBy (s new : ServerState) (replies : List Reply) : Type 0 wh
   pub own : All IsDriversOwn accesses
   pub of : All (IsOfPorts (IsPortServed (ports_of s))) accesses
   pub begins : BeginsReset accesses
-  pub tells : IsOnAndTells new.device
+  pub tells : HasAeAndIe new.device
   pub evidence : Evidence
   pub faults : evidence.faults ≡ []
   pub evidenced : (m : Machine) (port : Port) → IsEvidencedOf Reset (WasReset (Some replies)) accesses (joint_state_of s m) (ports_of new) new.device evidence port

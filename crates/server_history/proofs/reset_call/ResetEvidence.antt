@@ -28,7 +28,7 @@ use Rattle.server_history.specs.Below.{LawsBelow}
 use Rattle.server_history.proofs.reset_call.ResetDevice.{IsRebootedBy}
 use Rattle.server_history.specs.Resets.{IsReinitialized, ResetsServer}
 use Rattle.server_history.specs.Server.{ServerState, is_served, ports_of, state_of}
-use Rattle.server_history.specs.Stalled.{BookInvariant}
+use Rattle.server_history.specs.StuckServer.{ServerInvariant}
 use Rattle.server_history.specs.Turns.{joint_state_of}
 use Rattle.server_history.proofs.recovery_turn.MendedPort.{dead_is}
 use Rattle.server_history.proofs.reset_call.BootedPorts.{DidBoot}
@@ -93,7 +93,7 @@ notes_over laws port (access ∷ list) old new on all (mid, does, rest) =
 
 -- ---- the whole
 
-module _ (laws : LawsBelow) (s new : ServerState) (replies : List Reply) (k : BookInvariant s) (r : ResetsServer replies s new) where
+module _ (laws : LawsBelow) (s new : ServerState) (replies : List Reply) (k : ServerInvariant s) (r : ResetsServer replies s new) where
   abbrev t : IsReinitialized s r.taken
   t = r.takes
 

@@ -8,7 +8,7 @@ use Rattle.ata_types.specs.declared.PortState.TheVariants.{Ready as ReadyState}
 use Rattle.ata_types.specs.declared.request.Outcome.{Outcome}
 use Rattle.ata_types.specs.declared.request.RequestId.{RequestId}
 use Rattle.server_history.proofs.state.ListMembers.{at_cases, contains_cases, contains_there, map_in, without_in}
-use Rattle.block_machine.specs.Events.{AllDevices, AllLawful, AllMay, AreStepsOfCall, EndsUndone, IsByDevice, IsIssuedIn, IsLawful, IssuesLast, AbstractState, Reset, WasIssued, answers_of, is_release, issues_it}
+use Rattle.block_machine.specs.Events.{AllByDevice, AllLawful, AllMay, AreStepsOfCall, EndsUndone, IsByDevice, IsIssuedIn, IsLawful, IssuesLast, AbstractState, Reset, WasIssued, answers_of, is_release, issues_it}
 use Rattle.block_machine.specs.Left.{after}
 use Rattle.block_machine.specs.Ports.{Evidence, Ports}
 use Rattle.block_machine.specs.State.{Machine, Pending}
@@ -84,7 +84,7 @@ none_released [] all = refl
 none_released (Release ∷ steps) all = absurd (All-head KeepsLoans Release steps all)
 none_released (step ∷ steps) all = none_released steps (All-tail KeepsLoans step steps all)
 
-pub devices_keep : (steps : List Step) → AllDevices steps → All KeepsLoans steps
+pub devices_keep : (steps : List Step) → AllByDevice steps → All KeepsLoans steps
 devices_keep [] all = All-nil KeepsLoans
 devices_keep (Release ∷ steps) all = absurd all.1
 devices_keep (step ∷ steps) all = All-cons KeepsLoans step steps tt (devices_keep steps all.0)

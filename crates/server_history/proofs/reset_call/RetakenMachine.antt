@@ -18,7 +18,7 @@ use Rattle.ata_types.specs.declared.request.Frame.{Frame}
 use Rattle.ata_types.specs.declared.request.RequestId.{RequestId}
 use Rattle.server_history.proofs.state.ListMembers.{into_map, map_in, none_of, in_filter}
 use Rattle.block_machine.specs.Confined.{WithinLimits}
-use Rattle.block_machine.specs.Events.{AllDevices, AllMay}
+use Rattle.block_machine.specs.Events.{AllByDevice, AllMay}
 use Rattle.block_machine.specs.Histories.{IsReachable}
 use Rattle.block_machine.specs.Left.{after}
 use Rattle.block_machine.specs.State.{Machine, Pending}
@@ -27,8 +27,8 @@ use Rattle.dma_frames.specs.Loan.{Lending}
 use Rattle.dma_frames.specs.Table.{Table, lent_to, owner_of}
 use Rattle.host_boot.specs.Taken.{unused}
 use Rattle.host_boot.specs.declared.ProbeResult.{ProbeResult}
-use Rattle.request_queue.specs.Entries.{Held, IsAccepted, BookIsInOrder}
-use Rattle.request_queue.specs.Machine.{IsBook, IsEntry}
+use Rattle.request_queue.specs.Entries.{BookEntry, IsAccepted, BookIsInOrder}
+use Rattle.request_queue.specs.Machine.{BookRelation, EntryRelation}
 use Rattle.server_history.proofs.plain_calls.Acceptances.{any_in}
 use Rattle.server_history.proofs.state.HistorySteps.{book_on, still_kept}
 use Rattle.server_history.proofs.state.FirstMembers.{nowhere}
@@ -37,16 +37,16 @@ use Rattle.server_history.specs.Below.{LawsBelow}
 use Rattle.server_history.specs.Ended.{ResetLaws}
 use Rattle.server_history.specs.Kept.{IsKeptIn, TakesBack}
 use Rattle.server_history.specs.ErrorHandling.{requests_of}
-use Rattle.server_history.specs.Resets.{IsReinitialized, MaySettle}
-use Rattle.server_history.specs.Server.{AreKept, IsMachineOf, ServerState, kept_at}
-use Rattle.server_history.specs.Stalled.{BookInvariant}
+use Rattle.server_history.specs.Resets.{IsReinitialized, MayResolve}
+use Rattle.server_history.specs.Server.{QuarantineRelation, MachineRelation, ServerState, quarantined_at}
+use Rattle.server_history.specs.StuckServer.{ServerInvariant}
 
 -- ---- stretches of the device
 
 -- The machine follows by steps of the device alone.
 pub record IsStretch (k later : DriverState) (m : Machine) : Type 0 where
   pub steps : List Step
-  pub only : AllDevices steps
+  pub only : AllByDevice steps
   pub may : AllMay m steps
   pub backed : IsBacked k.device later.device m steps
   pub knows : DriverRelation (after m steps) later
@@ -117,7 +117,7 @@ parks_issued uses parked d m knows none = record {
 -- ---- the kept loans
 
 -- What the machine lends once the kept requests' frames are given back is what the server lends.
-module _ (laws : ResetLaws) (found : List ProbeResult) (kept : List (List Lending)) (table later : Table) (m : Machine) (reached : IsReachable m) (lent : (frame : Frame) → m.lent frame ≡ lent_to table frame) (are : AreKept found kept m.kept)
+module _ (laws : ResetLaws) (found : List ProbeResult) (kept : List (List Lending)) (table later : Table) (m : Machine) (reached : IsReachable m) (lent : (frame : Frame) → m.lent frame ≡ lent_to table frame) (are : QuarantineRelation found kept m.kept)
     (back : TakesBack table later (IsKeptIn kept)) where
   limits : WithinLimits m
   limits = subst WithinLimits (sym reached.is) (laws.below.living.limits reached.first reached.past reached.starts reached.legal)
@@ -161,20 +161,20 @@ module _ (laws : ResetLaws) (found : List ProbeResult) (kept : List (List Lendin
 -- The steps of the device until the adapter is idle, Release, and those while it is taken over; and what the machine has of the server then.
 pub record IsRetaken (s taken : ServerState) (uses : SlotStates) (m : Machine) : Type 0 where
   pub first : List Step
-  pub first_only : AllDevices first
+  pub first_only : AllByDevice first
   pub second : List Step
-  pub second_only : AllDevices second
+  pub second_only : AllByDevice second
   pub may : AllMay m (second ++ Release ∷ first)
   pub backed : IsBacked s.device taken.device m (second ++ Release ∷ first)
   pub knows : DriverRelation (after m (second ++ Release ∷ first)) (known uses (issued_on (after m (second ++ Release ∷ first))) taken.device)
-  pub book : IsBook s.book (after m (second ++ Release ∷ first)).book
+  pub book : BookRelation s.book (after m (second ++ Release ∷ first)).book
   pub kept : (after m (second ++ Release ∷ first)).kept ≡ []
   pub rows : (after m (second ++ Release ∷ first)).rows ≡ s.grants
   pub owner : (frame : Frame) → (after m (second ++ Release ∷ first)).owner frame ≡ owner_of s.table frame
   pub lent : (frame : Frame) → (after m (second ++ Release ∷ first)).lent frame ≡ lent_to taken.table frame
   pub next : (after m (second ++ Release ∷ first)).next ≡ s.last + 1
 
-module _ (laws : ResetLaws) (s taken : ServerState) (takes : IsReinitialized s taken) (m : Machine) (reached : IsReachable m) (is : IsMachineOf s m) where
+module _ (laws : ResetLaws) (s taken : ServerState) (takes : IsReinitialized s taken) (m : Machine) (reached : IsReachable m) (is : MachineRelation s m) where
   abbrev down : IsStretch (known is.uses is.parked s.device) (known is.uses is.parked takes.idle) m
   down = stretch laws.below takes.resets.followed is.uses is.parked tt m reached is.knows
 
@@ -187,7 +187,7 @@ module _ (laws : ResetLaws) (s taken : ServerState) (takes : IsReinitialized s t
   down_spares : SparesBook m idle
   down_spares = laws.below.basic.spares m down.steps down.only
 
-  idle_kept : AreKept s.ports s.kept idle.kept
+  idle_kept : QuarantineRelation s.ports s.kept idle.kept
   idle_kept = still_kept laws.below s.ports s.kept m.kept idle.kept down_spares.kept is.kept
 
   abbrev free : Machine
@@ -232,7 +232,7 @@ module _ (laws : ResetLaws) (s taken : ServerState) (takes : IsReinitialized s t
     backed = laws.below.backed_parts s.device takes.idle taken.device m (Release ∷ down.steps) up.steps
         (laws.below.backed_parts s.device takes.idle takes.idle m down.steps (Release ∷ []) down.backed (laws.below.backed_own takes.idle idle Release (λ none. none))) up.backed;
     knows = subst (λ (n : Machine). DriverRelation n (known takes.takes.uses (issued_on n) taken.device)) (sym last_is) (parks_issued takes.takes.uses (all_ids idle) taken.device last up.knows none_kept);
-    book = subst (λ (n : Machine). IsBook s.book n.book) (sym last_is) (book_on s.book free.book last.book up_spares.book (book_on s.book m.book idle.book down_spares.book is.book));
+    book = subst (λ (n : Machine). BookRelation s.book n.book) (sym last_is) (book_on s.book free.book last.book up_spares.book (book_on s.book m.book idle.book down_spares.book is.book));
     kept = ap (λ (n : Machine). n.kept) last_is ∙ none_kept;
     rows = ap (λ (n : Machine). n.rows) last_is ∙ up_spares.rows ∙ down_spares.rows ∙ is.rows;
     owner = λ frame. ap (λ (n : Machine). n.owner frame) last_is ∙ ap (λ f. f frame) up_spares.owner ∙ ap (λ f. f frame) down_spares.owner ∙ is.owner frame;
@@ -243,12 +243,12 @@ module _ (laws : ResetLaws) (s taken : ServerState) (takes : IsReinitialized s t
 -- ---- its requests may meet their fates
 
 -- so each is as it was accepted still
-accepted_then : (old new : Table) (entries : List Held) (m : Machine) → WithinLimits m → IsBook entries m.book → ((frame : Frame) → m.lent frame ≡ lent_to new frame) → new.owners ≡ old.owners
+accepted_then : (old new : Table) (entries : List BookEntry) (m : Machine) → WithinLimits m → BookRelation entries m.book → ((frame : Frame) → m.lent frame ≡ lent_to new frame) → new.owners ≡ old.owners
     → All (IsAccepted old) entries → All (IsAccepted new) entries
 accepted_then old new entries m limits book lent owners accepted i d small =
     let e = get_or entries i d in
     let a = accepted i d small in
-    let y = at_left IsEntry entries m.book book e (Contains-get_or entries i d small) in
+    let y = at_left EntryRelation entries m.book book e (Contains-get_or entries i d small) in
     record {
       client_from = a.client_from;
       client_to = a.client_to;
@@ -263,7 +263,7 @@ accepted_then old new entries m limits book lent owners accepted i d small =
           sym (lent g) ∙ ap m.lent (get_or_default y.0.request.asked.frames.items k f _ inside) ∙ limits.lent y.0 (inl y.1) k inside ∙ ap Some y.2.id);
     }
 
-module _ (laws : ResetLaws) (s taken : ServerState) (booked : BookInvariant s) (takes : IsReinitialized s taken) where
+module _ (laws : ResetLaws) (s taken : ServerState) (booked : ServerInvariant s) (takes : IsReinitialized s taken) where
   its : IsRetaken s taken takes.takes.uses booked.machine
   its = retaken laws s taken takes booked.machine booked.reached booked.stands
 
@@ -281,11 +281,11 @@ module _ (laws : ResetLaws) (s taken : ServerState) (booked : BookInvariant s) (
   pub accepted_still : All (IsAccepted taken.table) s.book
   accepted_still = accepted_then s.table taken.table s.book end end_limits its.book its.lent takes.back.owners booked.accepted
 
-  pub may_settle : MaySettle taken
+  pub may_settle : MayResolve taken
   may_settle = record {
     four_kept = takes.four_kept;
     ordered = subst BookIsInOrder (sym book_same) booked.ordered;
     accepted = subst (All (IsAccepted taken.table)) (sym book_same) accepted_still;
-    places = λ port. subst (λ (book : List Held). length (kept_at taken.kept port.0) + count_by (λ (e : Held). e.entry.issued) (requests_of port book) ≤ 32) (sym book_same)
-        (subst (λ (loans : List Lending). length loans + count_by (λ (e : Held). e.entry.issued) (requests_of port s.book) ≤ 32) (sym (takes.unkept port.0)) (let few = booked.places port in omega (arith, few)));
+    places = λ port. subst (λ (book : List BookEntry). length (quarantined_at taken.kept port.0) + count_by (λ (e : BookEntry). e.entry.issued) (requests_of port book) ≤ 32) (sym book_same)
+        (subst (λ (loans : List Lending). length loans + count_by (λ (e : BookEntry). e.entry.issued) (requests_of port s.book) ≤ 32) (sym (takes.unkept port.0)) (let few = booked.places port in omega (arith, few)));
   }

@@ -11,15 +11,15 @@ use Rattle.ata_types.specs.declared.request.ClientId.{ClientId}
 use Rattle.ata_types.specs.declared.request.Reply.{Reply}
 use Rattle.ata_types.specs.declared.request.RequestId.{RequestId}
 use Rattle.block_machine.specs.Histories.{IsReachable}
-use Rattle.block_machine.specs.Left.{IsRow, after}
+use Rattle.block_machine.specs.Left.{IsValidRow, after}
 use Rattle.block_machine.specs.State.{Machine}
 use Rattle.block_machine.specs.Steps.{Release, Step}
 use Rattle.host_boot.specs.Taken.{IsUnusedOrDead, IsUnusedOrDead, TakesOver, probe_result_of, wanted_of}
 use Rattle.host_boot.specs.declared.ProbeResult.{ProbeResult}
 use Rattle.host_boot.specs.declared.ProbeResult.TheVariants.{Unready}
 use Rattle.identify.specs.declared.wanted.Wanted.{Wanted}
-use Rattle.request_queue.specs.Entries.{Held}
-use Rattle.request_queue.specs.Machine.{IsBook, IsEntry}
+use Rattle.request_queue.specs.Entries.{BookEntry}
+use Rattle.request_queue.specs.Machine.{BookRelation, EntryRelation}
 use Rattle.server_history.proofs.start.NewServer.{left_as, none_are_kept}
 use Rattle.server_history.proofs.failed_reset.ServerBook.{all_settle_on}
 use Rattle.server_history.proofs.reset_call.FatesOfAllPorts.{AreFated, HasItsDisk, IsFatedTo, fate_all}
@@ -30,12 +30,12 @@ use Rattle.server_history.proofs.dispositions.RemainingBook.{WasIn}
 use Rattle.server_history.proofs.reset_call.RetakenMachine.{IsRetaken, issued_in, issued_on, may_settle, retaken}
 use Rattle.server_history.specs.Ended.{ResetLaws}
 use Rattle.server_history.proofs.state.PairedLists.{at_right}
-use Rattle.server_history.specs.Resets.{IsReinitialized, IssuePorts, MaySettle, SettlePorts}
-use Rattle.server_history.specs.Server.{HasSlots, InCallInvariant, IsMachineOf, SettledInvariant, ServerState, is_served, mode_at, mode_found, state_of, used_for, HasTrueMark}
-use Rattle.server_history.specs.Stalled.{BookInvariant}
+use Rattle.server_history.specs.Resets.{IsReinitialized, IssuePorts, MayResolve, ResolvePorts}
+use Rattle.server_history.specs.Server.{SlotsInvariant, InCallInvariant, MachineRelation, SettledInvariant, ServerState, is_served, mode_at, probed_mode, state_of, used_for, RevokedMarkInvariant}
+use Rattle.server_history.specs.StuckServer.{ServerInvariant}
 
-module _ (laws : ResetLaws) (s taken settled : ServerState) (booked : BookInvariant s) (takes : IsReinitialized s taken) (replies : List Reply) (settles : SettlePorts 0 taken.ports replies taken settled) (m : Machine) (reached : IsReachable m)
-    (is : IsMachineOf s m) where
+module _ (laws : ResetLaws) (s taken settled : ServerState) (booked : ServerInvariant s) (takes : IsReinitialized s taken) (replies : List Reply) (settles : ResolvePorts 0 taken.ports replies taken settled) (m : Machine) (reached : IsReachable m)
+    (is : MachineRelation s m) where
   pub its_retaken : IsRetaken s taken takes.takes.uses m
   its_retaken = retaken laws s taken takes m reached is
 
@@ -53,7 +53,7 @@ module _ (laws : ResetLaws) (s taken settled : ServerState) (booked : BookInvari
   pub ports_are : taken.ports ≡ takes.host.ports
   ports_are = ap (λ (c : ServerState). c.ports) takes.server
 
-  may : MaySettle taken
+  may : MayResolve taken
   may = may_settle laws s taken booked takes
 
   begin : IsFatedTo 0 taken mid
@@ -66,9 +66,9 @@ module _ (laws : ResetLaws) (s taken settled : ServerState) (booked : BookInvari
     unparked = λ port lt. absurd (omega (arith, lt));
     its = λ port high id here.
         let p = issued_in mid port id here in
-        let h = at_right IsEntry s.book mid.book its_retaken.book p.0 p.1 in
-        (h.0, subst (λ (book : List Held). Contains book h.0) (sym (ap (λ (c : ServerState). c.book) takes.server)) h.1, sym h.2.id ∙ p.2, sym h.2.issued ∙ p.3, ap (λ (q : Port). q.0) (sym h.2.port) ∙ p.4);
-    book = subst (λ (book : List Held). IsBook book mid.book) (sym (ap (λ (c : ServerState). c.book) takes.server)) its_retaken.book;
+        let h = at_right EntryRelation s.book mid.book its_retaken.book p.0 p.1 in
+        (h.0, subst (λ (book : List BookEntry). Contains book h.0) (sym (ap (λ (c : ServerState). c.book) takes.server)) h.1, sym h.2.id ∙ p.2, sym h.2.issued ∙ p.3, ap (λ (q : Port). q.0) (sym h.2.port) ∙ p.4);
+    book = subst (λ (book : List BookEntry). BookRelation book mid.book) (sym (ap (λ (c : ServerState). c.book) takes.server)) its_retaken.book;
     kept = none_are_kept taken.ports taken.kept mid.kept its_retaken.kept takes.unkept;
     unkept = λ port high. takes.unkept port;
     rows = its_retaken.rows ∙ sym (ap (λ (c : ServerState). c.grants) takes.server);
@@ -77,7 +77,7 @@ module _ (laws : ResetLaws) (s taken settled : ServerState) (booked : BookInvari
     next = its_retaken.next ∙ ap (λ (k : ℕ). k + 1) (sym (ap (λ (c : ServerState). c.last) takes.server));
     ordered = may.ordered;
     accepted = may.accepted;
-    marked = subst (λ (c : ServerState). All (HasTrueMark c.grants) c.book) (sym takes.server) booked.marked;
+    marked = subst (λ (c : ServerState). All (RevokedMarkInvariant c.grants) c.book) (sym takes.server) booked.marked;
     alive = λ e here lt. absurd (omega (arith, lt));
   }
 
@@ -102,13 +102,13 @@ module _ (laws : ResetLaws) (s taken settled : ServerState) (booked : BookInvari
   unused_then port slot = ap (λ (c : ServerState). used_for c.slots port slot) its_fated.settings ∙ takes.unused port slot
 
   -- who is left was unanswered before
-  pub was_in : (e : Held) → Contains settled.book e → WasIn s.book e
-  was_in e here = subst (λ (book : List Held). WasIn book e) (ap (λ (c : ServerState). c.book) takes.server) (its_fated.from e here)
+  pub was_in : (e : BookEntry) → Contains settled.book e → WasIn s.book e
+  was_in e here = subst (λ (book : List BookEntry). WasIn book e) (ap (λ (c : ServerState). c.book) takes.server) (its_fated.from e here)
 
-  pub low : (e : Held) → Contains settled.book e → e.entry.port.0 < 4
+  pub low : (e : BookEntry) → Contains settled.book e → e.entry.port.0 < 4
   low e here =
       let w = was_in e here in
-      subst (λ (p : Port). p.0 < 4) (sym w.port) (booked.few w.was.entry.port.0 (All-contains (λ (x : Held). is_served (probe_result_of s.ports x.entry.port.0) ≡ true) s.book w.was booked.asked w.there))
+      subst (λ (p : Port). p.0 < 4) (sym w.port) (booked.few w.was.entry.port.0 (All-contains (λ (x : BookEntry). is_served (probe_result_of s.ports x.entry.port.0) ≡ true) s.book w.was booked.asked w.there))
 
   unparked : (port : ℕ) → probe_result_of settled.ports port ≢ Unready Dead → all_fated.parked port ≡ []
   unparked port lives = ⊎_elim
@@ -119,7 +119,7 @@ module _ (laws : ResetLaws) (s taken settled : ServerState) (booked : BookInvari
       let own = w.4 in omega (arith, small, own, high)))
       (cases_lt port 4)
 
-  pub stands_regained : IsMachineOf settled z
+  pub stands_regained : MachineRelation settled z
   stands_regained = record {
     uses = all_fated.uses;
     used = λ port slot. left_as settled.ports settled.ports settled.slots all_fated.uses port slot refl (unused_then port slot) (all_fated.left port slot);
@@ -151,7 +151,7 @@ module _ (laws : ResetLaws) (s taken settled : ServerState) (booked : BookInvari
   size_then : settled.device.size ≡ s.device.size
   size_then = over.same.size ∙ takes.resets.same.size
 
-  pub its_disk : (e : Held) → Contains settled.book e → HasItsDisk settled.remembered settled.ports e.entry.port.0
+  pub its_disk : (e : BookEntry) → Contains settled.book e → HasItsDisk settled.remembered settled.ports e.entry.port.0
   its_disk e here = all_fated.alive e here (low e here)
 
   pub keeps_all : InCallInvariant settled
@@ -167,28 +167,28 @@ module _ (laws : ResetLaws) (s taken settled : ServerState) (booked : BookInvari
     four_remembered = ap (λ (c : ServerState). length c.remembered) its_fated.settings ∙ takes.four_remembered;
     four_kept = all_fated.four_kept;
     few_kept = λ port. let p = (all_settle_on laws.below taken.ports 0 (let few = many in omega (arith, few)) replies taken settled settles (may_settle laws s taken booked takes)).places (port_at port) in omega (arith, p);
-    modes = λ port below. subst (λ (c : ServerState). mode_at c.modes port ≡ mode_found c.device.cap (probe_result_of c.ports port)) (sym its_fated.settings)
-        (takes.modes port below ∙ ap (λ (ports : List ProbeResult). mode_found taken.device.cap (probe_result_of ports port)) (sym ports_are));
-    slots = λ port below. subst (λ (c : ServerState). HasSlots c.ports c.modes c.slots port) (sym its_fated.settings)
+    modes = λ port below. subst (λ (c : ServerState). mode_at c.modes port ≡ probed_mode c.device.cap (probe_result_of c.ports port)) (sym its_fated.settings)
+        (takes.modes port below ∙ ap (λ (ports : List ProbeResult). probed_mode taken.device.cap (probe_result_of ports port)) (sym ports_are));
+    slots = λ port below. subst (λ (c : ServerState). SlotsInvariant c.ports c.modes c.slots port) (sym its_fated.settings)
         (record { places = takes.places port below; usable = takes.usable port below; unused = λ slot high. takes.unused port slot });
     kinds = λ port slot used e its. absurd (let y : None ≡ Some used = sym (unused_then port.0 slot) ∙ its in cc);
     commands = λ port slot used its. absurd (let y : None ≡ Some used = sym (unused_then port slot) ∙ its in cc);
     alone = λ port slot used its. absurd (let y : None ≡ Some used = sym (unused_then port slot) ∙ its in cc);
-    rows = subst (All IsRow) (sym (ap (λ (c : ServerState). c.grants) its_fated.settings ∙ ap (λ (c : ServerState). c.grants) takes.server)) booked.rows;
+    rows = subst (All IsValidRow) (sym (ap (λ (c : ServerState). c.grants) its_fated.settings ∙ ap (λ (c : ServerState). c.grants) takes.server)) booked.rows;
     owners = λ frame client own.
         let o = booked.owners frame client (ap (λ (list : List (Option ClientId)). get_or list frame.0 None) (sym (its_fated.owners ∙ takes.back.owners)) ∙ own) in
         (o.0, subst (λ (n : ℕ). 4096 * frame.0 + 4096 ≤ n) (sym size_then) o.1);
     accepted = all_fated.accepted;
     marked = all_fated.marked;
     ordered = all_fated.ordered;
-    handed_out = All-weaker (Contains settled.book) (λ (e : Held). e.entry.id.0 ≤ settled.last)
+    handed_out = All-weaker (Contains settled.book) (λ (e : BookEntry). e.entry.id.0 ≤ settled.last)
         (λ e here.
         let w = was_in e here in
-        let most = All-contains (λ (x : Held). x.entry.id.0 ≤ s.last) s.book w.was booked.handed_out w.there in
+        let most = All-contains (λ (x : BookEntry). x.entry.id.0 ≤ s.last) s.book w.was booked.handed_out w.there in
         let id = ap (λ (i : RequestId). i.0) w.id in
         let last = ap (λ (c : ServerState). c.last) its_fated.settings ∙ ap (λ (c : ServerState). c.last) takes.server in omega (arith, most, id, last))
         settled.book (All-contains_itself settled.book);
-    ready = All-weaker (Contains settled.book) (λ (e : Held). state_of (probe_result_of settled.ports e.entry.port.0) ≡ ReadyState)
+    ready = All-weaker (Contains settled.book) (λ (e : BookEntry). state_of (probe_result_of settled.ports e.entry.port.0) ≡ ReadyState)
         (λ e here. ap state_of (its_disk e here).3) settled.book (All-contains_itself settled.book);
     machine = z;
     reached = z_reached;

@@ -14,27 +14,27 @@ use Rattle.ata_types.specs.declared.request.RequestId.{RequestId}
 use Rattle.adapter.specs.Device.{Device}
 use Rattle.adapter.specs.declared.access.DeviceStep.{DeviceStep}
 use Rattle.refinement.specs.Driven.{IsDrivenBy}
-use Rattle.refinement.specs.Links.{SparesRegister}
+use Rattle.refinement.specs.Links.{DoesNotWrite}
 use Rattle.block_machine.specs.Due.{NoneDue}
 use Rattle.block_machine.specs.Events.{AnswersRevoke, AbstractState, RevokeOf, WasRevoked, answers_of, issues_it}
 use Rattle.block_machine.specs.Histories.{JointState, IsReachable, now}
-use Rattle.block_machine.specs.Left.{IsRow, after}
+use Rattle.block_machine.specs.Left.{IsValidRow, after}
 use Rattle.block_machine.specs.Ports.{Ports}
 use Rattle.block_machine.specs.Rules.{without_row}
 use Rattle.block_machine.specs.State as machine
 use Rattle.block_machine.specs.State.{Machine}
 use Rattle.block_machine.specs.Steps.{Step, Answer}
 use Rattle.block_machine.specs.declared.due.QueueMode.{QueueMode}
-use Rattle.driver_history.specs.Histories.{IssuesDue, IssuesOn}
-use Rattle.driver_history.specs.Trace.{ClearsNone, LeavesEngine}
+use Rattle.driver_history.specs.Histories.{IssuesDue, IsIssuingAccess}
+use Rattle.driver_history.specs.Trace.{ClearsNoError, LeavesEngine}
 use Rattle.hba_regs.specs.declared.reg.Reg.TheVariants.{Ghc}
 use Rattle.host_boot.specs.Taken.{probe_result_of}
 use Rattle.request_queue.specs.Entries.{asks_of, due_ids}
 use Rattle.server_history.specs.Below.{LawsBelow}
 use Rattle.server_history.specs.Histories.{ExtendsSettled, ExtendsHistory}
 use Rattle.server_history.specs.Revoked.{RevokesGrant}
-use Rattle.server_history.specs.Served.{IssuesAll, IssuesEach, IssuesIn}
-use Rattle.server_history.specs.Server.{InCallInvariant, IsMachineOf, SettledInvariant, ServerState, mode_in, ports_of, state_of}
+use Rattle.server_history.specs.Served.{IssuesAll, IssuesEach, IsIssuingAnySlot}
+use Rattle.server_history.specs.Server.{InCallInvariant, MachineRelation, SettledInvariant, ServerState, mode_in, ports_of, state_of}
 use Rattle.server_history.proofs.any_turn.JoinedParts.{ready_or_not}
 use Rattle.server_history.proofs.plain_calls.Acceptances.{issuing_clears_none, issuing_spares_host}
 use Rattle.server_history.proofs.plain_calls.IssueRounds.{AreIssued, any_append, belong_on, dues, dues_carried, each_driven, each_issued, each_settings, last_on, lawful_on, or_none, settled}
@@ -63,7 +63,7 @@ module _ (laws : LawsBelow) (s : ServerState) (client : ClientId) (number : ℕ)
 
   module _ (new : ServerState) (new_is : ports_of new ≡ ports_of s) (rows_are : new.grants ≡ then_is.grants) (old : AbstractState) (ports_are : old.ports ≡ ports_of s) (h : MayRevoke s old.machine) (late : List Step)
       (none : (e : machine.Pending) (o : Outcome) → Contains late (Answer e o) → ⊥) (unanswered : answers_of (late ++ revoked.steps laws s client number replies mid r old.machine h) ≡ answers_of (revoked.steps laws s client number replies mid r old.machine h))
-      (stands : IsMachineOf new (after old.machine (late ++ revoked.steps laws s client number replies mid r old.machine h)))
+      (stands : MachineRelation new (after old.machine (late ++ revoked.steps laws s client number replies mid r old.machine h)))
       (issued : (q : Port) → (ports_of new).state q ≡ ReadyState → NoneDue (mode_in new q) (asks_of new.book) q) where
     abbrev early : List Step
     early = revoked.steps laws s client number replies mid r old.machine h
@@ -88,7 +88,7 @@ module _ (laws : LawsBelow) (s : ServerState) (client : ClientId) (number : ℕ)
   -- ---- where the port isn't ready, nothing is issued, and there is no access
 
   module _ (holds : IsHolding then_is) (goes : GoesTo s s.device) (unready : state_of (probe_result_of s.ports port.0) ≢ ReadyState)
-      (issued : (q : Port) → (ports_of s).state q ≡ ReadyState → NoneDue (mode_in s q) (asks_of r.now.book) q) (may : (m : Machine) → IsReachable m → IsMachineOf s m → MayRevoke s m) where
+      (issued : (q : Port) → (ports_of s).state q ≡ ReadyState → NoneDue (mode_in s q) (asks_of r.now.book) q) (may : (m : Machine) → IsReachable m → MachineRelation s m → MayRevoke s m) where
     pub quiet_event : ExtendsHistory s then_is (RevokeOf client number) (WasRevoked (Some replies))
     quiet_event first past leads =
         lead_by laws first past s then_is (RevokeOf client number) (WasRevoked (Some replies)) steps refl refl leads holds
@@ -99,7 +99,7 @@ module _ (laws : LawsBelow) (s : ServerState) (client : ClientId) (number : ℕ)
         (answers then_is refl refl old.abstract leads.stands.ports_are h [] (λ e o here. nowhere (Answer e o) here) refl stands issued)
         tt
         []
-        (refl, (revoked.has_row laws s client number replies mid r m h, All-nil (IssuesOn port), λ other. refl))
+        (refl, (revoked.has_row laws s client number replies mid r m h, All-nil (IsIssuingAccess port), λ other. refl))
         (λ q. All-nil (LeavesEngine q))
         (λ q ready. none_issued then_is (after m steps) stands steps (revoked.issue_none laws s client number replies mid r m h) (mode_in s q) q (issued q ready))
         (λ q. record { finds = tt; faults = tt; probes = tt; boots = tt; port_error = goes.port_error old.abstract leads.stands.ports_are q; well = λ i. absurd (uninterrupted s.device old.abstract.ports q i); heeds = uninterrupted s.device old.abstract.ports q })
@@ -118,7 +118,7 @@ module _ (laws : LawsBelow) (s : ServerState) (client : ClientId) (number : ℕ)
         steps : List Step
         steps = revoked.steps laws s client number replies mid r m h
 
-        stands : IsMachineOf then_is (after m steps)
+        stands : MachineRelation then_is (after m steps)
         stands = revoked.stands laws s client number replies mid r m h
 
   -- ---- where it is ready
@@ -127,7 +127,7 @@ module _ (laws : LawsBelow) (s : ServerState) (client : ClientId) (number : ℕ)
     abbrev k : InCallInvariant s
     k = t.kept
 
-    may : (m : Machine) → IsReachable m → IsMachineOf s m → MayRevoke s m
+    may : (m : Machine) → IsReachable m → MachineRelation s m → MayRevoke s m
     may m was is = record { ordered = k.ordered; accepted = k.accepted; marked = k.marked; reached = was; stands = is }
 
     kept : InCallInvariant then_is
@@ -137,7 +137,7 @@ module _ (laws : LawsBelow) (s : ServerState) (client : ClientId) (number : ℕ)
     apart = none_other laws s client number replies mid r k t.issued
 
     port_low : port.0 < 4
-    port_low = let low = (All-contains IsRow s.grants r.has.0 k.rows r.has.1).port in omega (arith, low)
+    port_low = let low = (All-contains IsValidRow s.grants r.has.0 k.rows r.has.1).port in omega (arith, low)
 
     module _ (new : ServerState) (issues : IssuesAll port then_is new) where
       settles : SettledInvariant new
@@ -150,18 +150,18 @@ module _ (laws : LawsBelow) (s : ServerState) (client : ClientId) (number : ℕ)
       same = each_settings laws port ids then_is new issues
 
       -- nothing is due where it isn't ready
-      unissued : state_of (probe_result_of s.ports port.0) ≢ ReadyState → new ≡ then_is
-      unissued other =
+      with_issue_undone : state_of (probe_result_of s.ports port.0) ≢ ReadyState → new ≡ then_is
+      with_issue_undone other =
           subst (λ (list : List RequestId). IssuesEach port list then_is new)
           (unready_undue laws then_is kept port (λ info found. other (ap state_of found))) issues
 
       quiet : state_of (probe_result_of s.ports port.0) ≢ ReadyState → ExtendsHistory s new (RevokeOf client number) (WasRevoked (Some replies))
       quiet other =
-          subst (λ (n : ServerState). ExtendsHistory s n (RevokeOf client number) (WasRevoked (Some replies))) (sym (unissued other))
-          (quiet_event (holding then_is kept) (stays laws s k) other (λ q ready. (subst SettledInvariant (unissued other) settles).issued q) may)
+          subst (λ (n : ServerState). ExtendsHistory s n (RevokeOf client number) (WasRevoked (Some replies))) (sym (with_issue_undone other))
+          (quiet_event (holding then_is kept) (stays laws s k) other (λ q ready. (subst SettledInvariant (with_issue_undone other) settles).issued q) may)
 
       module _ (ready : state_of (probe_result_of s.ports port.0) ≡ ReadyState) where
-        driven : IsDrivenBy (IssuesIn port) s.device new.device
+        driven : IsDrivenBy (IsIssuingAnySlot port) s.device new.device
         driven = each_driven laws port ids then_is new issues
 
         event : ExtendsHistory s new (RevokeOf client number) (WasRevoked (Some replies))
@@ -174,8 +174,8 @@ module _ (laws : LawsBelow) (s : ServerState) (client : ClientId) (number : ℕ)
             (answers new (ap ports_of same) (ap (λ (n : ServerState). n.grants) same) old.abstract leads.stands.ports_are h x.steps (no_answer_issuing mode port x.steps x.only) (issuing_answers mode port x.steps early x.only) stands (λ q on. settles.issued q))
             tt
             driven.accesses
-            (driven.all, (revoked.has_row laws s client number replies mid r m h, All-weaker (IssuesIn port) (IssuesOn port) (λ access here. issuing_is port port_low access here) driven.accesses driven.only, λ other. absurd (other its_state)))
-            (λ q. All-weaker (IssuesIn port) (LeavesEngine q) (issuing_leaves laws port q) driven.accesses driven.only)
+            (driven.all, (revoked.has_row laws s client number replies mid r m h, All-weaker (IsIssuingAnySlot port) (IsIssuingAccess port) (λ access here. issuing_is port port_low access here) driven.accesses driven.only, λ other. absurd (other its_state)))
+            (λ q. All-weaker (IsIssuingAnySlot port) (LeavesEngine q) (issuing_leaves laws port q) driven.accesses driven.only)
             (λ q is_ready. due_now q)
             (λ q. record {
               finds = tt;
@@ -183,7 +183,7 @@ module _ (laws : LawsBelow) (s : ServerState) (client : ClientId) (number : ℕ)
               probes = tt;
               boots = tt;
               port_error = laws.calls.ordinary q (with_device s.device old) new.device driven.accesses (told_by s.device old.abstract.ports) (ports_of new) k.on driven.all
-                  (All-weaker (IssuesIn port) (SparesRegister Ghc) (issuing_spares_host port) driven.accesses driven.only) (All-weaker (IssuesIn port) (ClearsNone q) (issuing_clears_none port q) driven.accesses driven.only);
+                  (All-weaker (IsIssuingAnySlot port) (DoesNotWrite Ghc) (issuing_spares_host port) driven.accesses driven.only) (All-weaker (IsIssuingAnySlot port) (ClearsNoError q) (issuing_clears_none port q) driven.accesses driven.only);
               well = λ i. absurd (uninterrupted s.device old.abstract.ports q i);
               heeds = uninterrupted s.device old.abstract.ports q;
             })
@@ -205,8 +205,8 @@ module _ (laws : LawsBelow) (s : ServerState) (client : ClientId) (number : ℕ)
             x : AreIssued port ids then_is new (after m early)
             x = each_issued laws port ids then_is new kept issues (after m early) (revoked.reached_then laws s client number replies mid r m h) (revoked.stands laws s client number replies mid r m h)
 
-            stands : IsMachineOf new (after m (x.steps ++ early))
-            stands = subst (IsMachineOf new) (sym (laws.basic.joined m x.steps early)) x.stands
+            stands : MachineRelation new (after m (x.steps ++ early))
+            stands = subst (MachineRelation new) (sym (laws.basic.joined m x.steps early)) x.stands
 
             mode : QueueMode
             mode = mode_in s port

@@ -6,10 +6,10 @@ use Rattle.std.proofs.lemmas.List.Elements.{All-contains}
 use Rattle.std.proofs.lemmas.List.Kept.{AllPairs-filter}
 use Rattle.ata_types.specs.declared.request.ClientId.{ClientId}
 use Rattle.ata_types.specs.declared.request.Outcome.TheVariants.{Aborted, Revoked}
-use Rattle.request_queue.specs.Entries.{Held, IsEarlier, BookIsInOrder, marked_under, waits_under}
+use Rattle.request_queue.specs.Entries.{BookEntry, IsEarlier, BookIsInOrder, marked_under, waits_under}
 use Rattle.request_queue.specs.declared.PendingRequest.{PendingRequest}
 use Rattle.server_history.specs.Revoked.{with_grant_revoked}
-use Rattle.server_history.specs.Server.{HasTrueMark, ServerState, TellsGrant}
+use Rattle.server_history.specs.Server.{RevokedMarkInvariant, ServerState, RevokedMarkAgrees}
 use Rattle.server_history.proofs.dispositions.FittingFates.{AllFit, ends_fits}
 use Rattle.server_history.proofs.plain_calls.IssueRounds.{not_true}
 use Rattle.server_history.proofs.revoke_call.RevokedEach.{ends_revoked, waiting_under}
@@ -18,7 +18,7 @@ use Rattle.server_history.proofs.state.RevokedGrants.{marked_one, tells_then}
 use Rattle.block_machine.specs.Rules.{is_under}
 
 -- What a mark changes: nothing but itself.
-pub record IsMarkOf (was e : Held) : Type 0 where
+pub record IsMarkOf (was e : BookEntry) : Type 0 where
   pub id : e.entry.id ≡ was.entry.id
   pub client : e.entry.client ≡ was.entry.client
   pub grant : e.entry.grant ≡ was.entry.grant
@@ -28,10 +28,10 @@ pub record IsMarkOf (was e : Held) : Type 0 where
 
 module _ (client : ClientId) (number : ℕ) where
   -- the request, marked if it is under the grant
-  abbrev pub mark : Held → Held
+  abbrev pub mark : BookEntry → BookEntry
   mark e = record e { entry = marked_under client number e.entry }
 
-  mark_of : (e : Held) → IsMarkOf e (mark e)
+  mark_of : (e : BookEntry) → IsMarkOf e (mark e)
   mark_of e = by (is_under client number e.entry.client e.entry.grant)
     where
       by : (b : Bool) → IsMarkOf e (record e { entry = cond b (record (e.entry) { revoked = true }) (e.entry) })
@@ -39,7 +39,7 @@ module _ (client : ClientId) (number : ℕ) where
       by false = record { id = refl; client = refl; grant = refl; port = refl; op = refl; issued = refl }
 
   -- who is under it is marked
-  marked_is : (e : Held) → is_under client number e.entry.client e.entry.grant ≡ true → (mark e).entry.revoked ≡ true
+  marked_is : (e : BookEntry) → is_under client number e.entry.client e.entry.grant ≡ true → (mark e).entry.revoked ≡ true
   marked_is e is = ap (λ (x : PendingRequest). x.revoked) (cond-true (is_under client number e.entry.client e.entry.grant) (record (e.entry) { revoked = true }) e.entry is)
 
   -- what a waiting request of the grant is
@@ -64,23 +64,23 @@ module _ (client : ClientId) (number : ℕ) where
     old = with_grant_revoked client number s
 
     -- the requests that are told Revoked
-    abbrev pub requests : List Held
+    abbrev pub requests : List BookEntry
     requests = waiting_under client number old.book
 
     -- each request was there before
-    pub was_there : (e : Held) → Contains old.book e → (was : Held) × Contains s.book was × (e ≡ mark was)
+    pub was_there : (e : BookEntry) → Contains old.book e → (was : BookEntry) × Contains s.book was × (e ≡ mark was)
     was_there e here = map_in mark s.book e here
 
-    pub mark_is : (e : Held) (here : Contains old.book e) → IsMarkOf (was_there e here).0 e
+    pub mark_is : (e : BookEntry) (here : Contains old.book e) → IsMarkOf (was_there e here).0 e
     mark_is e here = let w = was_there e here in subst (IsMarkOf w.0) (sym w.2) (mark_of w.0)
 
-    pub of_requests : (e : Held) → Contains requests e → Contains old.book e × WaitsUnder e.entry
-    of_requests e here = let w = filter_in (λ (x : Held). waits_under client number x.entry) old.book e here in (w.0, waits_as e.entry w.1)
+    pub of_requests : (e : BookEntry) → Contains requests e → Contains old.book e × WaitsUnder e.entry
+    of_requests e here = let w = filter_in (λ (x : BookEntry). waits_under client number x.entry) old.book e here in (w.0, waits_as e.entry w.1)
 
-    pub in_requests : (e : Held) → Contains old.book e → WaitsUnder e.entry → Contains requests e
-    in_requests e here w = in_filter (λ (x : Held). waits_under client number x.entry) old.book e here (as_waits e.entry w.waits w.client_is w.grant_is)
+    pub in_requests : (e : BookEntry) → Contains old.book e → WaitsUnder e.entry → Contains requests e
+    in_requests e here w = in_filter (λ (x : BookEntry). waits_under client number x.entry) old.book e here (as_waits e.entry w.waits w.client_is w.grant_is)
 
-    under_was : (e : Held) → Contains requests e → (here : Contains old.book e) → is_under client number (was_there e here).0.entry.client (was_there e here).0.entry.grant ≡ true
+    under_was : (e : BookEntry) → Contains requests e → (here : Contains old.book e) → is_under client number (was_there e here).0.entry.client (was_there e here).0.entry.grant ≡ true
     under_was e there here =
         let w = (of_requests e there).1 in
         let m = mark_is e here in
@@ -88,34 +88,34 @@ module _ (client : ClientId) (number : ℕ) where
         and_from (was.client.0 == client.0) (was.grant == number)
         (eq-eqb was.client.0 client.0 (ap (λ (c : ClientId). c.0) (sym m.client ∙ w.client_is))) (eq-eqb was.grant number (sym m.grant ∙ w.grant_is))
 
-    pub is_marked : (e : Held) → Contains requests e → e.entry.revoked ≡ true
+    pub is_marked : (e : BookEntry) → Contains requests e → e.entry.revoked ≡ true
     is_marked e there =
         let here = (of_requests e there).0 in
         let w = was_there e here in
-        ap (λ (x : Held). x.entry.revoked) w.2 ∙ marked_is w.0 (under_was e there here)
+        ap (λ (x : BookEntry). x.entry.revoked) w.2 ∙ marked_is w.0 (under_was e there here)
 
     pub fit : AllFit ends_revoked requests
     fit e there = ends_fits e.entry Revoked (λ is. let z : Revoked ≡ Aborted = is in absurd cc) (λ is. is_marked e there)
 
     pub earlier : BookIsInOrder old.book → AllPairs IsEarlier requests
-    earlier ordered = AllPairs-filter IsEarlier (λ (x : Held). waits_under client number x.entry) old.book ordered.ordered
+    earlier ordered = AllPairs-filter IsEarlier (λ (x : BookEntry). waits_under client number x.entry) old.book ordered.ordered
 
-    module _ (marked : All (HasTrueMark s.grants) s.book) where
+    module _ (marked : All (RevokedMarkInvariant s.grants) s.book) where
       -- marks tell which grants are there then
-      pub tells : (e : Held) → Contains old.book e → TellsGrant old.grants e.entry
+      pub tells : (e : BookEntry) → Contains old.book e → RevokedMarkAgrees old.grants e.entry
       tells e here =
           let w = was_there e here in
-          subst (λ (x : Held). TellsGrant old.grants x.entry) (sym w.2) (tells_then s.grants client number w.0.entry (All-contains (HasTrueMark s.grants) s.book w.0 marked w.1).tells)
+          subst (λ (x : BookEntry). RevokedMarkAgrees old.grants x.entry) (sym w.2) (tells_then s.grants client number w.0.entry (All-contains (RevokedMarkInvariant s.grants) s.book w.0 marked w.1).tells)
 
       -- and of one that isn't told Revoked all that its mark is to tell
-      pub true_mark : (e : Held) → Contains old.book e → (WaitsUnder e.entry → ⊥) → HasTrueMark old.grants e
+      pub true_mark : (e : BookEntry) → Contains old.book e → (WaitsUnder e.entry → ⊥) → RevokedMarkInvariant old.grants e
       true_mark e here left =
           let w = was_there e here in
           let m = mark_is e here in
-          subst (HasTrueMark old.grants) (sym w.2)
+          subst (RevokedMarkInvariant old.grants) (sym w.2)
           (marked_one s.grants client number w.0
           (stays (waits_under client number w.0.entry) (λ is. let u = waits_as w.0.entry is in left (record { waits = m.issued ∙ u.waits; client_is = m.client ∙ u.client_is; grant_is = m.grant ∙ u.grant_is })))
-          (All-contains (HasTrueMark s.grants) s.book w.0 marked w.1))
+          (All-contains (RevokedMarkInvariant s.grants) s.book w.0 marked w.1))
         where
           stays : (b : Bool) → (b ≡ true → ⊥) → b ≡ false
           stays true other = absurd (other refl)

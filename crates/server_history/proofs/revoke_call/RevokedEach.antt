@@ -6,7 +6,7 @@ use Rattle.ata_types.specs.declared.request.Outcome.TheVariants.{Revoked}
 use Rattle.ata_types.specs.declared.request.Reply.{Reply}
 use Rattle.block_machine.specs.Rules.{HasRow}
 use Rattle.dma_frames.specs.Table.{LendsOnly, Table}
-use Rattle.request_queue.specs.Entries.{Held, IsAccepted, BookIsInOrder, waits_under}
+use Rattle.request_queue.specs.Entries.{BookEntry, IsAccepted, BookIsInOrder, waits_under}
 use Rattle.request_queue.specs.Dispositions.{Holdings, AreResolved}
 use Rattle.request_queue.specs.declared.PendingRequest.{PendingRequest}
 use Rattle.request_queue.specs.declared.disposition.Disposition.{Disposition}
@@ -21,11 +21,11 @@ abbrev pub ends_revoked : PendingRequest → Disposition
 ends_revoked e = Complete Revoked
 
 -- the requests that wait, and were accepted under this grant of the client
-abbrev pub waiting_under : ClientId → ℕ → List Held → List Held
-waiting_under client number book = filter (λ (e : Held). waits_under client number e.entry) book
+abbrev pub waiting_under : ClientId → ℕ → List BookEntry → List BookEntry
+waiting_under client number book = filter (λ (e : BookEntry). waits_under client number e.entry) book
 
 -- the server without the grant, with this book and these loans
-abbrev pub with_revoked : ClientId → ℕ → Table → List Held → ServerState → ServerState
+abbrev pub with_revoked : ClientId → ℕ → Table → List BookEntry → ServerState → ServerState
 with_revoked client number table book s = record (with_grant_revoked client number s) { table = table; book = book }
 
 -- They met that fate one after another, and the table that this led to has the same lent as the server's.

@@ -16,7 +16,7 @@ use Rattle.ata_types.specs.declared.request.RequestId.{RequestId}
 use Rattle.adapter.specs.declared.access.DeviceStep.{DeviceStep}
 use Rattle.refinement.specs.Driven.{known}
 use Rattle.refinement.specs.Driver.{HasNoSlot, IsBacked, DriverState}
-use Rattle.block_machine.specs.Events.{AllLawful, AllMay, AreStepsOfCall, IsLawful, IssuesLast, AbstractState, RevokeOf, Tells, answers_of, issues_it}
+use Rattle.block_machine.specs.Events.{AllLawful, AllMay, AreStepsOfCall, IsLawful, IssuesLast, AbstractState, RevokeOf, RepliesMatch, answers_of, issues_it}
 use Rattle.block_machine.specs.Histories.{IsReachable}
 use Rattle.block_machine.specs.Left.{after}
 use Rattle.block_machine.specs.Ports.{Evidence, Ports}
@@ -24,14 +24,14 @@ use Rattle.block_machine.specs.Rules.{HasRow, IsUnder, without_row}
 use Rattle.block_machine.specs.State.{Machine, Pending}
 use Rattle.block_machine.specs.Steps.{Step, Again, Answer, Revoke, after_step}
 use Rattle.host_boot.specs.Taken.{probe_result_of}
-use Rattle.request_queue.specs.Entries.{Held, IsAccepted, BookIsInOrder, asks_of}
-use Rattle.request_queue.specs.Machine.{IsBook, IsEntry}
+use Rattle.request_queue.specs.Entries.{BookEntry, IsAccepted, BookIsInOrder, asks_of}
+use Rattle.request_queue.specs.Machine.{BookRelation, EntryRelation}
 use Rattle.request_queue.specs.declared.disposition.Disposition.TheVariants.{Complete, Requeue}
 use Rattle.server_history.specs.Below.{LawsBelow}
-use Rattle.server_history.specs.Dispositions.{DecidesOn, AreResolvable, AreResolvedInMachine}
+use Rattle.server_history.specs.Dispositions.{IsResolveStep, AreResolvable, AreResolvedInMachine}
 use Rattle.server_history.specs.ErrorHandling.{holdings_of}
 use Rattle.server_history.specs.Revoked.{with_grant_revoked}
-use Rattle.server_history.specs.Server.{AreKept, HasTrueMark, IsMachineOf, ServerState}
+use Rattle.server_history.specs.Server.{QuarantineRelation, RevokedMarkInvariant, MachineRelation, ServerState}
 use Rattle.server_history.proofs.any_turn.JoinedParts.{answers_append}
 use Rattle.server_history.proofs.any_turn.TurnsInOrder.{belong_join, lawful_join}
 use Rattle.server_history.proofs.dispositions.MetFates.{meet, nobody}
@@ -59,12 +59,12 @@ IsRevoked e o = (o ≡ Revoked) × (e.issued ≡ false)
 pub record MayRevoke (s : ServerState) (m : Machine) : Type 0 where
   pub ordered : BookIsInOrder s.book
   pub accepted : All (IsAccepted s.table) s.book
-  pub marked : All (HasTrueMark s.grants) s.book
+  pub marked : All (RevokedMarkInvariant s.grants) s.book
   pub reached : IsReachable m
-  pub stands : IsMachineOf s m
+  pub stands : MachineRelation s m
 
 module _ (laws : LawsBelow) (s : ServerState) (client : ClientId) (number : ℕ) (replies : List Reply) (mid : ServerState) (r : RevokesEach client number replies s mid) (m : Machine) (may_revoke : MayRevoke s m) where
-  abbrev is : IsMachineOf s m
+  abbrev is : MachineRelation s m
   is = may_revoke.stands
 
   abbrev reached : IsReachable m
@@ -76,7 +76,7 @@ module _ (laws : LawsBelow) (s : ServerState) (client : ClientId) (number : ℕ)
   abbrev accepted : All (IsAccepted s.table) s.book
   accepted = may_revoke.accepted
 
-  abbrev marked : All (HasTrueMark s.grants) s.book
+  abbrev marked : All (RevokedMarkInvariant s.grants) s.book
   marked = may_revoke.marked
 
   abbrev old : ServerState
@@ -85,7 +85,7 @@ module _ (laws : LawsBelow) (s : ServerState) (client : ClientId) (number : ℕ)
   abbrev port : Port
   port = r.has.0.port
 
-  abbrev requests : List Held
+  abbrev requests : List BookEntry
   requests = waiting_under client number old.book
 
   -- the server then
@@ -108,20 +108,20 @@ module _ (laws : LawsBelow) (s : ServerState) (client : ClientId) (number : ℕ)
   n_rows : n.rows ≡ old.grants
   n_rows = ap (without_row client number) is.rows
 
-  n_book : IsBook old.book n.book
+  n_book : BookRelation old.book n.book
   n_book = laws.revokes s.book m client number is.book
 
   abbrev k : DriverState
   k = known is.uses is.parked s.device
 
   -- those that wait under the grant are on its port
-  its_port : (e : Held) → Contains requests e → e.entry.port ≡ port
+  its_port : (e : BookEntry) → Contains requests e → e.entry.port ≡ port
   its_port e there =
       let w = of_requests client number s e there in
-      let p = at_left IsEntry old.book n.book n_book e w.0 in
+      let p = at_left EntryRelation old.book n.book n_book e w.0 in
       sym p.2.port ∙ on_its_port laws.living m reached p.0 p.1 r.has.0 row_there (r.has.2.0 ∙ sym w.1.client_is ∙ sym p.2.client, r.has.2.1 ∙ sym w.1.grant_is ∙ sym p.2.grant)
 
-  pub here : (e : Held) → Contains requests e → Contains old.book e × (e.entry.port ≡ port)
+  pub here : (e : BookEntry) → Contains requests e → Contains old.book e × (e.entry.port ≡ port)
   here e there = ((of_requests client number s e there).0, its_port e there)
 
   old_ordered : BookIsInOrder old.book
@@ -130,10 +130,10 @@ module _ (laws : LawsBelow) (s : ServerState) (client : ClientId) (number : ℕ)
   old_accepted : All (IsAccepted s.table) old.book
   old_accepted = laws.still_marked s.table s.book client number accepted
 
-  unserved : (e : Held) → Contains requests e → HasNoSlot is.uses e.entry.id
+  unserved : (e : BookEntry) → Contains requests e → HasNoSlot is.uses e.entry.id
   unserved e there =
       let w = of_requests client number s e there in
-      let p = at_left IsEntry old.book n.book n_book e w.0 in
+      let p = at_left EntryRelation old.book n.book n_book e w.0 in
       subst (HasNoSlot is.uses) p.2.id (laws.slots.waiting is.uses m s.device reached is.knows.agrees p.0 p.1 (p.2.issued ∙ w.1.waits))
 
   may_meet : AreResolvable port ends_revoked requests (holdings_of port old) k n
@@ -161,24 +161,24 @@ module _ (laws : LawsBelow) (s : ServerState) (client : ClientId) (number : ℕ)
       (record { here = here; earlier = earlier client number s old_ordered; ordered = old_ordered; accepted = old_accepted }) r.meets
 
   -- each request that is left was in the book before
-  pub before : (e : Held) → Contains r.now.book e → (was : Held) × Contains s.book was × (e.entry.id ≡ was.entry.id) × (e.entry.port ≡ was.entry.port) × (e.entry.op ≡ was.entry.op)
+  pub before : (e : BookEntry) → Contains r.now.book e → (was : BookEntry) × Contains s.book was × (e.entry.id ≡ was.entry.id) × (e.entry.port ≡ was.entry.port) × (e.entry.op ≡ was.entry.op)
   before e there =
       let w = left.from e there in
       let b = was_there client number s w.was w.there in
       let mark = mark_is client number s w.was w.there in
       (b.0, b.1, w.id ∙ mark.id, w.port ∙ mark.port, w.op ∙ mark.op)
 
-  pub each_left : (P : Held → Type 0) → ((e : Held) → Contains r.now.book e → P e) → All P r.now.book
+  pub each_left : (P : BookEntry → Type 0) → ((e : BookEntry) → Contains r.now.book e → P e) → All P r.now.book
   each_left P each = All-weaker (Contains r.now.book) P each r.now.book (All-contains_itself r.now.book)
 
   -- who is left wasn't told so
-  left_other : (e : Held) (there : Contains r.now.book e) → WaitsUnder client number (left.from e there).was.entry → ⊥
+  left_other : (e : BookEntry) (there : Contains r.now.book e) → WaitsUnder client number (left.from e there).was.entry → ⊥
   left_other e there waits =
       let w = left.from e there in
       left.gone w.was Revoked (in_requests client number s w.was w.there waits) refl e there w.id
 
-  pub marked_then : All (HasTrueMark old.grants) r.now.book
-  marked_then = each_left (HasTrueMark old.grants) (λ e there.
+  pub marked_then : All (RevokedMarkInvariant old.grants) r.now.book
+  marked_then = each_left (RevokedMarkInvariant old.grants) (λ e there.
       let w = left.from e there in
       marked_as old.grants old.book e w (true_mark client number s marked w.was w.there (left_other e there)))
 
@@ -193,7 +193,7 @@ module _ (laws : LawsBelow) (s : ServerState) (client : ClientId) (number : ℕ)
   leaves : (z.rows ≡ n.rows) × ((frame : Frame) → z.owner frame ≡ n.owner frame) × (z.next ≡ n.next)
   leaves = deciding_leaves port n met.steps met.own
 
-  stands_z : IsMachineOf new z
+  stands_z : MachineRelation new z
   stands_z = record {
     uses = is.uses;
     used = is.used;
@@ -207,7 +207,7 @@ module _ (laws : LawsBelow) (s : ServerState) (client : ClientId) (number : ℕ)
         (cases_eq q port.0);
     knows = met.knows;
     book = met.book;
-    kept = subst (AreKept s.ports s.kept) (sym same_kept) is.kept;
+    kept = subst (QuarantineRelation s.ports s.kept) (sym same_kept) is.kept;
     rows = leaves.0 ∙ n_rows;
     owner = λ frame. leaves.1 frame ∙ is.owner frame ∙ ap (λ (owners : List (Option ClientId)). get_or owners frame.0 None) (sym (r.lends.owners ∙ fates_owners ends_revoked requests replies (holdings_of port old) r.now r.meets));
     lent = λ frame. met.lent frame ∙ sym (r.lends.others frame (nowhere frame));
@@ -219,7 +219,7 @@ module _ (laws : LawsBelow) (s : ServerState) (client : ClientId) (number : ℕ)
   abbrev pub steps : List Step
   steps = met.steps ++ Revoke client number ∷ []
 
-  its_step : (step : Step) → Contains met.steps step → DecidesOn port step → IsAnswerOf IsRevoked step
+  its_step : (step : Step) → Contains met.steps step → IsResolveStep port step → IsAnswerOf IsRevoked step
   its_step (Answer e o) there own =
       let x = met.answered e o there in
       let same : Complete Revoked ≡ Complete o = x.3 in
@@ -229,7 +229,7 @@ module _ (laws : LawsBelow) (s : ServerState) (client : ClientId) (number : ℕ)
   its_step step there own = absurd own
 
   all_answers : All (IsAnswerOf IsRevoked) met.steps
-  all_answers = All-weaker (Contains met.steps) (IsAnswerOf IsRevoked) (λ step there. its_step step there (All-contains (DecidesOn port) met.steps step met.own there)) met.steps (All-contains_itself met.steps)
+  all_answers = All-weaker (Contains met.steps) (IsAnswerOf IsRevoked) (λ step there. its_step step there (All-contains (IsResolveStep port) met.steps step met.own there)) met.steps (All-contains_itself met.steps)
 
   joined : after m steps ≡ z
   joined = laws.basic.joined m met.steps (Revoke client number ∷ [])
@@ -237,8 +237,8 @@ module _ (laws : LawsBelow) (s : ServerState) (client : ClientId) (number : ℕ)
   pub may : AllMay m steps
   may = laws.basic.may m met.steps (Revoke client number ∷ []) (tt, has_row) met.may
 
-  pub stands : IsMachineOf new (after m steps)
-  stands = subst (IsMachineOf new) (sym joined) stands_z
+  pub stands : MachineRelation new (after m steps)
+  stands = subst (MachineRelation new) (sym joined) stands_z
 
   pub reached_then : IsReachable (after m steps)
   reached_then = laws.basic.reached m steps reached may
@@ -247,7 +247,7 @@ module _ (laws : LawsBelow) (s : ServerState) (client : ClientId) (number : ℕ)
   pub apart : (q : Port) → q ≢ port → of_port q (asks_of r.now.book) ≡ of_port q (asks_of s.book)
   apart q ne =
       fates_apart laws q ends_revoked requests replies (holdings_of port old) r.now r.meets
-      (All-weaker (Contains requests) (λ (e : Held). IsNoneOf q e.entry.id (asks_of old.book)) (λ e there. none_of_one laws q port old.book ne old_ordered e (here e there)) requests (All-contains_itself requests))
+      (All-weaker (Contains requests) (λ (e : BookEntry). IsNoneOf q e.entry.id (asks_of old.book)) (λ e there. none_of_one laws q port old.book ne old_ordered e (here e there)) requests (All-contains_itself requests))
       ∙ ap (of_port q) (laws.asks_marked s.book client number)
 
   pub backed : IsBacked s.device s.device m steps
@@ -270,7 +270,7 @@ module _ (laws : LawsBelow) (s : ServerState) (client : ClientId) (number : ℕ)
       told_lawful : (e : Pending) (o : Outcome) → o ≡ Revoked → e.issued ≡ false → IsLawful then_at evidence ports e o
       told_lawful e o is waits = subst (IsLawful then_at evidence ports e) (sym is) (inl waits)
 
-  pub tells_replies : Tells steps replies
+  pub tells_replies : RepliesMatch steps replies
   tells_replies = record { answers = met.tells.answers; same = subst (IsPermutation met.tells.answers) (sym (answers_append met.steps (Revoke client number ∷ []) ∙ append-nil (answers_of met.steps))) met.tells.same; ordered = met.tells.ordered; told = met.tells.told }
 
   -- ---- who is answered
@@ -305,9 +305,9 @@ module _ (laws : LawsBelow) (s : ServerState) (client : ClientId) (number : ℕ)
 
       never : Contains z.book e → Contains met.steps (Answer e Revoked)
       never still =
-          let h = at_right IsEntry r.now.book z.book met.book e still in
+          let h = at_right EntryRelation r.now.book z.book met.book e still in
           let w = left.from h.0 h.1 in
-          let a = at_right IsEntry old.book n.book n_book e there in
+          let a = at_right EntryRelation old.book n.book n_book e there in
           let one : w.was ≡ a.0 = laws.one old.book w.was a.0 old_ordered w.there a.1 (sym w.id ∙ sym h.2.id ∙ a.2.id) in
-          absurd (left_other h.0 h.1 (subst (λ (y : Held). WaitsUnder client number y.entry) (sym one)
+          absurd (left_other h.0 h.1 (subst (λ (y : BookEntry). WaitsUnder client number y.entry) (sym one)
           (record { waits = sym a.2.issued ∙ waits; client_is = sym a.2.client ∙ its.0; grant_is = sym a.2.grant ∙ its.1 })))

@@ -10,16 +10,16 @@ use Rattle.ata_types.specs.declared.request.Op.{Op}
 use Rattle.ata_types.specs.declared.request.Reply.{Reply}
 use Rattle.ata_types.specs.declared.request.RequestId.{RequestId}
 use Rattle.block_machine.specs.Due.{NoneDue, is_plain}
-use Rattle.block_machine.specs.Left.{IsRow, after}
+use Rattle.block_machine.specs.Left.{IsValidRow, after}
 use Rattle.block_machine.specs.Rules.{is_under, without_row}
 use Rattle.host_boot.specs.Taken.{probe_result_of}
-use Rattle.request_queue.specs.Entries.{Held, all_marked_under, asks_of, IsAccepted}
+use Rattle.request_queue.specs.Entries.{BookEntry, all_marked_under, asks_of, IsAccepted}
 use Rattle.server_history.specs.Below.{LawsBelow}
 use Rattle.server_history.specs.ErrorHandling.{holdings_of}
 use Rattle.server_history.specs.Revoked.{with_grant_revoked}
-use Rattle.server_history.specs.Server.{InCallInvariant, ServerState, is_served, kept_at, mode_in, state_of}
-use Rattle.server_history.specs.Stalled.{StuckInvariant, BookInvariant}
-use Rattle.server_history.proofs.failed_reset.StalledInstant.{booked_then}
+use Rattle.server_history.specs.Server.{InCallInvariant, ServerState, is_served, quarantined_at, mode_in, state_of}
+use Rattle.server_history.specs.StuckServer.{StuckInvariant, ServerInvariant}
+use Rattle.server_history.proofs.failed_reset.StuckInstant.{booked_then}
 use Rattle.server_history.proofs.dispositions.RemainingBook.{IsLeft}
 use Rattle.server_history.proofs.revoke_call.RevokedEach.{RevokesEach, ends_revoked, waiting_under, with_revoked}
 use Rattle.server_history.proofs.revoke_call.RevokedMachine as revoked
@@ -31,8 +31,8 @@ use Rattle.ata_types.specs.declared.request.Frame.{Frame}
 
 module _ (laws : LawsBelow) (s : ServerState) (client : ClientId) (number : ℕ) (replies : List Reply) (mid : ServerState) (r : RevokesEach client number replies s mid) where
   -- grants are as a configuration may give them still
-  rows_then : All IsRow s.grants → All IsRow (without_row client number s.grants)
-  rows_then rows = All-filter (λ (row : GrantRow). not (is_under client number row.client row.number)) IsRow s.grants rows
+  rows_then : All IsValidRow s.grants → All IsValidRow (without_row client number s.grants)
+  rows_then rows = All-filter (λ (row : GrantRow). not (is_under client number row.client row.number)) IsValidRow s.grants rows
 
   -- and requests as they were accepted
   still_accepted : All (IsAccepted r.now.table) r.now.book → All (IsAccepted mid.table) r.now.book
@@ -45,7 +45,7 @@ module _ (laws : LawsBelow) (s : ServerState) (client : ClientId) (number : ℕ)
     may_revoke = record { ordered = k.ordered; accepted = k.accepted; marked = k.marked; reached = k.reached; stands = k.stands }
 
     abbrev Left : Type 0
-    Left = (e : Held) → Contains r.now.book e → (was : Held) × Contains s.book was × (e.entry.id ≡ was.entry.id) × (e.entry.port ≡ was.entry.port) × (e.entry.op ≡ was.entry.op)
+    Left = (e : BookEntry) → Contains r.now.book e → (was : BookEntry) × Contains s.book was × (e.entry.id ≡ was.entry.id) × (e.entry.port ≡ was.entry.port) × (e.entry.op ≡ was.entry.op)
 
     before : Left
     before = revoked.before laws s client number replies mid r k.machine may_revoke
@@ -58,11 +58,11 @@ module _ (laws : LawsBelow) (s : ServerState) (client : ClientId) (number : ℕ)
         k.commands k.alone (still_accepted left.accepted) left.ordered (revoked.marked_then laws s client number replies mid r k.machine may_revoke)
         (revoked.each_left laws s client number replies mid r k.machine may_revoke (λ e. e.entry.id.0 ≤ s.last) (λ e here.
         let b = before e here in
-        let low = All-contains (λ (x : Held). x.entry.id.0 ≤ s.last) s.book b.0 k.handed_out b.1 in
+        let low = All-contains (λ (x : BookEntry). x.entry.id.0 ≤ s.last) s.book b.0 k.handed_out b.1 in
         let id = ap (λ (i : RequestId). i.0) b.2 in omega (arith, low, id)))
         (revoked.each_left laws s client number replies mid r k.machine may_revoke (λ e. state_of (probe_result_of s.ports e.entry.port.0) ≡ ReadyState) (λ e here.
         let b = before e here in
-        ap (λ (q : Port). state_of (probe_result_of s.ports q.0)) b.3 ∙ All-contains (λ (x : Held). state_of (probe_result_of s.ports x.entry.port.0) ≡ ReadyState) s.book b.0 k.ready b.1))
+        ap (λ (q : Port). state_of (probe_result_of s.ports q.0)) b.3 ∙ All-contains (λ (x : BookEntry). state_of (probe_result_of s.ports x.entry.port.0) ≡ ReadyState) s.book b.0 k.ready b.1))
         (after k.machine (revoked.steps laws s client number replies mid r k.machine may_revoke)) (revoked.reached_then laws s client number replies mid r k.machine may_revoke)
         (revoked.stands laws s client number replies mid r k.machine may_revoke)
       where
@@ -76,7 +76,7 @@ module _ (laws : LawsBelow) (s : ServerState) (client : ClientId) (number : ℕ)
   -- ---- one whose adapter is off
 
   module _ (t : StuckInvariant s) where
-    abbrev b : BookInvariant s
+    abbrev b : ServerInvariant s
     b = t.booked
 
     pub may_revoke_off : MayRevoke s b.machine
@@ -88,16 +88,16 @@ module _ (laws : LawsBelow) (s : ServerState) (client : ClientId) (number : ℕ)
           (λ q.
           let fewer : issued_of q r.now.book ≤ issued_of q (all_marked_under client number s.book) = left.fewer q in
           let same = marked_issued q client number s.book in
-          let were : length (kept_at s.kept q.0) + issued_of q s.book ≤ 32 = b.places q in
+          let were : length (quarantined_at s.kept q.0) + issued_of q s.book ≤ 32 = b.places q in
           omega (arith, fewer, same, were))
           (still_accepted left.accepted) left.ordered (revoked.marked_then laws s client number replies mid r b.machine may_revoke_off)
           (revoked.each_left laws s client number replies mid r b.machine may_revoke_off (λ e. e.entry.id.0 ≤ s.last) (λ e here.
           let x = revoked.before laws s client number replies mid r b.machine may_revoke_off e here in
-          let low = All-contains (λ (y : Held). y.entry.id.0 ≤ s.last) s.book x.0 b.handed_out x.1 in
+          let low = All-contains (λ (y : BookEntry). y.entry.id.0 ≤ s.last) s.book x.0 b.handed_out x.1 in
           let id = ap (λ (i : RequestId). i.0) x.2 in omega (arith, low, id)))
           (revoked.each_left laws s client number replies mid r b.machine may_revoke_off (λ e. is_served (probe_result_of s.ports e.entry.port.0) ≡ true) (λ e here.
           let x = revoked.before laws s client number replies mid r b.machine may_revoke_off e here in
-          ap (λ (q : Port). is_served (probe_result_of s.ports q.0)) x.3 ∙ All-contains (λ (y : Held). is_served (probe_result_of s.ports y.entry.port.0) ≡ true) s.book x.0 b.asked x.1))
+          ap (λ (q : Port). is_served (probe_result_of s.ports q.0)) x.3 ∙ All-contains (λ (y : BookEntry). is_served (probe_result_of s.ports y.entry.port.0) ≡ true) s.book x.0 b.asked x.1))
           (after b.machine (revoked.steps laws s client number replies mid r b.machine may_revoke_off)) (revoked.reached_then laws s client number replies mid r b.machine may_revoke_off)
           (revoked.stands laws s client number replies mid r b.machine may_revoke_off);
       off = t.off;

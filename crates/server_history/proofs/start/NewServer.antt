@@ -13,14 +13,14 @@ use Rattle.ata_types.specs.declared.request.RequestId.{RequestId}
 use Rattle.adapter.specs.Device.{Device}
 use Rattle.adapter.specs.Idle.{IsIdle, TellsDisks}
 use Rattle.refinement.specs.Relation.{SameSectors}
-use Rattle.refinement.specs.Returning.{may_return}
+use Rattle.refinement.specs.Returning.{replug_candidates}
 use Rattle.refinement.specs.Driven.{known}
 use Rattle.refinement.specs.Driver.{DriverRelation, idle}
 use Rattle.refinement.specs.Slots.{Free, SlotStates}
 use Rattle.refinement.specs.Spares.{AllFurther, SparesBook}
 use Rattle.block_machine.specs.Histories.{IsReachable}
-use Rattle.block_machine.specs.Left.{after, IsRow, IsInitial}
-use Rattle.block_machine.specs.Ports.{AreFit, IsMode}
+use Rattle.block_machine.specs.Left.{after, IsValidRow, IsInitial}
+use Rattle.block_machine.specs.Ports.{PortsWellFormed, IsValidMode}
 use Rattle.block_machine.specs.State.{DiskBytes, Machine, Pending}
 use Rattle.block_machine.specs.Rules.{DifferInName}
 use Rattle.dma_frames.specs.Loan.{Lending}
@@ -34,18 +34,18 @@ use Rattle.identify.specs.declared.Unfit.{Unfit as Fault}
 use Rattle.identify.specs.declared.Unfit.TheVariants as fault
 use Rattle.identify.specs.Wanted.{serial_of}
 use Rattle.identify.specs.declared.wanted.Wanted.{Wanted}
-use Rattle.port_boot.specs.States.{EndsAs, IsUnfit}
+use Rattle.port_boot.specs.States.{BacksState, IsUnfit}
 use Rattle.refinement.specs.Facts.{RunsWell, Undisturbed}
 use Rattle.server_history.proofs.state.PortSlots.{its_mode, ready_found, stood_mode}
 use Rattle.server_history.proofs.state.ServerInstant.{holds_with, slots}
 use Rattle.server_history.specs.Below.{LawsBelow}
-use Rattle.server_history.specs.Ended.{TakenLaws}
-use Rattle.server_history.specs.Histories.{HasBegun}
+use Rattle.server_history.specs.Ended.{TakeOverLaws}
+use Rattle.server_history.specs.Histories.{StartsHistory}
 use Rattle.block_machine.specs.Due.{NoneDue}
-use Rattle.request_queue.specs.Entries.{Held, IsAccepted, BookIsInOrder, asks_of}
-use Rattle.request_queue.specs.Machine.{IsBook}
+use Rattle.request_queue.specs.Entries.{BookEntry, IsAccepted, BookIsInOrder, asks_of}
+use Rattle.request_queue.specs.Machine.{BookRelation}
 use Rattle.slots.specs.Uses.{PortSlots}
-use Rattle.server_history.specs.Server.{ServerState, AreUsesOf, InCallInvariant, IsMachineOf, IsNewServer, IsPortOf, SettledInvariant, IsUsedAs, is_served, AreKept, AreOfTwo, kept_at, mode_in, ports_of, state_of, use_of, used_for, HasTrueMark}
+use Rattle.server_history.specs.Server.{ServerState, AreUsesOf, InCallInvariant, MachineRelation, IsNewServer, PortInvariant, SettledInvariant, IsUsedAs, is_served, QuarantineRelation, DifferInRequest, quarantined_at, mode_in, ports_of, state_of, slot_state_of, used_for, RevokedMarkInvariant}
 use Rattle.server_history.proofs.state.FollowedAccesses.{followed_adds}
 use Rattle.server_history.proofs.start.TakenOverPorts.{behind, found_is, four, none_past, ports_on, served_there}
 use Rattle.server_history.proofs.state.FirstMembers.{nowhere}
@@ -64,7 +64,7 @@ machine_of d rows owner = record {
   disk_ids = λ port. (d.port port.0).disk.name;
   sizes = λ port. (d.port port.0).disk.size;
   disks = λ port. told_bytes (d.port port.0).disk.sectors;
-  aside = λ port k. may_return d.tape (d.port port.0).lasting port.0 k;
+  aside = λ port k. replug_candidates d.tape (d.port port.0).lasting port.0 k;
   book = [];
   kept = [];
   lent = λ frame. None;
@@ -120,10 +120,10 @@ unfit_numbered n port d (inr (inr (inr (page, has, (f, first, is))))) = let b = 
 cause_is : (wanted : Wanted) (found : ProbeResult) (port cause : ℕ) (d : Device) → StandsBehind wanted found port d → state_of found ≡ Unfit cause → (1 ≤ cause) × (cause ≤ 9)
 cause_is wanted Unserved port cause d s is = absurd (let z : Absent ≡ Unfit cause = is in cc)
 cause_is wanted (Ready info) port cause d s is = absurd (let z : ReadyState ≡ Unfit cause = is in cc)
-cause_is wanted (Unready state) port cause d s is = unfit_numbered cause port d ((subst (λ (x : PortState). EndsAs (serial_of wanted) x port d) is s.1).1)
+cause_is wanted (Unready state) port cause d s is = unfit_numbered cause port d ((subst (λ (x : PortState). BacksState (serial_of wanted) x port d) is s.1).1)
 
 -- what is known of ports at each moment of a call makes them fit
-pub kept_fit : (s : ServerState) → InCallInvariant s → AreFit (ports_of s)
+pub kept_fit : (s : ServerState) → InCallInvariant s → PortsWellFormed (ports_of s)
 kept_fit s k = record {
   few = λ port served. (k.there port.0 served).0;
   absent = λ port other. absent_is (probe_result_of s.ports port.0) other;
@@ -148,16 +148,16 @@ kept_fit s k = record {
 -- a slot that was left as it was is used as a server without requests has it
 pub left_as : (ports found : List ProbeResult) (slots : List PortSlots) (uses : SlotStates) (port slot : ℕ) → probe_result_of found port ≡ probe_result_of ports port → used_for slots port slot ≡ None → IsUnusedOrDead ports uses port slot
     → IsUsedAs (probe_result_of found port) (used_for slots port slot) (uses port slot)
-left_as ports found list uses port slot same none (inl free) = λ _. free ∙ sym (ap use_of none)
+left_as ports found list uses port slot same none (inl free) = λ _. free ∙ sym (ap slot_state_of none)
 left_as ports found list uses port slot same none (inr (zero_is, own, dead)) = λ alive. absurd (alive (same ∙ dead))
 
 -- where no request is kept, no loan is
-pub none_are_kept : (found : List ProbeResult) (kept : List (List Lending)) (requests : List Pending) → requests ≡ [] → ((port : ℕ) → kept_at kept port ≡ []) → AreKept found kept requests
+pub none_are_kept : (found : List ProbeResult) (kept : List (List Lending)) (requests : List Pending) → requests ≡ [] → ((port : ℕ) → quarantined_at kept port ≡ []) → QuarantineRelation found kept requests
 none_are_kept found kept requests none empty = record {
   dead = λ e here. absurd (nobody e here);
   loan = λ e here. absurd (nobody e here);
   whose = λ port loan here. absurd (nowhere loan (subst (λ (loans : List Lending). Contains loans loan) (empty port) here));
-  apart = λ port. subst (AllPairs AreOfTwo) (sym (empty port)) (λ i j d lt small. absurd (omega (arith, small)));
+  apart = λ port. subst (AllPairs DifferInRequest) (sym (empty port)) (λ i j d lt small. absurd (omega (arith, small)));
 }
   where
     nobody : (e : Pending) → Contains requests e → ⊥
@@ -174,8 +174,8 @@ none_in_order = record {
 
 -- ---- the whole
 
-module _ (below : LawsBelow) (laws : TakenLaws) (s : ServerState) (host : Host) (d : Device) (is : IsIdle d) (told : TellsDisks d) (taken : TakesOver s.wanted host d s.device) (n : IsNewServer host s) where
-  ports_as : (port : ℕ) → port < 4 → IsPortOf s.wanted s.ports port s.device
+module _ (below : LawsBelow) (laws : TakeOverLaws) (s : ServerState) (host : Host) (d : Device) (is : IsIdle d) (told : TellsDisks d) (taken : TakesOver s.wanted host d s.device) (n : IsNewServer host s) where
+  ports_as : (port : ℕ) → port < 4 → PortInvariant s.wanted s.ports port s.device
   ports_as port low = ports_on laws s host d is taken n.ports n.four below port low
 
   stood : (port : ℕ) → port < 4 → StandsBehind (wanted_of s.wanted port) (probe_result_of s.ports port) port s.device
@@ -198,7 +198,7 @@ module _ (below : LawsBelow) (laws : TakenLaws) (s : ServerState) (host : Host) 
     next = refl;
     few = n.few;
     rows = n.names;
-    configured = λ row here. All-contains (λ (row : GrantRow). IsRow row) s.grants row n.rows here;
+    configured = λ row here. All-contains (λ (row : GrantRow). IsValidRow row) s.grants row n.rows here;
     owned = λ frame client own. let c = n.clients frame client own in (c.0, c.1, (n.owners frame client own).0, c.2);
   }
 
@@ -208,14 +208,14 @@ module _ (below : LawsBelow) (laws : TakenLaws) (s : ServerState) (host : Host) 
   uses_are : AreUsesOf s taken.uses
   uses_are port slot = left_as host.ports s.ports s.slots taken.uses port slot (found_as port) (n.unused port slot) (taken.left port slot)
 
-  stands_for : (m : Machine) → IsInitial m → SparesBook first_machine m → DriverRelation m (known taken.uses (λ port. []) s.device) → IsMachineOf s m
+  stands_for : (m : Machine) → IsInitial m → SparesBook first_machine m → DriverRelation m (known taken.uses (λ port. []) s.device) → MachineRelation s m
   stands_for m begun spares knows = record {
     uses = taken.uses;
     used = uses_are;
     parked = λ port. [];
     unparked = λ port alive. refl;
     knows = knows;
-    book = subst (λ (book : List Held). IsBook book m.book) (sym n.book) (subst (λ (es : List Pending). IsBook [] es) (sym begun.book) tt);
+    book = subst (λ (book : List BookEntry). BookRelation book m.book) (sym n.book) (subst (λ (es : List Pending). BookRelation [] es) (sym begun.book) tt);
     kept = none_are_kept s.ports s.kept m.kept begun.kept n.unkept;
     rows = spares.rows;
     owner = λ frame. ap (λ (owner : Frame → Option ClientId). owner frame) spares.owner;
@@ -223,12 +223,12 @@ module _ (below : LawsBelow) (laws : TakenLaws) (s : ServerState) (host : Host) 
     next = begun.next ∙ ap (λ (k : ℕ). k + 1) (sym n.last);
   }
 
-  ports_fit : AreFit (ports_of s)
+  ports_fit : PortsWellFormed (ports_of s)
   ports_fit = record {
     few = λ port served. low_as port.0 served;
     absent = λ port other. absent_is (probe_result_of s.ports port.0) other;
     slots = λ port ready. ⊎_elim
-        (λ (low : port.0 < 4). subst IsMode (sym (n.modes port.0 low)) (stood_mode (wanted_of s.wanted port.0) (probe_result_of s.ports port.0) port.0 s.device (ports_as port.0 low).behind).0)
+        (λ (low : port.0 < 4). subst IsValidMode (sym (n.modes port.0 low)) (stood_mode (wanted_of s.wanted port.0) (probe_result_of s.ports port.0) port.0 s.device (ports_as port.0 low).behind).0)
         (λ (high : 4 ≤ port.0). absurd (let z : Absent ≡ ReadyState = sym (ap state_of (found_as port.0 ∙ none_past host.ports port.0 (let l = n.four in omega (arith, l, high)))) ∙ ready in cc))
         (cases_lt port.0 4);
     causes = λ port cause is. ⊎_elim
@@ -242,7 +242,7 @@ module _ (below : LawsBelow) (laws : TakenLaws) (s : ServerState) (host : Host) 
       absent_is (Ready info) other = absurd (false≢true (sym other))
       absent_is (Unready state) other = absurd (false≢true (sym other))
 
-  kept_by : (m : Machine) → IsReachable m → IsMachineOf s m → InCallInvariant s
+  kept_by : (m : Machine) → IsReachable m → MachineRelation s m → InCallInvariant s
   kept_by m reached stands = record {
     on = taken.on;
     room = n.room;
@@ -260,11 +260,11 @@ module _ (below : LawsBelow) (laws : TakenLaws) (s : ServerState) (host : Host) 
     kinds = λ port slot used e is. absurd (let z : None ≡ Some used = sym (n.unused port.0 slot) ∙ is in cc);
     commands = λ port slot used is. absurd (let z : None ≡ Some used = sym (n.unused port slot) ∙ is in cc);
     alone = λ port slot used is. absurd (let z : None ≡ Some used = sym (n.unused port slot) ∙ is in cc);
-    accepted = subst (λ (book : List Held). All (IsAccepted s.table) book) (sym n.book) (All-nil (IsAccepted s.table));
+    accepted = subst (λ (book : List BookEntry). All (IsAccepted s.table) book) (sym n.book) (All-nil (IsAccepted s.table));
     ordered = subst BookIsInOrder (sym n.book) none_in_order;
-    marked = subst (λ (book : List Held). All (HasTrueMark s.grants) book) (sym n.book) (All-nil (HasTrueMark s.grants));
-    handed_out = subst (λ (book : List Held). All (λ e. e.entry.id.0 ≤ s.last) book) (sym n.book) (All-nil (λ (e : Held). e.entry.id.0 ≤ s.last));
-    ready = subst (λ (book : List Held). All (λ e. state_of (probe_result_of s.ports e.entry.port.0) ≡ ReadyState) book) (sym n.book) (All-nil (λ (e : Held). state_of (probe_result_of s.ports e.entry.port.0) ≡ ReadyState));
+    marked = subst (λ (book : List BookEntry). All (RevokedMarkInvariant s.grants) book) (sym n.book) (All-nil (RevokedMarkInvariant s.grants));
+    handed_out = subst (λ (book : List BookEntry). All (λ e. e.entry.id.0 ≤ s.last) book) (sym n.book) (All-nil (λ (e : BookEntry). e.entry.id.0 ≤ s.last));
+    ready = subst (λ (book : List BookEntry). All (λ e. state_of (probe_result_of s.ports e.entry.port.0) ≡ ReadyState) book) (sym n.book) (All-nil (λ (e : BookEntry). state_of (probe_result_of s.ports e.entry.port.0) ≡ ReadyState));
     machine = m;
     reached = reached;
     stands = stands;
@@ -272,15 +272,15 @@ module _ (below : LawsBelow) (laws : TakenLaws) (s : ServerState) (host : Host) 
 
   -- nothing is asked, so nothing is due
   none_due : (port : Port) → NoneDue (mode_in s port) (asks_of s.book) port
-  none_due port = subst (λ (book : List Held). NoneDue (mode_in s port) (asks_of book) port) (sym n.book) (λ r own due. nowhere r due.here)
+  none_due port = subst (λ (book : List BookEntry). NoneDue (mode_in s port) (asks_of book) port) (sym n.book) (λ r own due. nowhere r due.here)
 
-  pub new_server : SettledInvariant s × HasBegun s
+  pub new_server : SettledInvariant s × StartsHistory s
   new_server =
       let x = (followed_adds below taken.followed (λ port slot. Free) (λ port. []) refl).adds first_machine reached_first (machine_knows below d s.grants (owner_of s.table) start is told) in
       let later : Machine = after first_machine x.0 in
       let spares : SparesBook first_machine later = below.basic.spares first_machine x.0 x.3.only in
       let begun : IsInitial later = start_on first_machine later start spares in
-      let stands : IsMachineOf s later = stands_for later begun spares x.2 in
+      let stands : MachineRelation s later = stands_for later begun spares x.2 in
       let reached : IsReachable later = below.basic.reached first_machine x.0 reached_first x.1 in
       let kept : InCallInvariant s = kept_by later reached stands in (
         record { kept = kept; issued = none_due },
@@ -295,7 +295,7 @@ module _ (below : LawsBelow) (laws : TakenLaws) (s : ServerState) (host : Host) 
 
 -- ---- a new server
 
-pub new_well : TakenLaws → (s : ServerState) (host : Host) (idle : Device) (port : Port) → InCallInvariant s → IsIdle idle → TakesOver s.wanted host idle s.device → s.ports ≡ host.ports
+pub new_well : TakeOverLaws → (s : ServerState) (host : Host) (idle : Device) (port : Port) → InCallInvariant s → IsIdle idle → TakesOver s.wanted host idle s.device → s.ports ≡ host.ports
     → state_of (probe_result_of s.ports port.0) ≡ ReadyState → Undisturbed port.0 idle s.device → RunsWell (s.device.port port.0)
 new_well laws s host idle port k rest taken same ready calm =
     let found = (ready_found s port.0 k ready).1 in

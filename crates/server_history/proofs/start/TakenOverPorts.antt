@@ -3,12 +3,12 @@ use Rattle.std.proofs.Common.{List, [], ap, arith, false, length, refl, subst, s
 use Rattle.std.proofs.lemmas.Bool.{false≢true, cases_lt}
 use Rattle.adapter.specs.Device.{Device}
 use Rattle.adapter.specs.Idle.{IsIdle}
-use Rattle.refinement.specs.Facts.{IsRecorded}
-use Rattle.refinement.specs.Halting.{HaltsAsTaken}
-use Rattle.refinement.specs.Links.{HasDeviceOrNone}
+use Rattle.refinement.specs.Facts.{FaultsOnRecord}
+use Rattle.refinement.specs.Halting.{HaltIsOfTaken}
+use Rattle.refinement.specs.Links.{ShowsDiskIfIn}
 use Rattle.ata_types.specs.declared.PortState.{PortState}
 use Rattle.ata_types.specs.declared.PortState.TheVariants.{Absent, Ready as ReadyState}
-use Rattle.driver_history.specs.Holds.{Runs}
+use Rattle.driver_history.specs.Holds.{EngineRuns}
 use Rattle.hba_regs.specs.Bits.{bit}
 use Rattle.host_boot.specs.Taken.{FoundBadDisk, StandsBehind, TakesOver, probe_result_of, wanted_of}
 use Rattle.host_boot.specs.declared.ProbeResult.{ProbeResult}
@@ -17,10 +17,10 @@ use Rattle.host_boot.specs.declared.Host.{Host}
 use Rattle.identify.specs.Wanted.{serial_of}
 use Rattle.identify.specs.declared.DiskInfo.{DiskInfo}
 use Rattle.identify.specs.declared.wanted.Wanted.{Wanted}
-use Rattle.port_boot.specs.States.{EndsAs, ShowsOwnDisk}
+use Rattle.port_boot.specs.States.{BacksState, HasDiskIfShown}
 use Rattle.server_history.specs.Below.{LawsBelow}
-use Rattle.server_history.specs.Ended.{TakenLaws}
-use Rattle.server_history.specs.Server.{IsPortOf, ServerState, is_served, state_of}
+use Rattle.server_history.specs.Ended.{TakeOverLaws}
+use Rattle.server_history.specs.Server.{PortInvariant, ServerState, is_served, state_of}
 
 -- ports past the fourth aren't served
 pub none_past : (ports : List ProbeResult) (port : ℕ) → length ports ≤ port → probe_result_of ports port ≡ Unserved
@@ -29,8 +29,8 @@ none_past (f ∷ rest) zero long = absurd (omega (arith, long))
 none_past (f ∷ rest) (suc n) long = none_past rest n (omega (arith, long))
 
 -- what a ready port's boot leaves runs, with nothing queued
-ready_runs : (wanted : Wanted) (found : ProbeResult) (port : ℕ) (d : Device) → StandsBehind wanted found port d → ((info : DiskInfo) → found ≡ Ready info → IsRecorded d.tape (d.port port) port) → state_of found ≡ ReadyState
-    → Runs port d × ((slot : ℕ) → (d.port port).sact slot ≡ false)
+ready_runs : (wanted : Wanted) (found : ProbeResult) (port : ℕ) (d : Device) → StandsBehind wanted found port d → ((info : DiskInfo) → found ≡ Ready info → FaultsOnRecord d.tape (d.port port) port) → state_of found ≡ ReadyState
+    → EngineRuns port d × ((slot : ℕ) → (d.port port).sact slot ≡ false)
 ready_runs wanted Unserved port d s recorded is = absurd (let z : Absent ≡ ReadyState = is in cc)
 ready_runs wanted (Ready info) port d s recorded is = (
   record {
@@ -43,7 +43,7 @@ ready_runs wanted (Ready info) port d s recorded is = (
   },
   s.1.runs.sact,
 )
-ready_runs wanted (Unready state) port d s recorded is = absurd (subst (λ (x : PortState). EndsAs (serial_of wanted) x port d) is s.1)
+ready_runs wanted (Unready state) port d s recorded is = absurd (subst (λ (x : PortState). BacksState (serial_of wanted) x port d) is s.1)
 
 -- a port that is served is there
 pub served_there : (wanted : Wanted) (found : ProbeResult) (port : ℕ) (d : Device) → StandsBehind wanted found port d → is_served found ≡ true → bit d.pi port ≡ true
@@ -54,7 +54,7 @@ served_there wanted (Unready state) port d s served = s.0.1
 -- ---- the whole
 
 -- The idle adapter was taken over, and the server has the ports as they were found.
-module _ (laws : TakenLaws) (s : ServerState) (host : Host) (d : Device) (is : IsIdle d) (taken : TakesOver s.wanted host d s.device) (same : s.ports ≡ host.ports) (many : length host.ports ≡ 4) where
+module _ (laws : TakeOverLaws) (s : ServerState) (host : Host) (d : Device) (is : IsIdle d) (taken : TakesOver s.wanted host d s.device) (same : s.ports ≡ host.ports) (many : length host.ports ≡ 4) where
   pub found_is : (port : ℕ) → probe_result_of s.ports port ≡ probe_result_of host.ports port
   found_is port = ap (λ (ports : List ProbeResult). probe_result_of ports port) same
 
@@ -67,12 +67,12 @@ module _ (laws : TakenLaws) (s : ServerState) (host : Host) (d : Device) (is : I
       (λ (high : 4 ≤ port). absurd (false≢true (sym (ap is_served (found_is port ∙ none_past host.ports port (let l = many in omega (arith, l, high)))) ∙ served)))
       (cases_lt port 4)
 
-  shown_as : (port : ℕ) (f : ProbeResult) → probe_result_of s.ports port ≡ f → FoundBadDisk (state_of f) → HasDeviceOrNone (s.device.port port)
+  shown_as : (port : ℕ) (f : ProbeResult) → probe_result_of s.ports port ≡ f → FoundBadDisk (state_of f) → ShowsDiskIfIn (s.device.port port)
   shown_as port Unserved e bad = absurd bad
   shown_as port (Ready info) e bad = absurd bad
   shown_as port (Unready state) e bad = laws.shown s.wanted host port state d s.device is taken bad (sym (found_is port) ∙ e)
 
-  own_as : (port : ℕ) (f : ProbeResult) → probe_result_of s.ports port ≡ f → state_of f ≡ ReadyState → ShowsOwnDisk (s.device.port port)
+  own_as : (port : ℕ) (f : ProbeResult) → probe_result_of s.ports port ≡ f → state_of f ≡ ReadyState → HasDiskIfShown (s.device.port port)
   own_as port Unserved e ready = let z : Absent ≡ ReadyState = ready in absurd cc
   own_as port (Ready info) e ready = laws.own s.wanted host port info d s.device is taken (sym (found_is port) ∙ e)
   own_as port (Unready state) e ready = absurd (not_ready state ready (subst (λ (f : ProbeResult). StandsBehind (wanted_of s.wanted port) f port s.device) e (behind port (four port (ap is_served e)))))
@@ -80,7 +80,7 @@ module _ (laws : TakenLaws) (s : ServerState) (host : Host) (d : Device) (is : I
       not_ready : (state : PortState) → state ≡ ReadyState → StandsBehind (wanted_of s.wanted port) (Unready state) port s.device → ⊥
       not_ready state same stands = (subst (λ (t : PortState). StandsBehind (wanted_of s.wanted port) (Unready t) port s.device) same stands).1
 
-  halts_as : (port : ℕ) → port < 4 → (f : ProbeResult) → probe_result_of s.ports port ≡ f → state_of f ≡ ReadyState → HaltsAsTaken (s.device.port port)
+  halts_as : (port : ℕ) → port < 4 → (f : ProbeResult) → probe_result_of s.ports port ≡ f → state_of f ≡ ReadyState → HaltIsOfTaken (s.device.port port)
   halts_as port below Unserved e ready = let z : Absent ≡ ReadyState = ready in absurd cc
   halts_as port below (Ready info) e ready = taken.halts port below info (sym (found_is port) ∙ e)
   halts_as port below (Unready state) e ready = absurd (not_ready state ready (subst (λ (f : ProbeResult). StandsBehind (wanted_of s.wanted port) f port s.device) e (behind port below)))
@@ -88,11 +88,11 @@ module _ (laws : TakenLaws) (s : ServerState) (host : Host) (d : Device) (is : I
       not_ready : (state : PortState) → state ≡ ReadyState → StandsBehind (wanted_of s.wanted port) (Unready state) port s.device → ⊥
       not_ready state same stands = (subst (λ (t : PortState). StandsBehind (wanted_of s.wanted port) (Unready t) port s.device) same stands).1
 
-  running : (port : ℕ) → port < 4 → state_of (probe_result_of s.ports port) ≡ ReadyState → Runs port s.device × ((slot : ℕ) → (s.device.port port).sact slot ≡ false)
+  running : (port : ℕ) → port < 4 → state_of (probe_result_of s.ports port) ≡ ReadyState → EngineRuns port s.device × ((slot : ℕ) → (s.device.port port).sact slot ≡ false)
   running port below =
       ready_runs (wanted_of s.wanted port) (probe_result_of s.ports port) port s.device (behind port below) (λ info found. laws.recorded s.wanted host port info d s.device is taken (sym (found_is port) ∙ found))
 
-  pub ports_on : LawsBelow → (port : ℕ) → port < 4 → IsPortOf s.wanted s.ports port s.device
+  pub ports_on : LawsBelow → (port : ℕ) → port < 4 → PortInvariant s.wanted s.ports port s.device
   ports_on laws_below port below = record {
     behind = laws_below.recovery.stands_begin (wanted_of s.wanted port) (probe_result_of s.ports port) port s.device (behind port below);
     runs = λ ready. (running port below ready).0;

@@ -10,14 +10,14 @@ use Rattle.ata_types.specs.declared.request.Reply.{Reply}
 use Rattle.ata_types.specs.declared.request.RequestId.{RequestId}
 use Rattle.adapter.specs.declared.access.DeviceStep.{DeviceStep}
 use Rattle.block_machine.specs.declared.due.QueueMode.{QueueMode}
-use Rattle.block_machine.specs.Events.{AllDevices, AllLawful, AllMay, Ask, AreStepsOfCall, IsByDevice, IsLawful, IsByServer, AbstractState, answers_of, issues_it, reply_of}
+use Rattle.block_machine.specs.Events.{AllByDevice, AllLawful, AllMay, AbstractCall, AreStepsOfCall, IsByDevice, IsLawful, IsByServer, AbstractState, answers_of, issues_it, reply_of}
 use Rattle.block_machine.specs.Left.{after}
 use Rattle.block_machine.specs.Ports.{Evidence, Ports}
 use Rattle.block_machine.specs.State.{Pending, Machine}
 use Rattle.block_machine.specs.Steps.{Step, Issue, Answer, May, after_step}
 use Rattle.server_history.proofs.state.ListMembers.{contains_cases, contains_here, contains_there, in_filter, without_in}
-use Rattle.request_queue.specs.Entries.{Held}
-use Rattle.server_history.specs.Served.{HasEnded, IssuesOnly, answers_in, done_reply}
+use Rattle.request_queue.specs.Entries.{BookEntry}
+use Rattle.server_history.specs.Served.{HasEnded, AllByDeviceOrIssue, ok_answers_of, done_reply}
 use Rattle.server_history.specs.Below.{LawsBelow}
 use Rattle.server_history.proofs.state.FirstMembers.{nowhere}
 
@@ -33,14 +33,14 @@ may_parts laws m (step ∷ late) early may =
 -- ---- answers
 
 -- the device answers nobody
-pub no_answer : (steps : List Step) → AllDevices steps → (e : Pending) (o : Outcome) → Contains steps (Answer e o) → ⊥
+pub no_answer : (steps : List Step) → AllByDevice steps → (e : Pending) (o : Outcome) → Contains steps (Answer e o) → ⊥
 no_answer [] only e o here = nowhere (Answer e o) here
 no_answer (step ∷ steps) only e o here = ⊎_elim
     (λ (is : Answer e o ≡ step). subst IsByDevice (sym is) only.1)
     (λ (there : Contains steps (Answer e o)). no_answer steps only.0 e o there)
     (contains_cases step steps (Answer e o) here)
 
-pub no_answer_issuing : (mode : QueueMode) (port : Port) (steps : List Step) → IssuesOnly mode port steps → (e : Pending) (o : Outcome) → Contains steps (Answer e o) → ⊥
+pub no_answer_issuing : (mode : QueueMode) (port : Port) (steps : List Step) → AllByDeviceOrIssue mode port steps → (e : Pending) (o : Outcome) → Contains steps (Answer e o) → ⊥
 no_answer_issuing mode port [] only e o here = nowhere (Answer e o) here
 no_answer_issuing mode port (Issue its x ∷ steps) only e o here = ⊎_elim
     (λ (is : Answer e o ≡ Issue its x). absurd (let z : Answer e o ≡ Issue its x = is in cc))
@@ -52,28 +52,28 @@ no_answer_issuing mode port (step ∷ steps) only e o here = ⊎_elim
     (contains_cases step steps (Answer e o) here)
 
 -- the answers of these alone
-pub answered_in : (ended : List Pending) (e : Pending) (o : Outcome) → Contains (answers_in ended) (Answer e o) → Contains ended e × (o ≡ Ok)
+pub answered_in : (ended : List Pending) (e : Pending) (o : Outcome) → Contains (ok_answers_of ended) (Answer e o) → Contains ended e × (o ≡ Ok)
 answered_in [] e o here = absurd (nowhere (Answer e o) here)
 answered_in (x ∷ ended) e o here = ⊎_elim
-    (λ (rest : Contains (answers_in ended) (Answer e o)). let r = answered_in ended e o rest in (contains_there x ended e r.0, r.1))
+    (λ (rest : Contains (ok_answers_of ended) (Answer e o)). let r = answered_in ended e o rest in (contains_there x ended e r.0, r.1))
     (λ (last : Contains (Answer x Ok ∷ []) (Answer e o)). ⊎_elim
     (λ (is : Answer e o ≡ Answer x Ok). let a : e ≡ x = cc in let b : o ≡ Ok = cc in (contains_here x ended e a, b))
     (λ none. absurd (nowhere (Answer e o) none))
     (contains_cases (Answer x Ok) [] (Answer e o) last))
-    (Contains-append_cases (answers_in ended) (Answer x Ok ∷ []) (Answer e o) here)
+    (Contains-append_cases (ok_answers_of ended) (Answer x Ok ∷ []) (Answer e o) here)
 
-pub in_answered : (ended : List Pending) (e : Pending) → Contains ended e → Contains (answers_in ended) (Answer e Ok)
+pub in_answered : (ended : List Pending) (e : Pending) → Contains ended e → Contains (ok_answers_of ended) (Answer e Ok)
 in_answered [] e here = absurd (nowhere e here)
 in_answered (x ∷ ended) e here = ⊎_elim
-    (λ (is : e ≡ x). Contains-append_right (answers_in ended) (Answer x Ok ∷ []) (Answer e Ok) (contains_here (Answer x Ok) [] (Answer e Ok) (ap (λ (y : Pending). Answer y Ok) is)))
-    (λ (there : Contains ended e). Contains-append_left (answers_in ended) (Answer x Ok ∷ []) (Answer e Ok) (in_answered ended e there))
+    (λ (is : e ≡ x). Contains-append_right (ok_answers_of ended) (Answer x Ok ∷ []) (Answer e Ok) (contains_here (Answer x Ok) [] (Answer e Ok) (ap (λ (y : Pending). Answer y Ok) is)))
+    (λ (there : Contains ended e). Contains-append_left (ok_answers_of ended) (Answer x Ok ∷ []) (Answer e Ok) (in_answered ended e there))
     (contains_cases x ended e here)
 
 -- as they are told
 abbrev pub with_ok : Pending → Pending × Outcome
 with_ok e = (e, Ok)
 
-pub told_so : (port : Port) (requests : List Held) (ended : List Pending) → AllZip (HasEnded port) requests ended → map done_reply requests ≡ map reply_of (map with_ok ended)
+pub told_so : (port : Port) (requests : List BookEntry) (ended : List Pending) → AllZip (HasEnded port) requests ended → map done_reply requests ≡ map reply_of (map with_ok ended)
 told_so port [] [] each = refl
 told_so port [] (p ∷ ended) each = absurd each
 told_so port (e ∷ requests) [] each = absurd each
@@ -82,18 +82,18 @@ told_so port (e ∷ requests) (p ∷ ended) each =
     ∙ ap (λ (replies : List Reply). reply_of (p, Ok) ∷ replies) (told_so port requests ended each.1)
 
 -- who is answered was unanswered before
-pub ended_stood : LawsBelow → (m : Machine) (ended : List Pending) → AllMay m (answers_in ended) → (p : Pending) → Contains ended p → Contains m.book p
+pub ended_stood : LawsBelow → (m : Machine) (ended : List Pending) → AllMay m (ok_answers_of ended) → (p : Pending) → Contains ended p → Contains m.book p
 ended_stood laws m [] may p here = absurd (nowhere p here)
 ended_stood laws m (x ∷ ended) may p here = ⊎_elim
     (λ (is : p ≡ x). subst (Contains m.book) (sym is) parts.0.1.0)
     (λ (there : Contains ended p). (without_in x.request.id m.book p (ended_stood laws (after_step m (Answer x Ok)) ended parts.1 p there)).0)
     (contains_cases x ended p here)
   where
-    parts : AllMay m (Answer x Ok ∷ []) × AllMay (after_step m (Answer x Ok)) (answers_in ended)
-    parts = may_parts laws m (answers_in ended) (Answer x Ok ∷ []) may
+    parts : AllMay m (Answer x Ok ∷ []) × AllMay (after_step m (Answer x Ok)) (ok_answers_of ended)
+    parts = may_parts laws m (ok_answers_of ended) (Answer x Ok ∷ []) may
 
 -- nor do steps that issue requests
-pub issuing_answers : (mode : QueueMode) (port : Port) (late base : List Step) → IssuesOnly mode port late → answers_of (late ++ base) ≡ answers_of base
+pub issuing_answers : (mode : QueueMode) (port : Port) (late base : List Step) → AllByDeviceOrIssue mode port late → answers_of (late ++ base) ≡ answers_of base
 issuing_answers mode port [] base only = refl
 issuing_answers mode port (Issue its e ∷ late) base only = issuing_answers mode port late base only.2
 issuing_answers mode port (Answer e o ∷ late) base only = absurd only.0
@@ -110,7 +110,7 @@ module _ (Told : Pending → Outcome → Type 0) where
   pub answer_told : (steps : List Step) → All (IsAnswerOf Told) steps → (e : Pending) (o : Outcome) → Contains steps (Answer e o) → Told e o
   answer_told steps all e o here = All-contains (IsAnswerOf Told) steps (Answer e o) all here
 
-  pub answers_belong : (ask : Ask DeviceStep) (ports : Ports) → ((e : Pending) (o : Outcome) → Told e o → IsByServer ask ports (Answer e o)) → (steps : List Step) → All (IsAnswerOf Told) steps → AreStepsOfCall ask ports steps
+  pub answers_belong : (ask : AbstractCall DeviceStep) (ports : Ports) → ((e : Pending) (o : Outcome) → Told e o → IsByServer ask ports (Answer e o)) → (steps : List Step) → All (IsAnswerOf Told) steps → AreStepsOfCall ask ports steps
   answers_belong ask ports own [] all = tt
   answers_belong ask ports own (Answer e o ∷ steps) all =
       (answers_belong ask ports own steps (All-tail (IsAnswerOf Told) (Answer e o) steps all), inr (own e o (All-head (IsAnswerOf Told) (Answer e o) steps all)))

@@ -10,9 +10,9 @@ use Rattle.adapter.specs.Access.{Access}
 use Rattle.adapter.specs.Device.{DevicePort, Device}
 use Rattle.adapter.specs.declared.access.DeviceStep.{DeviceStep}
 use Rattle.refinement.specs.Relation.{port_at}
-use Rattle.block_machine.specs.Events.{Ask, CallResult, AbstractState, AllLawful}
+use Rattle.block_machine.specs.Events.{AbstractCall, CallResult, AbstractState, AllLawful}
 use Rattle.block_machine.specs.Histories.{JointState}
-use Rattle.block_machine.specs.Ports.{Ports, Evidence, IsInterrupted}
+use Rattle.block_machine.specs.Ports.{Ports, Evidence, IsStoppedOrStuck}
 use Rattle.block_machine.specs.Steps.{Step, Again, Answer}
 use Rattle.ata_types.specs.declared.request.Outcome.TheVariants as outcome
 use Rattle.server_history.proofs.state.ListMembers.{contains_cases, contains_here, contains_there}
@@ -179,7 +179,7 @@ module _ (list : List Port) (d : Device) (ports : Ports) (shows : DevicePort →
       is_chosen (ready_that shows d ports) list port there (and_from (is_ready (ports.state port)) (shows (d.port port.0)) (ap is_ready ready) its)
 
 -- what is told of such a port has that behind it
-pub evidenced_of : (list : List Port) (ask : Ask DeviceStep) (said : CallResult) (accesses : List Access) (old : JointState Device) (ports : Ports) (new : Device) (port : Port)
+pub evidenced_of : (list : List Port) (ask : AbstractCall DeviceStep) (said : CallResult) (accesses : List Access) (old : JointState Device) (ports : Ports) (new : Device) (port : Port)
     → (old.abstract.ports.state port ≡ Ready → Contains list port) → All (LeavesEngine port) accesses
     → IsEvidencedOf ask said accesses old ports new (told_of list old.device old.abstract.ports) port
 evidenced_of list ask said accesses old ports new port there leaves = record {
@@ -197,7 +197,7 @@ evidenced_of list ask said accesses old ports new port there leaves = record {
   stuck_only = λ here. absurd (nowhere port here);
 }
 
-pub evidenced : (ask : Ask DeviceStep) (said : CallResult) (accesses : List Access) (old : JointState Device) (ports : Ports) (new : Device)
+pub evidenced : (ask : AbstractCall DeviceStep) (said : CallResult) (accesses : List Access) (old : JointState Device) (ports : Ports) (new : Device)
     → ((port : Port) → old.abstract.ports.state port ≡ Ready → port.0 < 4) → ((port : Port) → All (LeavesEngine port) accesses)
     → IsEvidenced ask said accesses old ports new (told_by old.device old.abstract.ports)
 evidenced ask said accesses old ports new low leaves = record {
@@ -212,7 +212,7 @@ module _ (d : Device) (ports : Ports) where
   told = told_by d ports
 
   -- nothing interrupts a port in it
-  pub uninterrupted : (port : Port) → IsInterrupted told port → ⊥
+  pub uninterrupted : (port : Port) → IsStoppedOrStuck told port → ⊥
   uninterrupted port i = ⊎_elim (nowhere port) (nowhere port) i
 
   pub lawful_told : (old : AbstractState) (after : Ports) (steps : List Step) → AllLawful old no_evidence after steps → AllLawful old told after steps

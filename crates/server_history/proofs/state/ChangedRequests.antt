@@ -4,15 +4,15 @@ use Rattle.std.specs.List.{All}
 use Rattle.std.proofs.lemmas.Bool.{cond-true, cond-false}
 use Rattle.std.proofs.lemmas.List.Elements.{All-head, All-tail, All-cons, All-nil}
 use Rattle.ata_types.specs.declared.request.RequestId.{RequestId}
-use Rattle.request_queue.specs.Entries.{Held, at_entry, has_id}
+use Rattle.request_queue.specs.Entries.{BookEntry, update_if_id, has_id}
 use Rattle.request_queue.specs.declared.PendingRequest.{PendingRequest}
 
 -- what a change keeps of each it keeps of all
-pub all_changed : (id : RequestId) (change : PendingRequest → PendingRequest) (P : Held → Type 0) → ((e : Held) → P e → P (record e { entry = change e.entry })) → (book : List Held) → All P book → All P (map (at_entry id change) book)
+pub all_changed : (id : RequestId) (change : PendingRequest → PendingRequest) (P : BookEntry → Type 0) → ((e : BookEntry) → P e → P (record e { entry = change e.entry })) → (book : List BookEntry) → All P book → All P (map (update_if_id id change) book)
 all_changed id change P keeps [] all = All-nil P
 all_changed id change P keeps (e ∷ book) all =
-    All-cons P (at_entry id change e) (map (at_entry id change) book) (one (has_id id e) refl) (all_changed id change P keeps book (All-tail P e book all))
+    All-cons P (update_if_id id change e) (map (update_if_id id change) book) (one (has_id id e) refl) (all_changed id change P keeps book (All-tail P e book all))
   where
-    one : (b : Bool) → has_id id e ≡ b → P (at_entry id change e)
+    one : (b : Bool) → has_id id e ≡ b → P (update_if_id id change e)
     one true is = subst P (sym (cond-true (has_id id e) (record e { entry = change e.entry }) e is)) (keeps e (All-head P e book all))
     one false is = subst P (sym (cond-false (has_id id e) (record e { entry = change e.entry }) e is)) (All-head P e book all)

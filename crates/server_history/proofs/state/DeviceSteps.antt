@@ -2,12 +2,12 @@
 use Rattle.std.proofs.Common.{◌≡◌, true, List, [], ◌∷◌, refl, inl}
 use Rattle.std.proofs.lemmas.Bool.{false≢true}
 use Rattle.ata_types.specs.declared.request.RequestId.{RequestId}
-use Rattle.block_machine.specs.Events.{Ask, AbstractState, IsByDevice, AllDevices, AreStepsOfCall, IssuesLast, AllLawful, handles, transfers_of}
+use Rattle.block_machine.specs.Events.{AbstractCall, AbstractState, IsByDevice, AllByDevice, AreStepsOfCall, IssuesLast, AllLawful, handles, client_bytes_of}
 use Rattle.block_machine.specs.Ports.{Ports, Evidence}
 use Rattle.block_machine.specs.Steps.{Step, Issue, Again, Answer, Store, Load}
 
 -- they may come in every call
-pub devices_belong : {D : Type 0} (ask : Ask D) (ports : Ports) (steps : List Step) → AllDevices steps → AreStepsOfCall ask ports steps
+pub devices_belong : {D : Type 0} (ask : AbstractCall D) (ports : Ports) (steps : List Step) → AllByDevice steps → AreStepsOfCall ask ports steps
 devices_belong ask ports [] a = tt
 devices_belong ask ports (step ∷ before) a = (devices_belong ask ports before a.0, inl a.1)
 
@@ -18,19 +18,19 @@ not_handled id (Again e) d h = absurd d
 not_handled id (Answer e o) d h = absurd d
 not_handled id _ d h = false≢true h
 
-pub devices_last : (steps : List Step) → AllDevices steps → IssuesLast steps
+pub devices_last : (steps : List Step) → AllByDevice steps → IssuesLast steps
 devices_last [] a = tt
 devices_last (step ∷ before) a = (devices_last before a.0, λ id h i. not_handled id step a.1 h)
 
 -- they answer nobody
-pub devices_lawful : (old : AbstractState) (evidence : Evidence) (ports : Ports) (steps : List Step) → AllDevices steps → AllLawful old evidence ports steps
+pub devices_lawful : (old : AbstractState) (evidence : Evidence) (ports : Ports) (steps : List Step) → AllByDevice steps → AllLawful old evidence ports steps
 devices_lawful old evidence ports [] a = tt
 devices_lawful old evidence ports (Again e ∷ before) a = absurd a.1
 devices_lawful old evidence ports (Answer e o ∷ before) a = absurd a.1
 devices_lawful old evidence ports (step ∷ before) a = devices_lawful old evidence ports before a.0
 
 -- they move no client's bytes
-pub devices_transfer : (steps : List Step) → AllDevices steps → transfers_of steps ≡ []
+pub devices_transfer : (steps : List Step) → AllByDevice steps → client_bytes_of steps ≡ []
 devices_transfer [] a = refl
 devices_transfer (Store c f o bytes ∷ before) a = absurd a.1
 devices_transfer (Load c f o bytes ∷ before) a = absurd a.1

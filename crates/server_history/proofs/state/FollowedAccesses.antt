@@ -9,7 +9,7 @@ use Rattle.adapter.specs.Access.{Access}
 use Rattle.adapter.specs.Device.{Device}
 use Rattle.adapter.specs.declared.command.Operation.{Operation}
 use Rattle.refinement.specs.Acts.{Act, act_steps}
-use Rattle.refinement.specs.Driven.{IsSimulatedTo, NoneWrites, SendsNone, known}
+use Rattle.refinement.specs.Driven.{IsSimulatedTo, NoneWrites, GainsNoMove, known}
 use Rattle.refinement.specs.Driver.{ByDevice, DriverRelation}
 use Rattle.refinement.specs.Slots.{Own, SlotState, SlotStates, op_of}
 use Rattle.block_machine.specs.Histories.{IsReachable, IsSimulatedBySteps}
@@ -28,7 +28,7 @@ module _ (laws : LawsBelow) {May : Access → Type 0} {Fits : SlotStates → Typ
 
   -- where they write neither PxCI nor PxSACT of a port, no page comes there for a command of the driver's own that slot 0 hasn't
   pub followed_silent : (m : Machine) → Fits uses → IsReachable m → DriverRelation m (known uses parked old) → (port : Port) (o : Operation) → op_of o ≡ None
-      → NoneWrites May (Px port Ci) → NoneWrites May (Px port Sact) → (uses port.0 0 ≡ Own o → ⊥) → SendsNone port.0 o old new
+      → NoneWrites May (Px port Ci) → NoneWrites May (Px port Sact) → (uses port.0 0 ≡ Own o → ⊥) → GainsNoMove port.0 o old new
   followed_silent m fits reached knows port o own issues arms none =
       let c = followed.comes (record { uses = uses; parked = parked }) m reached knows fits in
       laws.slots.acts_silent c.acts (known uses parked old) (known (next uses) parked new) m port.0 o own reached knows none

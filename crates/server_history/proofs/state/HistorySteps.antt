@@ -15,10 +15,10 @@ use Rattle.refinement.specs.Driven.{known}
 use Rattle.refinement.specs.Driver.{DriverRelation, IsBacked}
 use Rattle.refinement.specs.Links.{SameAdapter}
 use Rattle.refinement.specs.Spares.{AllFurther, IsFurther, SparesBook}
-use Rattle.block_machine.specs.Events.{Ask, CallResult, AllMay, AllDevices, AreStepsOfCall, IssuesLast, AllLawful, IsAnswered, KeepsDisks}
+use Rattle.block_machine.specs.Events.{AbstractCall, CallResult, AllMay, AllByDevice, AreStepsOfCall, IssuesLast, AllLawful, IsAnswered, UnansweredKeepDisk}
 use Rattle.block_machine.specs.Histories.{JointState, Happening, IsHistory, IsReachable, now}
-use Rattle.block_machine.specs.Left.{IsRow, after}
-use Rattle.block_machine.specs.Ports.{Ports, AreFit, Evidence, SamePorts, SameDisk}
+use Rattle.block_machine.specs.Left.{IsValidRow, after}
+use Rattle.block_machine.specs.Ports.{Ports, PortsWellFormed, Evidence, SamePorts, SameDisk}
 use Rattle.block_machine.specs.State.{Machine, Pending}
 use Rattle.block_machine.specs.Steps.{Step}
 use Rattle.dma_frames.specs.Loan.{Lending}
@@ -27,14 +27,14 @@ use Rattle.host_boot.specs.Taken.{probe_result_of}
 use Rattle.host_boot.specs.declared.ProbeResult.{ProbeResult}
 use Rattle.driver_history.specs.Evidence.{IsEvidenced}
 use Rattle.driver_history.specs.Heeding.{OnlyFailedPortsRequeueIn}
-use Rattle.driver_history.specs.Histories.{Begins, ExplainsAccesses, Issues, CallCorresponds, PortCorresponds}
+use Rattle.driver_history.specs.Histories.{IsFirstInstant, ExplainsAccesses, IssuesAllDue, CallCorresponds, PortCorresponds}
 use Rattle.driver_history.specs.Trace.{LeavesEngine}
-use Rattle.driver_history.specs.Holds.{HoldsAt}
+use Rattle.driver_history.specs.Holds.{DriverInvariant}
 use Rattle.server_history.specs.Histories.{LeadsToServer}
-use Rattle.request_queue.specs.Entries.{Held, IsAccepted, BookIsInOrder}
-use Rattle.request_queue.specs.Machine.{IsBook, IsEntry, range_of}
+use Rattle.request_queue.specs.Entries.{BookEntry, IsAccepted, BookIsInOrder}
+use Rattle.request_queue.specs.Machine.{BookRelation, EntryRelation, range_of}
 use Rattle.slots.specs.Uses.{PortSlots}
-use Rattle.server_history.specs.Server.{HasStoredCommand, StandsAlone, HasSlots, ServerState, InCallInvariant, IsMachineOf, IsPortOf, mode_found, mode_in, kept_at, AreKept, ports_of, state_of, used_for, HasTrueMark}
+use Rattle.server_history.specs.Server.{HasStoredCommand, StandsAlone, SlotsInvariant, ServerState, InCallInvariant, MachineRelation, PortInvariant, probed_mode, mode_in, quarantined_at, QuarantineRelation, ports_of, state_of, used_for, RevokedMarkInvariant}
 use Rattle.slots.specs.declared.SlotUse.{SlotUse}
 use Rattle.block_machine.specs.Due.{is_plain}
 use Rattle.server_history.proofs.state.ServerInstant.{holds_with, slots}
@@ -44,7 +44,7 @@ use Rattle.server_history.specs.Below.{LawsBelow}
 -- ---- the book
 
 -- an entry stands for its request when that goes further
-entry_on : (e : Held) (old new : Pending) → IsFurther old new → IsEntry e old → IsEntry e new
+entry_on : (e : BookEntry) (old new : Pending) → IsFurther old new → EntryRelation e old → EntryRelation e new
 entry_on e old new f is = record {
   id = ap (λ r. r.id) f.request ∙ is.id;
   client = ap (λ r. r.asked.client) f.request ∙ is.client;
@@ -59,21 +59,21 @@ entry_on e old new f is = record {
 }
 
 -- a book goes on as its requests go further
-pub book_on : (book : List Held) (olds news : List Pending) → AllFurther olds news → IsBook book olds → IsBook book news
-book_on [] [] news further all = subst (AllZip IsEntry []) (sym further) tt
+pub book_on : (book : List BookEntry) (olds news : List Pending) → AllFurther olds news → BookRelation book olds → BookRelation book news
+book_on [] [] news further all = subst (AllZip EntryRelation []) (sym further) tt
 book_on [] (old ∷ olds) news further all = absurd all
 book_on (e ∷ es) [] news further all = absurd all
 book_on (e ∷ es) (old ∷ olds) [] further all = absurd further
 book_on (e ∷ es) (old ∷ olds) (new ∷ news) further all = (entry_on e old new further.0 all.0, book_on es olds news further.1 all.1)
 
 -- and so do kept requests, with their loans
-pub still_kept : LawsBelow → (found : List ProbeResult) (kept : List (List Lending)) (olds news : List Pending) → AllFurther olds news → AreKept found kept olds → AreKept found kept news
+pub still_kept : LawsBelow → (found : List ProbeResult) (kept : List (List Lending)) (olds news : List Pending) → AllFurther olds news → QuarantineRelation found kept olds → QuarantineRelation found kept news
 still_kept laws found kept olds news further are = record {
   dead = λ e here. let o = laws.basic.found_before olds news e further here in ap (λ r. probe_result_of found r.port.0) o.2.request ∙ are.dead o.0 o.1;
   loan = λ e here.
       let o = laws.basic.found_before olds news e further here in
       let l = are.loan o.0 o.1 in
-      (l.0, subst (λ r. Contains (kept_at kept r.port.0) l.0) (sym o.2.request) l.1, (l.2.0 ∙ sym (ap (λ r. r.id) o.2.request), l.2.1 ∙ sym (ap (λ r. r.asked.frames.items) o.2.request)));
+      (l.0, subst (λ r. Contains (quarantined_at kept r.port.0) l.0) (sym o.2.request) l.1, (l.2.0 ∙ sym (ap (λ r. r.id) o.2.request), l.2.1 ∙ sym (ap (λ r. r.asked.frames.items) o.2.request)));
   whose = λ port loan here.
       let e = are.whose port loan here in
       let n = laws.basic.found_later olds news e.0 further e.1 in
@@ -83,9 +83,9 @@ still_kept laws found kept olds news further are = record {
 
 -- ---- the machine that stands for a server
 
-pub machine_with : LawsBelow → (s : ServerState) (new : Device) (m later : Machine) → (is : IsMachineOf s m) → SparesBook m later
+pub machine_with : LawsBelow → (s : ServerState) (new : Device) (m later : Machine) → (is : MachineRelation s m) → SparesBook m later
     → DriverRelation later (known is.uses is.parked new)
-    → IsMachineOf (record s { device = new }) later
+    → MachineRelation (record s { device = new }) later
 machine_with laws s new m later is spares knows = record {
   uses = is.uses;
   used = is.used;
@@ -101,21 +101,21 @@ machine_with laws s new m later is spares knows = record {
 }
 
 -- it goes on over steps of the device
-pub machine_on : LawsBelow → (s : ServerState) (new : Device) (m : Machine) (steps : List Step) → (is : IsMachineOf s m) → AllDevices steps
+pub machine_on : LawsBelow → (s : ServerState) (new : Device) (m : Machine) (steps : List Step) → (is : MachineRelation s m) → AllByDevice steps
     → DriverRelation (after m steps) (known is.uses is.parked new)
-    → IsMachineOf (record s { device = new }) (after m steps)
+    → MachineRelation (record s { device = new }) (after m steps)
 machine_on laws s new m steps is own knows = machine_with laws s new m (after m steps) is (laws.basic.spares m steps own) knows
 
 -- ---- what a server keeps
 
 -- a server with this device, these grants, loans, slots and book
-pub kept_then : (s : ServerState) (device : Device) (grants : List GrantRow) (table : Table) (slots : List PortSlots) (book : List Held) (last : ℕ) → InCallInvariant s → All IsRow grants → IsOn device → SameAdapter s.device device
-    → ((port : ℕ) → port < 4 → IsPortOf s.wanted s.ports port device) → table.owners ≡ s.table.owners → length slots ≡ 4 → ((port : ℕ) → port < 4 → HasSlots s.ports s.modes slots port)
-    → ((port : Port) (slot : ℕ) (used : SlotUse) (e : Held) → used_for slots port.0 slot ≡ Some used → Contains book e → e.entry.id ≡ used.id → used.queued ≡ not (is_plain (mode_in s port) e.entry.op))
+pub kept_then : (s : ServerState) (device : Device) (grants : List GrantRow) (table : Table) (slots : List PortSlots) (book : List BookEntry) (last : ℕ) → InCallInvariant s → All IsValidRow grants → IsOn device → SameAdapter s.device device
+    → ((port : ℕ) → port < 4 → PortInvariant s.wanted s.ports port device) → table.owners ≡ s.table.owners → length slots ≡ 4 → ((port : ℕ) → port < 4 → SlotsInvariant s.ports s.modes slots port)
+    → ((port : Port) (slot : ℕ) (used : SlotUse) (e : BookEntry) → used_for slots port.0 slot ≡ Some used → Contains book e → e.entry.id ≡ used.id → used.queued ≡ not (is_plain (mode_in s port) e.entry.op))
     → ((port slot : ℕ) (used : SlotUse) → used_for slots port slot ≡ Some used → HasStoredCommand used.queued device port slot)
     → ((port slot : ℕ) (used : SlotUse) → used_for slots port slot ≡ Some used → used.queued ≡ false → StandsAlone slots port slot)
-    → All (IsAccepted table) book → BookIsInOrder book → All (HasTrueMark grants) book → All (λ e. e.entry.id.0 ≤ last) book → All (λ e. state_of (probe_result_of s.ports e.entry.port.0) ≡ ReadyState) book → (m : Machine) → IsReachable m
-    → IsMachineOf (record s { device = device; grants = grants; table = table; slots = slots; book = book; last = last }) m
+    → All (IsAccepted table) book → BookIsInOrder book → All (RevokedMarkInvariant grants) book → All (λ e. e.entry.id.0 ≤ last) book → All (λ e. state_of (probe_result_of s.ports e.entry.port.0) ≡ ReadyState) book → (m : Machine) → IsReachable m
+    → MachineRelation (record s { device = device; grants = grants; table = table; slots = slots; book = book; last = last }) m
     → InCallInvariant (record s { device = device; grants = grants; table = table; slots = slots; book = book; last = last })
 kept_then s device grants table used_now book last k rows on same behind owners four used kinds commands alone accepted ordered marked handed_out ready m reached is = record {
   on = on;
@@ -127,7 +127,7 @@ kept_then s device grants table used_now book last k rows on same behind owners 
   four_remembered = k.four_remembered;
   four_kept = k.four_kept;
   few_kept = k.few_kept;
-  modes = λ port low. k.modes port low ∙ ap (λ (cap : ℕ). mode_found cap (probe_result_of s.ports port)) (sym same.cap);
+  modes = λ port low. k.modes port low ∙ ap (λ (cap : ℕ). probed_mode cap (probe_result_of s.ports port)) (sym same.cap);
   slots = used;
   kinds = kinds;
   commands = commands;
@@ -148,8 +148,8 @@ kept_then s device grants table used_now book last k rows on same behind owners 
 
 -- the same with another device alone
 pub kept_on : LawsBelow → (s : ServerState) (new : Device) → (k : InCallInvariant s) → IsOn new → SameAdapter s.device new
-    → ((port : ℕ) → port < 4 → IsPortOf s.wanted s.ports port new) → ((port slot : ℕ) (used : SlotUse) → used_for s.slots port slot ≡ Some used → HasStoredCommand used.queued new port slot) → (steps : List Step) → AllMay k.machine steps
-    → IsMachineOf (record s { device = new }) (after k.machine steps) → InCallInvariant (record s { device = new })
+    → ((port : ℕ) → port < 4 → PortInvariant s.wanted s.ports port new) → ((port slot : ℕ) (used : SlotUse) → used_for s.slots port slot ≡ Some used → HasStoredCommand used.queued new port slot) → (steps : List Step) → AllMay k.machine steps
+    → MachineRelation (record s { device = new }) (after k.machine steps) → InCallInvariant (record s { device = new })
 kept_on laws s new k on same behind commands steps may is =
     kept_then s new s.grants s.table s.slots s.book s.last k k.rows on same behind refl k.four k.slots k.kinds commands k.alone k.accepted k.ordered k.marked k.handed_out k.ready (after k.machine steps) (laws.basic.reached k.machine steps k.reached may) is
 
@@ -163,11 +163,11 @@ pub disks_same : (old new : Ports) → old ≡ new → (port : Port) → SameDis
 disks_same old new is port = subst (λ (ports : Ports). SameDisk old ports port) is (refl, refl)
 
 -- what a call does, with this evidence
-abbrev pub happening_with : Evidence → Device → Ask DeviceStep → CallResult → List Step → Ports → Happening Device DeviceStep
+abbrev pub happening_with : Evidence → Device → AbstractCall DeviceStep → CallResult → List Step → Ports → Happening Device DeviceStep
 happening_with evidence new ask said steps ports = record { event = record { ask = ask; said = said; evidence = evidence; steps = steps; ports = ports }; device = new }
 
 -- with the evidence of one in which no port is stopped
-abbrev pub happening : JointState Device → Device → Ask DeviceStep → CallResult → List Step → Ports → Happening Device DeviceStep
+abbrev pub happening : JointState Device → Device → AbstractCall DeviceStep → CallResult → List Step → Ports → Happening Device DeviceStep
 happening old new ask said steps ports = happening_with (told_by old.device old.abstract.ports) new ask said steps ports
 
 -- the instant, with this device
@@ -176,25 +176,25 @@ with_device d i = record { device = d; abstract = i.abstract }
 
 -- whatever machine stands for the server, there holds what holds at each instant
 abbrev pub IsHolding : ServerState → Type 0
-IsHolding s = (m : Machine) → IsReachable m → IsMachineOf s m → HoldsAt s.wanted (record { device = s.device; abstract = record { machine = m; ports = ports_of s } })
+IsHolding s = (m : Machine) → IsReachable m → MachineRelation s m → DriverInvariant s.wanted (record { device = s.device; abstract = record { machine = m; ports = ports_of s } })
 
 pub holding : (s : ServerState) → InCallInvariant s → IsHolding s
 holding s k m reached is = (slots s k m reached is, holds_with s k m reached is)
 
 -- a call, with what its event needs
-pub lead_with : LawsBelow → (first : JointState Device) (past : List (Happening Device DeviceStep)) (s new : ServerState) (ask : Ask DeviceStep) (said : CallResult) (evidence : Evidence) (steps : List Step)
-    → new.wanted ≡ s.wanted → LeadsToServer first past s → IsHolding new → AreFit (ports_of new)
+pub lead_with : LawsBelow → (first : JointState Device) (past : List (Happening Device DeviceStep)) (s new : ServerState) (ask : AbstractCall DeviceStep) (said : CallResult) (evidence : Evidence) (steps : List Step)
+    → new.wanted ≡ s.wanted → LeadsToServer first past s → IsHolding new → PortsWellFormed (ports_of new)
     → AllMay (now first past).abstract.machine steps → AreStepsOfCall ask (ports_of new) steps → IssuesLast steps
     → AllLawful (now first past).abstract evidence (ports_of new) steps
-    → KeepsDisks (now first past).abstract (record { machine = after (now first past).abstract.machine steps; ports = ports_of new })
+    → UnansweredKeepDisk (now first past).abstract (record { machine = after (now first past).abstract.machine steps; ports = ports_of new })
     → IsAnswered ask said (now first past).abstract evidence steps (record { machine = after (now first past).abstract.machine steps; ports = ports_of new })
     → OnlyFailedPortsRequeueIn ask evidence steps
     → (accesses : List Access) → ExplainsAccesses (now first past).abstract ask said accesses s.device new.device
     → IsEvidenced ask said accesses (with_device s.device (now first past)) (ports_of new) new.device evidence
-    → ((port : Port) → Issues ask steps (after (now first past).abstract.machine steps) (ports_of new) port)
+    → ((port : Port) → IssuesAllDue ask steps (after (now first past).abstract.machine steps) (ports_of new) port)
     → ((port : Port) → PortCorresponds (with_device s.device (now first past)) (happening_with evidence new.device ask said steps (ports_of new)) accesses port)
     → IsBacked s.device new.device (now first past).abstract.machine steps
-    → IsMachineOf new (after (now first past).abstract.machine steps)
+    → MachineRelation new (after (now first past).abstract.machine steps)
     → (h : Happening Device DeviceStep) × (h.event.ask ≡ ask) × (h.event.said ≡ said) × LeadsToServer first (h ∷ past) new
 lead_with laws first past s new ask said evidence steps wanted_is leads holds fit may belong last lawful disks answered grounded accesses came evidenced issues parts backed stands = (
   h,
@@ -202,7 +202,7 @@ lead_with laws first past s new ask said evidence steps wanted_is leads holds fi
   refl,
   record {
     history = (
-      subst (λ wanted. IsHistory (Begins wanted) (CallCorresponds wanted) first past) (sym wanted_is) leads.history,
+      subst (λ wanted. IsHistory (IsFirstInstant wanted) (CallCorresponds wanted) first past) (sym wanted_is) leads.history,
       record { may = may; belong = belong; last = last; lawful = lawful; fit = fit; disks = disks; answered = answered },
       subst (λ (d : Device). CallCorresponds new.wanted (with_device d old) h) (sym leads.stands.device_is) ties,
     );
@@ -235,7 +235,7 @@ lead_with laws first past s new ask said evidence steps wanted_is leads holds fi
     }
 
 -- one in which no port is stopped, and each is what it was
-pub lead_by : LawsBelow → (first : JointState Device) (past : List (Happening Device DeviceStep)) (s new : ServerState) (ask : Ask DeviceStep) (said : CallResult) (steps : List Step)
+pub lead_by : LawsBelow → (first : JointState Device) (past : List (Happening Device DeviceStep)) (s new : ServerState) (ask : AbstractCall DeviceStep) (said : CallResult) (steps : List Step)
     → new.wanted ≡ s.wanted → ports_of new ≡ ports_of s → LeadsToServer first past s → IsHolding new
     → AllMay (now first past).abstract.machine steps → AreStepsOfCall ask (ports_of new) steps → IssuesLast steps
     → AllLawful (now first past).abstract no_evidence (ports_of new) steps
@@ -243,13 +243,13 @@ pub lead_by : LawsBelow → (first : JointState Device) (past : List (Happening 
     → OnlyFailedPortsRequeueIn ask (told_by s.device (now first past).abstract.ports) steps
     → (accesses : List Access) → ExplainsAccesses (now first past).abstract ask said accesses s.device new.device
     → ((port : Port) → All (LeavesEngine port) accesses)
-    → ((port : Port) → Issues ask steps (after (now first past).abstract.machine steps) (ports_of new) port)
+    → ((port : Port) → IssuesAllDue ask steps (after (now first past).abstract.machine steps) (ports_of new) port)
     → ((port : Port) → PortCorresponds (with_device s.device (now first past)) (happening (with_device s.device (now first past)) new.device ask said steps (ports_of new)) accesses port)
     → IsBacked s.device new.device (now first past).abstract.machine steps
-    → IsMachineOf new (after (now first past).abstract.machine steps)
+    → MachineRelation new (after (now first past).abstract.machine steps)
     → (h : Happening Device DeviceStep) × (h.event.ask ≡ ask) × (h.event.said ≡ said) × LeadsToServer first (h ∷ past) new
 lead_by laws first past s new ask said steps wanted_is ports_is leads holds may belong last lawful answered grounded accesses came leaves issues parts backed stands =
-    lead_with laws first past s new ask said (told_by s.device old.abstract.ports) steps wanted_is leads holds (subst AreFit ports fit) may belong last
+    lead_with laws first past s new ask said (told_by s.device old.abstract.ports) steps wanted_is leads holds (subst PortsWellFormed ports fit) may belong last
     (lawful_told s.device old.abstract.ports old.abstract (ports_of new) steps lawful)
     (λ e o here i same. disks_same old.abstract.ports (ports_of new) ports e.request.port)
     answered grounded accesses came
@@ -262,5 +262,5 @@ lead_by laws first past s new ask said steps wanted_is ports_is leads holds may 
     ports : old.abstract.ports ≡ ports_of new
     ports = leads.stands.ports_are ∙ sym ports_is
 
-    fit : AreFit old.abstract.ports
+    fit : PortsWellFormed old.abstract.ports
     fit = laws.basic.fit s.wanted first past leads.history

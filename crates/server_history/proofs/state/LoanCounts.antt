@@ -10,7 +10,7 @@ use Rattle.ata_types.specs.declared.request.Outcome.{Outcome}
 use Rattle.ata_types.specs.declared.request.Outcome.TheVariants as outcome
 use Rattle.ata_types.specs.declared.request.RequestId.{RequestId}
 use Rattle.server_history.proofs.state.ListMembers.{contains_cases}
-use Rattle.request_queue.specs.Entries.{Held, all_marked_under, at_entry, has_id, is_of, marked_under, requeued_entry}
+use Rattle.request_queue.specs.Entries.{BookEntry, all_marked_under, update_if_id, has_id, is_of, marked_under, requeued_entry}
 use Rattle.request_queue.specs.Dispositions.{keeps_loan}
 use Rattle.request_queue.specs.declared.PendingRequest.{PendingRequest}
 use Rattle.server_history.specs.ErrorHandling.{requests_of}
@@ -18,23 +18,23 @@ use Rattle.server_history.proofs.state.FirstMembers.{nowhere}
 use Rattle.block_machine.specs.Rules.{is_under}
 
 -- how many requests of the port are issued
-abbrev pub issued_of : Port → List Held → ℕ
-issued_of port book = count_by (λ (e : Held). e.entry.issued) (requests_of port book)
+abbrev pub issued_of : Port → List BookEntry → ℕ
+issued_of port book = count_by (λ (e : BookEntry). e.entry.issued) (requests_of port book)
 
 -- one, if it is an issued one of the port
-abbrev pub counts : Port → Held → ℕ
+abbrev pub counts : Port → BookEntry → ℕ
 counts port e = cond (is_of port e.entry) (cond e.entry.issued 1 0) 0
 
 -- the first, and the others
-pub issued_first : (port : Port) (e : Held) (book : List Held) → issued_of port (e ∷ book) ≡ counts port e + issued_of port book
+pub issued_first : (port : Port) (e : BookEntry) (book : List BookEntry) → issued_of port (e ∷ book) ≡ counts port e + issued_of port book
 issued_first port e book = by (is_of port e.entry)
   where
-    by : (own : Bool) → count_by (λ (x : Held). x.entry.issued) (cond own (e ∷ requests_of port book) (requests_of port book)) ≡ cond own (cond e.entry.issued 1 0) 0 + issued_of port book
-    by true = sum_by-cons (λ (x : Held). cond x.entry.issued 1 0) e (requests_of port book)
+    by : (own : Bool) → count_by (λ (x : BookEntry). x.entry.issued) (cond own (e ∷ requests_of port book) (requests_of port book)) ≡ cond own (cond e.entry.issued 1 0) 0 + issued_of port book
+    by true = sum_by-cons (λ (x : BookEntry). cond x.entry.issued 1 0) e (requests_of port book)
     by false = omega arith
 
 -- of fewer requests no more are issued
-pub fewer_issued : (port : Port) (passes : Held → Bool) (book : List Held) → issued_of port (filter passes book) ≤ issued_of port book
+pub fewer_issued : (port : Port) (passes : BookEntry → Bool) (book : List BookEntry) → issued_of port (filter passes book) ≤ issued_of port book
 fewer_issued port passes [] = le_refl 0
 fewer_issued port passes (x ∷ book) = by (passes x) (fewer_issued port passes book)
   where
@@ -46,15 +46,15 @@ fewer_issued port passes (x ∷ book) = by (passes x) (fewer_issued port passes 
     by false less = let right = first in omega (arith, less, right)
 
 -- and fewer by one that is left out
-pub one_fewer : (port : Port) (passes : Held → Bool) (book : List Held) (e : Held) → Contains book e → passes e ≡ false → counts port e + issued_of port (filter passes book) ≤ issued_of port book
+pub one_fewer : (port : Port) (passes : BookEntry → Bool) (book : List BookEntry) (e : BookEntry) → Contains book e → passes e ≡ false → counts port e + issued_of port (filter passes book) ≤ issued_of port book
 one_fewer port passes [] e here out = absurd (nowhere e here)
 one_fewer port passes (x ∷ book) e here out = ⊎_elim
     (λ (same : e ≡ x).
     let gone : filter passes (x ∷ book) ≡ filter passes book = cond-false (passes x) (x ∷ filter passes book) (filter passes book) (ap passes (sym same) ∙ out) in
     let less = fewer_issued port passes book in
     let right = issued_first port x book in
-    subst (λ (list : List Held). counts port e + issued_of port list ≤ issued_of port (x ∷ book)) (sym gone)
-    (subst (λ (y : Held). counts port y + issued_of port (filter passes book) ≤ issued_of port (x ∷ book)) (sym same) (omega (arith, less, right))))
+    subst (λ (list : List BookEntry). counts port e + issued_of port list ≤ issued_of port (x ∷ book)) (sym gone)
+    (subst (λ (y : BookEntry). counts port y + issued_of port (filter passes book) ≤ issued_of port (x ∷ book)) (sym same) (omega (arith, less, right))))
     (λ (there : Contains book e). by (passes x) (one_fewer port passes book e there out))
     (contains_cases x book e here)
   where
@@ -64,12 +64,12 @@ one_fewer port passes (x ∷ book) e here out = ⊎_elim
     by false less = let right = issued_first port x book in omega (arith, less, right)
 
 -- where one waits again, no more are issued
-pub requeued_issued : (port : Port) (id : RequestId) (book : List Held) → issued_of port (map (at_entry id requeued_entry) book) ≤ issued_of port book
+pub requeued_issued : (port : Port) (id : RequestId) (book : List BookEntry) → issued_of port (map (update_if_id id requeued_entry) book) ≤ issued_of port book
 requeued_issued port id [] = le_refl 0
 requeued_issued port id (x ∷ book) =
     let rest = requeued_issued port id book in
     let one = by (has_id id x) in
-    let left = issued_first port (at_entry id requeued_entry x) (map (at_entry id requeued_entry) book) in
+    let left = issued_first port (update_if_id id requeued_entry x) (map (update_if_id id requeued_entry) book) in
     let right = issued_first port x book in
     omega (arith, rest, one, left, right)
   where
@@ -82,7 +82,7 @@ requeued_issued port id (x ∷ book) =
     by false = le_refl (counts port x)
 
 -- and where requests are marked, as many are
-pub marked_issued : (port : Port) (client : ClientId) (grant : ℕ) (book : List Held) → issued_of port (all_marked_under client grant book) ≡ issued_of port book
+pub marked_issued : (port : Port) (client : ClientId) (grant : ℕ) (book : List BookEntry) → issued_of port (all_marked_under client grant book) ≡ issued_of port book
 marked_issued port client grant [] = refl
 marked_issued port client grant (x ∷ book) =
     let rest = marked_issued port client grant book in

@@ -9,7 +9,7 @@ use Rattle.host_boot.specs.declared.ProbeResult.{ProbeResult}
 use Rattle.server_history.specs.Below.{LawsBelow}
 use Rattle.slots.specs.Uses.{PortSlots, with_use}
 use Rattle.slots.specs.declared.SlotUse.{SlotUse}
-use Rattle.server_history.specs.Server.{HasSlots, IsUsedAs, mode_at, no_slots, usable_of, use_of, used_for, with_slot}
+use Rattle.server_history.specs.Server.{SlotsInvariant, IsUsedAs, mode_at, no_slots, usable_of, slot_state_of, used_for, with_slot}
 
 -- it is this slot, or another
 pub its_or_other : (port slot q k : ℕ) → ((q ≡ port) × (k ≡ slot)) ⊎ (q ≡ port → k ≡ slot → ⊥)
@@ -38,15 +38,15 @@ module _ (slots : List PortSlots) (port slot : ℕ) (used : Option SlotUse) (low
 
   -- where its uses are what they were but for this slot
   pub placed_uses : LawsBelow → (found : List ProbeResult) (uses : SlotStates) → ((q k : ℕ) → IsUsedAs (probe_result_of found q) (used_for slots q k) (uses q k))
-      → (q k : ℕ) → IsUsedAs (probe_result_of found q) (used_for (with_slot slots port slot used) q k) (put uses port slot (use_of used) q k)
+      → (q k : ℕ) → IsUsedAs (probe_result_of found q) (used_for (with_slot slots port slot used) q k) (put uses port slot (slot_state_of used) q k)
   placed_uses laws found uses was q k = ⊎_elim
       (λ (at : (q ≡ port) × (k ≡ slot)).
-      λ _. ap (λ (p : ℕ). put uses port slot (use_of used) p k) at.0 ∙ ap (λ (n : ℕ). put uses port slot (use_of used) port n) at.1 ∙ laws.slots.put_here uses port slot (use_of used)
-      ∙ ap use_of (sym placed_same ∙ ap (λ (n : ℕ). used_for (with_slot slots port slot used) port n) (sym at.1) ∙ ap (λ (p : ℕ). used_for (with_slot slots port slot used) p k) (sym at.0)))
+      λ _. ap (λ (p : ℕ). put uses port slot (slot_state_of used) p k) at.0 ∙ ap (λ (n : ℕ). put uses port slot (slot_state_of used) port n) at.1 ∙ laws.slots.put_here uses port slot (slot_state_of used)
+      ∙ ap slot_state_of (sym placed_same ∙ ap (λ (n : ℕ). used_for (with_slot slots port slot used) port n) (sym at.1) ∙ ap (λ (p : ℕ). used_for (with_slot slots port slot used) p k) (sym at.0)))
       (λ (there : q ≡ port → k ≡ slot → ⊥).
       let U : SlotState → Type 0 = λ u. IsUsedAs (probe_result_of found q) (used_for (with_slot slots port slot used) q k) u in
       let P : Option SlotUse → Type 0 = λ p. IsUsedAs (probe_result_of found q) p (uses q k) in
-      subst U (sym (laws.recovery.put_other uses port slot (use_of used) q k there)) (subst P (sym (placed_other q k there)) (was q k)))
+      subst U (sym (laws.recovery.put_other uses port slot (slot_state_of used) q k there)) (subst P (sym (placed_other q k there)) (was q k)))
       (its_or_other port slot q k)
 
   -- what is used afterwards, but for this slot, was used before
@@ -65,7 +65,7 @@ freed_was slots port slot low small q k u is = ⊎_elim
 
 -- the four ports have their slots still
 module _ (found : List ProbeResult) (modes : List QueueMode) (slots : List PortSlots) (port slot : ℕ) (used : Option SlotUse) (four : length slots ≡ 4) (low : port < 4) (slot_low : slot < usable_of (probe_result_of found port) (mode_at modes port))
-    (few : usable_of (probe_result_of found port) (mode_at modes port) ≤ 32) (has : (q : ℕ) → q < 4 → HasSlots found modes slots q) where
+    (few : usable_of (probe_result_of found port) (mode_at modes port) ≤ 32) (has : (q : ℕ) → q < 4 → SlotsInvariant found modes slots q) where
   in_list : port < length slots
   in_list = omega (arith, four, low)
 
@@ -75,7 +75,7 @@ module _ (found : List ProbeResult) (modes : List QueueMode) (slots : List PortS
   pub placed_four : length (with_slot slots port slot used) ≡ 4
   placed_four = length-set slots port (with_use (get_or slots port no_slots) slot used) ∙ four
 
-  pub placed_has : (q : ℕ) → q < 4 → HasSlots found modes (with_slot slots port slot used) q
+  pub placed_has : (q : ℕ) → q < 4 → SlotsInvariant found modes (with_slot slots port slot used) q
   placed_has q small = record {
     places = ⊎_elim
         (λ (e : q ≡ port).

@@ -11,18 +11,18 @@ use Rattle.adapter.specs.Commands.{Meaning, is_queued}
 use Rattle.adapter.specs.Access.{Access}
 use Rattle.adapter.specs.Device.{Device, Halt, DevicePort, FetchedCommand}
 use Rattle.adapter.specs.Device.Halt.{HaltedPlain, HaltedQueued, LogOnly, NotHalted}
-use Rattle.adapter.specs.Steps.{restarted}
-use Rattle.refinement.specs.Acts.{InSlots, at_slots}
+use Rattle.adapter.specs.Steps.{halt_after_start}
+use Rattle.refinement.specs.Acts.{DriverSlots, driver_state}
 use Rattle.refinement.specs.Driven.{AnyUse, IsSimulated}
-use Rattle.refinement.specs.Halting.{HaltsAsTaken, IsHaltedAsTaken}
-use Rattle.refinement.specs.Links.{SparesRegister}
+use Rattle.refinement.specs.Halting.{HaltIsOfTaken, HaltOfTakenIfSt}
+use Rattle.refinement.specs.Links.{DoesNotWrite}
 use Rattle.refinement.specs.Recovering.{WorksPlainly}
 use Rattle.refinement.specs.Slots.{IsEmptySlot, RelatesSlot, Stage, SlotState}
 use Rattle.block_machine.specs.State.{Pending}
 use Rattle.error_recovery.specs.Recovery.{RunsAgain}
 use Rattle.host_boot.specs.Taken.{probe_result_of}
 use Rattle.server_history.specs.Below.{LawsBelow}
-use Rattle.server_history.specs.ErrorHandling.{AreQueued}
+use Rattle.server_history.specs.ErrorHandling.{AreAllQueuedAs}
 use Rattle.server_history.specs.Server.{ServerState, InCallInvariant, slots_at, state_of, used_for}
 use Rattle.server_history.proofs.state.PortSlots.{IsServedBy, free_unused, served_request, serves_used, used_or_not}
 use Rattle.slots.specs.declared.SlotUse.{SlotUse}
@@ -45,7 +45,7 @@ plain_stage memory p port slot e c places (inr (inl taken)) plain = (
 plain_stage memory p port slot e c places (inr (inr (inl ended))) plain = (ended.sact, λ t is. let z : None ≡ Some t = sym ended.free ∙ is in absurd cc)
 plain_stage memory p port slot e c places (inr (inr (inr dropped))) plain = (dropped.sact, λ t is. let z : None ≡ Some t = sym dropped.free ∙ is in absurd cc)
 
-module _ (laws : LawsBelow) (s : ServerState) (k : InCallInvariant s) (port : Port) (ready : state_of (probe_result_of s.ports port.0) ≡ ReadyState) (alike : AreQueued false (slots_at s.slots port.0)) where
+module _ (laws : LawsBelow) (s : ServerState) (k : InCallInvariant s) (port : Port) (ready : state_of (probe_result_of s.ports port.0) ≡ ReadyState) (alike : AreAllQueuedAs false (slots_at s.slots port.0)) where
   -- each slot is free, or has a plain command
   each : (slot : ℕ) → ((s.device.port port.0).sact slot ≡ false) × ((t : FetchedCommand) → (s.device.port port.0).taken slot ≡ Some t → is_queued t.meaning.operation ≡ false)
   each slot = ⊎_elim
@@ -61,27 +61,27 @@ module _ (laws : LawsBelow) (s : ServerState) (k : InCallInvariant s) (port : Po
       (f.unarmed, λ t is. let z : None ≡ Some t = sym f.free ∙ is in absurd cc))
       (used_or_not (used_for s.slots port.0 slot))
 
-  pub works_plainly : HaltsAsTaken (s.device.port port.0) → WorksPlainly (s.device.port port.0)
+  pub works_plainly : HaltIsOfTaken (s.device.port port.0) → WorksPlainly (s.device.port port.0)
   works_plainly h = record { restarts = by (s.device.port port.0).halt refl; unarmed = λ slot. (each slot).0; plain = λ slot t is. (each slot).1 t is }
     where
-      by : (halt : Halt) → (s.device.port port.0).halt ≡ halt → restarted (s.device.port port.0).halt ≡ NotHalted
-      by NotHalted is = ap restarted is
-      by HaltedPlain is = ap restarted is
+      by : (halt : Halt) → (s.device.port port.0).halt ≡ halt → halt_after_start (s.device.port port.0).halt ≡ NotHalted
+      by NotHalted is = ap halt_after_start is
+      by HaltedPlain is = ap halt_after_start is
       by HaltedQueued is = let q = h.queued is in absurd (false≢true (sym ((each q.0).1 q.1 q.2) ∙ q.3))
       by LogOnly is = absurd (h.unlogged is)
 
 -- ---- where a halt is of a taken command
 
 -- so it stays over what was followed, without a write of PxCMD
-pub followed_halts : LawsBelow → (port : Port) (May : Access → Type 0) (s : ServerState) (k : InCallInvariant s) (new : Device) → (f : IsSimulated May AnyUse s.device new) → ((access : Access) → May access → SparesRegister (Px port Cmd) access)
-    → IsHaltedAsTaken (s.device.port port.0) → IsHaltedAsTaken (new.port port.0)
+pub followed_halts : LawsBelow → (port : Port) (May : Access → Type 0) (s : ServerState) (k : InCallInvariant s) (new : Device) → (f : IsSimulated May AnyUse s.device new) → ((access : Access) → May access → DoesNotWrite (Px port Cmd) access)
+    → HaltOfTakenIfSt (s.device.port port.0) → HaltOfTakenIfSt (new.port port.0)
 followed_halts laws port May s k new f spares h =
-    let slots : InSlots = record { uses = k.stands.uses; parked = k.stands.parked } in
+    let slots : DriverSlots = record { uses = k.stands.uses; parked = k.stands.parked } in
     let c = f.comes slots k.machine k.reached k.stands.knows tt in
-    laws.port_error.halts_acts port c.acts (at_slots slots s.device) (at_slots slots new) k.machine k.reached k.stands.knows c.done
-    (subst (All (SparesRegister (Px port Cmd))) (sym c.accesses_are) (All-weaker May (SparesRegister (Px port Cmd)) spares f.driven.accesses f.driven.only)) h
+    laws.port_error.halts_acts port c.acts (driver_state slots s.device) (driver_state slots new) k.machine k.reached k.stands.knows c.done
+    (subst (All (DoesNotWrite (Px port Cmd))) (sym c.accesses_are) (All-weaker May (DoesNotWrite (Px port Cmd)) spares f.driven.accesses f.driven.only)) h
 
 -- and so it is once a port was recovered
-pub again_halts : LawsBelow → (queued : Bool) (port : ℕ) (old new : Device) → RunsAgain queued port old new → (queued ≡ false → WorksPlainly (old.port port)) → HaltsAsTaken (new.port port)
+pub again_halts : LawsBelow → (queued : Bool) (port : ℕ) (old new : Device) → RunsAgain queued port old new → (queued ≡ false → WorksPlainly (old.port port)) → HaltIsOfTaken (new.port port)
 again_halts laws true port old new again plainly = laws.port_error.halts_calm (new.port port) (again.ended refl)
 again_halts laws false port old new again plainly = laws.port_error.halts_plain (new.port port) (again.plain refl (plainly refl))

@@ -3,7 +3,7 @@ use Rattle.std.proofs.Common.{ℕ, ◌≡◌, ◌≢◌, ap}
 use Rattle.ata_types.specs.declared.PortState.TheVariants.{Dead}
 use Rattle.adapter.specs.Device.{Device}
 use Rattle.adapter.specs.declared.command.Operation.TheVariants.{Identify}
-use Rattle.refinement.specs.Driven.{LeavesPort, SendsNone}
+use Rattle.refinement.specs.Driven.{LeavesPort, GainsNoMove}
 use Rattle.refinement.specs.Links.{SameAdapter}
 use Rattle.host_boot.specs.Taken.{LeavesFound, StillStandsBehind}
 use Rattle.host_boot.specs.declared.ProbeResult.{ProbeResult}
@@ -14,7 +14,7 @@ use Rattle.server_history.specs.Below.{LawsBelow}
 
 -- the port is left to the device
 pub left_on : LawsBelow → (wanted : Wanted) (found : ProbeResult) (port : ℕ) (old new : Device) → SameAdapter old new → LeavesPort (old.port port) (new.port port)
-    → (found ≢ Unready Dead → SendsNone port Identify old new) → StillStandsBehind wanted found port old → StillStandsBehind wanted found port new
+    → (found ≢ Unready Dead → GainsNoMove port Identify old new) → StillStandsBehind wanted found port old → StillStandsBehind wanted found port new
 left_on laws wanted found port old new same l silent s = laws.recovery.stands_on wanted found port old new same (enough found) silent s
   where
     enough : (f : ProbeResult) → LeavesFound f (old.port port) (new.port port)
@@ -25,6 +25,6 @@ left_on laws wanted found port old new same l silent s = laws.recovery.stands_on
 -- it is ready, and neither PxSCTL nor PxIE is written
 pub ready_on : LawsBelow → (wanted : Wanted) (info : DiskInfo) (port : ℕ) (old new : Device) → SameAdapter old new → (new.port port).sctl_det ≡ (old.port port).sctl_det
     → (new.port port).ie ≡ (old.port port).ie
-    → (new.port port).notes.sctl_written_at ≡ (old.port port).notes.sctl_written_at → SendsNone port Identify old new
+    → (new.port port).notes.sctl_written_at ≡ (old.port port).notes.sctl_written_at → GainsNoMove port Identify old new
     → StillStandsBehind wanted (Ready info) port old → StillStandsBehind wanted (Ready info) port new
 ready_on laws wanted info port old new same det_is ie_is written silent s = laws.recovery.stands_on wanted (Ready info) port old new same (det_is, ie_is, written) (λ other. silent) s

@@ -17,9 +17,9 @@ use Rattle.hba_regs.specs.Bits.{bit}
 use Rattle.adapter.specs.Device.{Device, DevicePort}
 use Rattle.adapter.specs.declared.command.Operation.{Operation}
 use Rattle.block_machine.specs.Due.{IsDue, is_plain}
-use Rattle.block_machine.specs.Ports.{IsMode}
+use Rattle.block_machine.specs.Ports.{IsValidMode}
 use Rattle.block_machine.specs.State.{Machine, Pending, unanswered}
-use Rattle.block_machine.specs.Steps.{Issue, May, MayStillMove, NoneKept, HasGrant}
+use Rattle.block_machine.specs.Steps.{Issue, May, MayStillMove, NoneQuarantined, HasGrant}
 use Rattle.block_machine.specs.declared.due.QueueMode.{QueueMode}
 use Rattle.block_machine.specs.declared.due.Unanswered.{Unanswered}
 use Rattle.refinement.specs.Driven.{RelatesWith}
@@ -29,13 +29,13 @@ use Rattle.host_boot.specs.Taken.{StillStandsBehind, probe_result_of, wanted_of}
 use Rattle.host_boot.specs.declared.ProbeResult.{ProbeResult}
 use Rattle.host_boot.specs.declared.ProbeResult.TheVariants.{Unserved, Ready, Unready}
 use Rattle.identify.specs.declared.DiskInfo.{DiskInfo}
-use Rattle.request_queue.specs.Entries.{Held, asks, asks_of}
-use Rattle.request_queue.specs.Machine.{IsEntry}
+use Rattle.request_queue.specs.Entries.{BookEntry, asks, asks_of}
+use Rattle.request_queue.specs.Machine.{EntryRelation}
 use Rattle.std.proofs.lemmas.List.{get_or_past}
 use Rattle.slots.specs.Uses.{PortSlots, IsLowestFree, IsTaken, use_at}
 use Rattle.slots.specs.declared.SlotUse.{SlotUse}
 use Rattle.server_history.specs.Served.{is_used}
-use Rattle.server_history.specs.Server.{ServerState, InCallInvariant, IsMachineOf, IsUsedAs, is_served, mode_at, mode_found, mode_in, no_slots, slots_at, state_of, usable_of, use_of, used_for, HasTrueMark}
+use Rattle.server_history.specs.Server.{ServerState, InCallInvariant, MachineRelation, IsUsedAs, is_served, mode_at, probed_mode, mode_in, no_slots, slots_at, state_of, usable_of, slot_state_of, used_for, RevokedMarkInvariant}
 use Rattle.server_history.specs.Below.{LawsBelow}
 use Rattle.server_history.proofs.state.DueRequests.{asked_alike, same_book}
 use Rattle.server_history.proofs.state.PairedLists.{at_left, at_right}
@@ -64,8 +64,8 @@ pub not_dead : (s : ServerState) (port : ℕ) → state_of (probe_result_of s.po
 not_dead s port ready is = let z : Dead ≡ ReadyState = sym (ap state_of is) ∙ ready in cc
 
 -- a request of the book is of a ready port
-pub of_ready : (s : ServerState) → InCallInvariant s → (e : Held) → Contains s.book e → state_of (probe_result_of s.ports e.entry.port.0) ≡ ReadyState
-of_ready s k e here = All-contains (λ (x : Held). state_of (probe_result_of s.ports x.entry.port.0) ≡ ReadyState) s.book e k.ready here
+pub of_ready : (s : ServerState) → InCallInvariant s → (e : BookEntry) → Contains s.book e → state_of (probe_result_of s.ports e.entry.port.0) ≡ ReadyState
+of_ready s k e here = All-contains (λ (x : BookEntry). state_of (probe_result_of s.ports x.entry.port.0) ≡ ReadyState) s.book e k.ready here
 
 -- ---- how a port takes commands
 
@@ -87,9 +87,9 @@ some_min a b x y = ⊎_elim
 
 -- with such a disk, a port has 1 to 32 usable slots, no more than the adapter has, and one where commands aren't queued
 abbrev FitsIn : ℕ → QueueMode → Type 0
-FitsIn cap mode = IsMode mode × (mode.usable ≤ cap / 256 % 32 + 1)
+FitsIn cap mode = IsValidMode mode × (mode.usable ≤ cap / 256 % 32 + 1)
 
-mode_fit : (cap : ℕ) (found : ProbeResult) → TakesSome found → FitsIn cap (mode_found cap found)
+mode_fit : (cap : ℕ) (found : ProbeResult) → TakesSome found → FitsIn cap (probed_mode cap found)
 mode_fit cap Unserved some = ((omega arith, omega arith, λ plain. refl), omega arith)
 mode_fit cap (Ready info) some = by (bit cap 30 && info.ncq)
   where
@@ -107,12 +107,12 @@ mode_fit cap (Ready info) some = by (bit cap 30 && info.ncq)
     by false = ((omega arith, omega arith, λ plain. refl), omega arith)
 mode_fit cap (Unready state) some = ((omega arith, omega arith, λ plain. refl), omega arith)
 
-pub stood_mode : (wanted : Wanted) (found : ProbeResult) (port : ℕ) (d : Device) → StillStandsBehind wanted found port d → IsMode (mode_found d.cap found) × ((mode_found d.cap found).usable ≤ d.cap / 256 % 32 + 1)
+pub stood_mode : (wanted : Wanted) (found : ProbeResult) (port : ℕ) (d : Device) → StillStandsBehind wanted found port d → IsValidMode (probed_mode d.cap found) × ((probed_mode d.cap found).usable ≤ d.cap / 256 % 32 + 1)
 stood_mode wanted found port d behind = mode_fit d.cap found (takes_some wanted found port d behind)
 
-pub its_mode : (s : ServerState) (port : ℕ) → InCallInvariant s → port < 4 → IsMode (mode_at s.modes port) × ((mode_at s.modes port).usable ≤ s.device.cap / 256 % 32 + 1)
+pub its_mode : (s : ServerState) (port : ℕ) → InCallInvariant s → port < 4 → IsValidMode (mode_at s.modes port) × ((mode_at s.modes port).usable ≤ s.device.cap / 256 % 32 + 1)
 its_mode s port k low =
-    subst (λ (m : QueueMode). IsMode m × (m.usable ≤ s.device.cap / 256 % 32 + 1)) (sym (k.modes port low)) (stood_mode (wanted_of s.wanted port) (probe_result_of s.ports port) port s.device (k.behind port low).behind)
+    subst (λ (m : QueueMode). IsValidMode m × (m.usable ≤ s.device.cap / 256 % 32 + 1)) (sym (k.modes port low)) (stood_mode (wanted_of s.wanted port) (probe_result_of s.ports port) port s.device (k.behind port low).behind)
 
 -- a ready port may use the slots of its mode
 pub usable_ready : (s : ServerState) (port : ℕ) (k : InCallInvariant s) → state_of (probe_result_of s.ports port) ≡ ReadyState → usable_of (probe_result_of s.ports port) (mode_at s.modes port) ≡ (mode_at s.modes port).usable
@@ -141,7 +141,7 @@ not_own found None u o other is own = let z : Free ≡ Own o = sym (is other) �
 not_own found (Some used) u o other is own = let z : Serves used.id ≡ Own o = sym (is other) ∙ own in cc
 
 -- no request is kept of a port that isn't dead
-pub none_kept : (s : ServerState) (m : Machine) (port : Port) → IsMachineOf s m → probe_result_of s.ports port.0 ≢ Unready Dead → NoneKept m port
+pub none_kept : (s : ServerState) (m : Machine) (port : Port) → MachineRelation s m → probe_result_of s.ports port.0 ≢ Unready Dead → NoneQuarantined m port
 none_kept s m port is other e here own = other (ap (λ (q : Port). probe_result_of s.ports q.0) (sym own) ∙ is.kept.dead e here)
 
 -- used, or not
@@ -194,16 +194,16 @@ pub busy_used : (used : Option SlotUse) → is_used used ≡ true → (u : SlotU
 busy_used None busy = absurd (false≢true busy)
 busy_used (Some u) busy = (u, refl)
 
-module _ (s : ServerState) (m : Machine) (port : ℕ) (is : IsMachineOf s m) (ready : state_of (probe_result_of s.ports port) ≡ ReadyState) where
+module _ (s : ServerState) (m : Machine) (port : ℕ) (is : MachineRelation s m) (ready : state_of (probe_result_of s.ports port) ≡ ReadyState) where
   -- a slot of a ready port is used as the server has it
-  pub ready_use : (slot : ℕ) → is.uses port slot ≡ use_of (used_for s.slots port slot)
+  pub ready_use : (slot : ℕ) → is.uses port slot ≡ slot_state_of (used_for s.slots port slot)
   ready_use slot = is.used port slot (not_dead s port ready)
 
   pub serves_used : (slot : ℕ) (u : SlotUse) → used_for s.slots port slot ≡ Some u → is.uses port slot ≡ Serves u.id
-  serves_used slot u used = ready_use slot ∙ ap use_of used
+  serves_used slot u used = ready_use slot ∙ ap slot_state_of used
 
   pub free_unused : (slot : ℕ) → used_for s.slots port slot ≡ None → is.uses port slot ≡ Free
-  free_unused slot unused = ready_use slot ∙ ap use_of unused
+  free_unused slot unused = ready_use slot ∙ ap slot_state_of unused
 
   -- what serves a request is used for it
   pub used_serves : (slot : ℕ) (id : RequestId) → is.uses port slot ≡ Serves id → (u : SlotUse) × (used_for s.slots port slot ≡ Some u) × (u.id ≡ id)
@@ -213,13 +213,13 @@ module _ (s : ServerState) (m : Machine) (port : ℕ) (is : IsMachineOf s m) (re
       (used_or_not (used_for s.slots port slot))
 
 -- a request of a ready port that the device may move is unanswered
-pub still_booked : (s : ServerState) (m : Machine) (port : ℕ) → IsMachineOf s m → state_of (probe_result_of s.ports port) ≡ ReadyState → (e : Pending) → MayStillMove m e → e.request.port.0 ≡ port
+pub still_booked : (s : ServerState) (m : Machine) (port : ℕ) → MachineRelation s m → state_of (probe_result_of s.ports port) ≡ ReadyState → (e : Pending) → MayStillMove m e → e.request.port.0 ≡ port
     → Contains m.book e × (e.issued ≡ true)
 still_booked s m port is ready e (inl booked) own = booked
 still_booked s m port is ready e (inr kept) own = absurd (not_dead s port ready (ap (λ (q : ℕ). probe_result_of s.ports q) (sym own) ∙ is.kept.dead e kept))
 
 -- what the machine has of the request that a slot serves
-pub served_by : (s : ServerState) (m : Machine) (port slot : ℕ) → (is : IsMachineOf s m) → (id : RequestId) → is.uses port slot ≡ Serves id
+pub served_by : (s : ServerState) (m : Machine) (port slot : ℕ) → (is : MachineRelation s m) → (id : RequestId) → is.uses port slot ≡ Serves id
     → ServesRequest m s.device.memory (s.device.port port) port slot id
 served_by s m port slot is id serves =
     subst (λ (u : SlotState). RelatesSlot m s.device.memory s.device.tape (s.device.port port) port slot u) serves (is.knows.agrees.slot port slot)
@@ -229,17 +229,17 @@ pub record IsServedBy (s : ServerState) (m : Machine) (port slot : ℕ) (id : Re
   pub serves : ServesRequest m s.device.memory (s.device.port port) port slot id
   pub here : Contains m.book serves.pending
   pub issued : serves.pending.issued ≡ true
-  pub request : Held
+  pub request : BookEntry
   pub there : Contains s.book request
-  pub entry : IsEntry request serves.pending
+  pub entry : EntryRelation request serves.pending
   pub id_is : request.entry.id ≡ id
   pub port_is : request.entry.port.0 ≡ port
 
-pub served_request : (s : ServerState) (m : Machine) (port slot : ℕ) → (is : IsMachineOf s m) → state_of (probe_result_of s.ports port) ≡ ReadyState → (id : RequestId) → is.uses port slot ≡ Serves id → IsServedBy s m port slot id
+pub served_request : (s : ServerState) (m : Machine) (port slot : ℕ) → (is : MachineRelation s m) → state_of (probe_result_of s.ports port) ≡ ReadyState → (id : RequestId) → is.uses port slot ≡ Serves id → IsServedBy s m port slot id
 served_request s m port slot is ready id serves =
     let x : ServesRequest m s.device.memory (s.device.port port) port slot id = served_by s m port slot is id serves in
     let booked = still_booked s m port is ready x.pending x.moves x.port_is in
-    let e = at_right IsEntry s.book m.book is.book x.pending booked.0 in
+    let e = at_right EntryRelation s.book m.book is.book x.pending booked.0 in
     record {
       serves = x;
       here = booked.0;
@@ -270,7 +270,7 @@ pub record HasSlot (s : ServerState) (port : Port) (id : RequestId) : Type 0 whe
   pub used_is : used_for s.slots port.0 slot ≡ Some used
   pub id_is : used.id ≡ id
 
-pub issued_has : (s : ServerState) (m : Machine) (port : Port) → (is : IsMachineOf s m) → InCallInvariant s → state_of (probe_result_of s.ports port.0) ≡ ReadyState → (e : Pending) → Contains m.book e
+pub issued_has : (s : ServerState) (m : Machine) (port : Port) → (is : MachineRelation s m) → InCallInvariant s → state_of (probe_result_of s.ports port.0) ≡ ReadyState → (e : Pending) → Contains m.book e
     → e.request.port ≡ port → e.issued ≡ true → HasSlot s port e.request.id
 issued_has s m port is k ready e here own issued = ⊎_elim
     (λ (parked : Contains (is.parked port.0) e.request.id).
@@ -282,13 +282,13 @@ issued_has s m port is k ready e here own issued = ⊎_elim
 
 -- ---- a request that is due has its grant, and finds a free slot
 
-pub due_has : (s : ServerState) (k : InCallInvariant s) (m : Machine) → IsMachineOf s m → (e : Held) → Contains s.book e → (mode : QueueMode) → IsDue mode (asks_of s.book) (asks e.entry)
-    → (p : Pending) → IsEntry e p → HasGrant m p
+pub due_has : (s : ServerState) (k : InCallInvariant s) (m : Machine) → MachineRelation s m → (e : BookEntry) → Contains s.book e → (mode : QueueMode) → IsDue mode (asks_of s.book) (asks e.entry)
+    → (p : Pending) → EntryRelation e p → HasGrant m p
 due_has s k m is e here mode due p entry =
-    let mark = All-contains (HasTrueMark s.grants) s.book e k.marked here in
+    let mark = All-contains (RevokedMarkInvariant s.grants) s.book e k.marked here in
     unmarked_has m e p entry (tells_of m.rows s.grants e.entry is.rows mark.tells) (mark.waiting (not_true e.entry.issued (and_parts _ _ due.clear).0))
 
-module _ (laws : LawsBelow) (s : ServerState) (e : Held) (k : InCallInvariant s) (here : Contains s.book e) (due : IsDue (mode_in s e.entry.port) (asks_of s.book) (asks e.entry)) where
+module _ (laws : LawsBelow) (s : ServerState) (e : BookEntry) (k : InCallInvariant s) (here : Contains s.book e) (due : IsDue (mode_in s e.entry.port) (asks_of s.book) (asks e.entry)) where
   abbrev port : Port
   port = e.entry.port
 
@@ -298,8 +298,8 @@ module _ (laws : LawsBelow) (s : ServerState) (e : Held) (k : InCallInvariant s)
   ready : state_of (probe_result_of s.ports port.0) ≡ ReadyState
   ready = of_ready s k e here
 
-  x : (p : Pending) × Contains k.machine.book p × IsEntry e p
-  x = at_left IsEntry s.book k.machine.book k.stands.book e here
+  x : (p : Pending) × Contains k.machine.book p × EntryRelation e p
+  x = at_left EntryRelation s.book k.machine.book k.stands.book e here
 
   abbrev p : Pending
   p = x.0
@@ -314,18 +314,18 @@ module _ (laws : LawsBelow) (s : ServerState) (e : Held) (k : InCallInvariant s)
     due_has s k k.machine k.stands e here mode due p x.2,
   )
 
-  use_known : (slot : ℕ) → k.stands.uses p.request.port.0 slot ≡ use_of (used_for s.slots port.0 slot)
+  use_known : (slot : ℕ) → k.stands.uses p.request.port.0 slot ≡ slot_state_of (used_for s.slots port.0 slot)
   use_known slot = ap (λ (q : Port). k.stands.uses q.0 slot) x.2.port ∙ ready_use s k.machine port.0 k.stands ready slot
 
-  not_armed : (used : Option SlotUse) → use_of used ≡ Armed → ⊥
+  not_armed : (used : Option SlotUse) → slot_state_of used ≡ Armed → ⊥
   not_armed None is = let z : Free ≡ Armed = is in cc
   not_armed (Some used) is = let z : Serves used.id ≡ Armed = is in cc
 
-  never_own : (used : Option SlotUse) (o : Operation) → use_of used ≡ Own o → ⊥
+  never_own : (used : Option SlotUse) (o : Operation) → slot_state_of used ≡ Own o → ⊥
   never_own None o is = let z : Free ≡ Own o = is in cc
   never_own (Some used) o is = let z : Serves used.id ≡ Own o = is in cc
 
-  free_none : (used : Option SlotUse) → use_of used ≡ Free → used ≡ None
+  free_none : (used : Option SlotUse) → slot_state_of used ≡ Free → used ≡ None
   free_none None is = refl
   free_none (Some used) is = let z : Serves used.id ≡ Free = is in absurd cc
 
@@ -375,7 +375,7 @@ module _ (laws : LawsBelow) (s : ServerState) (e : Held) (k : InCallInvariant s)
     (k.stands.uses, free_unused s k.machine port.0 k.stands ready slot lowest.1, record { machine = k.machine; parked = k.stands.parked; reached = k.reached; knows = k.stands.knows }),
   )
     where
-      fit : IsMode mode × (mode.usable ≤ s.device.cap / 256 % 32 + 1)
+      fit : IsValidMode mode × (mode.usable ≤ s.device.cap / 256 % 32 + 1)
       fit = its_mode s port.0 k low
 
       small : slot < mode.usable

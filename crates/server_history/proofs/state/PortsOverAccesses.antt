@@ -8,8 +8,8 @@ use Rattle.adapter.specs.Device.{Device}
 use Rattle.adapter.specs.Rules.{IsOn}
 use Rattle.adapter.specs.declared.command.Operation.TheVariants.{Identify}
 use Rattle.refinement.specs.Relation.{port_at}
-use Rattle.refinement.specs.Driven.{IsDrivenBy, IsOf, LeavesPort, SendsNone}
-use Rattle.refinement.specs.Halting.{IsHaltedAsTaken}
+use Rattle.refinement.specs.Driven.{IsDrivenBy, SparesOtherPorts, LeavesPort, GainsNoMove}
+use Rattle.refinement.specs.Halting.{HaltOfTakenIfSt}
 use Rattle.refinement.specs.Links.{SameAdapter}
 use Rattle.server_history.proofs.state.DrivenAccesses.{by_one}
 use Rattle.host_boot.specs.Taken.{StillStandsBehind, probe_result_of, wanted_of}
@@ -18,7 +18,7 @@ use Rattle.host_boot.specs.declared.ProbeResult.TheVariants.{Unserved, Ready, Un
 use Rattle.identify.specs.declared.wanted.Wanted.{Wanted}
 use Rattle.port_control.specs.Services.{IsService}
 use Rattle.server_history.specs.Below.{LawsBelow}
-use Rattle.server_history.specs.Server.{IsPortOf, state_of}
+use Rattle.server_history.specs.Server.{PortInvariant, state_of}
 use Rattle.server_history.proofs.state.PortGrounds.{left_on, ready_on}
 use Rattle.server_history.proofs.state.RunningPorts.{runs_on, shown_on}
 
@@ -30,7 +30,7 @@ IsOfBytes (Loading at bytes) = Unit {0}
 IsOfBytes (Storing at bytes) = Unit {0}
 IsOfBytes access = ⊥
 
-bytes_of : (port : Port) (access : Access) → IsOfBytes access → IsOf port access
+bytes_of : (port : Port) (access : Access) → IsOfBytes access → SparesOtherPorts port access
 bytes_of port (Loading at bytes) is = tt
 bytes_of port (Storing at bytes) is = tt
 bytes_of port (Reading r v) is = absurd is
@@ -46,14 +46,14 @@ bytes_serve (Writing r v) is = absurd is
 pub bytes_leave : LawsBelow → (access : Access) (old new : Device) → IsOfBytes access → IsOn old → Does access old new → (port : ℕ) → LeavesPort (old.port port) (new.port port)
 bytes_leave laws access old new is on does port =
     laws.looks.other_left (port_at (suc port)) port old new (λ same. absurd (omega (arith, same))) on
-    (by_one (IsOf (port_at (suc port))) access old new (bytes_of (port_at (suc port)) access is) does)
+    (by_one (SparesOtherPorts (port_at (suc port))) access old new (bytes_of (port_at (suc port)) access is) does)
 
 -- ---- what stands behind a port
 
 -- over accesses that serve ports, where the port is left to the device, unless it is ready, and a halt is of a taken command still
 pub port_on : LawsBelow → (wanted : List Wanted) (found : List ProbeResult) (port : ℕ) (old new : Device) → SameAdapter old new → IsOn old → IsDrivenBy IsService old new
     → (state_of (probe_result_of found port) ≢ ReadyState → LeavesPort (old.port port) (new.port port))
-    → (probe_result_of found port ≢ Unready Dead → SendsNone port Identify old new) → (IsHaltedAsTaken (old.port port) → IsHaltedAsTaken (new.port port)) → IsPortOf wanted found port old → IsPortOf wanted found port new
+    → (probe_result_of found port ≢ Unready Dead → GainsNoMove port Identify old new) → (HaltOfTakenIfSt (old.port port) → HaltOfTakenIfSt (new.port port)) → PortInvariant wanted found port old → PortInvariant wanted found port new
 port_on laws wanted found port old new same on by left silent halts is =
     record {
       behind = behind (probe_result_of found port) left silent is.behind;
@@ -63,7 +63,7 @@ port_on laws wanted found port old new same on by left silent halts is =
       halts = λ ready. halts (λ _. is.halts ready) (runs_on laws (port_at port) old new on by (is.runs ready)).st;
     }
   where
-    behind : (f : ProbeResult) → (state_of f ≢ ReadyState → LeavesPort (old.port port) (new.port port)) → (f ≢ Unready Dead → SendsNone port Identify old new)
+    behind : (f : ProbeResult) → (state_of f ≢ ReadyState → LeavesPort (old.port port) (new.port port)) → (f ≢ Unready Dead → GainsNoMove port Identify old new)
         → StillStandsBehind (wanted_of wanted port) f port old → StillStandsBehind (wanted_of wanted port) f port new
     behind Unserved left silent stays = left_on laws (wanted_of wanted port) Unserved port old new same (left (λ e. let z : Absent ≡ ReadyState = e in cc)) silent stays
     behind (Ready info) left silent stays =

@@ -8,29 +8,29 @@ use Rattle.ata_types.specs.declared.request.RequestId.{RequestId}
 use Rattle.block_machine.specs.Confined.{WasAccepted, WithinLimits}
 use Rattle.block_machine.specs.Histories.{IsReachable}
 use Rattle.block_machine.specs.State.{Machine, Pending}
-use Rattle.block_machine.specs.Steps.{IsLiving}
+use Rattle.block_machine.specs.Steps.{HoldsFrames}
 use Rattle.dma_frames.specs.Loan.{Lending}
 use Rattle.dma_frames.specs.Table.{lent_to}
 use Rattle.host_boot.specs.Taken.{probe_result_of}
 use Rattle.host_boot.specs.declared.ProbeResult.TheVariants.{Unready}
-use Rattle.request_queue.specs.Entries.{Held}
-use Rattle.request_queue.specs.Machine.{IsEntry}
-use Rattle.server_history.specs.Basics.{LivingLaws}
-use Rattle.server_history.specs.Server.{ServerState, InCallInvariant, IsLentOut, IsMachineOf, kept_at}
+use Rattle.request_queue.specs.Entries.{BookEntry}
+use Rattle.request_queue.specs.Machine.{EntryRelation}
+use Rattle.server_history.specs.Basics.{FrameHolderLaws}
+use Rattle.server_history.specs.Server.{ServerState, InCallInvariant, IsLentOut, MachineRelation, quarantined_at}
 use Rattle.server_history.proofs.state.PairedLists.{at_left}
 
-module _ (laws : LivingLaws) (s : ServerState) (m : Machine) (reached : IsReachable m) (stands : IsMachineOf s m) where
-  accepted : (e : Pending) → IsLiving m e → WasAccepted reached.first reached.past e.request
-  accepted e lives = laws.lived reached.first reached.past e reached.starts reached.legal (subst (λ (x : Machine). IsLiving x e) reached.is lives)
+module _ (laws : FrameHolderLaws) (s : ServerState) (m : Machine) (reached : IsReachable m) (stands : MachineRelation s m) where
+  accepted : (e : Pending) → HoldsFrames m e → WasAccepted reached.first reached.past e.request
+  accepted e lives = laws.lived reached.first reached.past e reached.starts reached.legal (subst (λ (x : Machine). HoldsFrames x e) reached.is lives)
 
   -- one id is one request
-  same_request : (a b : Pending) → IsLiving m a → IsLiving m b → a.request.id ≡ b.request.id → a.request ≡ b.request
+  same_request : (a b : Pending) → HoldsFrames m a → HoldsFrames m b → a.request.id ≡ b.request.id → a.request ≡ b.request
   same_request a b left right same = laws.one reached.first reached.past a.request b.request (accepted a left) (accepted b right) same
 
   within : WithinLimits m
   within = subst WithinLimits (sym reached.is) (laws.limits reached.first reached.past reached.starts reached.legal)
 
-  module _ (port : ℕ) (loan : Lending) (here : Contains (kept_at s.kept port) loan) where
+  module _ (port : ℕ) (loan : Lending) (here : Contains (quarantined_at s.kept port) loan) where
     its : (e : Pending) × Contains m.kept e × (e.request.port.0 ≡ port) × (loan.request ≡ e.request.id) × (loan.frames ≡ e.request.asked.frames.items)
     its = let e = stands.kept.whose port loan here in (e.0, e.1, e.2, e.3.0, e.3.1)
 
@@ -46,24 +46,24 @@ module _ (laws : LivingLaws) (s : ServerState) (m : Machine) (reached : IsReacha
             ∙ within.lent its.0 (inr its.1) i small ∙ ap Some (sym its.3)
 
     -- its request isn't unanswered
-    pub answered : (e : Held) → Contains s.book e → e.entry.id ≢ loan.request
+    pub answered : (e : BookEntry) → Contains s.book e → e.entry.id ≢ loan.request
     answered e there same =
-        let y = at_left IsEntry s.book m.book stands.book e there in
+        let y = at_left EntryRelation s.book m.book stands.book e there in
         laws.answered m y.0 its.0 reached y.1 its.1 (ap (λ (id : RequestId). id.0) (y.2.id ∙ same ∙ its.3))
 
     -- a loan of that request is this one
-    pub one_loan : (other : ℕ) (b : Lending) → Contains (kept_at s.kept other) b → loan.request ≡ b.request → (port ≡ other) × (loan ≡ b)
+    pub one_loan : (other : ℕ) (b : Lending) → Contains (quarantined_at s.kept other) b → loan.request ≡ b.request → (port ≡ other) × (loan ≡ b)
     one_loan other b there same =
         let y = stands.kept.whose other b there in
         let one : its.0.request ≡ y.0.request = same_request its.0 y.0 (inr its.1) (inr y.1) (sym its.3 ∙ same ∙ y.3.0) in
         let frames : loan.frames ≡ b.frames = its.4 ∙ ap (λ r. r.asked.frames.items) one ∙ sym y.3.1 in
         (sym its.2 ∙ ap (λ r. r.port.0) one ∙ y.2, λ i. record { frames = frames i; request = same i })
 
-  pub all_lent : (port : ℕ) → All (IsLentOut s.table) (kept_at s.kept port)
-  all_lent port i d small = lent_out port (get_or (kept_at s.kept port) i d) (i, small, get_or_default (kept_at s.kept port) i (get_or (kept_at s.kept port) i d) d small)
+  pub all_lent : (port : ℕ) → All (IsLentOut s.table) (quarantined_at s.kept port)
+  all_lent port i d small = lent_out port (get_or (quarantined_at s.kept port) i d) (i, small, get_or_default (quarantined_at s.kept port) i (get_or (quarantined_at s.kept port) i d) d small)
 
 -- a port that isn't dead keeps no loan
-pub none_alive : (s : ServerState) → InCallInvariant s → (port : ℕ) → probe_result_of s.ports port ≢ Unready Dead → (loans : List Lending) → kept_at s.kept port ≡ loans → loans ≡ []
+pub none_alive : (s : ServerState) → InCallInvariant s → (port : ℕ) → probe_result_of s.ports port ≢ Unready Dead → (loans : List Lending) → quarantined_at s.kept port ≡ loans → loans ≡ []
 none_alive s k port alive [] is = refl
 none_alive s k port alive (loan ∷ rest) is =
     let e = k.stands.kept.whose port loan (subst (λ (list : List Lending). Contains list loan) (sym is) (0, omega arith, refl)) in

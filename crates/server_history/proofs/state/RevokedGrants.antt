@@ -4,9 +4,9 @@ use Rattle.std.proofs.lemmas.Bool.{false≢true}
 use Rattle.ata_types.specs.declared.grant.GrantRow.{GrantRow}
 use Rattle.ata_types.specs.declared.request.ClientId.{ClientId}
 use Rattle.block_machine.specs.Rules.{Names, is_under, without_row}
-use Rattle.request_queue.specs.Entries.{Held, marked_under, waits_under}
+use Rattle.request_queue.specs.Entries.{BookEntry, marked_under, waits_under}
 use Rattle.request_queue.specs.declared.PendingRequest.{PendingRequest}
-use Rattle.server_history.specs.Server.{HasTrueMark, TellsGrant}
+use Rattle.server_history.specs.Server.{RevokedMarkInvariant, RevokedMarkAgrees}
 use Rattle.server_history.proofs.state.ListMembers.{filter_in, in_filter}
 
 module _ (rows : List GrantRow) (client : ClientId) (number : ℕ) where
@@ -17,10 +17,10 @@ module _ (rows : List GrantRow) (client : ClientId) (number : ℕ) where
   row_under : (r : PendingRequest) (row : GrantRow) → Names r.client r.grant row → is_under client number row.client row.number ≡ is_under client number r.client r.grant
   row_under r row named = λ i. (named.0 i).0 == client.0 && named.1 i == number
 
-  pub tells_then : (r : PendingRequest) → TellsGrant rows r → TellsGrant (without_row client number rows) (marked_under client number r)
+  pub tells_then : (r : PendingRequest) → RevokedMarkAgrees rows r → RevokedMarkAgrees (without_row client number rows) (marked_under client number r)
   tells_then r tells = by (is_under client number r.client r.grant) refl
     where
-      by : (b : Bool) → is_under client number r.client r.grant ≡ b → TellsGrant (without_row client number rows) (cond b (record r { revoked = true }) r)
+      by : (b : Bool) → is_under client number r.client r.grant ≡ b → RevokedMarkAgrees (without_row client number rows) (cond b (record r { revoked = true }) r)
       by true is = (
         λ plain. absurd (false≢true (sym plain)),
         λ has. absurd (false≢true (sym (ap not (row_under r has.0 has.2 ∙ is)) ∙ (filter_in stays rows has.0 has.1).1)),
@@ -38,5 +38,5 @@ module _ (rows : List GrantRow) (client : ClientId) (number : ℕ) where
       by true is waits = absurd (false≢true (sym left ∙ (λ i. not (waits i) && is i)))
       by false is waits = waiting waits
 
-  pub marked_one : (e : Held) → waits_under client number e.entry ≡ false → HasTrueMark rows e → HasTrueMark (without_row client number rows) (record e { entry = marked_under client number e.entry })
+  pub marked_one : (e : BookEntry) → waits_under client number e.entry ≡ false → RevokedMarkInvariant rows e → RevokedMarkInvariant (without_row client number rows) (record e { entry = marked_under client number e.entry })
   marked_one e left m = record { tells = tells_then e.entry m.tells; waiting = waits_then e.entry left m.waiting }

@@ -6,23 +6,23 @@ use Rattle.ata_types.specs.declared.request.Outcome.{Outcome}
 use Rattle.ata_types.specs.declared.request.Outcome.TheVariants as outcome
 use Rattle.block_machine.specs.State.{Machine, Pending}
 use Rattle.block_machine.specs.Steps.{HasGrant, GrantAllowsOutcome}
-use Rattle.request_queue.specs.Entries.{Held, issue}
-use Rattle.request_queue.specs.Machine.{IsEntry}
+use Rattle.request_queue.specs.Entries.{BookEntry, issue}
+use Rattle.request_queue.specs.Machine.{EntryRelation}
 use Rattle.request_queue.specs.declared.PendingRequest.{PendingRequest}
-use Rattle.server_history.specs.Server.{HasTrueMark, TellsGrant}
+use Rattle.server_history.specs.Server.{RevokedMarkInvariant, RevokedMarkAgrees}
 
 -- ---- in the machine
 
 -- one that isn't marked has its grant there
-pub unmarked_has : (m : Machine) (e : Held) (p : Pending) → IsEntry e p → TellsGrant m.rows e.entry → e.entry.revoked ≡ false → HasGrant m p
+pub unmarked_has : (m : Machine) (e : BookEntry) (p : Pending) → EntryRelation e p → RevokedMarkAgrees m.rows e.entry → e.entry.revoked ≡ false → HasGrant m p
 unmarked_has m e p entry tells plain = let has = tells.0 plain in (has.0, has.1, (has.2.0 ∙ sym entry.client, has.2.1 ∙ sym entry.grant))
 
 -- and one that is has none
-pub marked_none : (m : Machine) (e : Held) (p : Pending) → IsEntry e p → TellsGrant m.rows e.entry → e.entry.revoked ≡ true → HasGrant m p → ⊥
+pub marked_none : (m : Machine) (e : BookEntry) (p : Pending) → EntryRelation e p → RevokedMarkAgrees m.rows e.entry → e.entry.revoked ≡ true → HasGrant m p → ⊥
 marked_none m e p entry tells marked has = false≢true (sym (tells.1 (has.0, has.1, (has.2.0 ∙ entry.client, has.2.1 ∙ entry.grant))) ∙ marked)
 
 -- so one may be told Revoked that is marked, and Aborted one that isn't
-pub tellable : (m : Machine) (e : Held) (p : Pending) (o : Outcome) → IsEntry e p → TellsGrant m.rows e.entry
+pub tellable : (m : Machine) (e : BookEntry) (p : Pending) (o : Outcome) → EntryRelation e p → RevokedMarkAgrees m.rows e.entry
     → (o ≡ outcome.Revoked → e.entry.revoked ≡ true) → (o ≡ outcome.Aborted → e.entry.revoked ≡ false) → GrantAllowsOutcome m p o
 tellable m e p outcome.Revoked entry tells marked plain = marked_none m e p entry tells (marked refl)
 tellable m e p outcome.Aborted entry tells marked plain = unmarked_has m e p entry tells (plain refl)
@@ -32,13 +32,13 @@ tellable m e p outcome.Unplugged entry tells marked plain = tt
 tellable m e p outcome.PortDead entry tells marked plain = tt
 
 -- the machine has the server's rows
-pub tells_of : (rows grants : List GrantRow) (r : PendingRequest) → rows ≡ grants → TellsGrant grants r → TellsGrant rows r
-tells_of rows grants r same tells = subst (λ (list : List GrantRow). TellsGrant list r) (sym same) tells
+pub tells_of : (rows grants : List GrantRow) (r : PendingRequest) → rows ≡ grants → RevokedMarkAgrees grants r → RevokedMarkAgrees rows r
+tells_of rows grants r same tells = subst (λ (list : List GrantRow). RevokedMarkAgrees list r) (sym same) tells
 
 -- ---- as requests are issued, and get older
 
-pub issued_marked : (rows : List GrantRow) (e : Held) → HasTrueMark rows e → HasTrueMark rows (record e { entry = issue e.entry })
+pub issued_marked : (rows : List GrantRow) (e : BookEntry) → RevokedMarkInvariant rows e → RevokedMarkInvariant rows (record e { entry = issue e.entry })
 issued_marked rows e m = record { tells = (m.tells.0, m.tells.1); waiting = λ waits. absurd (false≢true (sym waits)) }
 
-pub older_marked : (rows : List GrantRow) (e : Held) (age : ℕ) → HasTrueMark rows e → HasTrueMark rows (record e { entry = record (e.entry) { age = age } })
+pub older_marked : (rows : List GrantRow) (e : BookEntry) (age : ℕ) → RevokedMarkInvariant rows e → RevokedMarkInvariant rows (record e { entry = record (e.entry) { age = age } })
 older_marked rows e age m = record { tells = (m.tells.0, m.tells.1); waiting = m.waiting }

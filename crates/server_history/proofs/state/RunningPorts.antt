@@ -12,12 +12,12 @@ use Rattle.adapter.specs.Access.Access.{Reading, Writing, Loading, Storing}
 use Rattle.adapter.specs.Device.{Notes, DevicePort, Device}
 use Rattle.adapter.specs.Rules.{IsOn}
 use Rattle.refinement.specs.Driven.{IsDrivenBy}
-use Rattle.refinement.specs.Links.{HasDeviceOrNone, LeavesControls, SparesRegister}
-use Rattle.refinement.specs.Noted.{SparesReading}
+use Rattle.refinement.specs.Links.{ShowsDiskIfIn, LeavesControls, DoesNotWrite}
+use Rattle.refinement.specs.Noted.{DoesNotRead}
 use Rattle.port_control.specs.Ports.{programmed}
 use Rattle.refinement.specs.Relation.{port_at}
 use Rattle.port_control.specs.Services.{IsService}
-use Rattle.driver_history.specs.Holds.{Runs}
+use Rattle.driver_history.specs.Holds.{EngineRuns}
 use Rattle.server_history.specs.Below.{LawsBelow}
 use Rattle.server_history.proofs.state.DrivenAccesses.{kept_over}
 
@@ -38,10 +38,10 @@ counts_on v p is = by (nat_eq p.sctl_det 0) (nat_eq (v % 16) 3) p.notes.link_cou
     by true true n e = refl
     by true false n e = ap (λ (k : ℕ). min MOST_READINGS (k + 1)) e
 
-pub link_still : LawsBelow → (port : Port) (access : Access) (old new : Device) → IsOn old → SparesRegister (Px port Sctl) access → Does access old new → (old.port port.0).notes.link_count ≡ MOST_READINGS → (new.port port.0).notes.link_count ≡ MOST_READINGS
+pub link_still : LawsBelow → (port : Port) (access : Access) (old new : Device) → IsOn old → DoesNotWrite (Px port Sctl) access → Does access old new → (old.port port.0).notes.link_count ≡ MOST_READINGS → (new.port port.0).notes.link_count ≡ MOST_READINGS
 link_still laws port access old new on spares does saw = by access spares does
   where
-    spared : (a : Access) → SparesRegister (Px port Sctl) a → Does a old new → SparesReading (Px port Ssts) a → (new.port port.0).notes.link_count ≡ MOST_READINGS
+    spared : (a : Access) → DoesNotWrite (Px port Sctl) a → Does a old new → DoesNotRead (Px port Ssts) a → (new.port port.0).notes.link_count ≡ MOST_READINGS
     spared a its did other = ((laws.looks.access_notes port a old new did).link other).1 its ∙ saw
 
     read : (r : Reg) (v : ℕ) → Does (Reading r v) old new → (new.port port.0).notes.link_count ≡ MOST_READINGS
@@ -53,7 +53,7 @@ link_still laws port access old new on spares does saw = by access spares does
         (cases_eq p.0 port.0)
     read r v did = spared (Reading r v) tt did (λ q. absurd cc)
 
-    by : (a : Access) → SparesRegister (Px port Sctl) a → Does a old new → (new.port port.0).notes.link_count ≡ MOST_READINGS
+    by : (a : Access) → DoesNotWrite (Px port Sctl) a → Does a old new → (new.port port.0).notes.link_count ≡ MOST_READINGS
     by (Writing r v) its did = spared (Writing r v) its did tt
     by (Loading at bytes) its did = spared (Loading at bytes) its did tt
     by (Storing at bytes) its did = spared (Storing at bytes) its did tt
@@ -80,16 +80,16 @@ on_over : LawsBelow → (Kept : Device → Type 0) → ((access : Access) (old n
     → (old new : Device) → IsOn old → IsDrivenBy IsService old new → Kept old → Kept new
 on_over laws Kept keeps old new on driven here =
     (kept_over (λ d. IsOn d × Kept d) IsService
-    (λ access a b is does w. (laws.looks.access_on access a b w.0 (λ v same. absurd (subst (SparesRegister Ghc) same (laws.looking.services_spare_host access is) refl)) does, keeps access a b w.0 is does w.1))
+    (λ access a b is does w. (laws.looks.access_on access a b w.0 (λ v same. absurd (subst (DoesNotWrite Ghc) same (laws.looking.services_spare_host access is) refl)) does, keeps access a b w.0 is does w.1))
     old new driven (on, here)).1
 
 -- a device shows still, or none is in
-pub shown_on : LawsBelow → (port : Port) (old new : Device) → IsOn old → IsDrivenBy IsService old new → HasDeviceOrNone (old.port port.0) → HasDeviceOrNone (new.port port.0)
+pub shown_on : LawsBelow → (port : Port) (old new : Device) → IsOn old → IsDrivenBy IsService old new → ShowsDiskIfIn (old.port port.0) → ShowsDiskIfIn (new.port port.0)
 shown_on laws port old new on driven =
-    on_over laws (λ d. HasDeviceOrNone (d.port port.0))
+    on_over laws (λ d. ShowsDiskIfIn (d.port port.0))
     (λ access a b ready is does. laws.looking.shown_stays port access a b ready.no_reset (laws.looking.services_spare port Sctl (λ e. cc) (λ e. cc) (λ e. cc) access is) does) old new on driven
 
-pub runs_on : LawsBelow → (port : Port) (old new : Device) → IsOn old → IsDrivenBy IsService old new → Runs port.0 old → Runs port.0 new
+pub runs_on : LawsBelow → (port : Port) (old new : Device) → IsOn old → IsDrivenBy IsService old new → EngineRuns port.0 old → EngineRuns port.0 new
 runs_on laws port old new on driven r = record {
   st = h.st;
   cr = h.cr;

@@ -7,28 +7,28 @@ use Rattle.ata_types.specs.declared.Port.{Port}
 use Rattle.ata_types.specs.declared.PortState.TheVariants.{Absent, Ready as ReadyState, Foreign, Unfit, Dead}
 use Rattle.ata_types.specs.declared.request.Op.{Op}
 use Rattle.adapter.specs.Device.{Device}
-use Rattle.refinement.specs.Acts.{InSlots}
-use Rattle.refinement.specs.Links.{HasDeviceOrNone}
+use Rattle.refinement.specs.Acts.{DriverSlots}
+use Rattle.refinement.specs.Links.{ShowsDiskIfIn}
 use Rattle.refinement.specs.Slots.{Free}
 use Rattle.block_machine.specs.Due.{is_plain}
 use Rattle.block_machine.specs.declared.due.QueueMode.{QueueMode}
 use Rattle.block_machine.specs.Histories.{JointState, IsReachable}
 use Rattle.block_machine.specs.State.{Machine, Pending}
-use Rattle.driver_history.specs.Holds.{HasNothing, HasRequests, HoldsOf, HoldsWith, IsClients, IsQueuedAsAsked, NoneWaits, Runs, ServesIn}
+use Rattle.driver_history.specs.Holds.{HasNothing, ReadySlotsInvariant, PortStateInvariant, DriverInvariantWith, IsFreeOrServes, IsQueuedAsAsked, HasNoUnanswered, EngineRuns, ServesIn}
 use Rattle.host_boot.specs.Taken.{FoundBadDisk, IsServed as IsServedPort, StillStandsBehind, probe_result_of, wanted_of}
 use Rattle.host_boot.specs.declared.ProbeResult.{ProbeResult}
 use Rattle.host_boot.specs.declared.ProbeResult.TheVariants.{Unserved, Ready, Unready}
 use Rattle.identify.specs.declared.DiskInfo.{DiskInfo}
 use Rattle.identify.specs.declared.wanted.Wanted.{Wanted}
-use Rattle.request_queue.specs.Entries.{Held}
-use Rattle.request_queue.specs.Machine.{IsEntry}
+use Rattle.request_queue.specs.Entries.{BookEntry}
+use Rattle.request_queue.specs.Machine.{EntryRelation}
 use Rattle.slots.specs.declared.SlotUse.{SlotUse}
-use Rattle.server_history.specs.Server.{StandsAlone, ServerState, InCallInvariant, IsMachineOf, is_served, mode_at, mode_found, mode_in, ports_of, last_disk_in, last_disk_of, remembered_at, last_sectors_of, last_serial_of, state_of, trims_of, usable_of, use_of, used_for}
+use Rattle.server_history.specs.Server.{StandsAlone, ServerState, InCallInvariant, MachineRelation, is_served, mode_at, probed_mode, mode_in, ports_of, last_disk_in, last_disk_of, remembered_at, last_sectors_of, last_serial_of, state_of, trims_of, usable_of, slot_state_of, used_for}
 use Rattle.server_history.proofs.state.PortSlots.{free_unused, none_kept, not_dead, of_ready, ready_use, usable_ready, used_serves}
 use Rattle.server_history.proofs.state.PairedLists.{at_right}
 
 -- what is used for a client's request or for none
-clients : (used : Option SlotUse) → IsClients (use_of used)
+clients : (used : Option SlotUse) → IsFreeOrServes (slot_state_of used)
 clients None = inl refl
 clients (Some used) = inr (used.id, refl)
 
@@ -38,16 +38,16 @@ served_is wanted Unserved port d s = ((λ yes. absurd (false≢true yes)), (λ s
 served_is wanted (Ready info) port d s = ((λ yes. s.0), (λ served. refl))
 served_is wanted (Unready state) port d s = ((λ yes. s.0), (λ served. refl))
 
-module _ (s : ServerState) (k : InCallInvariant s) (m : Machine) (reached : IsReachable m) (is : IsMachineOf s m) where
-  abbrev pub slots : InSlots
+module _ (s : ServerState) (k : InCallInvariant s) (m : Machine) (reached : IsReachable m) (is : MachineRelation s m) where
+  abbrev pub slots : DriverSlots
   slots = record { uses = is.uses; parked = is.parked }
 
   abbrev pub instant : JointState Device
   instant = record { device = s.device; abstract = record { machine = m; ports = ports_of s } }
 
-  none_waits : (port : Port) → state_of (probe_result_of s.ports port.0) ≢ ReadyState → NoneWaits m port
+  none_waits : (port : Port) → state_of (probe_result_of s.ports port.0) ≢ ReadyState → HasNoUnanswered m port
   none_waits port other e here own =
-      let a = at_right IsEntry s.book m.book is.book e here in
+      let a = at_right EntryRelation s.book m.book is.book e here in
       other (ap (λ (q : Port). state_of (probe_result_of s.ports q.0)) (sym own ∙ a.2.port) ∙ of_ready s k a.0 a.1)
 
   module _ (port : Port) (low : port.0 < 4) where
@@ -60,7 +60,7 @@ module _ (s : ServerState) (k : InCallInvariant s) (m : Machine) (reached : IsRe
     nothing f e none other = record {
       free = λ slot.
           is.used port.0 slot (alive f e other)
-          ∙ ap use_of ((k.slots port.0 low).unused slot (subst (λ (n : ℕ). n ≤ slot) (sym (ap (λ (x : ProbeResult). usable_of x (mode_at s.modes port.0)) e ∙ none)) (omega arith)));
+          ∙ ap slot_state_of ((k.slots port.0 low).unused slot (subst (λ (n : ℕ). n ≤ slot) (sym (ap (λ (x : ProbeResult). usable_of x (mode_at s.modes port.0)) e ∙ none)) (omega arith)));
       unparked = is.unparked port.0 (alive f e other);
     }
 
@@ -75,10 +75,10 @@ module _ (s : ServerState) (k : InCallInvariant s) (m : Machine) (reached : IsRe
       mode = mode_in s port
 
       -- a slot that serves a request is used for it, and the request is in the book
-      serving : (slot : ℕ) (e : Pending) → ServesIn slots instant port slot e → (u : SlotUse) × (used_for s.slots port.0 slot ≡ Some u) × ((h : Held) × Contains s.book h × IsEntry h e × (h.entry.id ≡ u.id))
+      serving : (slot : ℕ) (e : Pending) → ServesIn slots instant port slot e → (u : SlotUse) × (used_for s.slots port.0 slot ≡ Some u) × ((h : BookEntry) × Contains s.book h × EntryRelation h e × (h.entry.id ≡ u.id))
       serving slot e serves =
           let u = used_serves s m port.0 is ready slot e.request.id serves.serves in
-          let h = at_right IsEntry s.book m.book is.book e serves.here in
+          let h = at_right EntryRelation s.book m.book is.book e serves.here in
           (u.0, u.1, (h.0, h.1, h.2, sym h.2.id ∙ sym u.2))
 
       -- whether a command is queued
@@ -103,26 +103,26 @@ module _ (s : ServerState) (k : InCallInvariant s) (m : Machine) (reached : IsRe
       alone : (slot : ℕ) (e : Pending) → ServesIn slots instant port slot e → is_plain mode e.request.asked.op ≡ true → (slot ≡ 0) × ((other : ℕ) → other ≢ 0 → is.uses port.0 other ≡ Free)
       alone slot e serves plain = (a.0, λ other ne. free_unused s m port.0 is ready other (a.1 other ne))
         where
-          x : (u : SlotUse) × (used_for s.slots port.0 slot ≡ Some u) × ((h : Held) × Contains s.book h × IsEntry h e × (h.entry.id ≡ u.id))
+          x : (u : SlotUse) × (used_for s.slots port.0 slot ≡ Some u) × ((h : BookEntry) × Contains s.book h × EntryRelation h e × (h.entry.id ≡ u.id))
           x = serving slot e serves
 
           a : StandsAlone s.slots port.0 slot
           a = k.alone port.0 slot x.0 x.1 (kind_is slot e serves x.0 x.1 ∙ ap not plain)
 
-      requests : HasRequests slots instant port mode
+      requests : ReadySlotsInvariant slots instant port mode
       requests = record {
-        clients = λ slot. subst IsClients (sym (ready_use s m port.0 is ready slot)) (clients (used_for s.slots port.0 slot));
+        clients = λ slot. subst IsFreeOrServes (sym (ready_use s m port.0 is ready slot)) (clients (used_for s.slots port.0 slot));
         low = unused;
         unparked = is.unparked port.0 (not_dead s port.0 ready);
         kinds = kind;
         alone = alone;
       }
 
-    shown_as : (f : ProbeResult) → probe_result_of s.ports port.0 ≡ f → FoundBadDisk (state_of f) → HasDeviceOrNone (s.device.port port.0)
+    shown_as : (f : ProbeResult) → probe_result_of s.ports port.0 ≡ f → FoundBadDisk (state_of f) → ShowsDiskIfIn (s.device.port port.0)
     shown_as f e bad = (k.behind port.0 low).shown (subst (λ (x : ProbeResult). FoundBadDisk (state_of x)) (sym e) bad)
 
-    of : (f : ProbeResult) → probe_result_of s.ports port.0 ≡ f → StillStandsBehind (wanted_of s.wanted port.0) f port.0 s.device → (state_of f ≡ ReadyState → Runs port.0 s.device)
-        → HoldsOf (wanted_of s.wanted port.0) slots instant port (is_served f) (state_of f)
+    of : (f : ProbeResult) → probe_result_of s.ports port.0 ≡ f → StillStandsBehind (wanted_of s.wanted port.0) f port.0 s.device → (state_of f ≡ ReadyState → EngineRuns port.0 s.device)
+        → PortStateInvariant (wanted_of s.wanted port.0) slots instant port (is_served f) (state_of f)
     of Unserved e behind runs = record {
       absent = ap state_of e;
       idle = behind.1;
@@ -135,7 +135,7 @@ module _ (s : ServerState) (k : InCallInvariant s) (m : Machine) (reached : IsRe
       runs = runs refl;
       info = info;
       disk = behind.1;
-      shows = record { serial = ap last_serial_of (disk_is info e); sectors = ap last_sectors_of (disk_is info e); trims = ap trims_of e; mode = k.modes port.0 low ∙ ap (mode_found s.device.cap) e };
+      shows = record { serial = ap last_serial_of (disk_is info e); sectors = ap last_sectors_of (disk_is info e); trims = ap trims_of e; mode = k.modes port.0 low ∙ ap (probed_mode s.device.cap) e };
       slots = requests info e;
       kept = none_kept s m port is (alive (Ready info) e (λ x. cc));
     }
@@ -169,7 +169,7 @@ module _ (s : ServerState) (k : InCallInvariant s) (m : Machine) (reached : IsRe
       waits = λ on. none_waits port (λ ready. let z : Dead ≡ ReadyState = sym (ap state_of e) ∙ ready in absurd cc);
     }
 
-  pub holds_with : HoldsWith s.wanted slots instant
+  pub holds_with : DriverInvariantWith s.wanted slots instant
   holds_with = record {
     knows = is.knows;
     served = λ port low. served_is (wanted_of s.wanted port.0) (probe_result_of s.ports port.0) port.0 s.device (k.behind port.0 low).behind;

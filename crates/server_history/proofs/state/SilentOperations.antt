@@ -4,14 +4,14 @@ use Rattle.std.proofs.lemmas.List.Elements.{All-append, All-nil}
 use Rattle.adapter.specs.Device.{Device}
 use Rattle.adapter.specs.declared.command.Operation.{Operation}
 use Rattle.adapter.specs.declared.tape.Entry.{Entry}
-use Rattle.refinement.specs.Driven.{SendsNone}
+use Rattle.refinement.specs.Driven.{GainsNoMove}
 use Rattle.refinement.specs.Slots.{IsMove}
 
 module _ (port : ℕ) (o : Operation) where
-  pub silent_none : (d : Device) → SendsNone port o d d
+  pub silent_none : (d : Device) → GainsNoMove port o d d
   silent_none d = ([], sym (append-nil d.tape), All-nil (λ e. IsMove port o e → ⊥))
 
-  pub silent_more : (old mid new : Device) → SendsNone port o old mid → SendsNone port o mid new → SendsNone port o old new
+  pub silent_more : (old mid new : Device) → GainsNoMove port o old mid → GainsNoMove port o mid new → GainsNoMove port o old new
   silent_more old mid new (early, one, none) (late, two, more) = (
     early ++ late,
     two ∙ ap (λ (tape : List Entry). tape ++ late) one ∙ append_assoc old.tape early late,

@@ -12,15 +12,15 @@ use Rattle.refinement.specs.Places.{place_in}
 use Rattle.refinement.specs.Slots.{ArePlaces, ServesRequest, op_of}
 use Rattle.refinement.specs.Relation.{port_at}
 use Rattle.adapter.specs.Commands.{Meaning}
-use Rattle.block_machine.specs.Rules.{IsAllowedCount, frames_for}
+use Rattle.block_machine.specs.Rules.{IsAllowedCount, frame_count_for}
 use Rattle.block_machine.specs.State.{Accepted, Machine, Pending, frame_at}
 use Rattle.dma_frames.specs.Table.{lent_to}
 use Rattle.host_boot.specs.Taken.{probe_result_of}
-use Rattle.request_queue.specs.Entries.{Held, IsAccepted}
-use Rattle.request_queue.specs.Machine.{IsEntry}
+use Rattle.request_queue.specs.Entries.{BookEntry, IsAccepted}
+use Rattle.request_queue.specs.Machine.{EntryRelation}
 use Rattle.slots.specs.declared.SlotUse.{SlotUse}
 use Rattle.server_history.specs.Below.{LawsBelow}
-use Rattle.server_history.specs.Server.{StandsAlone, ServerState, InCallInvariant, IsMachineOf, mode_in, state_of, used_for}
+use Rattle.server_history.specs.Server.{StandsAlone, ServerState, InCallInvariant, MachineRelation, mode_in, state_of, used_for}
 use Rattle.server_history.proofs.state.PortSlots.{HasSlot, IsServedBy, issued_has, not_true, queued_op, served_request, serves_used, still_booked}
 use Rattle.server_history.proofs.state.PairedLists.{at_right}
 
@@ -29,7 +29,7 @@ first_place : (op : Op) → (op ≡ Read) ⊎ (op ≡ Write) → (port : ℕ) (r
 first_place op (inl reads) port r places are some = (subst (λ (o : Op). ArePlaces o port r places) reads are).1 0 some
 first_place op (inr writes) port r places are some = (subst (λ (o : Op). ArePlaces o port r places) writes are).1 0 some
 
-module _ (laws : LawsBelow) (s : ServerState) (k : InCallInvariant s) (m : Machine) (is : IsMachineOf s m) where
+module _ (laws : LawsBelow) (s : ServerState) (k : InCallInvariant s) (m : Machine) (is : MachineRelation s m) where
   -- a transfer of the book has a first frame, which is lent to it
   record HasFirst (p : Pending) : Type 0 where
     some : 1 ≤ p.request.asked.count
@@ -38,8 +38,8 @@ module _ (laws : LawsBelow) (s : ServerState) (k : InCallInvariant s) (m : Machi
   has_first : (p : Pending) → Contains m.book p → (p.request.asked.op ≡ Read) ⊎ (p.request.asked.op ≡ Write) → HasFirst p
   has_first p here transfers = record { some = subst (λ (n : ℕ). 1 ≤ n) (sym (ap (λ r. r.count) x.2.range)) (sized x.0.entry.op op refl).0; lent = its_lent }
     where
-      x : (h : Held) × Contains s.book h × IsEntry h p
-      x = at_right IsEntry s.book m.book is.book p here
+      x : (h : BookEntry) × Contains s.book h × EntryRelation h p
+      x = at_right EntryRelation s.book m.book is.book p here
 
       a : IsAccepted s.table x.0
       a = All-contains (IsAccepted s.table) s.book x.0 k.accepted x.1
@@ -50,9 +50,9 @@ module _ (laws : LawsBelow) (s : ServerState) (k : InCallInvariant s) (m : Machi
       -- one sector at least, in one frame at least
       sized : (o : Op) → (o ≡ Read) ⊎ (o ≡ Write) → x.0.entry.op ≡ o → (1 ≤ x.0.entry.range.count) × (1 ≤ length x.0.frames)
       sized o (inl reads) same =
-          let c = subst (λ (y : Op). IsAllowedCount y x.0.entry.range.count) (same ∙ reads) a.sectors in let f = a.frames ∙ ap (λ (y : Op). frames_for y x.0.entry.range.count) (same ∙ reads) in let c0 = c.0 in (c0, omega (arith, c0, f))
+          let c = subst (λ (y : Op). IsAllowedCount y x.0.entry.range.count) (same ∙ reads) a.sectors in let f = a.frames ∙ ap (λ (y : Op). frame_count_for y x.0.entry.range.count) (same ∙ reads) in let c0 = c.0 in (c0, omega (arith, c0, f))
       sized o (inr writes) same =
-          let c = subst (λ (y : Op). IsAllowedCount y x.0.entry.range.count) (same ∙ writes) a.sectors in let f = a.frames ∙ ap (λ (y : Op). frames_for y x.0.entry.range.count) (same ∙ writes) in let c0 = c.0 in (c0, omega (arith, c0, f))
+          let c = subst (λ (y : Op). IsAllowedCount y x.0.entry.range.count) (same ∙ writes) a.sectors in let f = a.frames ∙ ap (λ (y : Op). frame_count_for y x.0.entry.range.count) (same ∙ writes) in let c0 = c.0 in (c0, omega (arith, c0, f))
 
       its_lent : lent_to s.table (frame_at p.request.asked.frames.items 0) ≡ Some p.request.id
       its_lent =

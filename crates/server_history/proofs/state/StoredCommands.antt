@@ -7,7 +7,7 @@ use Rattle.hba_regs.specs.declared.reg.PortReg.TheVariants.{Cmd, Clb}
 use Rattle.hba_regs.specs.declared.reg.Reg.TheVariants.{Px}
 use Rattle.adapter.specs.Access.{Access}
 use Rattle.adapter.specs.Access.Access.{Storing}
-use Rattle.refinement.specs.Links.{SparesRegister}
+use Rattle.refinement.specs.Links.{DoesNotWrite}
 use Rattle.refinement.specs.Places.{IsTableByte}
 use Rattle.refinement.specs.Readying.{LeavesStored}
 use Rattle.command_table.specs.Written.{IsBlockStore, IsTableStore}
@@ -63,7 +63,7 @@ pub service_leaves_stored : LawsBelow → (other : Port) (k : ℕ) (access : Acc
     → ((at : ℕ) (bytes : List ℕ) (place : ℕ) → access ≡ Storing at bytes → IsTableByte other.0 k place → at ≤ place → place < at + length bytes → ⊥) → LeavesStored other k access
 service_leaves_stored laws other k access is misses = record {
   host = laws.looking.services_spare_host access is;
-  start = λ v e. absurd (subst (SparesRegister (Px other Cmd)) e (laws.looking.services_spare other Cmd (λ e. cc) (λ e. cc) (λ e. cc) access is) refl);
+  start = λ v e. absurd (subst (DoesNotWrite (Px other Cmd)) e (laws.looking.services_spare other Cmd (λ e. cc) (λ e. cc) (λ e. cc) access is) refl);
   list = laws.looking.services_spare other Clb (λ e. cc) (λ e. cc) (λ e. cc) access is;
   table = λ at bytes e place t from to. misses at bytes place e t from to;
 }

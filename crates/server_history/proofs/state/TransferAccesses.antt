@@ -6,9 +6,9 @@ use Rattle.hba_regs.specs.declared.reg.Reg.TheVariants.{Px}
 use Rattle.adapter.specs.Access.{Access, DoesAll, Reads}
 use Rattle.adapter.specs.Access.Access.{Reading, Writing, Loading, Storing}
 use Rattle.adapter.specs.Device.{Device}
-use Rattle.commands.specs.Masks.{ReadsDone, IsFinding}
+use Rattle.commands.specs.Masks.{ReadsDone, ReadsCiOrSact}
 use Rattle.commands.specs.Tasks.{IsIssuing}
-use Rattle.server_history.specs.Served.{IssuesIn}
+use Rattle.server_history.specs.Served.{IsIssuingAnySlot}
 use Rattle.port_control.specs.Services.{IsService}
 
 -- ---- issuing
@@ -19,12 +19,12 @@ issuing_serves port slot (Storing at bytes) here = tt
 issuing_serves port slot (Loading at bytes) here = absurd here
 issuing_serves port slot (Reading r v) here = absurd here
 
-pub issues_serve : (port : Port) (access : Access) → IssuesIn port access → IsService access
+pub issues_serve : (port : Port) (access : Access) → IsIssuingAnySlot port access → IsService access
 issues_serve port access here = issuing_serves port here.0 access here.2
 
 -- ---- finding what is done
 
-pub finding_serves : (port : Port) (access : Access) → IsFinding port access → IsService access
+pub finding_serves : (port : Port) (access : Access) → ReadsCiOrSact port access → IsService access
 finding_serves port (Reading r v) here = tt
 finding_serves port (Writing r v) here = absurd here
 finding_serves port (Loading at bytes) here = absurd here

@@ -17,14 +17,14 @@ use Rattle.adapter.specs.Device.{Device}
 use Rattle.adapter.specs.Memory as memory
 use Rattle.adapter.specs.Rules.{IsOn}
 use Rattle.adapter.specs.Steps.{Steps}
-use Rattle.refinement.specs.Driven.{IsBitOf, IsDrivenBy, IsOf}
+use Rattle.refinement.specs.Driven.{IsSoleBit, IsDrivenBy, SparesOtherPorts}
 use Rattle.refinement.specs.Facts.{RunsWell, Undisturbed}
 use Rattle.command_table.specs.Written.{IsStoreWithBlock, IsTableStore}
-use Rattle.driver_history.specs.Histories.{IssuesOn}
+use Rattle.driver_history.specs.Histories.{IsIssuingAccess}
 use Rattle.commands.specs.Tasks.{IsIssuing}
-use Rattle.driver_history.specs.Trace.{IsDriversOwn, LeavesCommand, LeavesEngine, ReadsMasks}
+use Rattle.driver_history.specs.Trace.{IsDriversOwn, DoesNotWriteCmd, LeavesEngine, ReadsCiAndSact}
 use Rattle.server_history.specs.Below.{LawsBelow}
-use Rattle.server_history.specs.Served.{Checks, HasNone, HasTurnWithoutError, IsMaskOf, IssuesIn, is_used}
+use Rattle.server_history.specs.Served.{PollsSlots, IsEmptyMask, HasTurnWithoutError, IsMaskOf, IsIssuingAnySlot, is_used}
 use Rattle.slots.specs.Uses.{PortSlots, use_at}
 use Rattle.server_history.proofs.state.TransferAccesses.{both_read, issues_serve}
 use Rattle.port_control.specs.Looks.{LooksAt}
@@ -43,7 +43,7 @@ none_loaded old new steps = record { steps = steps; shows = refl }
 
 -- it serves ports, is of this one, and what it loads or stores is the driver's own
 abbrev pub IsTurn : Port → Access → Type 0
-IsTurn port access = IsService access × (IsDriversOwn access × IsOf port access)
+IsTurn port access = IsService access × (IsDriversOwn access × SparesOtherPorts port access)
 
 -- header and table of a slot lie in the driver's frames
 pub table_own : (port slot at : ℕ) (bytes : List ℕ) → port < 4 → slot < 32 → IsTableStore port slot (Storing at bytes) → at + length bytes ≤ DRIVER_BYTES
@@ -55,19 +55,19 @@ stored_own : (port slot at : ℕ) (bytes : List ℕ) → port < 4 → slot < 32 
 stored_own port slot at bytes low small (inl table) = table_own port slot at bytes low small table
 stored_own port slot at bytes low small (inr block) = let here = block.1 in let size = block.2 in omega (arith, low, here, size)
 
-issuing_on : (port : Port) (slot : ℕ) → port.0 < 4 → slot < 32 → (access : Access) → IsIssuing port slot access → IssuesOn port access
+issuing_on : (port : Port) (slot : ℕ) → port.0 < 4 → slot < 32 → (access : Access) → IsIssuing port slot access → IsIssuingAccess port access
 issuing_on port slot low small (Writing r v) here = here.0
 issuing_on port slot low small (Storing at bytes) here = stored_own port.0 slot at bytes low small here
 issuing_on port slot low small (Reading r v) here = absurd here
 issuing_on port slot low small (Loading at bytes) here = absurd here
 
-pub issuing_is : (port : Port) → port.0 < 4 → (access : Access) → IssuesIn port access → IssuesOn port access
+pub issuing_is : (port : Port) → port.0 < 4 → (access : Access) → IsIssuingAnySlot port access → IsIssuingAccess port access
 issuing_is port low access here = issuing_on port here.0 low here.1 access here.2
 
-pub issuing_turns : LawsBelow → (port : Port) → port.0 < 4 → (access : Access) → IssuesIn port access → IsTurn port access
+pub issuing_turns : LawsBelow → (port : Port) → port.0 < 4 → (access : Access) → IsIssuingAnySlot port access → IsTurn port access
 issuing_turns laws port low access here = (issues_serve port access here, (own access (issuing_is port low access here), laws.issuing_of port here.0 access here.2))
   where
-    own : (access : Access) → IssuesOn port access → IsDriversOwn access
+    own : (access : Access) → IsIssuingAccess port access → IsDriversOwn access
     own (Writing r v) on = tt
     own (Storing at bytes) on = on
     own (Reading r v) on = tt
@@ -77,7 +77,7 @@ issuing_turns laws port low access here = (issues_serve port access here, (own a
 service_leaves : LawsBelow → (port : Port) (access : Access) → IsService access → LeavesEngine port access
 service_leaves laws port access here = (laws.looking.services_spare port Cmd (λ e. cc) (λ e. cc) (λ e. cc) access here, laws.looking.services_spare port Sctl (λ e. cc) (λ e. cc) (λ e. cc) access here)
 
-pub issuing_leaves : LawsBelow → (port other : Port) (access : Access) → IssuesIn port access → LeavesEngine other access
+pub issuing_leaves : LawsBelow → (port other : Port) (access : Access) → IsIssuingAnySlot port access → LeavesEngine other access
 issuing_leaves laws port other access here = service_leaves laws other access (issues_serve port access here)
 
 pub turn_leaves : LawsBelow → (port other : Port) (access : Access) → IsTurn port access → LeavesEngine other access
@@ -93,7 +93,7 @@ pub bit_zero : (k : ℕ) → bit 0 k ≡ false
 bit_zero k = ap (λ (n : ℕ). n == 1) (bit_at-zero k)
 
 -- so the mask has its bit
-unmasked : (slots : PortSlots) (mask : ℕ) → IsMaskOf slots mask → HasNone mask → IsBusy slots → ⊥
+unmasked : (slots : PortSlots) (mask : ℕ) → IsMaskOf slots mask → IsEmptyMask mask → IsBusy slots → ⊥
 unmasked slots mask its none busy = false≢true (sym (none busy.0 busy.1) ∙ its busy.0 busy.1 ∙ busy.2)
 
 -- a mask has a bit of these, or it has none
@@ -116,7 +116,7 @@ module _ (port : Port) where
   look_list causes own status =
       Reading (Px port Is) causes ∷ Writing (Px port Is) causes ∷ Writing reg.Is own ∷ Reading (Px port Ssts) status ∷ []
 
-  pub look_turns : (causes own status : ℕ) → IsBitOf port.0 own → All (IsTurn port) (look_list causes own status)
+  pub look_turns : (causes own status : ℕ) → IsSoleBit port.0 own → All (IsTurn port) (look_list causes own status)
   look_turns causes own status alone =
       All-cons (IsTurn port) (Reading (Px port Is) causes) (Writing (Px port Is) causes ∷ Writing reg.Is own ∷ Reading (Px port Ssts) status ∷ []) (tt, (tt, refl))
       (All-cons (IsTurn port) (Writing (Px port Is) causes) (Writing reg.Is own ∷ Reading (Px port Ssts) status ∷ []) (inr (port, inl refl), (tt, refl))
@@ -129,15 +129,15 @@ module _ (port : Port) where
   -- The accesses of a turn. Where the port goes well, the look tells nothing; and where slots were checked, they read the masks.
   pub record TurnList (slots : PortSlots) (replies : List Reply) (old new : Device) (t : HasTurnWithoutError port slots replies old new) : Type 0 where
     pub driven : IsDrivenBy (IsTurn port) old new
-    pub of : All (IsOf port) driven.accesses
+    pub of : All (SparesOtherPorts port) driven.accesses
     pub own : All IsDriversOwn driven.accesses
     pub leaves : All (LeavesEngine port) driven.accesses
     pub calm : IsOn old → RunsWell (old.port port.0) → Undisturbed port.0 old new → t.look ≡ NoEvent
-    pub masks : t.look ≡ NoEvent → IsBusy slots → (mask : ℕ) × IsMaskOf slots mask × ((c : Checks port slots mask replies t.seen new) × ReadsMasks port c.reads.issued c.reads.active driven.accesses)
+    pub masks : t.look ≡ NoEvent → IsBusy slots → (mask : ℕ) × IsMaskOf slots mask × ((c : PollsSlots port slots mask replies t.seen new) × ReadsCiAndSact port c.reads.issued c.reads.active driven.accesses)
 
   module _ (laws : LawsBelow) (low : port.0 < 4) (slots : PortSlots) (replies : List Reply) (old new : Device) (t : HasTurnWithoutError port slots replies old new) where
-    of_all : (driven : IsDrivenBy (IsTurn port) old new) → All (IsOf port) driven.accesses
-    of_all driven = All-weaker (IsTurn port) (IsOf port) (λ access is. is.1.1) driven.accesses driven.only
+    of_all : (driven : IsDrivenBy (IsTurn port) old new) → All (SparesOtherPorts port) driven.accesses
+    of_all driven = All-weaker (IsTurn port) (SparesOtherPorts port) (λ access is. is.1.1) driven.accesses driven.only
 
     own_all : (driven : IsDrivenBy (IsTurn port) old new) → All IsDriversOwn driven.accesses
     own_all driven = All-weaker (IsTurn port) IsDriversOwn (λ access is. is.1.0) driven.accesses driven.only
@@ -163,8 +163,8 @@ module _ (port : Port) where
           only = look_turns t.looks.causes t.looks.own t.looks.status t.looks.alone;
         })
 
-    module _ (some : HasNone t.checked.mask → ⊥) where
-      abbrev c : Checks port slots t.checked.mask replies t.seen new
+    module _ (some : IsEmptyMask t.checked.mask → ⊥) where
+      abbrev c : PollsSlots port slots t.checked.mask replies t.seen new
       c = t.checked.checks some
 
       -- the accesses that come after the masks
@@ -177,7 +177,7 @@ module _ (port : Port) where
       abbrev late : List Access
       late = Reading (Px port Ci) c.reads.issued ∷ Reading (Px port Sact) c.reads.active ∷ more.accesses
 
-      leaves : All (LeavesCommand port) early
+      leaves : All (DoesNotWriteCmd port) early
       leaves i e small = (turn_leaves laws port port _ (look_turns t.looks.causes t.looks.own t.looks.status t.looks.alone i e small)).0
 
       checked_driven : IsDrivenBy (IsTurn port) old new
@@ -189,11 +189,11 @@ module _ (port : Port) where
             (All-cons (IsTurn port) (Reading (Px port Sact) c.reads.active) more.accesses (tt, (tt, refl)) more.only));
       }
 
-      masks_there : ReadsMasks port c.reads.issued c.reads.active checked_driven.accesses
+      masks_there : ReadsCiAndSact port c.reads.issued c.reads.active checked_driven.accesses
       unfolding checked_driven
       masks_there = record { before = early; later = more.accesses; here = refl; running = leaves }
 
-    with_masks : (HasNone t.checked.mask → ⊥) → TurnList slots replies old new t
+    with_masks : (IsEmptyMask t.checked.mask → ⊥) → TurnList slots replies old new t
     with_masks some = record {
       driven = checked_driven some;
       of = of_all (checked_driven some);
@@ -206,6 +206,6 @@ module _ (port : Port) where
     pub turn_list : TurnList slots replies old new t
     turn_list =
         ⊎_elim
-        (λ (none : HasNone t.checked.mask). looked (t.checked.idle none) (λ _ busy. unmasked slots t.checked.mask t.checked.its none busy))
+        (λ (none : IsEmptyMask t.checked.mask). looked (t.checked.idle none) (λ _ busy. unmasked slots t.checked.mask t.checked.its none busy))
         (λ some. with_masks (λ none. false≢true (sym (none some.0 some.1) ∙ some.2)))
         (none_or_some 32 t.checked.mask)

@@ -13,11 +13,11 @@ use Rattle.adapter.specs.Access.Access.{Loading, Reading, Storing, Writing}
 use Rattle.adapter.specs.Device.{Device}
 use Rattle.adapter.specs.Rules.{HasPort, IsOn}
 use Rattle.adapter.specs.declared.command.Operation.TheVariants.{ReadLog}
-use Rattle.refinement.specs.Acts.{InSlots}
-use Rattle.refinement.specs.Driven.{RelatesWith, AnyUse, IsSimulated, IsOf, SendsNone}
-use Rattle.block_machine.specs.Ports.{IsInterrupted, IsServiced}
+use Rattle.refinement.specs.Acts.{DriverSlots}
+use Rattle.refinement.specs.Driven.{RelatesWith, AnyUse, IsSimulated, SparesOtherPorts, GainsNoMove}
+use Rattle.block_machine.specs.Ports.{IsStoppedOrStuck, IsServiced}
 use Rattle.driver_history.specs.Trace.{IsDriversOwn}
-use Rattle.error_recovery.specs.Recovery.{EndsAsNext, StopsForReset, IsRecovering}
+use Rattle.error_recovery.specs.Recovery.{EndsAsNext, StopsForReset, IsRecoveryAccess}
 use Rattle.error_recovery.specs.declared.Next.{Next}
 use Rattle.error_recovery.specs.declared.Next.TheVariants as next
 use Rattle.error_recovery.specs.declared.Recovered.{Recovered}
@@ -33,7 +33,7 @@ use Rattle.port_control.specs.Looks.{IsLooking}
 use Rattle.server_history.specs.Below.{LawsBelow}
 use Rattle.server_history.specs.ErrorHandling.{IsRevalidated}
 use Rattle.server_history.specs.Server.{InCallInvariant, ServerState, last_disk_in, last_disk_of, is_served, no_slots, plain_mode, ports_of, remembered_at, last_sectors_of, last_serial_of, state_of}
-use Rattle.server_history.specs.Probing.{BootsOnce, IsProbedAnew}
+use Rattle.server_history.specs.Probing.{BootsUnreadyPort, IsProbedAnew}
 use Rattle.server_history.specs.Turns.{LeavesOthers}
 use Rattle.port_control.specs.declared.events.PortError.TheVariants.{TimedOut}
 use Rattle.server_history.proofs.recovery_turn.MendedPort.{dead_is, disk_is, found_served}
@@ -141,13 +141,13 @@ stopped_its port (next.Running token) = All-cons (λ q. q ≡ port) port [] refl
 stopped_its port (next.Restart token) = All-cons (λ q. q ≡ port) port [] refl (All-nil (λ q. q ≡ port))
 stopped_its port next.Dead = All-nil (λ q. q ≡ port)
 
-pub interrupted : (wanted : Wanted) (port : Port) (then : Next) (old new : Device) (found : ProbeResult) → IsProbedAnew wanted port then old new found → IsInterrupted (evidence_tried (stopped_of port then) (stuck_if port found)) port
+pub interrupted : (wanted : Wanted) (port : Port) (then : Next) (old new : Device) (found : ProbeResult) → IsProbedAnew wanted port then old new found → IsStoppedOrStuck (evidence_tried (stopped_of port then) (stuck_if port found)) port
 interrupted wanted port (next.Running token) old new found none = absurd none
 interrupted wanted port (next.Restart token) old new found is = inl (first_here port [])
 interrupted wanted port next.Dead old new found is = inr (stuck_all port found is.0)
 
 module _ (laws : LawsBelow) (s new : ServerState) (seen : Device) (port : Port) (state : PortState) (k : InCallInvariant s) (is : probe_result_of s.ports port.0 ≡ Unready state) (lives : state ≢ DeadState)
-    (looks : IsSimulated (IsLooking port) AnyUse s.device seen) (b : BootsOnce port (record s { device = seen }) new) where
+    (looks : IsSimulated (IsLooking port) AnyUse s.device seen) (b : BootsUnreadyPort port (record s { device = seen }) new) where
   abbrev g : StopsForReset port 0 true b.anew.result seen b.anew.stopped
   g = b.anew.gives_up
 
@@ -173,7 +173,7 @@ module _ (laws : LawsBelow) (s new : ServerState) (seen : Device) (port : Port) 
   given = done laws s seen port state k is lives looks b.anew.stopped b.anew.result g
 
   -- the whole way leaves the other ports
-  pub whole : (slots : InSlots) × Passes s port slots new.device
+  pub whole : (slots : DriverSlots) × Passes s port slots new.device
   whole = after_passes laws s port k small wanted TimedOut no_disk b.anew.result.next b.anew.stopped new.device b.found after_it given
 
   -- ---- the port
@@ -227,10 +227,10 @@ module _ (laws : LawsBelow) (s new : ServerState) (seen : Device) (port : Port) 
   looking_only = All-weaker (IsLooking port) (IsPart port) (looking_part laws port) looks.driven.accesses looks.driven.only
 
   part_only : All (IsPart port) part
-  part_only = All-weaker (IsRecovering port) (IsPart port) (recovering_part laws port small) part g.handling.does.only
+  part_only = All-weaker (IsRecoveryAccess port) (IsPart port) (recovering_part laws port small) part g.handling.does.only
 
-  pub until_of : All (IsOf port) (looks.driven.accesses ++ part)
-  until_of = All-weaker (IsPart port) (IsOf port) (λ access its. its.1) (looks.driven.accesses ++ part) (All-append (IsPart port) looks.driven.accesses part looking_only part_only)
+  pub until_of : All (SparesOtherPorts port) (looks.driven.accesses ++ part)
+  until_of = All-weaker (IsPart port) (SparesOtherPorts port) (λ access its. its.1) (looks.driven.accesses ++ part) (All-append (IsPart port) looks.driven.accesses part looking_only part_only)
 
   pub only : All (IsPart port) accesses
   only = All-append (IsPart port) looks.driven.accesses (part ++ afterwards.driven.accesses) looking_only (All-append (IsPart port) part afterwards.driven.accesses part_only afterwards.driven.only)
@@ -282,5 +282,5 @@ module _ (laws : LawsBelow) (s new : ServerState) (seen : Device) (port : Port) 
     book = λ q ne. refl;
   }
 
-  pub silent : (q : ℕ) → q ≢ port.0 → state_of (probe_result_of s.ports q) ≢ DeadState → SendsNone q ReadLog s.device new.device
+  pub silent : (q : ℕ) → q ≢ port.0 → state_of (probe_result_of s.ports q) ≢ DeadState → GainsNoMove q ReadLog s.device new.device
   silent q other alive = whole.1.silent q ReadLog refl other (λ dead. alive (ap state_of dead))

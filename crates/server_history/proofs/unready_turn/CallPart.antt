@@ -13,12 +13,12 @@ use Rattle.adapter.specs.Access.{Access}
 use Rattle.adapter.specs.Device.{Device}
 use Rattle.adapter.specs.declared.command.Operation.TheVariants.{Identify, ReadLog}
 use Rattle.refinement.specs.Relation.{port_at}
-use Rattle.refinement.specs.Driven.{AnyUse, IsDrivenBy, IsSimulated, IsOf}
+use Rattle.refinement.specs.Driven.{AnyUse, IsDrivenBy, IsSimulated, SparesOtherPorts}
 use Rattle.refinement.specs.Driver.{IsBacked}
 use Rattle.refinement.specs.Slots.{Free, Serves}
 use Rattle.refinement.specs.Spares.{SparesBook}
 use Rattle.block_machine.specs.Due.{NoneDue}
-use Rattle.block_machine.specs.Events.{AllDevices, AllMay, HadDisk, ShowsDisk, changes_disk}
+use Rattle.block_machine.specs.Events.{AllByDevice, AllMay, ShowsRealDisk, ShowsDisk, changes_disk}
 use Rattle.block_machine.specs.Histories.{IsReachable}
 use Rattle.block_machine.specs.Left.{after}
 use Rattle.block_machine.specs.State.{Machine, Pending}
@@ -34,8 +34,8 @@ use Rattle.port_control.specs.Looks.{IsLooking}
 use Rattle.port_control.specs.Services.{IsService}
 use Rattle.request_queue.specs.Entries.{asks_of}
 use Rattle.server_history.specs.Below.{LawsBelow}
-use Rattle.server_history.specs.Server.{AreKept, InCallInvariant, IsMachineOf, IsPortOf, SettledInvariant, ServerState, is_served, mode_at, mode_in, plain_mode, state_of, usable_of, use_of}
-use Rattle.server_history.specs.Probing.{BootsOnce, IsProbedAnew, IsLookedAt, ProbesPort}
+use Rattle.server_history.specs.Server.{QuarantineRelation, InCallInvariant, MachineRelation, PortInvariant, SettledInvariant, ServerState, is_served, mode_at, mode_in, plain_mode, state_of, usable_of, slot_state_of}
+use Rattle.server_history.specs.Probing.{BootsUnreadyPort, IsProbedAnew, IsLookedAt, ProbesPort}
 use Rattle.server_history.specs.Turns.{IsPortTurn, InProbe, ProbesUnready, abstract_state_of}
 use Rattle.port_control.specs.declared.events.PortError.TheVariants.{TimedOut}
 use Rattle.server_history.proofs.unready_turn.AnotherBoot.{accesses, after_it, book_left, does, found_then, its_stand, listed, looking_part, low, never_ready, no_disk, only, others, silent, stuck_if, tells, then_is, unready, until, until_of, whole}
@@ -61,7 +61,7 @@ use Rattle.server_history.proofs.unready_turn.TriedPort.{AddsTried, TellsTried, 
 -- ---- it was booted
 
 module _ (laws : LawsBelow) (s new : ServerState) (seen : Device) (port : Port) (state : PortState) (t : SettledInvariant s) (is : probe_result_of s.ports port.0 ≡ Unready state) (lives : state ≢ DeadState)
-    (looks : IsSimulated (IsLooking port) AnyUse s.device seen) (b : BootsOnce port (record s { device = seen }) new) where
+    (looks : IsSimulated (IsLooking port) AnyUse s.device seen) (b : BootsUnreadyPort port (record s { device = seen }) new) where
   abbrev k : InCallInvariant s
   k = t.kept
 
@@ -79,14 +79,14 @@ module _ (laws : LawsBelow) (s new : ServerState) (seen : Device) (port : Port) 
 
   -- ---- the machine
 
-  module _ (m : Machine) (reached : IsReachable m) (stood : IsMachineOf s m) where
-    looked : (steps : List Step) × AllMay m steps × IsMachineOf (record s { device = seen }) (after m steps) × IsBacked s.device seen m steps × AllDevices steps
+  module _ (m : Machine) (reached : IsReachable m) (stood : MachineRelation s m) where
+    looked : (steps : List Step) × AllMay m steps × MachineRelation (record s { device = seen }) (after m steps) × IsBacked s.device seen m steps × AllByDevice steps
     looked = followed_steps laws s seen (looks_serve laws port s.device seen looks) m reached stood
 
     abbrev n : Machine
     n = after m looked.0
 
-    abbrev at : IsMachineOf (record s { device = seen }) n
+    abbrev at : MachineRelation (record s { device = seen }) n
     at = looked.2
 
     p : IsPassed port.0 b.anew.result.next b.found seen new.device (record { uses = at.uses; parked = at.parked }) n
@@ -103,7 +103,7 @@ module _ (laws : LawsBelow) (s new : ServerState) (seen : Device) (port : Port) 
     none_served : (slot : ℕ) (id : RequestId) → at.uses port.0 slot ≡ Serves id → ⊥
     none_served slot id serves =
         let none = (k.slots port.0 small).unused slot (subst (λ (f : ProbeResult). usable_of f (mode_at s.modes port.0) ≤ slot) (sym is) (omega arith)) in
-        let z : Free ≡ Serves id = sym (ap use_of none) ∙ sym (at.used port.0 slot alive) ∙ serves in absurd cc
+        let z : Free ≡ Serves id = sym (ap slot_state_of none) ∙ sym (at.used port.0 slot alive) ∙ serves in absurd cc
 
     unparked : (q : ℕ) → probe_result_of then.ports q ≢ Unready DeadState → p.slots.parked q ≡ []
     unparked q other = ⊎_elim
@@ -115,14 +115,14 @@ module _ (laws : LawsBelow) (s new : ServerState) (seen : Device) (port : Port) 
         (λ (ne : q ≢ port.0). p.left.parked q ne ∙ at.unparked q (λ dead. other (get_or-set_other s.ports port.0 q b.found Unserved ne ∙ dead)))
         (cases_eq q port.0)
 
-    was_kept : AreKept s.ports s.kept w.kept
+    was_kept : QuarantineRelation s.ports s.kept w.kept
     was_kept = still_kept laws s.ports s.kept n.kept w.kept spares.kept at.kept
 
     -- a request that is kept is of another port
     elsewhere : (e : Pending) → Contains w.kept e → e.request.port.0 ≢ port.0
     elsewhere e here same = alive (ap (probe_result_of s.ports) (sym same) ∙ was_kept.dead e here)
 
-    stands : IsMachineOf then w
+    stands : MachineRelation then w
     stands = record {
       uses = p.slots.uses;
       used = uses_then port.0 b.anew.result.next b.found s.ports s.slots b.slots (record { uses = at.uses; parked = at.parked }) p.slots (listed laws s new seen port state k is lives looks b)
@@ -150,20 +150,20 @@ module _ (laws : LawsBelow) (s new : ServerState) (seen : Device) (port : Port) 
     unfolding steps
     may = laws.basic.may m p.passes.steps looked.0 looked.1 p.passes.may
 
-    then_stands : IsMachineOf then (after m steps)
+    then_stands : MachineRelation then (after m steps)
     unfolding steps
-    then_stands = subst (IsMachineOf then) (sym (laws.basic.joined m p.passes.steps looked.0)) stands
+    then_stands = subst (MachineRelation then) (sym (laws.basic.joined m p.passes.steps looked.0)) stands
 
     backed : IsBacked s.device new.device m steps
     unfolding steps
     backed = laws.backed_parts s.device seen new.device m looked.0 p.passes.steps looked.3 p.passes.backed
 
-    devices : AllDevices steps
+    devices : AllByDevice steps
     unfolding steps
     devices = devices_both p.passes.steps looked.0 p.passes.only looked.4
 
     -- where it shows a disk then, one was in
-    had : HadDisk (abstract_state_of s m) steps (abstract_state_of then (after m steps)) port
+    had : ShowsRealDisk (abstract_state_of s m) steps (abstract_state_of then (after m steps)) port
     had shows = by b.anew.result.next b.anew.is (subst (λ (f : ProbeResult). ShowsDisk (state_of f)) (found_then laws s new seen port state k is lives looks b) shows)
       where
         by : (after_it : Next) → IsProbedAnew (wanted_of s.wanted port.0) port after_it b.anew.stopped new.device b.found → ShowsDisk (state_of b.found) → (m.present port ≡ true) ⊎ (list_any (changes_disk port) steps ≡ true)
@@ -201,7 +201,7 @@ module _ (laws : LawsBelow) (s new : ServerState) (seen : Device) (port : Port) 
       record {
         accesses = accesses laws s new seen port state k is lives looks b;
         does = does laws s new seen port state k is lives looks b;
-        of = All-weaker (IsPart port) (IsOf port) (λ access x. x.1) _ its;
+        of = All-weaker (IsPart port) (SparesOtherPorts port) (λ access x. x.1) _ its;
         own = All-weaker (IsPart port) IsDriversOwn (λ access x. x.0) _ its;
         others = others laws s new seen port state k is lives looks b;
         silent = silent laws s new seen port state k is lives looks b;
@@ -244,7 +244,7 @@ module _ (laws : LawsBelow) (s : ServerState) (seen : Device) (port : Port) (sta
   serves = driven_as (IsLooking port) IsService s.device seen (laws.looking.looking_service port) looks.driven
 
   module _ (lives : state ≢ DeadState) (result : Bool) (l : IsLookedAt state port result s.device seen) (none : result ≡ false) where
-    its_port : IsPortOf s.wanted s.ports port.0 seen
+    its_port : PortInvariant s.wanted s.ports port.0 seen
     its_port =
         let was = t.kept.behind port.0 (low laws s seen port state t.kept is lives looks) in
         record {
@@ -258,17 +258,17 @@ module _ (laws : LawsBelow) (s : ServerState) (seen : Device) (port : Port) (sta
           halts = λ ready. absurd (never ready);
         }
 
-    other_port : (q : ℕ) → q < 4 → q ≢ port.0 → IsPortOf s.wanted s.ports q seen
+    other_port : (q : ℕ) → q < 4 → q ≢ port.0 → PortInvariant s.wanted s.ports q seen
     other_port q small other =
         port_on laws s.wanted s.ports q s.device seen (laws.looking.services_same s.device seen serves) t.kept.on serves
-        (λ _. laws.looks.other_left port q s.device seen other t.kept.on (driven_as (IsLooking port) (IsOf port) s.device seen (laws.looking.looking_of port) looks.driven))
+        (λ _. laws.looks.other_left port q s.device seen other t.kept.on (driven_as (IsLooking port) (SparesOtherPorts port) s.device seen (laws.looking.looking_of port) looks.driven))
         (looking_silent s seen port t.kept laws looks q Identify refl)
         (followed_halts laws (port_at q) (IsLooking port) s t.kept seen looks (λ access its. (leaving port (port_at q) access its).0))
         (t.kept.behind q small)
 
     pub rests_kept : InCallInvariant rest
     rests_kept = looked_kept s seen port t.kept laws looks (λ q small. ⊎_elim
-        (λ (same : q ≡ port.0). subst (λ (x : ℕ). IsPortOf s.wanted s.ports x seen) (sym same) its_port)
+        (λ (same : q ≡ port.0). subst (λ (x : ℕ). PortInvariant s.wanted s.ports x seen) (sym same) its_port)
         (λ (other : q ≢ port.0). other_port q small other)
         (cases_eq q port.0))
 
@@ -281,7 +281,7 @@ module _ (laws : LawsBelow) (s : ServerState) (seen : Device) (port : Port) (sta
       record {
         accesses = looks.driven.accesses;
         does = looks.driven.all;
-        of = All-weaker (IsLooking port) (IsOf port) (laws.looking.looking_of port) looks.driven.accesses looks.driven.only;
+        of = All-weaker (IsLooking port) (SparesOtherPorts port) (laws.looking.looking_of port) looks.driven.accesses looks.driven.only;
         own = All-weaker (IsLooking port) IsDriversOwn (λ access its. (looking_part laws port access its).0) looks.driven.accesses looks.driven.only;
         others = record { grants = refl; wanted = refl; last = refl; found = λ q ne. refl; remembered = λ q ne. refl; modes = λ q ne. refl; slots = λ q ne. refl; book = λ q ne. refl };
         silent = λ q other alive. looking_silent s seen port t.kept laws looks q ReadLog refl (λ dead. alive (ap state_of dead));

@@ -13,15 +13,15 @@ use Rattle.adapter.specs.Access.Access.{Reading}
 use Rattle.adapter.specs.Device.{Device, Notes, DevicePort}
 use Rattle.adapter.specs.Kept.{KeepsControls, KeepsPort}
 use Rattle.adapter.specs.Rules.{IsOn}
-use Rattle.adapter.specs.Seen.{SeenAt}
+use Rattle.adapter.specs.Seen.{PortRegisterRead}
 use Rattle.adapter.specs.declared.command.Operation.TheVariants.{Identify}
-use Rattle.refinement.specs.Driven.{LeavesPort, SendsNone}
+use Rattle.refinement.specs.Driven.{LeavesPort, GainsNoMove}
 use Rattle.refinement.specs.Links.{SameAdapter}
 use Rattle.host_boot.specs.Taken.{StillStandsBehind}
 use Rattle.host_boot.specs.declared.ProbeResult.TheVariants.{Unready}
 use Rattle.identify.specs.Wanted.{serial_of}
 use Rattle.identify.specs.declared.wanted.Wanted.{Wanted}
-use Rattle.port_boot.specs.States.{EndsAs, HasPage, IsUnfit}
+use Rattle.port_boot.specs.States.{BacksState, HasIdentity, IsUnfit}
 use Rattle.port_control.specs.Ports.{IsStopped, SawDevice}
 use Rattle.port_control.specs.Glances.{FindsChange}
 use Rattle.server_history.specs.Below.{LawsBelow}
@@ -66,8 +66,8 @@ SameButAcknowledged old new = new ≡ record old { acknowledged = new.acknowledg
 
 module _ (laws : LawsBelow) (wanted : Wanted) (port : Port) (first old new : Device) (v : ℕ) (on : IsOn old) (same : SameAdapter first new)
     (left : LeavesPort (first.port port.0) (record (old.port port.0) { notes = (first.port port.0).notes })) (noted : SameButAcknowledged (first.port port.0).notes (old.port port.0).notes)
-    (reads : Reads (Px port Ssts) v old new) (silent : SendsNone port.0 Identify first new) where
-  at : SeenAt port.0 Ssts v old new
+    (reads : Reads (Px port Ssts) v old new) (silent : GainsNoMove port.0 Identify first new) where
+  at : PortRegisterRead port.0 Ssts v old new
   at = laws.looking.seen port Ssts v old new reads on.no_reset
 
   abbrev was : Notes
@@ -109,7 +109,7 @@ module _ (laws : LawsBelow) (wanted : Wanted) (port : Port) (first old new : Dev
   stopped : IsStopped (before.port port.0) → IsStopped (new.port port.0)
   stopped s = record { halted = record { st = s.halted.st; cr = s.halted.cr; ci = s.halted.ci; taken = s.halted.taken }; sact = s.sact }
 
-  paged : (page : List ℕ) → HasPage port.0 before page → HasPage port.0 new page
+  paged : (page : List ℕ) → HasIdentity port.0 before page → HasIdentity port.0 new page
   paged page h = record {
     before = h.before;
     move = h.move;
@@ -133,7 +133,7 @@ module _ (laws : LawsBelow) (wanted : Wanted) (port : Port) (first old new : Dev
   unfit shows n (inr (inr (inl (is, its, count)))) = inr (inr (inl (is, saw shows its, commands ∙ count)))
   unfit shows n (inr (inr (inr (page, has, fault)))) = inr (inr (inr (page, paged page has, fault)))
 
-  ends : (state : Shown) → state ≢ Dead → ShowsAsBefore state v → EndsAs (serial_of wanted) state port.0 before → EndsAs (serial_of wanted) state port.0 new
+  ends : (state : Shown) → state ≢ Dead → ShowsAsBefore state v → BacksState (serial_of wanted) state port.0 before → BacksState (serial_of wanted) state port.0 new
   ends Absent lives out (s, its) = (stopped s, ((λ shows. out (sym (ap (λ (n : ℕ). n % 16) shown) ∙ shows)), counted its.1))
   ends (Unfit n) lives shows (s, its) = (stopped s, unfit shows n its)
   ends Foreign lives shows (s, (page, has, other)) = (stopped s, (page, paged page has, other))
@@ -148,7 +148,7 @@ module _ (laws : LawsBelow) (wanted : Wanted) (port : Port) (first old new : Dev
 -- ---- a look
 
 pub looked_stands : (laws : LawsBelow) (wanted : Wanted) (port : Port) (state : Shown) (result : Bool) (old new : Device) → IsOn old → state ≢ Dead → IsLookedAt state port result old new → result ≡ false → SameAdapter old new
-    → SendsNone port.0 Identify old new → StillStandsBehind wanted (Unready state) port.0 old → StillStandsBehind wanted (Unready state) port.0 new
+    → GainsNoMove port.0 Identify old new → StillStandsBehind wanted (Unready state) port.0 old → StillStandsBehind wanted (Unready state) port.0 new
 looked_stands laws wanted port state result old new on lives looks none same silent s = by state lives looks s
   where
     change : (its : Shown) → its ≢ Dead → (ShowsAsBefore its ≡ (λ v. v % 16 ≡ 3)) → FindsChange port result old new → StillStandsBehind wanted (Unready its) port.0 old → StillStandsBehind wanted (Unready its) port.0 new

@@ -13,12 +13,12 @@ use Rattle.adapter.specs.Access.Access.{Reading, Writing}
 use Rattle.adapter.specs.Device.{Device, DevicePort}
 use Rattle.adapter.specs.Rules.{IsOn}
 use Rattle.refinement.specs.Driven.{Grows}
-use Rattle.refinement.specs.Errors.{NoneComes}
-use Rattle.refinement.specs.Links.{IsPlugging, PlugsNone}
+use Rattle.refinement.specs.Errors.{NoDiskComes}
+use Rattle.refinement.specs.Links.{IsPlugEvent, NoPlugEvents}
 use Rattle.refinement.specs.Vacant.{IsFreshIfShown, IsVacant}
 use Rattle.block_machine.specs.Events.{ShowsDisk}
 use Rattle.driver_history.specs.Evidence.{Gains, ShowsChange}
-use Rattle.driver_history.specs.Histories.{IsFreshOrUnshown}
+use Rattle.driver_history.specs.Histories.{HasSignatureOrNoDevice}
 use Rattle.driver_history.specs.Trace.{ResetsLink}
 use Rattle.host_boot.specs.Again.{BootsStopped}
 use Rattle.port_boot.specs.Outcomes.{EndsUnready}
@@ -27,7 +27,7 @@ use Rattle.host_boot.specs.declared.ProbeResult.TheVariants.{Ready, Unready, Uns
 use Rattle.identify.specs.Wanted.{serial_of}
 use Rattle.identify.specs.declared.DiskInfo.{DiskInfo}
 use Rattle.identify.specs.declared.wanted.Wanted.{Wanted}
-use Rattle.port_boot.specs.States.{EndsAs, EndsBeforeStart, EndsAfterStart, IsStateOfFault}
+use Rattle.port_boot.specs.States.{BacksState, EndsBeforeStart, EndsAfterStart, IsStateOfFault}
 use Rattle.port_control.specs.Ports.{HasClearErrors}
 use Rattle.port_control.specs.Looks.{IsLooking}
 use Rattle.server_history.specs.Below.{LawsBelow}
@@ -47,14 +47,14 @@ split (access ∷ early) late old new (next, one, rest) = let x = split early la
 
 module _ (laws : LawsBelow) (port : Port) where
   -- the first and the second of two parts, each by accesses
-  pub none_parts : (old mid new : Device) → Grows old mid → Grows mid new → NoneComes port.0 old new → NoneComes port.0 old mid × NoneComes port.0 mid new
+  pub none_parts : (old mid new : Device) → Grows old mid → Grows mid new → NoDiskComes port.0 old new → NoDiskComes port.0 old mid × NoDiskComes port.0 mid new
   none_parts old mid new early late none = laws.looks.tape.comes_parts port.0 old mid new early.0 late.0 early.1 late.1 none
 
-  pub stays_vacant : (accesses : List Access) (old new : Device) → DoesAll accesses old new → NoneComes port.0 old new → IsVacant (old.port port.0) → IsVacant (new.port port.0)
+  pub stays_vacant : (accesses : List Access) (old new : Device) → DoesAll accesses old new → NoDiskComes port.0 old new → IsVacant (old.port port.0) → IsVacant (new.port port.0)
   stays_vacant = stays_so laws port IsVacant (laws.vacant_on port)
 
   -- once the link was reset, the first FIS of a disk that shows has come
-  reset_fresh : (accesses : List Access) (old new : Device) → ResetsLink port accesses → DoesAll accesses old new → NoneComes port.0 old new → IsFreshIfShown (new.port port.0)
+  reset_fresh : (accesses : List Access) (old new : Device) → ResetsLink port accesses → DoesAll accesses old new → NoDiskComes port.0 old new → IsFreshIfShown (new.port port.0)
   reset_fresh accesses old new r does none =
       let rest = r.between ++ (Writing (Px port Sctl) r.ending ∷ r.later) in
       let x = split r.before (Writing (Px port Sctl) r.sending ∷ rest) old new (subst (λ (list : List Access). DoesAll list old new) r.here does) in
@@ -62,27 +62,27 @@ module _ (laws : LawsBelow) (port : Port) where
       let early = laws.looks.tape.grows_more old x.0 sent (grows_over laws r.before old x.0 x.1) (laws.looks.tape.access_grows (Writing (Px port Sctl) r.sending) x.0 sent x.2.1) in
       stays_so laws port IsFreshIfShown (laws.fresh_on port) rest sent new x.2.2 (none_parts old sent new early (grows_over laws rest sent new x.2.2) none).1 (laws.fresh_reset port r.sending x.0 sent r.sends x.2.1)
 
-  fresh_or_gone : (p : DevicePort) → IsFreshIfShown p → IsFreshOrUnshown p
+  fresh_or_gone : (p : DevicePort) → IsFreshIfShown p → HasSignatureOrNoDevice p
   fresh_or_gone p fresh = ⊎_elim (λ (shows : p.ssts_det ≡ 3). inl (fresh shows)) (λ (gone : p.ssts_det ≢ 3). inr gone) (cases_eq p.ssts_det 3)
 
-  pub reset_fresh_or_gone : (accesses : List Access) (old new : Device) → ResetsLink port accesses → DoesAll accesses old new → NoneComes port.0 old new → IsFreshOrUnshown (new.port port.0)
+  pub reset_fresh_or_gone : (accesses : List Access) (old new : Device) → ResetsLink port accesses → DoesAll accesses old new → NoDiskComes port.0 old new → HasSignatureOrNoDevice (new.port port.0)
   reset_fresh_or_gone accesses old new r does none = fresh_or_gone (new.port port.0) (reset_fresh accesses old new r does none)
 
   -- a device that showed, and shows no more, has gone
-  pub has_gone : (v : ℕ) (old new : Device) → IsOn old → Reads (Px port Ssts) v old new → (old.port port.0).ssts_det ≡ 3 → (new.port port.0).ssts_det ≢ 3 → Gains (IsPlugging port.0) old new
+  pub has_gone : (v : ℕ) (old new : Device) → IsOn old → Reads (Px port Ssts) v old new → (old.port port.0).ssts_det ≡ 3 → (new.port port.0).ssts_det ≢ 3 → Gains (IsPlugEvent port.0) old new
   has_gone v old new on reads shows gone =
       let grows = laws.looks.tape.access_grows (Reading (Px port Ssts) v) old new reads in
       ⊎_elim
       (λ found. record { gained = grows.0; tape = grows.1; entry = found.0; here = found.1; is = found.2 })
       (λ none. absurd (gone (⊎_elim (λ same. same.det ∙ shows) (λ up. up.det)
       (laws.looks.access_link port (Reading (Px port Ssts) v) old new on.no_reset tt reads (record { gained = grows.0; tape = grows.1; none = none })))))
-      (one_or_none (IsPlugging port.0) (is_plugging port.0) grows.0)
+      (one_or_none (IsPlugEvent port.0) (is_plugging port.0) grows.0)
 
 -- ---- a look
 
 -- what isn't shown in PxSERR hasn't come, and X is shown still
 record KeepsChange (port : ℕ) (old new : Device) : Type 0 where
-  disk : (new.port port).serr_n ≡ false → ((old.port port).serr_n ≡ false) × PlugsNone port old new
+  disk : (new.port port).serr_n ≡ false → ((old.port port).serr_n ≡ false) × NoPlugEvents port old new
   came : (old.port port).serr_x ≡ true → (new.port port).serr_x ≡ true
 
 module _ (laws : LawsBelow) (port : Port) where
@@ -100,13 +100,13 @@ module _ (laws : LawsBelow) (port : Port) where
       }
 
   -- what the link told before, and what came, is shown still
-  pub change_shown : (accesses : List Access) (old new : Device) → IsOn old → All (IsLooking port) accesses → DoesAll accesses old new → ShowsChange (old.port port.0) ⊎ Gains (IsPlugging port.0) old new → ShowsChange (new.port port.0)
+  pub change_shown : (accesses : List Access) (old new : Device) → IsOn old → All (IsLooking port) accesses → DoesAll accesses old new → ShowsChange (old.port port.0) ⊎ Gains (IsPlugEvent port.0) old new → ShowsChange (new.port port.0)
   change_shown accesses old new on all does port_error = ⊎_elim
       (λ (is : (new.port port.0).serr_n ≡ true). inl is)
       (λ (clear : (new.port port.0).serr_n ≡ false).
       let none = keeps.disk clear in ⊎_elim
       (λ change. ⊎_elim (λ went. absurd (false≢true (sym none.0 ∙ went))) (λ came. inr (keeps.came came)) change)
-      (λ gains. absurd (gains_none (IsPlugging port.0) old new none.1.gained none.1.tape none.1.none gains))
+      (λ gains. absurd (gains_none (IsPlugEvent port.0) old new none.1.gained none.1.tape none.1.none gains))
       port_error)
       (cases_Bool ((new.port port.0).serr_n))
     where
@@ -130,12 +130,12 @@ module _ (wanted : Wanted) (port : Port) (old new : Device) where
   pub boot_ready : (found : ProbeResult) → BootsStopped wanted port found old new → state_of found ≡ ReadyState → (info : DiskInfo) × (found ≡ Ready info)
   boot_ready Unserved none is = absurd none
   boot_ready (Ready info) e is = (info, refl)
-  boot_ready (Unready state) e is = absurd (subst (λ (its : Shown). EndsAs (serial_of wanted) its port.0 new) is e.ended)
+  boot_ready (Unready state) e is = absurd (subst (λ (its : Shown). BacksState (serial_of wanted) its port.0 new) is e.ended)
 
   -- A boot that finds a disk leaves nothing of before in PxSERR; and where no disk came, no link is due.
   pub record LeavesClear : Type 0 where
     pub clear : HasClearErrors port.0 old new
-    pub undue : NoneComes port.0 old new → (new.port port.0).link_due ≡ false
+    pub undue : NoDiskComes port.0 old new → (new.port port.0).link_due ≡ false
 
   early_clear : (state : Shown) → state ≢ Absent → EndsBeforeStart port state old new → LeavesClear
   early_clear state other e = let f = e.found (λ none. other (subst (IsStateOfFault state) none e.told)) in record { clear = f.clear; undue = f.undue }

@@ -11,25 +11,25 @@ use Rattle.ata_types.specs.declared.limits.TheConstants.{MOST_READINGS}
 use Rattle.adapter.specs.Access.{Access}
 use Rattle.adapter.specs.declared.access.DeviceStep.{DeviceStep}
 use Rattle.refinement.specs.Driver.{IsBacked}
-use Rattle.refinement.specs.Errors.{NoneComes}
-use Rattle.block_machine.specs.Events.{AllDevices, AllMay, HadDisk, Served, Service, Tells, UnplugsAll}
+use Rattle.refinement.specs.Errors.{NoDiskComes}
+use Rattle.block_machine.specs.Events.{AllByDevice, AllMay, ShowsRealDisk, Served, Service, RepliesMatch, AnswersAllUnplugged}
 use Rattle.block_machine.specs.Left.{after}
-use Rattle.block_machine.specs.Ports.{Evidence, IsInterrupted, IsServiced, SamePort}
+use Rattle.block_machine.specs.Ports.{Evidence, IsStoppedOrStuck, IsServiced, SamePort}
 use Rattle.block_machine.specs.State.{Machine}
 use Rattle.block_machine.specs.Steps.{Step}
 use Rattle.driver_history.specs.Heeding.{OnlyFailedPortsRequeue}
 use Rattle.driver_history.specs.Evidence.{IsEvidencedOf}
 use Rattle.driver_history.specs.Histories.{LosesNoPortError, RunsWellAnew, ProbesDisk}
-use Rattle.driver_history.specs.Holds.{NoneWaits}
+use Rattle.driver_history.specs.Holds.{HasNoUnanswered}
 use Rattle.driver_history.specs.Trace.{LeavesEngine, ResetsLink}
-use Rattle.driver_history.specs.Parts.{EndsLinked}
+use Rattle.driver_history.specs.Parts.{EndsNoLinkDue}
 use Rattle.host_boot.specs.Taken.{probe_result_of}
 use Rattle.port_control.specs.Engines.{Sticks, Stops}
-use Rattle.request_queue.specs.Entries.{Held}
-use Rattle.request_queue.specs.Machine.{IsEntry}
+use Rattle.request_queue.specs.Entries.{BookEntry}
+use Rattle.request_queue.specs.Machine.{EntryRelation}
 use Rattle.server_history.specs.Below.{LawsBelow}
-use Rattle.server_history.specs.Server.{InCallInvariant, IsMachineOf, SettledInvariant, ServerState, mode_in, ports_of, state_of}
-use Rattle.server_history.specs.Turns.{InService, InProbe, IsOfTurn, MakesTurn, NamesOnly, OwesTurn, TurnCorresponds, joint_state_of, abstract_state_of}
+use Rattle.server_history.specs.Server.{InCallInvariant, MachineRelation, SettledInvariant, ServerState, mode_in, ports_of, state_of}
+use Rattle.server_history.specs.Turns.{InService, InProbe, IsOfTurn, SimulatesTurn, NamesOnly, MeetsTurnDuty, TurnCorresponds, joint_state_of, abstract_state_of}
 use Rattle.server_history.proofs.state.AnswerSteps.{no_answer}
 use Rattle.server_history.proofs.state.DueRequests.{none_issued}
 use Rattle.server_history.proofs.state.DeviceSteps.{devices_belong, devices_last, devices_lawful}
@@ -48,24 +48,24 @@ pub record TellsTried (port : Port) (stopped stuck : List Port) (accesses : List
   pub its_stopped : All (λ q. q ≡ port) stopped
   pub its_stuck : All (λ q. q ≡ port) stuck
   pub becomes : IsServiced (ports_of old) (evidence_tried stopped stuck) (ports_of new) port
-  pub engine : All (LeavesEngine port) accesses ⊎ IsInterrupted (evidence_tried stopped stuck) port
+  pub engine : All (LeavesEngine port) accesses ⊎ IsStoppedOrStuck (evidence_tried stopped stuck) port
   pub stops : Contains stopped port → Stops port accesses
   pub sticks : Contains stuck port → Sticks port accesses × ((new.device.port port.0).notes.engine_count ≡ MOST_READINGS)
 
 -- The device's steps lead a machine that stands for the one server to one that stands for the other.
 pub record AddsTried (port : Port) (old new : ServerState) (m : Machine) : Type 0 where
   pub steps : List Step
-  pub only : AllDevices steps
+  pub only : AllByDevice steps
   pub may : AllMay m steps
-  pub stands : IsMachineOf new (after m steps)
+  pub stands : MachineRelation new (after m steps)
   pub backed : IsBacked old.device new.device m steps
-  pub disk : SamePort (ports_of old) (ports_of new) port ⊎ HadDisk (abstract_state_of old m) steps (abstract_state_of new (after m steps)) port
+  pub disk : SamePort (ports_of old) (ports_of new) port ⊎ ShowsRealDisk (abstract_state_of old m) steps (abstract_state_of new (after m steps)) port
 
 -- What the turn has done of the port besides: where no disk of it came, what is there was tried, after which no link is due; it was booted anew, unless it is what it was, or dead or
 -- absent; and no trouble of it is lost.
 pub record DoesTried (port : Port) (evidence : Evidence) (accesses : List Access) (old new : ServerState) : Type 0 where
-  pub probes : (m : Machine) → NoneComes port.0 old.device new.device → ProbesDisk accesses (joint_state_of old m) (ports_of new) new.device port
-  pub linked : (m : Machine) → EndsLinked port (joint_state_of old m) (ports_of new) new.device
+  pub probes : (m : Machine) → NoDiskComes port.0 old.device new.device → ProbesDisk accesses (joint_state_of old m) (ports_of new) new.device port
+  pub linked : (m : Machine) → EndsNoLinkDue port (joint_state_of old m) (ports_of new) new.device
   pub boots : SamePort (ports_of old) (ports_of new) port ⊎ (((ports_of new).state port ≡ Dead) ⊎ (((ports_of new).state port ≡ Absent) ⊎ ResetsLink port accesses))
   pub port_error : (m : Machine) → LosesNoPortError evidence (joint_state_of old m) (ports_of new) new.device port
   pub well : (m : Machine) → RunsWellAnew evidence accesses (joint_state_of old m) (ports_of new) new.device port
@@ -74,14 +74,14 @@ pub record DoesTried (port : Port) (evidence : Evidence) (accesses : List Access
 
 module _ (laws : LawsBelow) (port : Port) (old : ServerState) (k : InCallInvariant old) (unready : state_of (probe_result_of old.ports port.0) ≢ ReadyState) where
   -- none of its requests is unanswered
-  pub none_held : (e : Held) → Contains old.book e → e.entry.port ≢ port
+  pub none_held : (e : BookEntry) → Contains old.book e → e.entry.port ≢ port
   none_held e here same = unready (ap (λ (q : Port). state_of (probe_result_of old.ports q.0)) (sym same) ∙ of_ready old k e here)
 
-  module _ (m : Machine) (is : IsMachineOf old m) (steps : List Step) (only : AllDevices steps) where
-    pub none_waits : NoneWaits (after m steps) port
+  module _ (m : Machine) (is : MachineRelation old m) (steps : List Step) (only : AllByDevice steps) where
+    pub none_waits : HasNoUnanswered (after m steps) port
     none_waits e here same =
         let b = laws.basic.found_before m.book (after m steps).book e (laws.basic.spares m steps only).book here in
-        let h = at_right IsEntry old.book m.book is.book b.0 b.1 in
+        let h = at_right EntryRelation old.book m.book is.book b.0 b.1 in
         none_held h.0 h.1 (sym h.2.port ∙ ap (λ r. r.port) (sym b.2.request) ∙ same)
 
   module _ (new : ServerState) (settled : SettledInvariant new) (stopped stuck : List Port) (accesses : List Access) (t : TellsTried port stopped stuck accesses old new)
@@ -113,8 +113,8 @@ module _ (laws : LawsBelow) (port : Port) (old : ServerState) (k : InCallInvaria
       stuck_only = λ here. inl (t.sticks here);
     }
 
-    module _ (m : Machine) (is : IsMachineOf old m) (x : AddsTried port old new m) where
-      tells : Tells x.steps []
+    module _ (m : Machine) (is : MachineRelation old m) (x : AddsTried port old new m) where
+      tells : RepliesMatch x.steps []
       tells = record {
         answers = [];
         same = subst (IsPermutation []) (sym (devices_answers x.steps x.only)) (IsPermutation-refl []);
@@ -122,10 +122,10 @@ module _ (laws : LawsBelow) (port : Port) (old : ServerState) (k : InCallInvaria
         told = refl;
       }
 
-      unplugs : UnplugsAll x.steps (after m x.steps)
+      unplugs : AnswersAllUnplugged x.steps (after m x.steps)
       unplugs = record { emptied = λ e other here. absurd (no_answer x.steps x.only e Unplugged here); alike = λ e other here. absurd (no_answer x.steps x.only e Unplugged here) }
 
-      owes : OwesTurn InProbe port accesses old new m its x.steps
+      owes : MeetsTurnDuty InProbe port accesses old new m its x.steps
       owes = (devices_all (OnlyFailedPortsRequeue its) (device_grounded its) tt x.steps x.only, refl, refl)
 
       ties : TurnCorresponds InProbe port [] accesses old new m its x.steps
@@ -142,7 +142,7 @@ module _ (laws : LawsBelow) (port : Port) (old : ServerState) (k : InCallInvaria
         did.linked m,
       )
 
-      pub makes_try : MakesTurn InProbe port [] accesses old new m
+      pub makes_try : SimulatesTurn InProbe port [] accesses old new m
       makes_try = record {
         steps = x.steps;
         evidence = its;

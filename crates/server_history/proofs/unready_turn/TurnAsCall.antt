@@ -13,17 +13,17 @@ use Rattle.adapter.specs.Access.Access.{Reading}
 use Rattle.adapter.specs.Device.{Device}
 use Rattle.adapter.specs.Rules.{IsOn}
 use Rattle.refinement.specs.Driven.{AnyUse, IsSimulated, IsDrivenBy}
-use Rattle.refinement.specs.Errors.{NoneComes, IsFatalOf}
+use Rattle.refinement.specs.Errors.{NoDiskComes, IsFatalOf}
 use Rattle.refinement.specs.Facts.{IsFaultOf, RunsWell}
-use Rattle.refinement.specs.Links.{PlugsNone}
+use Rattle.refinement.specs.Links.{NoPlugEvents}
 use Rattle.refinement.specs.Vacant.{IsVacant}
 use Rattle.block_machine.specs.Events.{ShowsDisk}
-use Rattle.block_machine.specs.Ports.{Evidence, IsInterrupted}
+use Rattle.block_machine.specs.Ports.{Evidence, IsStoppedOrStuck}
 use Rattle.block_machine.specs.State.{Machine}
-use Rattle.driver_history.specs.Histories.{IsUnfitOrForeign, IsFreshOrUnshown, ProbesDisk}
+use Rattle.driver_history.specs.Histories.{HasUnservedDisk, HasSignatureOrNoDevice, ProbesDisk}
 use Rattle.driver_history.specs.Trace.{ResetsLink}
-use Rattle.driver_history.specs.Parts.{EndsLinked}
-use Rattle.error_recovery.specs.Evidence.{GainsRunning, ShowsTrouble}
+use Rattle.driver_history.specs.Parts.{EndsNoLinkDue}
+use Rattle.error_recovery.specs.Evidence.{GainsSinceStart, HidesNoTrouble}
 use Rattle.error_recovery.specs.declared.Next.{Next}
 use Rattle.error_recovery.specs.declared.Next.TheVariants as next
 use Rattle.host_boot.specs.Again.{RebootsPort}
@@ -37,7 +37,7 @@ use Rattle.port_control.specs.Glances.{FindsChange, FindsDevice}
 use Rattle.port_control.specs.Looks.{IsLooking}
 use Rattle.server_history.specs.Below.{LawsBelow}
 use Rattle.server_history.specs.Server.{InCallInvariant, ServerState, is_served, ports_of, state_of}
-use Rattle.server_history.specs.Probing.{BootsOnce, IsProbedAnew, IsLookedAt}
+use Rattle.server_history.specs.Probing.{BootsUnreadyPort, IsProbedAnew, IsLookedAt}
 use Rattle.server_history.specs.Turns.{joint_state_of}
 use Rattle.port_control.specs.declared.events.PortError.TheVariants.{TimedOut, LinkChanged}
 use Rattle.server_history.proofs.unready_turn.AnotherBoot.{interrupted, never_ready, stuck_if, whole, accesses, afterwards, does, found_then, then_is, until, until_of}
@@ -56,11 +56,11 @@ use Rattle.server_history.proofs.unready_turn.UnfitPort.{found_bad}
 -- ---- a port in which a disk was found that isn't served
 
 module _ (s : ServerState) (port : Port) (state : PortState) (k : InCallInvariant s) (is : probe_result_of s.ports port.0 ≡ Unready state) where
-  bad_found : IsUnfitOrForeign (ports_of s) port → FoundBadDisk (state_of (probe_result_of s.ports port.0))
+  bad_found : HasUnservedDisk (ports_of s) port → FoundBadDisk (state_of (probe_result_of s.ports port.0))
   bad_found bad = found_bad (state_of (probe_result_of s.ports port.0)) bad
 
   -- no disk is in then, where none shows
-  vacant : IsUnfitOrForeign (ports_of s) port → (s.device.port port.0).ssts_det ≢ 3 → IsVacant (s.device.port port.0)
+  vacant : HasUnservedDisk (ports_of s) port → (s.device.port port.0).ssts_det ≢ 3 → IsVacant (s.device.port port.0)
   vacant bad out = ⊎_elim
       (λ (shows : (s.device.port port.0).ssts_det ≡ 3). absurd (out shows))
       (λ (gone : (s.device.port port.0).present ≡ false). record { out = gone; det = out })
@@ -72,7 +72,7 @@ module _ (s : ServerState) (port : Port) (state : PortState) (k : InCallInvarian
     device_found : (ports_of s).state port ≡ Absent → FindsDevice port result s.device seen
     device_found absent = subst (λ (its : PortState). IsLookedAt its port result s.device seen) (sym (ap state_of is) ∙ absent) l
 
-    change_found : IsUnfitOrForeign (ports_of s) port → FindsChange port result s.device seen
+    change_found : HasUnservedDisk (ports_of s) port → FindsChange port result s.device seen
     change_found bad = ⊎_elim
         (λ foreign. subst (λ (its : PortState). IsLookedAt its port result s.device seen) (sym (ap state_of is) ∙ foreign) l)
         (λ unfit. subst (λ (its : PortState). IsLookedAt its port result s.device seen) (sym (ap state_of is) ∙ unfit.1) l)
@@ -84,7 +84,7 @@ module _ (s : ServerState) (port : Port) (state : PortState) (k : InCallInvarian
         let f = device_found absent in
         unequal (f.status % 16) 3 (sym f.tells ∙ none) (laws.looks.shown_after port Ssts f.status s.device seen k.on.no_reset f.reads ∙ shows)
 
-    still_there : NoneComes port.0 s.device seen → IsUnfitOrForeign (ports_of s) port → (s.device.port port.0).ssts_det ≢ 3 → ⊥
+    still_there : NoDiskComes port.0 s.device seen → HasUnservedDisk (ports_of s) port → (s.device.port port.0).ssts_det ≢ 3 → ⊥
     still_there comes bad out =
         let f = change_found bad in
         let on = laws.looks.access_on (Reading (Px port Is) f.causes) s.device f.seen k.on (λ v e. absurd cc) f.reads in
@@ -92,13 +92,13 @@ module _ (s : ServerState) (port : Port) (state : PortState) (k : InCallInvarian
         (stays_vacant laws port (Reading (Px port Is) f.causes ∷ Reading (Px port Ssts) f.status ∷ []) s.device seen (f.seen, f.reads, (seen, f.shows, refl)) comes (vacant bad out)).det
         (sym (laws.looks.shown_after port Ssts f.status f.seen seen on.no_reset f.shows) ∙ link)
 
-    still_same : IsUnfitOrForeign (ports_of s) port → (s.device.port port.0).serr_x ≡ true → ⊥
+    still_same : HasUnservedDisk (ports_of s) port → (s.device.port port.0).serr_x ≡ true → ⊥
     still_same bad came =
         let f = change_found bad in
         let told = (laws.looks.changes_told port f.causes s.device f.seen k.on.no_reset f.reads).1 came in
         false≢true (sym (unchanged (bit f.causes 6) (bit f.causes 22) (f.status % 16 == 3) (sym f.tells ∙ none)).0 ∙ told)
 
-    rests_tries : NoneComes port.0 s.device seen → (made : List Access) (m : Machine) → ProbesDisk made (joint_state_of s m) (ports_of s) seen port
+    rests_tries : NoDiskComes port.0 s.device seen → (made : List Access) (m : Machine) → ProbesDisk made (joint_state_of s m) (ports_of s) seen port
     rests_tries comes made m = record {
       shown = λ absent shows. let f = device_found absent in inr (inr (has_gone laws port f.status s.device seen k.on f.reads shows (gone absent)));
       absent = λ absent shows fresh. inr (inr (gone absent));
@@ -128,7 +128,7 @@ module _ (s : ServerState) (port : Port) (state : PortState) (k : InCallInvarian
 -- ---- it was booted
 
 module _ (laws : LawsBelow) (s new : ServerState) (seen : Device) (port : Port) (state : PortState) (k : InCallInvariant s) (is : probe_result_of s.ports port.0 ≡ Unready state) (lives : state ≢ DeadState)
-    (looks : IsSimulated (IsLooking port) AnyUse s.device seen) (b : BootsOnce port (record s { device = seen }) new) where
+    (looks : IsSimulated (IsLooking port) AnyUse s.device seen) (b : BootsUnreadyPort port (record s { device = seen }) new) where
   abbrev then : ServerState
   then = then_is laws s new seen port state k is lives looks b
 
@@ -189,7 +189,7 @@ module _ (laws : LawsBelow) (s new : ServerState) (seen : Device) (port : Port) 
   sees f shows = booted_sees laws port (wanted_of s.wanted port.0) f.booted first s.device b.anew.stopped new.device k.on (until laws s new seen port state k is lives looks b) (until_of laws s new seen port state k is lives looks b) f.boots shows
 
   -- where no disk was in, it saw none
-  saw_none : NoneComes port.0 s.device new.device → (f : FindsSome) → IsUnfitOrForeign (ports_of s) port → (s.device.port port.0).ssts_det ≢ 3 → (ports_of then).state port ≡ Absent
+  saw_none : NoDiskComes port.0 s.device new.device → (f : FindsSome) → HasUnservedDisk (ports_of s) port → (s.device.port port.0).ssts_det ≢ 3 → (ports_of then).state port ≡ Absent
   saw_none comes f bad out = ⊎_elim
       (λ shows.
       let x = sees f shows in
@@ -201,16 +201,16 @@ module _ (laws : LawsBelow) (s new : ServerState) (seen : Device) (port : Port) 
   clear : (f : FindsSome) → ShowsDisk (state_of f.booted.found) → LeavesClear (wanted_of s.wanted port.0) port f.boots.asked new.device
   clear f shows = boot_clear (wanted_of s.wanted port.0) port f.boots.asked new.device f.booted.found f.boots.boots shows
 
-  since : (f : FindsSome) → ShowsDisk (state_of f.booted.found) → NoneComes port.0 s.device new.device → NoneComes port.0 f.boots.asked new.device
+  since : (f : FindsSome) → ShowsDisk (state_of f.booted.found) → NoDiskComes port.0 s.device new.device → NoDiskComes port.0 f.boots.asked new.device
   since f shows comes = let x = sees f shows in (none_parts laws port s.device f.boots.asked new.device x.before x.since comes).1
 
-  boot_linked : (m : Machine) → EndsLinked port (joint_state_of s m) (ports_of then) new.device
+  boot_linked : (m : Machine) → EndsNoLinkDue port (joint_state_of s m) (ports_of then) new.device
   boot_linked m bad came comes = ⊎_elim
       (λ dead. inr (inl dead))
       (λ f. ⊎_elim (λ shows. inr (inr ((clear f shows).undue (since f shows comes)))) (λ absent. inl absent) f.shows)
       finds
 
-  boot_tries : (m : Machine) → NoneComes port.0 s.device new.device → ProbesDisk made (joint_state_of s m) (ports_of then) new.device port
+  boot_tries : (m : Machine) → NoDiskComes port.0 s.device new.device → ProbesDisk made (joint_state_of s m) (ports_of then) new.device port
   boot_tries m comes = record {
     shown = λ absent shows. ⊎_elim (λ dead. inl dead) (λ f. inr (inl f.resets)) finds;
     absent = λ absent shows fresh. ⊎_elim (λ dead. inl dead) (λ f. inr (fresh_then f)) finds;
@@ -218,7 +218,7 @@ module _ (laws : LawsBelow) (s new : ServerState) (seen : Device) (port : Port) 
     changed = λ bad came. ⊎_elim (λ dead. inr (inl dead)) (λ f. ⊎_elim (λ shows. inr (inr (f.resets, (clear f shows).clear.serr_x (since f shows comes), fresh_then f))) (λ absent. inl absent) f.shows) finds;
   }
     where
-      fresh_then : (f : FindsSome) → IsFreshOrUnshown (new.device.port port.0)
+      fresh_then : (f : FindsSome) → HasSignatureOrNoDevice (new.device.port port.0)
       fresh_then f = reset_fresh_or_gone laws port made s.device new.device f.resets (does laws s new seen port state k is lives looks b) comes
 
   -- ---- trouble
@@ -237,10 +237,10 @@ module _ (laws : LawsBelow) (s new : ServerState) (seen : Device) (port : Port) 
     low_port : port.0 < 4
     low_port = (k.there port.0 (ap is_served is)).0
 
-    shows_trouble : ShowsTrouble port.0 s.device new.device
+    shows_trouble : HidesNoTrouble port.0 s.device new.device
     shows_trouble = boot_shows laws port low_port (wanted_of s.wanted port.0) found.0 f.booted s.device b.anew.stopped new.device new.device stopped_on f.boots found.1 nothing
 
-    runs_well : PlugsNone port.0 s.device new.device → (GainsRunning (IsFaultOf port.0) port.0 s.device new.device → ⊥) → (GainsRunning (IsFatalOf port.0) port.0 s.device new.device → ⊥) → RunsWell (new.device.port port.0)
+    runs_well : NoPlugEvents port.0 s.device new.device → (GainsSinceStart (IsFaultOf port.0) port.0 s.device new.device → ⊥) → (GainsSinceStart (IsFatalOf port.0) port.0 s.device new.device → ⊥) → RunsWell (new.device.port port.0)
     runs_well = booted_well laws port low_port (wanted_of s.wanted port.0) found.0 f.booted s.device b.anew.stopped new.device new.device stopped_on f.boots found.1 nothing (whole laws s new seen port state k is lives looks b).1.on
         (grows_over laws first s.device b.anew.stopped (until laws s new seen port state k is lives looks b))
 
@@ -266,5 +266,5 @@ module _ (laws : LawsBelow) (s new : ServerState) (seen : Device) (port : Port) 
     well = λ m _ ready none unfailed unbroken _. runs_well (some_found ready) ready none unfailed unbroken;
   }
     where
-      stops : IsInterrupted evidence port
+      stops : IsStoppedOrStuck evidence port
       stops = interrupted (wanted_of s.wanted port.0) port b.anew.result.next b.anew.stopped new.device b.found b.anew.is

@@ -16,9 +16,9 @@ use Rattle.adapter.specs.Device.{Device}
 use Rattle.adapter.specs.declared.access.DeviceStep.{DeviceStep}
 use Rattle.adapter.specs.Rules.{IsOn}
 use Rattle.refinement.specs.Relation.{port_at}
-use Rattle.refinement.specs.Driven.{IsDrivenBy, IsOf}
+use Rattle.refinement.specs.Driven.{IsDrivenBy, SparesOtherPorts}
 use Rattle.refinement.specs.Slots.{IsMove, ServesRequest}
-use Rattle.block_machine.specs.Events.{Ask, AllLawful, AreStepsOfCall, IsIssuedIn, AbstractState, Served, ShowsDisk, WasIssued, changes_disk, issues_it}
+use Rattle.block_machine.specs.Events.{AbstractCall, AllLawful, AreStepsOfCall, IsIssuedIn, AbstractState, Served, ShowsDisk, WasIssued, changes_disk, issues_it}
 use Rattle.block_machine.specs.Histories.{JointState, IsReachable}
 use Rattle.block_machine.specs.Left.{after}
 use Rattle.block_machine.specs.Ports.{Evidence, RequestFault, Ports, SameDisk, SamePort}
@@ -33,11 +33,11 @@ use Rattle.host_boot.specs.declared.ProbeResult.TheVariants.{Unserved, Ready, Un
 use Rattle.driver_history.specs.Evidence.{FailsPlain, FailsQueued, IsEvidencedOf}
 use Rattle.error_recovery.specs.Evidence.{BringsLog, HasFailed}
 use Rattle.driver_history.specs.Histories.{IssuesDue}
-use Rattle.driver_history.specs.Parts.{HasTurnIn, IsOfOther, NamesAlike}
-use Rattle.driver_history.specs.Trace.{IsServing}
+use Rattle.driver_history.specs.Parts.{HasTurnIn, IsOfOther, EvidenceAgreesOn}
+use Rattle.driver_history.specs.Trace.{IsAccessForPorts}
 use Rattle.server_history.specs.Below.{LawsBelow}
-use Rattle.server_history.specs.Turns.{IsPortTurn, IsOfCommand, IsStepOf, MakesTurn, EachPortTakesTurn, TellsFault, abstract_state_of}
-use Rattle.server_history.specs.Server.{ServerState, InCallInvariant, IsMachineOf, SettledInvariant, is_served, mode_in, ports_of, state_of, used_for}
+use Rattle.server_history.specs.Turns.{IsPortTurn, IsOfCommand, IsStepOf, SimulatesTurn, EachPortTakesTurn, TellsFault, abstract_state_of}
+use Rattle.server_history.specs.Server.{ServerState, InCallInvariant, MachineRelation, SettledInvariant, is_served, mode_in, ports_of, state_of, used_for}
 use Rattle.server_history.proofs.state.DueRequests.{same_book}
 use Rattle.server_history.proofs.any_turn.TurnSteps.{answered_own, issued_before, stood}
 use Rattle.server_history.proofs.plain_calls.IssueRounds.{any_append, dues_carried, or_none}
@@ -56,7 +56,7 @@ use Rattle.server_history.proofs.any_turn.JoinedParts.{AreToldBelow, NamesSome, 
 same_some : {X : Type 0} {a b : X} → Some a ≡ Some b → a ≡ b
 same_some is = cc
 
-module _ (plan : Plan) (laws : LawsBelow) (s : ServerState) (start : SettledInvariant s) (old : AbstractState) (reached : IsReachable old.machine) (at : IsMachineOf s old.machine) (ports_are : old.ports ≡ ports_of s) where
+module _ (plan : Plan) (laws : LawsBelow) (s : ServerState) (start : SettledInvariant s) (old : AbstractState) (reached : IsReachable old.machine) (at : MachineRelation s old.machine) (ports_are : old.ports ≡ ports_of s) where
   abbrev kept : InCallInvariant s
   kept = start.kept
 
@@ -87,7 +87,7 @@ module _ (plan : Plan) (laws : LawsBelow) (s : ServerState) (start : SettledInva
     m_reached : IsReachable m
     m_reached = laws.basic.reached old.machine p.steps reached p.turns.may
 
-    abbrev x : MakesTurn (turn_at plan (probe_result_of s.ports n) n) (port_at n) its part.accesses c mid m
+    abbrev x : SimulatesTurn (turn_at plan (probe_result_of s.ports n) n) (port_at n) its part.accesses c mid m
     x = part.makes m m_reached p.stands
 
     abbrev all : List Step
@@ -109,7 +109,7 @@ module _ (plan : Plan) (laws : LawsBelow) (s : ServerState) (start : SettledInva
     silent_or_ready : (state_at n ≡ ReadyState) ⊎ ((x.evidence.faults ≡ []) × (x.evidence.lost ≡ []))
     silent_or_ready = ready_or_silent plan (probe_result_of s.ports n) n (port_at n) part.accesses c mid m x.evidence x.steps takes x.owes
 
-    its_driven : IsDrivenBy (IsOf (port_at n)) c.device mid.device
+    its_driven : IsDrivenBy (SparesOtherPorts (port_at n)) c.device mid.device
     its_driven = record { accesses = part.accesses; all = part.does; only = part.of }
 
     on_mid : IsOn mid.device
@@ -127,7 +127,7 @@ module _ (plan : Plan) (laws : LawsBelow) (s : ServerState) (start : SettledInva
 
     -- the turn's accesses are of another port then
     of_other : (q : Port) → q.0 ≢ n → All (IsOfOther q) part.accesses
-    of_other q ne = All-weaker (IsOf (port_at n)) (IsOfOther q) (λ access of. (port_at n, ne, of)) part.accesses part.of
+    of_other q ne = All-weaker (SparesOtherPorts (port_at n)) (IsOfOther q) (λ access of. (port_at n, ne, of)) part.accesses part.of
 
     same_n : SamePort old.ports (ports_of c) (port_at n)
     same_n = subst (λ (ports : Ports). SamePort ports (ports_of c) (port_at n)) (sym ports_are) (same_at s c (port_at n) (p.found (port_at n) not_yet) (p.remembered (port_at n) not_yet) (p.modes (port_at n) not_yet))
@@ -143,10 +143,10 @@ module _ (plan : Plan) (laws : LawsBelow) (s : ServerState) (start : SettledInva
     mine : NamesSome (λ q. q ≡ port_at n) x.evidence
     mine = names_only (port_at n) x.evidence x.names
 
-    alike_n : NamesAlike (port_at n) x.evidence evidence
+    alike_n : EvidenceAgreesOn (port_at n) x.evidence evidence
     alike_n = alike_then (HadTurn n) (port_at n) not_yet p.evidence x.evidence p.names
 
-    alike_other : (q : Port) → q ≢ port_at n → NamesAlike q p.evidence evidence
+    alike_other : (q : Port) → q ≢ port_at n → EvidenceAgreesOn q p.evidence evidence
     alike_other q ne = alike_first (λ r. r ≡ port_at n) q ne p.evidence x.evidence mine
 
     -- the call so far, with the turn after it
@@ -202,7 +202,7 @@ module _ (plan : Plan) (laws : LawsBelow) (s : ServerState) (start : SettledInva
         silent_or_ready
 
     its_evidenced : IsEvidencedOf (asks_for plan) (Served its) part.accesses (record { device = c.device; abstract = abstract_state_of c m }) (ports_of mid) mid.device x.evidence (port_at n)
-    its_evidenced = subst (λ (ask : Ask DeviceStep). IsEvidencedOf ask (Served its) part.accesses (record { device = c.device; abstract = abstract_state_of c m }) (ports_of mid) mid.device x.evidence (port_at n)) (asks_so plan (probe_result_of s.ports n) n) x.evidenced
+    its_evidenced = subst (λ (ask : AbstractCall DeviceStep). IsEvidencedOf ask (Served its) part.accesses (record { device = c.device; abstract = abstract_state_of c m }) (ports_of mid) mid.device x.evidence (port_at n)) (asks_so plan (probe_result_of s.ports n) n) x.evidenced
 
     evidenced_n : IsEvidencedOf (asks_for plan) (Served []) accesses began (ports_of mid) mid.device evidence (port_at n)
     unfolding turn_of
@@ -353,7 +353,7 @@ module _ (plan : Plan) (laws : LawsBelow) (s : ServerState) (start : SettledInva
         same : SamePort (ports_of c) (ports_of mid) q
         same = same_other q (λ is. omega (arith, lt, is))
 
-        alike : NamesAlike q p.evidence evidence
+        alike : EvidenceAgreesOn q p.evidence evidence
         alike = alike_other q (earlier q lt)
 
     -- ---- faults
@@ -484,16 +484,16 @@ module _ (plan : Plan) (laws : LawsBelow) (s : ServerState) (start : SettledInva
       on = on_mid;
       accesses = accesses;
       does = laws.basic.does_append p.accesses part.accesses s.device c.device mid.device p.does part.does;
-      serving = All-append (IsServing (Uses plan old.ports)) p.accesses part.accesses p.serving
+      serving = All-append (IsAccessForPorts (Uses plan old.ports)) p.accesses part.accesses p.serving
           (serving laws n plan (probe_result_of s.ports n) old.ports (ap (λ (ports : Ports). ports.served (port_at n)) ports_are) (state_was (port_at n)) takes its c mid m part x);
       others = λ q none. All-append (IsOfOther q) p.accesses part.accesses
           (p.others q (λ served. let lt = served.0 in none (omega (arith, lt), served.1)))
           (of_other q (λ is. none (omega (arith, is), takes_at q.0 is)));
       steps = all;
       turns = its_turns;
-      stands = subst (IsMachineOf mid) (sym whole_is) x.stands;
+      stands = subst (MachineRelation mid) (sym whole_is) x.stands;
       backed = laws.backed_parts s.device c.device mid.device old.machine p.steps x.steps p.backed x.backed;
-      belong = belong_join (asks_for plan) (ports_of mid) x.steps p.steps (subst (λ (ask : Ask DeviceStep). AreStepsOfCall ask (ports_of mid) x.steps) (asks_so plan (probe_result_of s.ports n) n) x.belong)
+      belong = belong_join (asks_for plan) (ports_of mid) x.steps p.steps (subst (λ (ask : AbstractCall DeviceStep). AreStepsOfCall ask (ports_of mid) x.steps) (asks_so plan (probe_result_of s.ports n) n) x.belong)
           (belong_on plan (λ q. q.0 < n) (ports_of c) (ports_of mid) (λ q lt. let same = same_other q (λ is. omega (arith, lt, is)) in (same.1, same.5)) p.steps p.turns.below p.belong);
       evidence = evidence;
       lost = All-append (λ (q : Port). state_at q.0 ≡ ReadyState) p.evidence.lost x.evidence.lost p.lost its_lost;

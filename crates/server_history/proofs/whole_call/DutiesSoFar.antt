@@ -15,21 +15,21 @@ use Rattle.adapter.specs.Access.Access.{Loading, Reading, Storing, Writing}
 use Rattle.adapter.specs.Device.{Device}
 use Rattle.adapter.specs.Rules.{IsOn}
 use Rattle.refinement.specs.Relation.{port_at}
-use Rattle.refinement.specs.Driven.{IsOf}
-use Rattle.refinement.specs.Links.{SparesRegister}
+use Rattle.refinement.specs.Driven.{SparesOtherPorts}
+use Rattle.refinement.specs.Links.{DoesNotWrite}
 use Rattle.block_machine.specs.Events.{AbstractState}
 use Rattle.block_machine.specs.Histories.{JointState, IsReachable}
 use Rattle.block_machine.specs.Left.{after}
 use Rattle.block_machine.specs.Ports.{Evidence, Ports, SameDisk, SamePort}
 use Rattle.block_machine.specs.State.{Machine, Pending}
 use Rattle.block_machine.specs.Steps.{Step, Again, Answer}
-use Rattle.driver_history.specs.Parts.{IsOfOther, NamesAlike}
-use Rattle.driver_history.specs.Trace.{IsDriversOwn, IsServing, LeavesEngine, ResetsLink}
+use Rattle.driver_history.specs.Parts.{IsOfOther, EvidenceAgreesOn}
+use Rattle.driver_history.specs.Trace.{IsDriversOwn, IsAccessForPorts, LeavesEngine, ResetsLink}
 use Rattle.host_boot.specs.Taken.{probe_result_of}
 use Rattle.host_boot.specs.declared.ProbeResult.{ProbeResult}
 use Rattle.server_history.specs.Below.{LawsBelow}
-use Rattle.server_history.specs.Server.{ServerState, IsMachineOf, SettledInvariant, is_served, ports_of, state_of}
-use Rattle.server_history.specs.Turns.{AtRest, IsPortTurn, InRestart, MakesTurn, OwesTurn, RestartsPort, TurnCorresponds}
+use Rattle.server_history.specs.Server.{ServerState, MachineRelation, SettledInvariant, is_served, ports_of, state_of}
+use Rattle.server_history.specs.Turns.{AtRest, IsPortTurn, InRestart, SimulatesTurn, MeetsTurnDuty, RestartsPort, TurnCorresponds}
 use Rattle.server_history.proofs.whole_call.EarlierResults as carrying
 use Rattle.server_history.proofs.any_turn.JoinedParts.{ready_or_not, same_then}
 use Rattle.server_history.proofs.whole_call.TurnResults as lifting
@@ -44,7 +44,7 @@ use Rattle.server_history.proofs.unready_turn.UnfitPort.{ready_fits}
 -- ---- accesses
 
 -- the link was reset among more accesses, of which the others leave it
-resets_then : (port : Port) (early late : List Access) → All (SparesRegister (Px port Sctl)) late → ResetsLink port early → ResetsLink port (early ++ late)
+resets_then : (port : Port) (early late : List Access) → All (DoesNotWrite (Px port Sctl)) late → ResetsLink port early → ResetsLink port (early ++ late)
 resets_then port early late spares r = record {
   before = r.before;
   between = r.between;
@@ -57,7 +57,7 @@ resets_then port early late spares r = record {
   sends = r.sends;
   ends = r.ends;
   held = r.held;
-  left = All-append (SparesRegister (Px port Sctl)) r.later late r.left spares;
+  left = All-append (DoesNotWrite (Px port Sctl)) r.later late r.left spares;
 }
 
 resets_since : (port : Port) (early late : List Access) → ResetsLink port late → ResetsLink port (early ++ late)
@@ -76,13 +76,13 @@ resets_since port early late r = record {
 
 -- a turn's accesses serve ports that the call uses
 module _ (laws : LawsBelow) (n : ℕ) where
-  of_such : (Such : Port → Type 0) → Such (port_at n) → (list : List Access) → All (IsOf (port_at n)) list → All IsDriversOwn list → All (IsServing Such) list
-  of_such Such its [] of own = All-nil (IsServing Such)
-  of_such Such its (access ∷ list) of own = All-cons (IsServing Such) access list
-      (one access (All-head (IsOf (port_at n)) access list of) (All-head IsDriversOwn access list own))
-      (of_such Such its list (All-tail (IsOf (port_at n)) access list of) (All-tail IsDriversOwn access list own))
+  of_such : (Such : Port → Type 0) → Such (port_at n) → (list : List Access) → All (SparesOtherPorts (port_at n)) list → All IsDriversOwn list → All (IsAccessForPorts Such) list
+  of_such Such its [] of own = All-nil (IsAccessForPorts Such)
+  of_such Such its (access ∷ list) of own = All-cons (IsAccessForPorts Such) access list
+      (one access (All-head (SparesOtherPorts (port_at n)) access list of) (All-head IsDriversOwn access list own))
+      (of_such Such its list (All-tail (SparesOtherPorts (port_at n)) access list of) (All-tail IsDriversOwn access list own))
     where
-      one : (access : Access) → IsOf (port_at n) access → IsDriversOwn access → IsServing Such access
+      one : (access : Access) → SparesOtherPorts (port_at n) access → IsDriversOwn access → IsAccessForPorts Such access
       one (Reading (Px at r) v) of own = (own, tt, subst Such (sym of) its)
       one (Reading r v) of own = (own, tt, tt)
       one (Writing (Px at r) v) of own = (own, laws.of_host (port_at n) (Writing (Px at r) v) of, subst Such (sym of) its)
@@ -91,19 +91,19 @@ module _ (laws : LawsBelow) (n : ℕ) where
       one (Storing at bytes) of own = (own, tt, tt)
 
   pub serving : (plan : Plan) (found : ProbeResult) (ports : Ports) → ports.served (port_at n) ≡ is_served found → ports.state (port_at n) ≡ state_of found → TakesTurn plan found → (its : List Reply) (c mid : ServerState) (m : Machine)
-      (part : IsPortTurn (turn_at plan found n) (port_at n) its c mid) → MakesTurn (turn_at plan found n) (port_at n) its part.accesses c mid m → All (IsServing (Uses plan ports)) part.accesses
+      (part : IsPortTurn (turn_at plan found n) (port_at n) its c mid) → SimulatesTurn (turn_at plan found n) (port_at n) its part.accesses c mid m → All (IsAccessForPorts (Uses plan ports)) part.accesses
   serving AService found ports served state takes its c mid m part x =
       of_such (Uses AService ports) (served ∙ takes.0, λ dead. takes.1 (sym state ∙ dead)) part.accesses part.of part.own
   serving (ATick hung) found ports served state takes its c mid m part x = ⊎_elim
       (λ (so : hung n ≡ true). of_such (Uses (ATick hung) ports) (state ∙ takes, so) part.accesses part.of part.own)
       (λ (not_so : hung n ≡ false).
-      let rests = subst (λ (b : Bool). OwesTurn (if b then InRestart else AtRest) (port_at n) part.accesses c mid m x.evidence x.steps) not_so x.owes in
-      subst (All (IsServing (Uses (ATick hung) ports))) (sym rests.0) (All-nil (IsServing (Uses (ATick hung) ports))))
+      let rests = subst (λ (b : Bool). MeetsTurnDuty (if b then InRestart else AtRest) (port_at n) part.accesses c mid m x.evidence x.steps) not_so x.owes in
+      subst (All (IsAccessForPorts (Uses (ATick hung) ports))) (sym rests.0) (All-nil (IsAccessForPorts (Uses (ATick hung) ports))))
       (cases_Bool (hung n))
 
 -- ---- a tick
 
-module _ (hung : ℕ → Bool) (laws : LawsBelow) (s : ServerState) (start : SettledInvariant s) (old : AbstractState) (reached : IsReachable old.machine) (at : IsMachineOf s old.machine) (ports_are : old.ports ≡ ports_of s) where
+module _ (hung : ℕ → Bool) (laws : LawsBelow) (s : ServerState) (start : SettledInvariant s) (old : AbstractState) (reached : IsReachable old.machine) (at : MachineRelation s old.machine) (ports_are : old.ports ≡ ports_of s) where
   abbrev plan : Plan
   plan = ATick hung
 
@@ -120,7 +120,7 @@ module _ (hung : ℕ → Bool) (laws : LawsBelow) (s : ServerState) (start : Set
     abbrev m : Machine
     m = after old.machine p.steps
 
-    abbrev x : MakesTurn (turn_at plan (probe_result_of s.ports n) n) (port_at n) its part.accesses c mid m
+    abbrev x : SimulatesTurn (turn_at plan (probe_result_of s.ports n) n) (port_at n) its part.accesses c mid m
     x = part.makes m m_reached p.stands
 
     abbrev all : List Step
@@ -135,7 +135,7 @@ module _ (hung : ℕ → Bool) (laws : LawsBelow) (s : ServerState) (start : Set
     not_again : (e : Pending) → Contains p.steps (Again e) → e.request.port ≢ port_at n
     not_again = lifting.not_again plan laws s start old reached at ports_are n c mid before its p next part m_reached on_mid
 
-    module _ (alike : NamesAlike (port_at n) x.evidence evidence) (same_n : SamePort old.ports (ports_of c) (port_at n)) where
+    module _ (alike : EvidenceAgreesOn (port_at n) x.evidence evidence) (same_n : SamePort old.ports (ports_of c) (port_at n)) where
       restarted : hung n ≡ true → IsRestarted began (port_at n) accesses mid evidence all
       restarted so = record {
         finds = lifting.finding plan laws s start old reached at ports_are n c mid before its p next part m_reached on_mid ready r.finds r.ended;
@@ -158,7 +158,7 @@ module _ (hung : ℕ → Bool) (laws : LawsBelow) (s : ServerState) (start : Set
       }
         where
           r : RestartsPort (port_at n) part.accesses c mid m x.evidence x.steps
-          r = (subst (λ (b : Bool). OwesTurn (if b then InRestart else AtRest) (port_at n) part.accesses c mid m x.evidence x.steps) so x.owes).0
+          r = (subst (λ (b : Bool). MeetsTurnDuty (if b then InRestart else AtRest) (port_at n) part.accesses c mid m x.evidence x.steps) so x.owes).0
 
           ties : TurnCorresponds InRestart (port_at n) its part.accesses c mid m x.evidence x.steps
           ties = subst (λ (b : Bool). TurnCorresponds (if b then InRestart else AtRest) (port_at n) its part.accesses c mid m x.evidence x.steps) so x.ties
@@ -176,8 +176,8 @@ module _ (hung : ℕ → Bool) (laws : LawsBelow) (s : ServerState) (start : Set
         answer = λ e o here. not_early e o (subst (λ (list : List Step). Contains (list ++ p.steps) (Answer e o)) rests.1 here);
       }
         where
-          rests : OwesTurn AtRest (port_at n) part.accesses c mid m x.evidence x.steps
-          rests = subst (λ (b : Bool). OwesTurn (if b then InRestart else AtRest) (port_at n) part.accesses c mid m x.evidence x.steps) not_so x.owes
+          rests : MeetsTurnDuty AtRest (port_at n) part.accesses c mid m x.evidence x.steps
+          rests = subst (λ (b : Bool). MeetsTurnDuty (if b then InRestart else AtRest) (port_at n) part.accesses c mid m x.evidence x.steps) not_so x.owes
 
       pub ticked : HasTicked hung s old (port_at n) accesses mid evidence all
       ticked = record {
@@ -191,11 +191,11 @@ module _ (hung : ℕ → Bool) (laws : LawsBelow) (s : ServerState) (start : Set
   -- ---- another port, before it
 
   module _ (n : ℕ) (c mid : ServerState) (before its : List Reply) (p : Progress n c before) (part : IsPortTurn (turn_at plan (probe_result_of s.ports n) n) (port_at n) its c mid) (m_reached : IsReachable (after old.machine p.steps)) (q : Port) (apart : q ≢ port_at n)
-      (d : progress.IsDone plan laws s start old reached at ports_are c p.accesses p.steps p.evidence q) (evidence : Evidence) (alike : NamesAlike q p.evidence evidence) (same : SamePort (ports_of c) (ports_of mid) q) where
+      (d : progress.IsDone plan laws s start old reached at ports_are c p.accesses p.steps p.evidence q) (evidence : Evidence) (alike : EvidenceAgreesOn q p.evidence evidence) (same : SamePort (ports_of c) (ports_of mid) q) where
     abbrev m_so_far : Machine
     m_so_far = after old.machine p.steps
 
-    abbrev y : MakesTurn (turn_at plan (probe_result_of s.ports n) n) (port_at n) its part.accesses c mid m_so_far
+    abbrev y : SimulatesTurn (turn_at plan (probe_result_of s.ports n) n) (port_at n) its part.accesses c mid m_so_far
     y = part.makes m_so_far m_reached p.stands
 
     abbrev steps_then : List Step
@@ -205,7 +205,7 @@ module _ (hung : ℕ → Bool) (laws : LawsBelow) (s : ServerState) (start : Set
     accesses_then = p.accesses ++ part.accesses
 
     of_others : All (IsOfOther q) part.accesses
-    of_others = All-weaker (IsOf (port_at n)) (IsOfOther q) (λ access of. (port_at n, carrying.other plan laws s start old reached at ports_are n c mid before its p part m_reached q apart, of)) part.accesses part.of
+    of_others = All-weaker (SparesOtherPorts (port_at n)) (IsOfOther q) (λ access of. (port_at n, carrying.other plan laws s start old reached at ports_are n c mid before its p part m_reached q apart, of)) part.accesses part.of
 
     pub still_ticked : HasTicked hung s old q accesses_then mid evidence steps_then
     still_ticked = record {
@@ -216,7 +216,7 @@ module _ (hung : ℕ → Bool) (laws : LawsBelow) (s : ServerState) (start : Set
             boots = ⊎_elim
                 (λ dead. inl (same.1 ∙ dead))
                 (λ resets. inr (resets_then q p.accesses part.accesses
-                (All-weaker (LeavesEngine q) (SparesRegister (Px q Sctl)) (λ access leaves. leaves.1) part.accesses (others_leave plan laws s start old reached at ports_are q part.accesses of_others)) resets))
+                (All-weaker (LeavesEngine q) (DoesNotWrite (Px q Sctl)) (λ access leaves. leaves.1) part.accesses (others_leave plan laws s start old reached at ports_are q part.accesses of_others)) resets))
                 r.boots;
             ended = carrying.ended_still plan laws s start old reached at ports_are n c mid before its p part m_reached q apart r.ended;
             interrupts = carrying.named plan laws s start old reached at ports_are n c mid before its p part m_reached q apart evidence alike r.interrupts;
@@ -247,9 +247,9 @@ module _ (hung : ℕ → Bool) (laws : LawsBelow) (s : ServerState) (start : Set
 
 -- ---- both
 
-pub ties_turned : (plan : Plan) (laws : LawsBelow) (s : ServerState) (start : SettledInvariant s) (old : AbstractState) (reached : IsReachable old.machine) (at : IsMachineOf s old.machine) (ports_are : old.ports ≡ ports_of s) (n : ℕ) (c mid : ServerState) (before its : List Reply)
+pub ties_turned : (plan : Plan) (laws : LawsBelow) (s : ServerState) (start : SettledInvariant s) (old : AbstractState) (reached : IsReachable old.machine) (at : MachineRelation s old.machine) (ports_are : old.ports ≡ ports_of s) (n : ℕ) (c mid : ServerState) (before its : List Reply)
     (takes : TakesTurn plan (probe_result_of s.ports n)) (p : progress.Progress plan laws s start old reached at ports_are n c before) (next : SettledInvariant mid) (part : IsPortTurn (turn_at plan (probe_result_of s.ports n) n) (port_at n) its c mid)
-    (m_reached : IsReachable (after old.machine p.steps)) (on_mid : IsOn mid.device) (evidence : Evidence) → NamesAlike (port_at n) (part.makes (after old.machine p.steps) m_reached p.stands).evidence evidence → SamePort old.ports (ports_of c) (port_at n)
+    (m_reached : IsReachable (after old.machine p.steps)) (on_mid : IsOn mid.device) (evidence : Evidence) → EvidenceAgreesOn (port_at n) (part.makes (after old.machine p.steps) m_reached p.stands).evidence evidence → SamePort old.ports (ports_of c) (port_at n)
     → TiesSoFar plan s old (port_at n) (p.accesses ++ part.accesses) mid evidence ((part.makes (after old.machine p.steps) m_reached p.stands).steps ++ p.steps)
 ties_turned AService laws s start old reached at ports_are n c mid before its takes p next part m_reached on_mid evidence alike same_n =
     ⊎_elim
@@ -261,9 +261,9 @@ ties_turned AService laws s start old reached at ports_are n c mid before its ta
     (ready_or_not (state_of (probe_result_of s.ports n)))
 ties_turned (ATick hung) laws s start old reached at ports_are n c mid before its takes p next part m_reached on_mid evidence alike same_n = ticked hung laws s start old reached at ports_are n c mid before its takes p next part m_reached on_mid evidence alike same_n
 
-pub ties_carried : (plan : Plan) (laws : LawsBelow) (s : ServerState) (start : SettledInvariant s) (old : AbstractState) (reached : IsReachable old.machine) (at : IsMachineOf s old.machine) (ports_are : old.ports ≡ ports_of s) (n : ℕ) (c mid : ServerState) (before its : List Reply)
+pub ties_carried : (plan : Plan) (laws : LawsBelow) (s : ServerState) (start : SettledInvariant s) (old : AbstractState) (reached : IsReachable old.machine) (at : MachineRelation s old.machine) (ports_are : old.ports ≡ ports_of s) (n : ℕ) (c mid : ServerState) (before its : List Reply)
     (p : progress.Progress plan laws s start old reached at ports_are n c before) (part : IsPortTurn (turn_at plan (probe_result_of s.ports n) n) (port_at n) its c mid) (m_reached : IsReachable (after old.machine p.steps)) (q : Port) (apart : q ≢ port_at n)
-    (d : progress.IsDone plan laws s start old reached at ports_are c p.accesses p.steps p.evidence q) (evidence : Evidence) (alike : NamesAlike q p.evidence evidence) (same : SamePort (ports_of c) (ports_of mid) q)
+    (d : progress.IsDone plan laws s start old reached at ports_are c p.accesses p.steps p.evidence q) (evidence : Evidence) (alike : EvidenceAgreesOn q p.evidence evidence) (same : SamePort (ports_of c) (ports_of mid) q)
     → TiesSoFar plan s old q (p.accesses ++ part.accesses) mid evidence ((part.makes (after old.machine p.steps) m_reached p.stands).steps ++ p.steps)
 ties_carried AService laws s start old reached at ports_are n c mid before its p part m_reached q apart d evidence alike same = ⊎_elim
     (λ ready. (

@@ -14,17 +14,17 @@ use Rattle.refinement.specs.Relation.{port_at}
 use Rattle.block_machine.specs.Events.{AbstractState, Served, changes_disk}
 use Rattle.block_machine.specs.Histories.{JointState, IsReachable}
 use Rattle.block_machine.specs.Left.{after}
-use Rattle.block_machine.specs.Ports.{Evidence, IsInterrupted, SamePort}
+use Rattle.block_machine.specs.Ports.{Evidence, IsStoppedOrStuck, SamePort}
 use Rattle.block_machine.specs.State.{Machine}
 use Rattle.block_machine.specs.Steps.{Step, Answer}
 use Rattle.host_boot.specs.Taken.{probe_result_of}
-use Rattle.driver_history.specs.Heeding.{AreTold, IsLeftAlone, ServesReady, tells_fault}
+use Rattle.driver_history.specs.Heeding.{ToldOkOr, IsLeftAlone, ServesReady, tells_fault}
 use Rattle.driver_history.specs.Evidence.{ShowsChange, ShowsFailure}
-use Rattle.driver_history.specs.Histories.{IsUnfitOrForeign, HasFaultAlone, IsAnsweredFaulty, PortCorresponds}
-use Rattle.driver_history.specs.Parts.{HasTurnIn, NamesAlike}
+use Rattle.driver_history.specs.Histories.{HasUnservedDisk, HasOnlyTaskFileError, IsAnsweredFaulty, PortCorresponds}
+use Rattle.driver_history.specs.Parts.{HasTurnIn, EvidenceAgreesOn}
 use Rattle.server_history.specs.Below.{LawsBelow}
-use Rattle.server_history.specs.Turns.{IsPortTurn, HandlesShownErrors, InService, MakesTurn, happening_of_turn}
-use Rattle.server_history.specs.Server.{ServerState, InCallInvariant, IsMachineOf, SettledInvariant, ports_of}
+use Rattle.server_history.specs.Turns.{IsPortTurn, HandlesShownErrors, InService, SimulatesTurn, happening_of_turn}
+use Rattle.server_history.specs.Server.{ServerState, InCallInvariant, MachineRelation, SettledInvariant, ports_of}
 use Rattle.server_history.proofs.any_turn.JoinedParts.{same_then}
 use Rattle.server_history.proofs.any_turn.TurnSteps.{stood}
 use Rattle.server_history.proofs.whole_call.EarlierResults as carrying
@@ -33,7 +33,7 @@ use Rattle.server_history.proofs.whole_call.Progress as progress
 use Rattle.server_history.proofs.whole_call.TurnResults.{counts_apart}
 use Rattle.server_history.proofs.unready_turn.UnfitPort.{ready_fits}
 
-module _ (laws : LawsBelow) (s : ServerState) (start : SettledInvariant s) (old : AbstractState) (reached : IsReachable old.machine) (at : IsMachineOf s old.machine) (ports_are : old.ports ≡ ports_of s) where
+module _ (laws : LawsBelow) (s : ServerState) (start : SettledInvariant s) (old : AbstractState) (reached : IsReachable old.machine) (at : MachineRelation s old.machine) (ports_are : old.ports ≡ ports_of s) where
   abbrev kept : InCallInvariant s
   kept = start.kept
 
@@ -50,7 +50,7 @@ module _ (laws : LawsBelow) (s : ServerState) (start : SettledInvariant s) (old 
     abbrev m : Machine
     m = after old.machine p.steps
 
-    abbrev x : MakesTurn (turn_at AService (probe_result_of s.ports n) n) (port_at n) its part.accesses c mid m
+    abbrev x : SimulatesTurn (turn_at AService (probe_result_of s.ports n) n) (port_at n) its part.accesses c mid m
     x = part.makes m m_reached p.stands
 
     abbrev all : List Step
@@ -59,7 +59,7 @@ module _ (laws : LawsBelow) (s : ServerState) (start : SettledInvariant s) (old 
     abbrev accesses : List Access
     accesses = p.accesses ++ part.accesses
 
-    module _ (q : Port) (apart : q ≢ port_at n) (d : IsDone c p.accesses p.steps p.evidence q) (evidence : Evidence) (alike : NamesAlike q p.evidence evidence) (same : SamePort (ports_of c) (ports_of mid) q)
+    module _ (q : Port) (apart : q ≢ port_at n) (d : IsDone c p.accesses p.steps p.evidence q) (evidence : Evidence) (alike : EvidenceAgreesOn q p.evidence evidence) (same : SamePort (ports_of c) (ports_of mid) q)
         (asked : old.ports.state q ≡ ReadyState) where
       undue : (s.device.port q.0).link_due ≡ false
       undue = carrying.undue AService laws s start old reached at ports_are n c mid before its p part m_reached q apart d asked
@@ -73,12 +73,12 @@ module _ (laws : LawsBelow) (s : ServerState) (start : SettledInvariant s) (old 
       abbrev serves : ServesReady old p.evidence p.steps (record { machine = m; ports = ports_of c }) q
       serves = did.heeds asked
 
-      alone_so_far : HasFaultAlone q began mid.device → HasFaultAlone q began c.device
+      alone_so_far : HasOnlyTaskFileError q began mid.device → HasOnlyTaskFileError q began c.device
       alone_so_far alone = laws.calls.alone_then q began old mid.device kept.on undue t p.on asked alone
 
       -- ---- what the call heeds of it
 
-      told_whole : (o : Outcome) → AreTold o p.steps q → AreTold o all q
+      told_whole : (o : Outcome) → ToldOkOr o p.steps q → ToldOkOr o all q
       told_whole o told e answer here own = ⊎_elim
           (λ late. absurd (carrying.not_late AService laws s start old reached at ports_are n c mid before its p part m_reached q apart e answer late own))
           (λ early. told e answer early own)
@@ -121,12 +121,12 @@ module _ (laws : LawsBelow) (s : ServerState) (start : SettledInvariant s) (old 
       same_self = (refl, refl, refl, refl, refl, refl)
 
       -- and where it showed a failure when the call began, or a change of its link, it was stopped
-      stops_troubled : ShowsFailure (s.device.port q.0) ⊎ ShowsChange (s.device.port q.0) → IsInterrupted p.evidence q
+      stops_troubled : ShowsFailure (s.device.port q.0) ⊎ ShowsChange (s.device.port q.0) → IsStoppedOrStuck p.evidence q
       stops_troubled port_error = serves.interrupts (⊎_elim (λ failure. inl (d.evidenced.failed_all asked failure)) (λ change. inr (d.evidenced.gone_all asked (inl change))) port_error)
 
       -- ---- the whole
 
-      not_bad : IsUnfitOrForeign old.ports q → ⊥
+      not_bad : HasUnservedDisk old.ports q → ⊥
       not_bad bad = ready_fits (old.ports.state q) asked bad
 
       not_absent : old.ports.state q ≡ Absent → ⊥

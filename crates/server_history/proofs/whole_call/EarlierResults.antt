@@ -15,23 +15,23 @@ use Rattle.adapter.specs.Access.{Access}
 use Rattle.adapter.specs.Access.Access.{Reading}
 use Rattle.adapter.specs.Device.{Device}
 use Rattle.refinement.specs.Relation.{port_at}
-use Rattle.refinement.specs.Driven.{IsOf}
-use Rattle.refinement.specs.Links.{SparesRegister}
-use Rattle.block_machine.specs.Events.{AnswersEnded, HadDisk, AbstractState, NoneKeepsIssue, ShowsDisk, changes_disk, issues_it}
+use Rattle.refinement.specs.Driven.{SparesOtherPorts}
+use Rattle.refinement.specs.Links.{DoesNotWrite}
+use Rattle.block_machine.specs.Events.{AnswersEnded, ShowsRealDisk, AbstractState, NoneKeepsIssue, ShowsDisk, changes_disk, issues_it}
 use Rattle.block_machine.specs.Histories.{JointState, IsReachable}
 use Rattle.block_machine.specs.Left.{after}
-use Rattle.block_machine.specs.Ports.{Evidence, IsInterrupted, Ports, SamePort}
+use Rattle.block_machine.specs.Ports.{Evidence, IsStoppedOrStuck, Ports, SamePort}
 use Rattle.block_machine.specs.State.{Machine, Pending}
 use Rattle.block_machine.specs.Steps.{Step, Again, Answer}
 use Rattle.host_boot.specs.Taken.{probe_result_of}
 use Rattle.driver_history.specs.Evidence.{ShowsChange, ShowsFailure}
 use Rattle.driver_history.specs.Histories.{FindsDone}
-use Rattle.driver_history.specs.Parts.{HasTurnIn, IsOfOther, NamesAlike}
-use Rattle.driver_history.specs.Trace.{IsServing, ResetsLink}
-use Rattle.driver_history.specs.Holds.{Runs}
+use Rattle.driver_history.specs.Parts.{HasTurnIn, IsOfOther, EvidenceAgreesOn}
+use Rattle.driver_history.specs.Trace.{IsAccessForPorts, ResetsLink}
+use Rattle.driver_history.specs.Holds.{EngineRuns}
 use Rattle.server_history.specs.Below.{LawsBelow}
-use Rattle.server_history.specs.Turns.{IsPortTurn, HandlesShownErrors, MakesTurn, abstract_state_of}
-use Rattle.server_history.specs.Server.{ServerState, InCallInvariant, IsMachineOf, SettledInvariant, ports_of, state_of}
+use Rattle.server_history.specs.Turns.{IsPortTurn, HandlesShownErrors, SimulatesTurn, abstract_state_of}
+use Rattle.server_history.specs.Server.{ServerState, InCallInvariant, MachineRelation, SettledInvariant, ports_of, state_of}
 use Rattle.server_history.proofs.any_turn.TurnSteps.{others_were}
 use Rattle.server_history.proofs.whole_call.ServiceAndTick.{Plan, Uses, no_reset, turn_at}
 use Rattle.server_history.proofs.whole_call.Progress as progress
@@ -40,7 +40,7 @@ use Rattle.server_history.proofs.state.PortSlots.{ready_found}
 use Rattle.server_history.proofs.any_turn.TurnsInOrder.{again_of, answered_of}
 use Rattle.server_history.proofs.any_turn.JoinedParts.{dead_or_not}
 
-module _ (plan : Plan) (laws : LawsBelow) (s : ServerState) (start : SettledInvariant s) (old : AbstractState) (reached : IsReachable old.machine) (at : IsMachineOf s old.machine) (ports_are : old.ports ≡ ports_of s) where
+module _ (plan : Plan) (laws : LawsBelow) (s : ServerState) (start : SettledInvariant s) (old : AbstractState) (reached : IsReachable old.machine) (at : MachineRelation s old.machine) (ports_are : old.ports ≡ ports_of s) where
   abbrev kept : InCallInvariant s
   kept = start.kept
 
@@ -60,7 +60,7 @@ module _ (plan : Plan) (laws : LawsBelow) (s : ServerState) (start : SettledInva
     abbrev m : Machine
     m = after old.machine p.steps
 
-    abbrev x : MakesTurn (turn_at plan (probe_result_of s.ports n) n) (port_at n) its part.accesses c mid m
+    abbrev x : SimulatesTurn (turn_at plan (probe_result_of s.ports n) n) (port_at n) its part.accesses c mid m
     x = part.makes m m_reached p.stands
 
     abbrev all : List Step
@@ -88,7 +88,7 @@ module _ (plan : Plan) (laws : LawsBelow) (s : ServerState) (start : SettledInva
         then = p.does;
         last = part.does;
         others = All-nil (IsOfOther q);
-        others_later = All-weaker (IsOf (port_at n)) (IsOfOther q) (λ access of. (port_at n, other, of)) part.accesses part.of;
+        others_later = All-weaker (SparesOtherPorts (port_at n)) (IsOfOther q) (λ access of. (port_at n, other, of)) part.accesses part.of;
       }
 
       -- the turn answers nobody of it, and lets nobody of it wait again
@@ -141,30 +141,30 @@ module _ (plan : Plan) (laws : LawsBelow) (s : ServerState) (start : SettledInva
       pub changed_whole : list_any (changes_disk q) p.steps ≡ true → list_any (changes_disk q) all ≡ true
       changed_whole is = any_append (changes_disk q) x.steps p.steps ∙ or_right _ _ is
 
-      pub disk_still : SamePort (ports_of c) (ports_of mid) q → HadDisk old p.steps (abstract_state_of c m) q → HadDisk old all (abstract_state_of mid (after old.machine all)) q
+      pub disk_still : SamePort (ports_of c) (ports_of mid) q → ShowsRealDisk old p.steps (abstract_state_of c m) q → ShowsRealDisk old all (abstract_state_of mid (after old.machine all)) q
       disk_still same had shows = ⊎_elim (λ present. inl present) (λ changed. inr (changed_whole changed)) (had (subst ShowsDisk same.1 shows))
 
       -- ---- what is named of it
 
-      pub named : (evidence : Evidence) → NamesAlike q p.evidence evidence → IsInterrupted p.evidence q → IsInterrupted evidence q
+      pub named : (evidence : Evidence) → EvidenceAgreesOn q p.evidence evidence → IsStoppedOrStuck p.evidence q → IsStoppedOrStuck evidence q
       named evidence alike i = ⊎_elim (λ stopped. inl (alike.stopped.0 stopped)) (λ stuck. inr (alike.stuck.0 stuck)) i
 
-      pub unnamed : (evidence : Evidence) → NamesAlike q p.evidence evidence → IsInterrupted evidence q → IsInterrupted p.evidence q
+      pub unnamed : (evidence : Evidence) → EvidenceAgreesOn q p.evidence evidence → IsStoppedOrStuck evidence q → IsStoppedOrStuck p.evidence q
       unnamed evidence alike i = ⊎_elim (λ stopped. inl (alike.stopped.1 stopped)) (λ stuck. inr (alike.stuck.1 stuck)) i
 
       -- ---- trouble
 
       module _ (d : IsDone c p.accesses p.steps p.evidence q) where
         -- one that is left ready so far runs
-        runs_so_far : state_of (probe_result_of c.ports q.0) ≡ ReadyState → Runs q.0 c.device
+        runs_so_far : state_of (probe_result_of c.ports q.0) ≡ ReadyState → EngineRuns q.0 c.device
         runs_so_far ready_c = (p.settled.kept.behind q.0 (ready_found c q.0 p.settled.kept ready_c).0).runs ready_c
 
         -- where it was stopped so far and left ready, ST was set since the call began
-        set_since : state_of (probe_result_of c.ports q.0) ≡ ReadyState → IsInterrupted p.evidence q → length s.device.tape ≤ (c.device.port q.0).notes.st_set_at
+        set_since : state_of (probe_result_of c.ports q.0) ≡ ReadyState → IsStoppedOrStuck p.evidence q → length s.device.tape ≤ (c.device.port q.0).notes.st_set_at
         set_since ready_c i = ⊎_elim
             (λ stopped. ⊎_elim
             (λ stops. laws.calls.set_since q p.accesses s.device c.device kept.on
-            (All-weaker (IsServing (Uses plan old.ports)) (SparesRegister Ghc) (λ access serving. serving.1) p.accesses p.serving) p.does stops (runs_so_far ready_c).st)
+            (All-weaker (IsAccessForPorts (Uses plan old.ports)) (DoesNotWrite Ghc) (λ access serving. serving.1) p.accesses p.serving) p.does stops (runs_so_far ready_c).st)
             (λ (reset : _ × _). absurd (no_reset plan [] reset.0))
             (d.evidenced.stopped_only stopped))
             (λ stuck. ⊎_elim
@@ -176,8 +176,8 @@ module _ (plan : Plan) (laws : LawsBelow) (s : ServerState) (start : SettledInva
         pub same_self : SamePort old.ports old.ports q
         same_self = (refl, refl, refl, refl, refl, refl)
 
-        pub trouble_still : (evidence : Evidence) → NamesAlike q p.evidence evidence → SamePort (ports_of c) (ports_of mid) q
-            → ((old.ports.state q ≡ ReadyState) ⊎ (state_of (probe_result_of c.ports q.0) ≡ ReadyState) → ShowsFailure (s.device.port q.0) ⊎ ShowsChange (s.device.port q.0) → IsInterrupted p.evidence q)
+        pub trouble_still : (evidence : Evidence) → EvidenceAgreesOn q p.evidence evidence → SamePort (ports_of c) (ports_of mid) q
+            → ((old.ports.state q ≡ ReadyState) ⊎ (state_of (probe_result_of c.ports q.0) ≡ ReadyState) → ShowsFailure (s.device.port q.0) ⊎ ShowsChange (s.device.port q.0) → IsStoppedOrStuck p.evidence q)
             → (state_of (probe_result_of c.ports q.0) ≡ ReadyState → ((s.device.port q.0).link_due ≡ false) ⊎ ResetsLink q p.accesses)
             → HandlesShownErrors q p.accesses began p.evidence (ports_of c) c.device → HandlesShownErrors q accesses began evidence (ports_of mid) mid.device
         trouble_still evidence alike same stops_troubled linked did = record {

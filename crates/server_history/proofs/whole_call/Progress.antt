@@ -17,22 +17,22 @@ use Rattle.adapter.specs.Commands.{is_queued}
 use Rattle.adapter.specs.Device.{Device}
 use Rattle.adapter.specs.Rules.{IsOn}
 use Rattle.refinement.specs.Driver.{IsBacked}
-use Rattle.block_machine.specs.Events.{AllLawful, AnswersEnded, AreStepsOfCall, HadDisk, IsToldBefore, AbstractState, NoneKeepsIssue, Served, UnplugsAll, answers_of, reply_of}
+use Rattle.block_machine.specs.Events.{AllLawful, AnswersEnded, AreStepsOfCall, ShowsRealDisk, IsToldBefore, AbstractState, NoneKeepsIssue, Served, AnswersAllUnplugged, answers_of, reply_of}
 use Rattle.block_machine.specs.Histories.{JointState, IsReachable}
 use Rattle.block_machine.specs.Left.{after}
-use Rattle.block_machine.specs.Ports.{Evidence, RequestFault, IsInterrupted, IsServiced, Ports, SameDisk, SamePort}
+use Rattle.block_machine.specs.Ports.{Evidence, RequestFault, IsStoppedOrStuck, IsServiced, Ports, SameDisk, SamePort}
 use Rattle.block_machine.specs.State.{Pending}
 use Rattle.block_machine.specs.Steps.{Step, Again, Answer}
 use Rattle.host_boot.specs.Taken.{probe_result_of}
 use Rattle.driver_history.specs.Evidence.{IsEvidencedOf, IsFaultTold}
-use Rattle.driver_history.specs.Histories.{FindsDone, IsUnfitOrForeign, IssuesDue, PortCorresponds}
-use Rattle.driver_history.specs.Holds.{NoneWaits}
-use Rattle.driver_history.specs.Parts.{EndsLinked, IsOfOther}
-use Rattle.driver_history.specs.Trace.{IsServing, LeavesEngine, ResetsLink}
+use Rattle.driver_history.specs.Histories.{FindsDone, HasUnservedDisk, IssuesDue, PortCorresponds}
+use Rattle.driver_history.specs.Holds.{HasNoUnanswered}
+use Rattle.driver_history.specs.Parts.{EndsNoLinkDue, IsOfOther}
+use Rattle.driver_history.specs.Trace.{IsAccessForPorts, LeavesEngine, ResetsLink}
 use Rattle.server_history.specs.Below.{LawsBelow}
 use Rattle.server_history.specs.Turns.{HandlesShownErrors, InService, IsStepOf, abstract_state_of, happening_of_turn}
 use Rattle.server_history.proofs.whole_call.ServiceAndTick.{AService, ATick, OwesBy, Plan, TakesTurn, Uses, asks_for, owes_nothing, ready_takes}
-use Rattle.server_history.specs.Server.{ServerState, InCallInvariant, IsMachineOf, SettledInvariant, mode_at, mode_in, ports_of, remembered_at, slots_at, state_of}
+use Rattle.server_history.specs.Server.{ServerState, InCallInvariant, MachineRelation, SettledInvariant, mode_at, mode_in, ports_of, remembered_at, slots_at, state_of}
 use Rattle.server_history.proofs.state.DueRequests.{none_issued}
 use Rattle.server_history.proofs.state.CallEvidence.{no_evidence}
 use Rattle.server_history.proofs.any_turn.TurnsInOrder.{AreTurns, again_of, all_of_ports, answered_of, no_turns, turns_more}
@@ -47,18 +47,18 @@ pub record IsRestarted (old : JointState Device) (port : Port) (accesses : List 
   pub finds : FindsDone port accesses old steps
   pub boots : (state_of (probe_result_of c.ports port.0) ≡ Dead) ⊎ ResetsLink port accesses
   pub ended : AnswersEnded old.abstract.machine steps port
-  pub interrupts : IsInterrupted evidence port
+  pub interrupts : IsStoppedOrStuck evidence port
   pub anew : NoneKeepsIssue steps (after old.abstract.machine steps) port
   pub another : (e : Pending) → Contains steps (Answer e Unplugged) → e.request.port ≡ port
       → (state_of (probe_result_of c.ports port.0) ≢ Dead) × (state_of (probe_result_of c.ports port.0) ≡ ReadyState → SameDisk old.abstract.ports (ports_of c) port → ⊥)
-  pub disk : HadDisk old.abstract steps (abstract_state_of c (after old.abstract.machine steps)) port
+  pub disk : ShowsRealDisk old.abstract steps (abstract_state_of c (after old.abstract.machine steps)) port
   pub heeds : HandlesShownErrors port accesses old evidence (ports_of c) c.device
 
 -- It has let the port rest.
 pub record HasRested (old : AbstractState) (port : Port) (accesses : List Access) (c : ServerState) (evidence : Evidence) (steps : List Step) : Type 0 where
   pub others : All (IsOfOther port) accesses
   pub same : SamePort old.ports (ports_of c) port
-  pub uninterrupted : IsInterrupted evidence port → ⊥
+  pub uninterrupted : IsStoppedOrStuck evidence port → ⊥
   pub again : (e : Pending) → Contains steps (Again e) → e.request.port ≢ port
   pub answer : (e : Pending) (o : Outcome) → Contains steps (Answer e o) → e.request.port ≢ port
 
@@ -69,7 +69,7 @@ pub record HasTicked (hung : ℕ → Bool) (s : ServerState) (old : AbstractStat
 
 abbrev pub TiesSoFar : Plan → ServerState → AbstractState → Port → List Access → ServerState → Evidence → List Step → Type 0
 TiesSoFar AService s old port accesses c evidence steps =
-    PortCorresponds (record { device = s.device; abstract = old }) (happening_of_turn InService [] c evidence steps) accesses port × EndsLinked port (record { device = s.device; abstract = old }) (ports_of c) c.device
+    PortCorresponds (record { device = s.device; abstract = old }) (happening_of_turn InService [] c evidence steps) accesses port × EndsNoLinkDue port (record { device = s.device; abstract = old }) (ports_of c) c.device
 TiesSoFar (ATick hung) s old port accesses c evidence steps = HasTicked hung s old port accesses c evidence steps
 
 -- nothing is done of a port that had no turn
@@ -105,7 +105,7 @@ rested_ties AService s old port accesses c evidence steps ports_are not rests = 
     unready : old.ports.state port ≢ ReadyState
     unready ready = not (ready_takes AService (probe_result_of s.ports port.0) (sym state_was ∙ ready))
 
-    no_bad : IsUnfitOrForeign old.ports port → ⊥
+    no_bad : HasUnservedDisk old.ports port → ⊥
     no_bad bad = not (bad_tends (probe_result_of s.ports port.0) (⊎_elim (λ foreign. inl (sym state_was ∙ foreign)) (λ unfit. inr (unfit.0, sym state_was ∙ unfit.1)) bad))
 rested_ties (ATick hung) s old port accesses c evidence steps ports_are not rests = record {
   restarted = λ ready. absurd (not (sym (ap (λ (ports : Ports). ports.state port) ports_are) ∙ ready));
@@ -114,7 +114,7 @@ rested_ties (ATick hung) s old port accesses c evidence steps ports_are not rest
 
 -- ---- and of all
 
-module _ (plan : Plan) (laws : LawsBelow) (s : ServerState) (start : SettledInvariant s) (old : AbstractState) (reached : IsReachable old.machine) (at : IsMachineOf s old.machine) (ports_are : old.ports ≡ ports_of s) where
+module _ (plan : Plan) (laws : LawsBelow) (s : ServerState) (start : SettledInvariant s) (old : AbstractState) (reached : IsReachable old.machine) (at : MachineRelation s old.machine) (ports_are : old.ports ≡ ports_of s) where
   abbrev pub kept : InCallInvariant s
   kept = start.kept
 
@@ -134,8 +134,8 @@ module _ (plan : Plan) (laws : LawsBelow) (s : ServerState) (start : SettledInva
   -- What is so of a port that had its turn, or none, at the end of what was done so far.
   pub record IsDone (c : ServerState) (accesses : List Access) (steps : List Step) (evidence : Evidence) (q : Port) : Type 0 where
     pub becomes : IsServiced old.ports evidence (ports_of c) q
-    pub disk : SamePort old.ports (ports_of c) q ⊎ HadDisk old steps (abstract_state_of c (after old.machine steps)) q
-    pub keeps : SameDisk old.ports (ports_of c) q ⊎ NoneWaits (after old.machine steps) q
+    pub disk : SamePort old.ports (ports_of c) q ⊎ ShowsRealDisk old steps (abstract_state_of c (after old.machine steps)) q
+    pub keeps : SameDisk old.ports (ports_of c) q ⊎ HasNoUnanswered (after old.machine steps) q
     pub evidenced : IsEvidencedOf (asks_for plan) (Served []) accesses began (ports_of c) c.device evidence q
     pub ties : TiesSoFar plan s old q accesses c evidence steps
 
@@ -152,11 +152,11 @@ module _ (plan : Plan) (laws : LawsBelow) (s : ServerState) (start : SettledInva
     pub on : IsOn c.device
     pub accesses : List Access
     pub does : DoesAll accesses s.device c.device
-    pub serving : All (IsServing (Uses plan old.ports)) accesses
+    pub serving : All (IsAccessForPorts (Uses plan old.ports)) accesses
     pub others : (q : Port) → (HadTurn n q → ⊥) → All (IsOfOther q) accesses
     pub steps : List Step
     pub turns : AreTurns old n steps
-    pub stands : IsMachineOf c (after old.machine steps)
+    pub stands : MachineRelation c (after old.machine steps)
     pub backed : IsBacked s.device c.device old.machine steps
     pub belong : AreStepsOfCall (asks_for plan) (ports_of c) steps
     pub evidence : Evidence
@@ -164,7 +164,7 @@ module _ (plan : Plan) (laws : LawsBelow) (s : ServerState) (start : SettledInva
     pub lost : All (λ q. state_at q.0 ≡ ReadyState) evidence.lost
     pub lawful : AllLawful old evidence (ports_of c) steps
     pub owes : OwesBy plan evidence steps
-    pub unplugs : UnplugsAll steps (after old.machine steps)
+    pub unplugs : AnswersAllUnplugged steps (after old.machine steps)
     pub answers : List (Pending × Outcome)
     pub permuted : IsPermutation answers (answers_of steps)
     pub ordered : AllPairs IsToldBefore answers
@@ -186,7 +186,7 @@ module _ (plan : Plan) (laws : LawsBelow) (s : ServerState) (start : SettledInva
     on = kept.on;
     accesses = [];
     does = refl;
-    serving = All-nil (IsServing (Uses plan old.ports));
+    serving = All-nil (IsAccessForPorts (Uses plan old.ports));
     others = λ q none. All-nil (IsOfOther q);
     steps = [];
     turns = no_turns laws old reached;

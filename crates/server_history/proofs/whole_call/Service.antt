@@ -9,7 +9,7 @@ use Rattle.refinement.specs.Relation.{port_at}
 use Rattle.ata_types.specs.declared.request.Reply.{Reply}
 use Rattle.adapter.specs.Device.{Device}
 use Rattle.adapter.specs.declared.access.DeviceStep.{DeviceStep}
-use Rattle.block_machine.specs.Events.{AnswersService, KeepsDisks, AbstractState, Served, Service}
+use Rattle.block_machine.specs.Events.{AnswersService, UnansweredKeepDisk, AbstractState, Served, Service}
 use Rattle.block_machine.specs.Histories.{JointState, Happening, IsReachable, now}
 use Rattle.block_machine.specs.Left.{after}
 use Rattle.block_machine.specs.Ports.{Ports}
@@ -20,12 +20,12 @@ use Rattle.host_boot.specs.declared.ProbeResult.TheVariants.{Unready}
 use Rattle.driver_history.specs.Histories.{PortCorresponds}
 use Rattle.server_history.proofs.any_turn.JoinedParts.{dead_or_not}
 use Rattle.driver_history.specs.Evidence.{IsEvidenced}
-use Rattle.request_queue.specs.Machine.{IsEntry}
+use Rattle.request_queue.specs.Machine.{EntryRelation}
 use Rattle.server_history.specs.Histories.{ExtendsSettled, LeadsToServer}
 use Rattle.server_history.specs.Below.{LawsBelow}
 use Rattle.server_history.specs.Turns.{IsPortTurn, ServePorts, ServesPort, ProbesUnready}
 use Rattle.server_history.specs.Probing.{IsLookedAt}
-use Rattle.server_history.specs.Server.{ServerState, InCallInvariant, IsMachineOf, SettledInvariant, mode_in, ports_of, state_of}
+use Rattle.server_history.specs.Server.{ServerState, InCallInvariant, MachineRelation, SettledInvariant, mode_in, ports_of, state_of}
 use Rattle.server_history.proofs.state.DueRequests.{none_due}
 use Rattle.server_history.proofs.start.NewServer.{kept_fit}
 use Rattle.server_history.proofs.state.HistorySteps.{holding, happening_with, lead_with, with_device}
@@ -39,7 +39,7 @@ module _ (laws : LawsBelow) (s new : ServerState) (replies : List Reply) (start 
   abbrev old : AbstractState
   old = (now first past).abstract
 
-  at : IsMachineOf s old.machine
+  at : MachineRelation s old.machine
   at = leads.stands.machine
 
   same : old.ports ≡ ports_of s
@@ -98,7 +98,7 @@ module _ (laws : LawsBelow) (s new : ServerState) (replies : List Reply) (start 
 
   none_waits : (port : Port) → state_of (probe_result_of new.ports port.0) ≢ ReadyState → (e : Pending) → Contains (after old.machine p.steps).book e → e.request.port ≢ port
   none_waits port other e here own =
-      let a = at_right IsEntry new.book (after old.machine p.steps).book p.stands.book e here in
+      let a = at_right EntryRelation new.book (after old.machine p.steps).book p.stands.book e here in
       other (ap (λ (q : Port). state_of (probe_result_of new.ports q.0)) (sym own ∙ a.2.port) ∙ of_ready new holds a.0 a.1)
 
   all_answered : AnswersService old p.evidence p.steps replies end
@@ -113,7 +113,7 @@ module _ (laws : LawsBelow) (s new : ServerState) (replies : List Reply) (start 
     disk = λ port. (done port).disk;
   }
 
-  keeps : KeepsDisks old end
+  keeps : UnansweredKeepDisk old end
   keeps e o here was same_id = ⊎_elim (λ d. d) (λ none. absurd (none e here refl)) (done e.request.port).keeps
 
   evidenced : IsEvidenced Service (Served replies) p.accesses began (ports_of new) new.device p.evidence
@@ -152,5 +152,5 @@ module _ (laws : LawsBelow) (s new : ServerState) (replies : List Reply) (start 
       port_part
       p.backed p.stands
 
-pub law_services_add : LawsBelow → (s new : ServerState) (replies : List Reply) → SettledInvariant s → ServePorts 0 s.ports replies s new → ExtendsSettled s new Service (Served replies)
-law_services_add laws s new replies start serves = record { settled = turns_kept ServesPort ProbesUnready s.ports 0 s new replies start serves; adds = λ first past leads. service_event laws s new replies start serves first past leads }
+pub law_services_extend_history : LawsBelow → (s new : ServerState) (replies : List Reply) → SettledInvariant s → ServePorts 0 s.ports replies s new → ExtendsSettled s new Service (Served replies)
+law_services_extend_history laws s new replies start serves = record { settled = turns_kept ServesPort ProbesUnready s.ports 0 s new replies start serves; adds = λ first past leads. service_event laws s new replies start serves first past leads }

@@ -22,13 +22,13 @@ use Rattle.adapter.specs.Device.{Device}
 use Rattle.adapter.specs.declared.access.DeviceStep.{DeviceStep}
 use Rattle.adapter.specs.declared.command.Operation.TheVariants.{ReadLog}
 use Rattle.refinement.specs.Relation.{port_at}
-use Rattle.refinement.specs.Driven.{IsOf}
-use Rattle.refinement.specs.Links.{SparesRegister}
+use Rattle.refinement.specs.Driven.{SparesOtherPorts}
+use Rattle.refinement.specs.Links.{DoesNotWrite}
 use Rattle.refinement.specs.Slots.{ServesRequest}
-use Rattle.block_machine.specs.Events.{AllLawful, AnswersEnded, AnswersTick, HasTimedOut, IssuesLast, KeepsDisks, AbstractState, NoneKeepsIssue, RestartsTimedOut, Served, Tick, WasIssued, answers_of, changes_disk, is_age, issues_it}
+use Rattle.block_machine.specs.Events.{AllLawful, AnswersEnded, AnswersTick, HasTimedOut, IssuesLast, UnansweredKeepDisk, AbstractState, NoneKeepsIssue, RestartsTimedOut, Served, Tick, WasIssued, answers_of, changes_disk, is_age, issues_it}
 use Rattle.block_machine.specs.Histories.{Happening, JointState, IsReachable, now}
 use Rattle.block_machine.specs.Left.{after}
-use Rattle.block_machine.specs.Ports.{IsInterrupted, Ports, SamePort}
+use Rattle.block_machine.specs.Ports.{IsStoppedOrStuck, Ports, SamePort}
 use Rattle.block_machine.specs.Due.{of_port}
 use Rattle.block_machine.specs.State.{Machine, Pending, unanswered}
 use Rattle.block_machine.specs.Steps.{Step, Age, Again, Answer, after_step, older}
@@ -36,15 +36,15 @@ use Rattle.server_history.proofs.state.ListMembers.{contains_cases, contains_her
 use Rattle.driver_history.specs.Evidence.{IsEvidenced}
 use Rattle.driver_history.specs.Histories.{FindsDone, IssuesDue, PortCorresponds}
 use Rattle.driver_history.specs.Parts.{IsOfOther}
-use Rattle.driver_history.specs.Trace.{ClearsNone, IsDriversOwn, IsServing, LeavesEngine}
+use Rattle.driver_history.specs.Trace.{ClearsNoError, IsDriversOwn, IsAccessForPorts, LeavesEngine}
 use Rattle.host_boot.specs.Taken.{probe_result_of}
 use Rattle.host_boot.specs.declared.ProbeResult.{ProbeResult}
 use Rattle.host_boot.specs.declared.ProbeResult.TheVariants.{Ready, Unready, Unserved}
-use Rattle.request_queue.specs.Entries.{Held, IsOverdue}
-use Rattle.request_queue.specs.Machine.{IsEntry}
+use Rattle.request_queue.specs.Entries.{BookEntry, IsOverdue}
+use Rattle.request_queue.specs.Machine.{EntryRelation}
 use Rattle.server_history.specs.Below.{LawsBelow}
 use Rattle.server_history.specs.Histories.{ExtendsSettled, LeadsToServer}
-use Rattle.server_history.specs.Server.{ServerState, InCallInvariant, IsMachineOf, SettledInvariant, mode_in, ports_of, state_of}
+use Rattle.server_history.specs.Server.{ServerState, InCallInvariant, MachineRelation, SettledInvariant, mode_in, ports_of, state_of}
 use Rattle.server_history.specs.Turns.{AtRest, IsPortTurn, HandlesShownErrors, InRestart, InService, IsStepOf, Ticks, TicksPort, a_tick_older, joint_state_of, is_ready}
 use Rattle.server_history.proofs.plain_calls.OlderRequests.{older_by, older_ended, older_issued, older_request, older_settled, older_stands, serves_on}
 use Rattle.server_history.proofs.plain_calls.Acceptances.{any_in}
@@ -65,20 +65,20 @@ use Rattle.server_history.proofs.state.PairedLists.{at_left, at_right}
 
 -- ---- which ports are overdue
 
-abbrev is_overdue : ℕ → Held → Bool
+abbrev is_overdue : ℕ → BookEntry → Bool
 is_overdue port e = e.entry.port.0 == port && (e.entry.issued && nat_le 3 e.entry.age)
 
-abbrev overdue_in : List Held → ℕ → Bool
+abbrev overdue_in : List BookEntry → ℕ → Bool
 overdue_in book port = list_any (is_overdue port) book
 
-overdue_is : (book : List Held) (port : ℕ) → overdue_in book port ≡ true → IsOverdue (port_at port) book
+overdue_is : (book : List BookEntry) (port : ℕ) → overdue_in book port ≡ true → IsOverdue (port_at port) book
 overdue_is book port is =
     let w = any_in (is_overdue port) book is in
     let a = and_parts (w.0.entry.port.0 == port) (w.0.entry.issued && nat_le 3 w.0.entry.age) w.2 in
     let b = and_parts w.0.entry.issued (nat_le 3 w.0.entry.age) a.1 in
     (w.0, w.1, (ap port_at (eqb-true w.0.entry.port.0 port a.0), b.0, leb-true 3 w.0.entry.age b.1))
 
-is_so_overdue : (book : List Held) (port : ℕ) → IsOverdue (port_at port) book → overdue_in book port ≡ true
+is_so_overdue : (book : List BookEntry) (port : ℕ) → IsOverdue (port_at port) book → overdue_in book port ≡ true
 is_so_overdue book port o = ⊎_elim
     (λ so. so)
     (λ not_so.
@@ -93,7 +93,7 @@ module _ (laws : LawsBelow) (port : Port) (low : port.0 < 4) (c : ServerState) (
   resting = record {
     accesses = [];
     does = refl;
-    of = All-nil (IsOf port);
+    of = All-nil (SparesOtherPorts port);
     own = All-nil IsDriversOwn;
     others = record {
       grants = refl;
@@ -144,7 +144,7 @@ module _ (laws : LawsBelow) (port : Port) (low : port.0 < 4) (c : ServerState) (
       its : All (λ q. q ≡ port) (port ∷ [])
       its = All-cons (λ q. q ≡ port) port [] refl (All-nil (λ q. q ≡ port))
 
-      uninterrupted : IsInterrupted (told_of (port ∷ []) c.device (ports_of c)) port → ⊥
+      uninterrupted : IsStoppedOrStuck (told_of (port ∷ []) c.device (ports_of c)) port → ⊥
       uninterrupted i = ⊎_elim (λ stopped. nowhere port stopped) (λ stuck. nowhere port stuck) i
 
 -- ---- steps, and the tick before them
@@ -169,7 +169,7 @@ no_ages Such (Age ready ∷ steps) of = absurd (All-head (IsStepOf Such) (Age re
 no_ages Such (step ∷ steps) of = no_ages Such steps (All-tail (IsStepOf Such) step steps of)
 
 -- accesses that serve such ports serve others
-serving_on : (One Other : Port → Type 0) → ((q : Port) → One q → Other q) → (access : Access) → IsServing One access → IsServing Other access
+serving_on : (One Other : Port → Type 0) → ((q : Port) → One q → Other q) → (access : Access) → IsAccessForPorts One access → IsAccessForPorts Other access
 serving_on One Other each (Reading (Px port r) v) is = (is.0, is.1, each port is.2)
 serving_on One Other each (Reading r v) is = (is.0, is.1, tt)
 serving_on One Other each (Writing (Px port r) v) is = (is.0, is.1, each port is.2)
@@ -178,7 +178,7 @@ serving_on One Other each (Loading at bytes) is = (is.0, is.1, tt)
 serving_on One Other each (Storing at bytes) is = (is.0, is.1, tt)
 
 -- accesses of another port clear no bit that tells of this one's trouble
-other_clears_none : (port : Port) (access : Access) → IsOfOther port access → ClearsNone port access
+other_clears_none : (port : Port) (access : Access) → IsOfOther port access → ClearsNoError port access
 other_clears_none port (Writing (Px at r) v) (other, apart, of) = record {
   is = λ q. let z : Px at r ≡ Px port register.Is = q in absurd (apart (ap (λ (p : Port). p.0) (sym (let same : at ≡ port = cc in same) ∙ of)));
   serr = λ q. let z : Px at r ≡ Px port register.Serr = q in absurd (apart (ap (λ (p : Port). p.0) (sym (let same : at ≡ port = cc in same) ∙ of)));
@@ -197,7 +197,7 @@ module _ (laws : LawsBelow) (s new : ServerState) (replies : List Reply) (start 
   abbrev was : AbstractState
   was = (now first past).abstract
 
-  at : IsMachineOf s was.machine
+  at : MachineRelation s was.machine
   at = leads.stands.machine
 
   same : was.ports ≡ ports_of s
@@ -219,7 +219,7 @@ module _ (laws : LawsBelow) (s new : ServerState) (replies : List Reply) (start 
   aged_start : SettledInvariant aged
   aged_start = older_settled laws s start
 
-  aged_at : IsMachineOf aged old.machine
+  aged_at : MachineRelation aged old.machine
   aged_at = older_stands laws s was.machine at
 
   aged_reached : IsReachable old.machine
@@ -285,7 +285,7 @@ module _ (laws : LawsBelow) (s new : ServerState) (replies : List Reply) (start 
   is_hung : (port : Port) → IsToRestart port → HasTimedOut was port
   is_hung port (is_ready_now, so) =
       let o = overdue_is aged.book port.0 so in
-      let y = at_left IsEntry aged.book old.machine.book aged_at.book o.0 o.1 in
+      let y = at_left EntryRelation aged.book old.machine.book aged_at.book o.0 o.1 in
       let w = map_in (older ready) was.machine.book y.0 y.1 in
       let own = o.2.0 in
       let age = y.2.age in
@@ -314,7 +314,7 @@ module _ (laws : LawsBelow) (s new : ServerState) (replies : List Reply) (start 
 
       overdue : IsOverdue (port_at port.0) aged.book
       overdue =
-          let x = at_right IsEntry aged.book old.machine.book aged_at.book (older ready h.pending) (into_map (older ready) was.machine.book h.pending h.here) in
+          let x = at_right EntryRelation aged.book old.machine.book aged_at.book (older ready h.pending) (into_map (older ready) was.machine.book h.pending h.here) in
           let age = x.2.age in
           let its : (older ready h.pending).age ≡ suc h.pending.age = ap (λ (y : Pending). y.age) older_is in
           let two = h.old_enough in (
@@ -393,7 +393,7 @@ module _ (laws : LawsBelow) (s new : ServerState) (replies : List Reply) (start 
 
   none_waits : (port : Port) → state_of (probe_result_of new.ports port.0) ≢ ReadyState → (e : Pending) → Contains end.machine.book e → e.request.port ≢ port
   none_waits port other e here own =
-      let a = at_right IsEntry new.book (after old.machine p.steps).book p.stands.book e (in_end e here) in
+      let a = at_right EntryRelation new.book (after old.machine p.steps).book p.stands.book e (in_end e here) in
       other (ap (λ (q : Port). state_of (probe_result_of new.ports q.0)) (sym own ∙ a.2.port) ∙ of_ready new holds a.0 a.1)
 
   -- a port that is to be restarted was
@@ -450,10 +450,10 @@ module _ (laws : LawsBelow) (s new : ServerState) (replies : List Reply) (start 
       state_if Unserved so = absurd (false≢true so)
       state_if (Unready state) so = absurd (false≢true so)
 
-      stands_then : IsMachineOf new end.machine
-      stands_then = subst (IsMachineOf new) (sym whole_is) p.stands
+      stands_then : MachineRelation new end.machine
+      stands_then = subst (MachineRelation new) (sym whole_is) p.stands
 
-  keeps : KeepsDisks was end
+  keeps : UnansweredKeepDisk was end
   keeps e o here there same_id = ⊎_elim (λ d. d) (λ none. absurd (none e (in_end e here) refl)) (done e.request.port).keeps
 
   evidenced : IsEvidenced Tick (Served replies) p.accesses (with_device s.device (now first past)) (ports_of new) new.device p.evidence
@@ -490,8 +490,8 @@ module _ (laws : LawsBelow) (s new : ServerState) (replies : List Reply) (start 
       (λ r. r.1.heeds)
       (λ r. record {
         port_error = laws.calls.ordinary port (record { device = s.device; abstract = old }) new.device p.accesses p.evidence (ports_of new) kept.on p.does
-            (All-weaker (IsServing (Uses plan old.ports)) (SparesRegister Ghc) (λ access serving. serving.1) p.accesses p.serving)
-            (All-weaker (IsOfOther port) (ClearsNone port) (other_clears_none port) p.accesses r.1.others);
+            (All-weaker (IsAccessForPorts (Uses plan old.ports)) (DoesNotWrite Ghc) (λ access serving. serving.1) p.accesses p.serving)
+            (All-weaker (IsOfOther port) (ClearsNoError port) (other_clears_none port) p.accesses r.1.others);
         well = λ i. absurd (r.1.uninterrupted i);
       })
       (restarted_or_not port)
@@ -521,15 +521,15 @@ module _ (laws : LawsBelow) (s new : ServerState) (replies : List Reply) (start 
       (last_after ready p.steps p.turns.last)
       lawful keeps all_answered tt
       p.accesses
-      (p.does, All-weaker (IsServing (Uses plan old.ports)) (IsServing (HasTimedOut was)) (serving_on (Uses plan old.ports) (HasTimedOut was) (λ q used. is_hung q used)) p.accesses p.serving)
+      (p.does, All-weaker (IsAccessForPorts (Uses plan old.ports)) (IsAccessForPorts (HasTimedOut was)) (serving_on (Uses plan old.ports) (HasTimedOut was) (λ q used. is_hung q used)) p.accesses p.serving)
       evidenced
       due_then
       port_part
       (laws.backed_parts s.device s.device new.device was.machine (Age ready ∷ []) p.steps (laws.backed_own s.device was.machine (Age ready) (λ x. x)) p.backed)
-      (subst (IsMachineOf new) (sym whole_is) p.stands)
+      (subst (MachineRelation new) (sym whole_is) p.stands)
 
-pub law_ticks_add : LawsBelow → (s new : ServerState) (replies : List Reply) → SettledInvariant s → Ticks replies s new → ExtendsSettled s new Tick (Served replies)
-law_ticks_add laws s new replies start ticks = record {
+pub law_ticks_extend_history : LawsBelow → (s new : ServerState) (replies : List Reply) → SettledInvariant s → Ticks replies s new → ExtendsSettled s new Tick (Served replies)
+law_ticks_extend_history laws s new replies start ticks = record {
   settled = turns_kept (TicksPort (a_tick_older s).book) (λ port one other. other ≡ one) s.ports 0 (a_tick_older s) new replies (older_settled laws s start) ticks;
   adds = λ first past leads. tick_event laws s new replies start ticks first past leads;
 }

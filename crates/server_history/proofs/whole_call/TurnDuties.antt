@@ -14,23 +14,23 @@ use Rattle.adapter.specs.Commands.{Meaning, is_queued}
 use Rattle.adapter.specs.Device.{Device}
 use Rattle.adapter.specs.Rules.{InUse, IsOn}
 use Rattle.refinement.specs.Relation.{port_at}
-use Rattle.refinement.specs.Facts.{HasFaults, ShowsFault}
+use Rattle.refinement.specs.Facts.{RecordsFaults, ShowsFault}
 use Rattle.refinement.specs.Slots.{ServesRequest}
 use Rattle.block_machine.specs.Events.{AbstractState, Served, Service, changes_disk}
 use Rattle.block_machine.specs.Histories.{JointState, IsReachable}
 use Rattle.block_machine.specs.Left.{after}
-use Rattle.block_machine.specs.Ports.{Evidence, IsInterrupted, SamePort}
+use Rattle.block_machine.specs.Ports.{Evidence, IsStoppedOrStuck, SamePort}
 use Rattle.block_machine.specs.State.{Pending, Machine}
 use Rattle.block_machine.specs.Steps.{Step, Answer}
 use Rattle.host_boot.specs.Taken.{probe_result_of}
 use Rattle.host_boot.specs.declared.ProbeResult.{ProbeResult}
-use Rattle.driver_history.specs.Heeding.{AreTold, IsLeftAlone, ServesReady, tells_fault}
+use Rattle.driver_history.specs.Heeding.{ToldOkOr, IsLeftAlone, ServesReady, tells_fault}
 use Rattle.driver_history.specs.Evidence.{ShowsChange, ShowsFailure}
-use Rattle.driver_history.specs.Histories.{BootsAnew, FindsDone, IsUnfitOrForeign, HasFaultAlone, IsAnsweredFaulty, IsIssuedOn, PortCorresponds}
-use Rattle.driver_history.specs.Parts.{HasTurnIn, NamesAlike}
+use Rattle.driver_history.specs.Histories.{BootsAnew, FindsDone, HasUnservedDisk, HasOnlyTaskFileError, IsAnsweredFaulty, IsIssuedOn, PortCorresponds}
+use Rattle.driver_history.specs.Parts.{HasTurnIn, EvidenceAgreesOn}
 use Rattle.server_history.specs.Below.{LawsBelow}
-use Rattle.server_history.specs.Turns.{IsPortTurn, HandlesShownErrors, InService, MakesTurn, TurnCorresponds, Turn, joint_state_of, abstract_state_of, happening_of_turn}
-use Rattle.server_history.specs.Server.{HasStoredCommand, ServerState, InCallInvariant, IsMachineOf, SettledInvariant, ports_of, state_of}
+use Rattle.server_history.specs.Turns.{IsPortTurn, HandlesShownErrors, InService, SimulatesTurn, TurnCorresponds, Turn, joint_state_of, abstract_state_of, happening_of_turn}
+use Rattle.server_history.specs.Server.{HasStoredCommand, ServerState, InCallInvariant, MachineRelation, SettledInvariant, ports_of, state_of}
 use Rattle.server_history.proofs.any_turn.JoinedParts.{same_then}
 use Rattle.server_history.proofs.whole_call.TurnResults as lifting
 use Rattle.server_history.proofs.whole_call.TurnResults.{counts_apart}
@@ -39,7 +39,7 @@ use Rattle.server_history.proofs.whole_call.Progress as progress
 use Rattle.server_history.proofs.state.PortSlots.{ready_found, free_unused}
 use Rattle.server_history.proofs.unready_turn.UnfitPort.{ready_fits}
 
-module _ (laws : LawsBelow) (s : ServerState) (start : SettledInvariant s) (old : AbstractState) (reached : IsReachable old.machine) (at : IsMachineOf s old.machine) (ports_are : old.ports ≡ ports_of s) where
+module _ (laws : LawsBelow) (s : ServerState) (start : SettledInvariant s) (old : AbstractState) (reached : IsReachable old.machine) (at : MachineRelation s old.machine) (ports_are : old.ports ≡ ports_of s) where
   abbrev kept : InCallInvariant s
   kept = start.kept
 
@@ -57,7 +57,7 @@ module _ (laws : LawsBelow) (s : ServerState) (start : SettledInvariant s) (old 
     abbrev m : Machine
     m = after old.machine p.steps
 
-    abbrev x : MakesTurn (turn_at AService (probe_result_of s.ports n) n) (port_at n) its part.accesses c mid m
+    abbrev x : SimulatesTurn (turn_at AService (probe_result_of s.ports n) n) (port_at n) its part.accesses c mid m
     x = part.makes m m_reached p.stands
 
     abbrev all : List Step
@@ -103,7 +103,7 @@ module _ (laws : LawsBelow) (s : ServerState) (start : SettledInvariant s) (old 
     whole_is : after old.machine all ≡ after m x.steps
     whole_is = lifting.whole_is AService laws s start old reached at ports_are n c mid before its p next part m_reached on_mid
 
-    module _ (evidence : Evidence) (alike : NamesAlike (port_at n) x.evidence evidence) (same_n : SamePort old.ports (ports_of c) (port_at n)) where
+    module _ (evidence : Evidence) (alike : EvidenceAgreesOn (port_at n) x.evidence evidence) (same_n : SamePort old.ports (ports_of c) (port_at n)) where
       abbrev did : PortCorresponds (joint_state_of c m) (happening_of_turn InService its mid x.evidence x.steps) part.accesses (port_at n)
       did = its_ties
 
@@ -115,7 +115,7 @@ module _ (laws : LawsBelow) (s : ServerState) (start : SettledInvariant s) (old 
 
       -- ---- a plain request's fault
 
-      module _ (alone : HasFaultAlone (port_at n) began mid.device) (e : Pending) (slot : ℕ) (own : IsIssuedOn (port_at n) old.machine e) (unended : e.ended ≡ false)
+      module _ (alone : HasOnlyTaskFileError (port_at n) began mid.device) (e : Pending) (slot : ℕ) (own : IsIssuedOn (port_at n) old.machine e) (unended : e.ended ≡ false)
           (says : ServesRequest old.machine s.device.memory (s.device.port n) n slot e.request.id) (plain : is_queued says.command.operation ≡ false) where
         abbrev it : IsLeading e
         it = leading e own
@@ -140,11 +140,11 @@ module _ (laws : LawsBelow) (s : ServerState) (start : SettledInvariant s) (old 
             ap (λ (y : Meaning). is_queued y.operation) same.0 ∙ k.kind ∙ used_plain
 
         -- so it is in the turn
-        alone_now : HasFaultAlone (port_at n) (joint_state_of c m) mid.device
+        alone_now : HasOnlyTaskFileError (port_at n) (joint_state_of c m) mid.device
         alone_now = laws.calls.alone_then (port_at n) began (abstract_state_of c m) mid.device kept.on undue t on_mid ready_c alone
 
         -- the fault that is shown then is of that slot, which is in use
-        faults : HasFaults c.device.tape (c.device.port n) n
+        faults : RecordsFaults c.device.tape (c.device.port n) n
         faults = ((p.settled.kept.behind n low).runs ready_c).recorded
 
         fault : ShowsFault (drop (c.device.port n).notes.st_set_at c.device.tape) (c.device.port n) n
@@ -173,10 +173,10 @@ module _ (laws : LawsBelow) (s : ServerState) (start : SettledInvariant s) (old 
 
       -- ---- what it heeds
 
-      unnamed : IsInterrupted evidence (port_at n) → IsInterrupted x.evidence (port_at n)
+      unnamed : IsStoppedOrStuck evidence (port_at n) → IsStoppedOrStuck x.evidence (port_at n)
       unnamed i = ⊎_elim (λ stopped. inl (alike.stopped.1 stopped)) (λ stuck. inr (alike.stuck.1 stuck)) i
 
-      told_whole : (o : Outcome) → AreTold o x.steps (port_at n) → AreTold o all (port_at n)
+      told_whole : (o : Outcome) → ToldOkOr o x.steps (port_at n) → ToldOkOr o all (port_at n)
       told_whole o told e answer here own = ⊎_elim
           (λ late. told e answer late own)
           (λ early. absurd (not_early e answer early own))
@@ -217,12 +217,12 @@ module _ (laws : LawsBelow) (s : ServerState) (start : SettledInvariant s) (old 
       same_self = (refl, refl, refl, refl, refl, refl)
 
       -- where the port showed a failure when it began, or a change of its link, the turn stopped it
-      stops_troubled : ShowsFailure (c.device.port n) ⊎ ShowsChange (c.device.port n) → IsInterrupted x.evidence (port_at n)
+      stops_troubled : ShowsFailure (c.device.port n) ⊎ ShowsChange (c.device.port n) → IsStoppedOrStuck x.evidence (port_at n)
       stops_troubled port_error = serves.interrupts (⊎_elim (λ failure. inl (x.evidenced.failed_all ready_c failure)) (λ change. inr (x.evidenced.gone_all ready_c (inl change))) port_error)
 
       -- ---- the whole
 
-      not_bad : IsUnfitOrForeign old.ports (port_at n) → ⊥
+      not_bad : HasUnservedDisk old.ports (port_at n) → ⊥
       not_bad bad = ready_fits (old.ports.state (port_at n)) was_ready bad
 
       not_absent : old.ports.state (port_at n) ≡ Absent → ⊥

@@ -19,26 +19,26 @@ use Rattle.adapter.specs.Access.Access.{Reading}
 use Rattle.adapter.specs.Device.{Device}
 use Rattle.adapter.specs.Rules.{IsOn}
 use Rattle.refinement.specs.Relation.{port_at}
-use Rattle.refinement.specs.Driven.{IsOf}
-use Rattle.refinement.specs.Links.{SparesRegister}
+use Rattle.refinement.specs.Driven.{SparesOtherPorts}
+use Rattle.refinement.specs.Links.{DoesNotWrite}
 use Rattle.refinement.specs.Slots.{IsEmptySlot, RelatesSlot, Serves, ServesRequest, Stage, SlotState}
-use Rattle.block_machine.specs.Events.{AnswersEnded, HadDisk, AbstractState, NoneKeepsIssue, changes_disk}
+use Rattle.block_machine.specs.Events.{AnswersEnded, ShowsRealDisk, AbstractState, NoneKeepsIssue, changes_disk}
 use Rattle.block_machine.specs.Histories.{JointState, IsReachable}
 use Rattle.block_machine.specs.Left.{after}
-use Rattle.block_machine.specs.Ports.{Evidence, IsInterrupted, Ports, SamePort}
+use Rattle.block_machine.specs.Ports.{Evidence, IsStoppedOrStuck, Ports, SamePort}
 use Rattle.block_machine.specs.State.{Pending, Machine}
 use Rattle.block_machine.specs.Steps.{Step, Again, Answer}
 use Rattle.host_boot.specs.Taken.{probe_result_of}
 use Rattle.driver_history.specs.Heeding.{tells_fault}
 use Rattle.driver_history.specs.Evidence.{ShowsChange, ShowsFailure}
 use Rattle.driver_history.specs.Histories.{FindsDone, IsAnsweredOk, IsIssuedOn, RunsWellAnew}
-use Rattle.driver_history.specs.Parts.{HasTurnIn, IsOfOther, NamesAlike}
-use Rattle.driver_history.specs.Trace.{LeavesCommand, LeavesEngine, ResetsLink}
-use Rattle.driver_history.specs.Holds.{Runs}
+use Rattle.driver_history.specs.Parts.{HasTurnIn, IsOfOther, EvidenceAgreesOn}
+use Rattle.driver_history.specs.Trace.{DoesNotWriteCmd, LeavesEngine, ResetsLink}
+use Rattle.driver_history.specs.Holds.{EngineRuns}
 use Rattle.server_history.specs.Below.{LawsBelow}
-use Rattle.server_history.specs.Turns.{FindsTurn, IsPortTurn, HandlesShownErrors, MakesTurn, joint_state_of, abstract_state_of}
+use Rattle.server_history.specs.Turns.{FindsDoneInTurn, IsPortTurn, HandlesShownErrors, SimulatesTurn, joint_state_of, abstract_state_of}
 use Rattle.server_history.proofs.whole_call.ServiceAndTick.{Plan, TakesTurn, not_reset, turn_at}
-use Rattle.server_history.specs.Server.{ServerState, InCallInvariant, IsMachineOf, SettledInvariant, ports_of, state_of, used_for}
+use Rattle.server_history.specs.Server.{ServerState, InCallInvariant, MachineRelation, SettledInvariant, ports_of, state_of, used_for}
 use Rattle.server_history.proofs.any_turn.TurnSteps.{IsSame, counts_none}
 use Rattle.server_history.proofs.whole_call.Progress.{others_leave}
 use Rattle.server_history.proofs.whole_call.Progress as progress
@@ -62,7 +62,7 @@ none_told q (step ∷ steps) apart = none_told q steps (λ y o here. apart y o (
 pub counts_apart : (q : Port) (steps : List Step) → ((e : Pending) (o : Outcome) → Contains steps (Answer e o) → e.request.port ≢ q) → count_by (tells_fault q) steps ≡ 0
 counts_apart q steps apart = counts_none (tells_fault q) steps (none_told q steps apart)
 
-module _ (plan : Plan) (laws : LawsBelow) (s : ServerState) (start : SettledInvariant s) (old : AbstractState) (reached : IsReachable old.machine) (at : IsMachineOf s old.machine) (ports_are : old.ports ≡ ports_of s) where
+module _ (plan : Plan) (laws : LawsBelow) (s : ServerState) (start : SettledInvariant s) (old : AbstractState) (reached : IsReachable old.machine) (at : MachineRelation s old.machine) (ports_are : old.ports ≡ ports_of s) where
   abbrev kept : InCallInvariant s
   kept = start.kept
 
@@ -83,7 +83,7 @@ module _ (plan : Plan) (laws : LawsBelow) (s : ServerState) (start : SettledInva
     abbrev m : Machine
     m = after old.machine p.steps
 
-    abbrev x : MakesTurn (turn_at plan (probe_result_of s.ports n) n) (port_at n) its part.accesses c mid m
+    abbrev x : SimulatesTurn (turn_at plan (probe_result_of s.ports n) n) (port_at n) its part.accesses c mid m
     x = part.makes m m_reached p.stands
 
     abbrev all : List Step
@@ -134,7 +134,7 @@ module _ (plan : Plan) (laws : LawsBelow) (s : ServerState) (start : SettledInva
     pub changed_whole : list_any (changes_disk (port_at n)) x.steps ≡ true → list_any (changes_disk (port_at n)) all ≡ true
     changed_whole is = any_append (changes_disk (port_at n)) x.steps p.steps ∙ or_left _ _ is
 
-    pub disk_whole : HadDisk (abstract_state_of c m) x.steps (abstract_state_of mid (after m x.steps)) (port_at n) → HadDisk old all (abstract_state_of mid (after old.machine all)) (port_at n)
+    pub disk_whole : ShowsRealDisk (abstract_state_of c m) x.steps (abstract_state_of mid (after m x.steps)) (port_at n) → ShowsRealDisk old all (abstract_state_of mid (after old.machine all)) (port_at n)
     disk_whole had shows = ⊎_elim
         (λ present. ⊎_elim (λ was. inl was) (λ changed. inr (any_append (changes_disk (port_at n)) x.steps p.steps ∙ or_right _ _ changed)) (present_before old.machine (port_at n) p.steps present))
         (λ changed. inr (changed_whole changed))
@@ -142,19 +142,19 @@ module _ (plan : Plan) (laws : LawsBelow) (s : ServerState) (start : SettledInva
 
     -- ---- its part of the call
 
-    pub named : (evidence : Evidence) → NamesAlike (port_at n) x.evidence evidence → IsInterrupted x.evidence (port_at n) → IsInterrupted evidence (port_at n)
+    pub named : (evidence : Evidence) → EvidenceAgreesOn (port_at n) x.evidence evidence → IsStoppedOrStuck x.evidence (port_at n) → IsStoppedOrStuck evidence (port_at n)
     named evidence alike i = ⊎_elim (λ stopped. inl (alike.stopped.0 stopped)) (λ stuck. inr (alike.stuck.0 stuck)) i
 
     -- one that it leaves ready runs
-    runs_then : state_of (probe_result_of mid.ports n) ≡ ReadyState → Runs n mid.device
+    runs_then : state_of (probe_result_of mid.ports n) ≡ ReadyState → EngineRuns n mid.device
     runs_then ready_mid = (next.kept.behind n (ready_found mid n next.kept ready_mid).0).runs ready_mid
 
     -- where the turn stopped the port and left it ready, ST was set in it
-    pub set_since : state_of (probe_result_of mid.ports n) ≡ ReadyState → IsInterrupted x.evidence (port_at n) → length c.device.tape ≤ (mid.device.port n).notes.st_set_at
+    pub set_since : state_of (probe_result_of mid.ports n) ≡ ReadyState → IsStoppedOrStuck x.evidence (port_at n) → length c.device.tape ≤ (mid.device.port n).notes.st_set_at
     set_since ready_mid i = ⊎_elim
         (λ stopped. ⊎_elim
         (λ stops. laws.calls.set_since (port_at n) part.accesses c.device mid.device p.on
-        (All-weaker (IsOf (port_at n)) (SparesRegister Ghc) (λ access of. laws.of_host (port_at n) access of) part.accesses part.of) part.does stops (runs_then ready_mid).st)
+        (All-weaker (SparesOtherPorts (port_at n)) (DoesNotWrite Ghc) (λ access of. laws.of_host (port_at n) access of) part.accesses part.of) part.does stops (runs_then ready_mid).st)
         (λ (reset : _ × _). absurd (not_reset plan (probe_result_of s.ports n) n its reset.0))
         (x.evidenced.stopped_only stopped))
         (λ stuck. ⊎_elim
@@ -164,8 +164,8 @@ module _ (plan : Plan) (laws : LawsBelow) (s : ServerState) (start : SettledInva
         i
 
     -- what it did of trouble the call did so far
-    module _ (evidence : Evidence) (alike : NamesAlike (port_at n) x.evidence evidence) (same_n : SamePort old.ports (ports_of c) (port_at n))
-        (stops_troubled : (state_of (probe_result_of c.ports n) ≡ ReadyState) ⊎ (state_of (probe_result_of mid.ports n) ≡ ReadyState) → ShowsFailure (c.device.port n) ⊎ ShowsChange (c.device.port n) → IsInterrupted x.evidence (port_at n))
+    module _ (evidence : Evidence) (alike : EvidenceAgreesOn (port_at n) x.evidence evidence) (same_n : SamePort old.ports (ports_of c) (port_at n))
+        (stops_troubled : (state_of (probe_result_of c.ports n) ≡ ReadyState) ⊎ (state_of (probe_result_of mid.ports n) ≡ ReadyState) → ShowsFailure (c.device.port n) ⊎ ShowsChange (c.device.port n) → IsStoppedOrStuck x.evidence (port_at n))
         (linked : state_of (probe_result_of mid.ports n) ≡ ReadyState → ((s.device.port n).link_due ≡ false) ⊎ ResetsLink (port_at n) part.accesses) (did : HandlesShownErrors (port_at n) part.accesses (joint_state_of c m) x.evidence (ports_of mid) mid.device) where
       same_self : SamePort (ports_of mid) (ports_of mid) (port_at n)
       same_self = (refl, refl, refl, refl, refl, refl)
@@ -266,7 +266,7 @@ module _ (plan : Plan) (laws : LawsBelow) (s : ServerState) (start : SettledInva
 
       -- ---- what is found done
 
-      module _ (f : FindsTurn (port_at n) part.accesses c m x.steps) (ended : AnswersEnded m x.steps (port_at n)) where
+      module _ (f : FindsDoneInTurn (port_at n) part.accesses c m x.steps) (ended : AnswersEnded m x.steps (port_at n)) where
         abbrev AreClear : ℕ → Type 0
         AreClear slot = (bit f.done.ci slot ≡ false) × (bit f.done.sact slot ≡ false)
 
@@ -299,8 +299,8 @@ module _ (plan : Plan) (laws : LawsBelow) (s : ServerState) (start : SettledInva
             later = f.done.reads.later;
             here = ap (λ (late : List Access). p.accesses ++ late) f.done.reads.here
                 ∙ sym (append_assoc p.accesses f.done.reads.before (Reading (Px (port_at n) Ci) f.done.ci ∷ Reading (Px (port_at n) Sact) f.done.sact ∷ f.done.reads.later));
-            running = All-append (LeavesCommand (port_at n)) p.accesses f.done.reads.before
-                (All-weaker (LeavesEngine (port_at n)) (LeavesCommand (port_at n)) (λ access leaves. leaves.0) p.accesses (others_leave plan laws s start old reached at ports_are (port_at n) p.accesses (p.others (port_at n) not_yet)))
+            running = All-append (DoesNotWriteCmd (port_at n)) p.accesses f.done.reads.before
+                (All-weaker (LeavesEngine (port_at n)) (DoesNotWriteCmd (port_at n)) (λ access leaves. leaves.0) p.accesses (others_leave plan laws s start old reached at ports_are (port_at n) p.accesses (p.others (port_at n) not_yet)))
                 f.done.reads.running;
           };
           exact = λ other slot own says. ⊎_elim

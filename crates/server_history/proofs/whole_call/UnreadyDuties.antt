@@ -7,22 +7,22 @@ use Rattle.adapter.specs.Access.{Access}
 use Rattle.adapter.specs.Device.{Device}
 use Rattle.adapter.specs.Rules.{IsOn}
 use Rattle.refinement.specs.Relation.{port_at}
-use Rattle.refinement.specs.Links.{HasDeviceOrNone}
+use Rattle.refinement.specs.Links.{ShowsDiskIfIn}
 use Rattle.block_machine.specs.Events.{AbstractState, Served, Service}
 use Rattle.block_machine.specs.Histories.{JointState, IsReachable}
 use Rattle.block_machine.specs.Left.{after}
-use Rattle.block_machine.specs.Ports.{Evidence, IsInterrupted, Ports, SamePort}
+use Rattle.block_machine.specs.Ports.{Evidence, IsStoppedOrStuck, Ports, SamePort}
 use Rattle.block_machine.specs.State.{Machine}
 use Rattle.block_machine.specs.Steps.{Step}
-use Rattle.driver_history.specs.Histories.{BootsAnew, IsUnfitOrForeign, ProbesDisk, PortCorresponds}
-use Rattle.driver_history.specs.Parts.{EndsLinked, HasTurnIn, NamesAlike}
+use Rattle.driver_history.specs.Histories.{BootsAnew, HasUnservedDisk, ProbesDisk, PortCorresponds}
+use Rattle.driver_history.specs.Parts.{EndsNoLinkDue, HasTurnIn, EvidenceAgreesOn}
 use Rattle.driver_history.specs.Trace.{ResetsLink}
 use Rattle.host_boot.specs.Taken.{probe_result_of}
 use Rattle.host_boot.specs.declared.ProbeResult.{ProbeResult}
 use Rattle.host_boot.specs.declared.ProbeResult.TheVariants.{Ready, Unready, Unserved}
 use Rattle.server_history.specs.Below.{LawsBelow}
-use Rattle.server_history.specs.Server.{ServerState, InCallInvariant, IsMachineOf, SettledInvariant, ports_of, state_of}
-use Rattle.server_history.specs.Turns.{IsPortTurn, HandlesShownErrors, InService, InProbe, MakesTurn, TurnCorresponds, Turn, joint_state_of, abstract_state_of, happening_of_turn}
+use Rattle.server_history.specs.Server.{ServerState, InCallInvariant, MachineRelation, SettledInvariant, ports_of, state_of}
+use Rattle.server_history.specs.Turns.{IsPortTurn, HandlesShownErrors, InService, InProbe, SimulatesTurn, TurnCorresponds, Turn, joint_state_of, abstract_state_of, happening_of_turn}
 use Rattle.server_history.proofs.whole_call.EarlierResults as carrying
 use Rattle.server_history.proofs.any_turn.JoinedParts.{dead_or_not}
 use Rattle.server_history.proofs.whole_call.TurnResults as lifting
@@ -36,7 +36,7 @@ is_tried Unserved n unready = refl
 is_tried (Ready info) n unready = absurd (unready refl)
 is_tried (Unready state) n unready = refl
 
-module _ (laws : LawsBelow) (s : ServerState) (start : SettledInvariant s) (old : AbstractState) (reached : IsReachable old.machine) (at : IsMachineOf s old.machine) (ports_are : old.ports ≡ ports_of s) where
+module _ (laws : LawsBelow) (s : ServerState) (start : SettledInvariant s) (old : AbstractState) (reached : IsReachable old.machine) (at : MachineRelation s old.machine) (ports_are : old.ports ≡ ports_of s) where
   abbrev kept : InCallInvariant s
   kept = start.kept
 
@@ -53,7 +53,7 @@ module _ (laws : LawsBelow) (s : ServerState) (start : SettledInvariant s) (old 
   state_was q = ap (λ (ports : Ports). ports.state q) ports_are
 
   -- in one with a disk that isn't served a device showed when the call began, or no disk was in
-  there : (q : Port) → IsUnfitOrForeign old.ports q → HasDeviceOrNone (s.device.port q.0)
+  there : (q : Port) → HasUnservedDisk old.ports q → ShowsDiskIfIn (s.device.port q.0)
   there q bad =
       let found = ⊎_elim (λ foreign. inl (sym (state_was q) ∙ foreign)) (λ unfit. inr (unfit.0, sym (state_was q) ∙ unfit.1)) bad in
       (kept.behind q.0 (kept.there q.0 (bad_tends (probe_result_of s.ports q.0) found).0).0).shown
@@ -66,7 +66,7 @@ module _ (laws : LawsBelow) (s : ServerState) (start : SettledInvariant s) (old 
     abbrev m : Machine
     m = after old.machine p.steps
 
-    abbrev x : MakesTurn (turn_at AService (probe_result_of s.ports n) n) (port_at n) its part.accesses c mid m
+    abbrev x : SimulatesTurn (turn_at AService (probe_result_of s.ports n) n) (port_at n) its part.accesses c mid m
     x = part.makes m m_reached p.stands
 
     abbrev all : List Step
@@ -90,7 +90,7 @@ module _ (laws : LawsBelow) (s : ServerState) (start : SettledInvariant s) (old 
     never : old.ports.state (port_at n) ≢ ReadyState
     never ready = unready (sym (state_was (port_at n)) ∙ ready)
 
-    module _ (alike : NamesAlike (port_at n) x.evidence evidence) (same_n : SamePort old.ports (ports_of c) (port_at n)) where
+    module _ (alike : EvidenceAgreesOn (port_at n) x.evidence evidence) (same_n : SamePort old.ports (ports_of c) (port_at n)) where
       never_then : (ports_of c).state (port_at n) ≢ ReadyState
       never_then ready = never (sym same_n.1 ∙ ready)
 
@@ -99,7 +99,7 @@ module _ (laws : LawsBelow) (s : ServerState) (start : SettledInvariant s) (old 
       no_same ready same = never_then (sym same.1 ∙ ready)
 
       -- so it was stopped, and its link reset
-      stopped : (ports_of mid).state (port_at n) ≡ ReadyState → IsInterrupted x.evidence (port_at n)
+      stopped : (ports_of mid).state (port_at n) ≡ ReadyState → IsStoppedOrStuck x.evidence (port_at n)
       stopped ready = ⊎_elim
           (λ (dead : (ports_of c).state (port_at n) ≡ Dead). absurd (no_same ready (x.becomes.0 dead)))
           (λ (lives : (ports_of c).state (port_at n) ≢ Dead). ⊎_elim (λ same. absurd (no_same ready same)) (λ i. i) (x.becomes.1 lives).1)
@@ -115,7 +115,7 @@ module _ (laws : LawsBelow) (s : ServerState) (start : SettledInvariant s) (old 
       heeds = lifting.trouble_whole AService laws s start old reached at ports_are n c mid before its p next part m_reached on_mid evidence alike same_n
           (λ ready port_error. ⊎_elim (λ before. absurd (never_then before)) stopped ready) (λ ready. inr (resets ready)) (record { port_error = did.port_error; well = did.well })
 
-      pub tried_whole : PortCorresponds began (happening_of_turn InService [] mid evidence all) accesses (port_at n) × EndsLinked (port_at n) began (ports_of mid) mid.device
+      pub tried_whole : PortCorresponds began (happening_of_turn InService [] mid evidence all) accesses (port_at n) × EndsNoLinkDue (port_at n) began (ports_of mid) mid.device
       tried_whole = (
         record {
           finds = λ ready. absurd (never ready);
@@ -134,11 +134,11 @@ module _ (laws : LawsBelow) (s : ServerState) (start : SettledInvariant s) (old 
   -- ---- another port's turn after it
 
   module _ (n : ℕ) (c mid : ServerState) (before its : List Reply) (p : Progress n c before) (part : IsPortTurn (turn_at AService (probe_result_of s.ports n) n) (port_at n) its c mid) (m_reached : IsReachable (after old.machine p.steps)) (q : Port) (apart : q ≢ port_at n)
-      (d : IsDone c p.accesses p.steps p.evidence q) (evidence : Evidence) (alike : NamesAlike q p.evidence evidence) (same : SamePort (ports_of c) (ports_of mid) q) (unready : old.ports.state q ≢ ReadyState) where
+      (d : IsDone c p.accesses p.steps p.evidence q) (evidence : Evidence) (alike : EvidenceAgreesOn q p.evidence evidence) (same : SamePort (ports_of c) (ports_of mid) q) (unready : old.ports.state q ≢ ReadyState) where
     abbrev m_then : Machine
     m_then = after old.machine p.steps
 
-    abbrev y : MakesTurn (turn_at AService (probe_result_of s.ports n) n) (port_at n) its part.accesses c mid m_then
+    abbrev y : SimulatesTurn (turn_at AService (probe_result_of s.ports n) n) (port_at n) its part.accesses c mid m_then
     y = part.makes m_then m_reached p.stands
 
     abbrev steps_then : List Step
@@ -159,7 +159,7 @@ module _ (laws : LawsBelow) (s : ServerState) (start : SettledInvariant s) (old 
     was_another : (ports_of c).state q ≡ ReadyState → SamePort old.ports (ports_of c) q → ⊥
     was_another ready is = unready (sym is.1 ∙ ready)
 
-    stopped_so_far : (ports_of c).state q ≡ ReadyState → IsInterrupted p.evidence q
+    stopped_so_far : (ports_of c).state q ≡ ReadyState → IsStoppedOrStuck p.evidence q
     stopped_so_far ready = ⊎_elim
         (λ (dead : old.ports.state q ≡ Dead). absurd (was_another ready (d.becomes.0 dead)))
         (λ (lives : old.ports.state q ≢ Dead). ⊎_elim (λ is. absurd (was_another ready is)) (λ i. i) (d.becomes.1 lives).1)
@@ -175,7 +175,7 @@ module _ (laws : LawsBelow) (s : ServerState) (start : SettledInvariant s) (old 
     heeds_still = carrying.trouble_still AService laws s start old reached at ports_are n c mid before its p part m_reached q apart d evidence alike same
         (λ ready port_error. ⊎_elim (λ before. absurd (unready before)) stopped_so_far ready) (λ ready. inr (reset_so_far ready)) (record { port_error = so_far.port_error; well = so_far.well })
 
-    pub tried_still : PortCorresponds began (happening_of_turn InService [] mid evidence steps_then) accesses_then q × EndsLinked q began (ports_of mid) mid.device
+    pub tried_still : PortCorresponds began (happening_of_turn InService [] mid evidence steps_then) accesses_then q × EndsNoLinkDue q began (ports_of mid) mid.device
     tried_still = (
       record {
         finds = λ ready. absurd (unready ready);

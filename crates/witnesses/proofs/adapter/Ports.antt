@@ -12,7 +12,7 @@ use Rattle.adapter.specs.Access.Access.{Reading, Writing}
 use Rattle.adapter.specs.Steps.DeviceTransition.{Fall, LinkUp, Unplug}
 use Rattle.witnesses.specs.Runs.AccessOrStep.{Made, Came}
 use Rattle.adapter.specs.Commands.{Meaning, is_queued}
-use Rattle.adapter.specs.Device.{Disk, IsDisk, IsSector, TellsItsSectors, DevicePort, Device}
+use Rattle.adapter.specs.Device.{Disk, IsDisk, IsSector, HasKnownSectors, DevicePort, Device}
 use Rattle.adapter.specs.FirstRead.{first_disk, no_disk, empty_port, first_disk_sector}
 use Rattle.adapter.specs.Guarded.{IsGuardedSlot, IsGuardedPort, Passing}
 use Rattle.adapter.specs.Idle.{IsIdle, IsIdlePort, IsSane}
@@ -206,7 +206,7 @@ pub first_sane : IsSane first
 first_sane = record {
   bytes = memory_bytes;
   disk = at_each (λ p. IsDisk p.disk) disk_is none_is;
-  told = λ _. at_each (λ p. TellsItsSectors p.disk) (first_disk_sector, refl) (λ k. [], refl);
+  told = λ _. at_each (λ p. HasKnownSectors p.disk) (first_disk_sector, refl) (λ k. [], refl);
 }
 
 first_reset : (q : ℕ) → IsAsReset (first.port q)

@@ -26,9 +26,9 @@ use Rattle.block_machine.specs.Steps.{Accept, Answer, Issue, May, newly_accepted
 use Rattle.block_machine.specs.declared.due.Unanswered.{Unanswered}
 use Rattle.identify.specs.declared.wanted.Wanted.TheVariants.{Any}
 use Rattle.driver_history.specs.Heeding.{ServesReady, tells_fault}
-use Rattle.driver_history.specs.Histories.{IsIssuedOn, IssuesOn, CallCorresponds, PortCorresponds}
-use Rattle.driver_history.specs.Holds.{HoldsWith}
-use Rattle.witnesses.specs.CommandToFinish.{ReadyPortHasBegun}
+use Rattle.driver_history.specs.Histories.{IsIssuedOn, IsIssuingAccess, CallCorresponds, PortCorresponds}
+use Rattle.driver_history.specs.Holds.{DriverInvariantWith}
+use Rattle.witnesses.specs.ReadyPort.{ReadyPortHasBegun}
 use Rattle.witnesses.specs.Scene.{plain, running_port}
 use Rattle.witnesses.proofs.history.Command.{read_memory, told, zeros}
 use Rattle.witnesses.proofs.history.Holding.{IsUnnamed, first_slots, no_slots}
@@ -136,10 +136,10 @@ has_one rows age = record {
 pub issued_agrees : (rows : List GrantRow) (age : ℕ) → Agreeing plain_disks first_slots (issued_under rows age) [] read_memory issued
 issued_agrees rows age = agrees_one plain_disks (issued_under rows age) [] read_memory issued (read_of 100 1) 100 100 waiting.request.held age (has_one rows age)
 
-pub holds_issued : (age : ℕ) → HoldsWith (Any ∷ Any ∷ []) first_slots (issued_at age)
+pub holds_issued : (age : ℕ) → DriverInvariantWith (Any ∷ Any ∷ []) first_slots (issued_at age)
 holds_issued age = holds plain_disks first_slots (issued_for age) [] read_memory issued (issued_agrees two_rows age)
 
-pub holds_submitted : HoldsWith (Any ∷ Any ∷ []) first_slots submitted_at
+pub holds_submitted : DriverInvariantWith (Any ∷ Any ∷ []) first_slots submitted_at
 holds_submitted = holds_issued 0
 
 pub ready_has_begun : ReadyPortHasBegun
@@ -161,7 +161,7 @@ is_issued = record {
   all_issued = λ port is. none_due plain (unanswered waiting ∷ []) (λ r here. ap (λ (x : Unanswered). x.issued) (only (unanswered waiting) r here)) port;
   due = issuing_on.due_alone submission refl may_issue.1 refl;
   does = submits;
-  only = All-from_recursion (IssuesOn (port_at 0)) submit_accesses (omega arith, (omega arith, (omega arith, (inr refl, tt))));
+  only = All-from_recursion (IsIssuingAccess (port_at 0)) submit_accesses (omega arith, (omega arith, (omega arith, (inr refl, tt))));
 }
 
 abbrev pub submit : Happening Device DeviceStep

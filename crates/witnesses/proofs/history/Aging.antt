@@ -22,7 +22,7 @@ use Rattle.block_machine.specs.declared.due.Unanswered.{Unanswered}
 use Rattle.identify.specs.declared.wanted.Wanted.TheVariants.{Any}
 use Rattle.driver_history.specs.Evidence.{IsEvidencedOf, ShowsFailure, ShowsLoss}
 use Rattle.driver_history.specs.Histories.{IssuesDue, CallCorresponds, PortCorresponds}
-use Rattle.driver_history.specs.Trace.{IsServing, LeavesEngine}
+use Rattle.driver_history.specs.Trace.{IsAccessForPorts, LeavesEngine}
 use Rattle.witnesses.specs.Scene.{plain}
 use Rattle.witnesses.proofs.history.Accepting.{both, holds_issued, in_book, issued_at, issued_for, waiting_for}
 use Rattle.witnesses.proofs.history.Command.{read_memory}
@@ -155,7 +155,7 @@ module _ (age : ℕ) where
     unfoldable pub tick_ties : CallCorresponds (Any ∷ Any ∷ []) (issued_at age) tick
     tick_ties = record {
       accesses = [];
-      came = (refl, All-nil (IsServing (HasTimedOut (issued_at age).abstract)));
+      came = (refl, All-nil (IsAccessForPorts (HasTimedOut (issued_at age).abstract)));
       backed = backed;
       evidenced = record { faults = λ f here. absurd (nowhere f here); port = λ port. evidenced port.0 };
       grounded = tt;

@@ -16,8 +16,8 @@ use Rattle.refinement.specs.Relation.{port_at}
 use Rattle.refinement.specs.Driver.{IsBacked}
 use Rattle.refinement.specs.Witness.{first_id}
 use Rattle.block_machine.specs.Histories.{Happening}
-use Rattle.block_machine.specs.Events.{HadDisk, Happens, Service, Served}
-use Rattle.block_machine.specs.Ports.{AreFit, IsInterrupted, IsServiced, SamePort}
+use Rattle.block_machine.specs.Events.{ShowsRealDisk, Happens, Service, Served}
+use Rattle.block_machine.specs.Ports.{PortsWellFormed, IsStoppedOrStuck, IsServiced, SamePort}
 use Rattle.block_machine.specs.State.{Pending}
 use Rattle.block_machine.specs.Steps.{Step, End, Answer, Unplug}
 use Rattle.identify.specs.declared.wanted.Wanted.TheVariants.{Any}
@@ -29,12 +29,12 @@ use Rattle.hba_regs.specs.declared.reg.PortReg.TheVariants.{Cmd, Ssts, Serr}
 use Rattle.adapter.specs.Access.{Access}
 use Rattle.adapter.specs.Access.Access.{Reading, Writing}
 use Rattle.adapter.specs.declared.access.DeviceStep.{DeviceStep}
-use Rattle.refinement.specs.Links.{IsPlugging}
+use Rattle.refinement.specs.Links.{IsPlugEvent}
 use Rattle.error_recovery.specs.Evidence.{ShowsFatal}
 use Rattle.driver_history.specs.Heeding.{ServesReady}
 use Rattle.driver_history.specs.Evidence.{Gains, IsEvidencedOf, ShowsLoss, ShowsFailure}
 use Rattle.driver_history.specs.Histories.{FindsDone, IsIssuedOn, CallCorresponds, PortCorresponds, BootsAnew, LosesNoPortError, RunsWellAnew, IsPortAlive}
-use Rattle.driver_history.specs.Trace.{LeavesCommand}
+use Rattle.driver_history.specs.Trace.{DoesNotWriteCmd}
 use Rattle.port_control.specs.Engines.{Stops}
 use Rattle.witnesses.specs.Loss.{completing_turn, losing_turn, loss_evidence, LossIsAHistory}
 use Rattle.witnesses.proofs.history.Holding.{IsUnnamed, named, named_is, no_slots, tries_ready, unnamed_evidenced, IsCalm, no_trouble}
@@ -51,7 +51,7 @@ use Rattle.witnesses.proofs.history.Members.{nowhere}
 
 -- ---- ports
 
-fit_one : AreFit one
+fit_one : PortsWellFormed one
 fit_one = record {
   few = (fit_ready plain_disks).few;
   absent = λ port is. absent_of port.0 is;
@@ -120,12 +120,12 @@ becomes n = (
   ),
 )
   where
-    changes : (n : ℕ) → SamePort both one (port_at n) ⊎ IsInterrupted loss_evidence (port_at n)
+    changes : (n : ℕ) → SamePort both one (port_at n) ⊎ IsStoppedOrStuck loss_evidence (port_at n)
     changes zero = inl (refl, refl, refl, refl, refl, refl)
     changes (suc zero) = inr (inl (named 1))
     changes (suc (suc n)) = inl (refl, refl, refl, refl, refl, refl)
 
-had_disk : (n : ℕ) → SamePort both one (port_at n) ⊎ HadDisk submitted_at.abstract service_steps lost_at.abstract (port_at n)
+had_disk : (n : ℕ) → SamePort both one (port_at n) ⊎ ShowsRealDisk submitted_at.abstract service_steps lost_at.abstract (port_at n)
 had_disk zero = inl (refl, refl, refl, refl, refl, refl)
 had_disk (suc zero) = inr (λ shows. absurd shows)
 had_disk (suc (suc n)) = inl (refl, refl, refl, refl, refl, refl)
@@ -184,7 +184,7 @@ stops = record {
   later = Writing (Px (port_at 1) Serr) 0xffffffff ∷ Reading (Px (port_at 1) Ssts) 0 ∷ [];
   here = refl;
   clears = refl;
-  only = All-nil (LeavesCommand (port_at 1));
+  only = All-nil (DoesNotWriteCmd (port_at 1));
   shown = refl;
 }
 
@@ -197,7 +197,7 @@ of_served = (tended 0 refl, (tended 0 refl, (tended 1 refl, (tended 1 refl, ((λ
     tended : (n : ℕ) → both.served (port_at n) ≡ true → IsPortAlive both (port_at n)
     tended n served = (served, not_dead n)
 
-gains : Gains (IsPlugging 1) submitted lost
+gains : Gains (IsPlugEvent 1) submitted lost
 gains = record {
   gained = gained;
   tape = refl;
@@ -246,7 +246,7 @@ done_there : FindsDone (port_at 0) turns submitted_at service_steps
 done_there = record {
   ci = 0;
   sact = 0;
-  reads = record { before = []; later = losing_turn; here = refl; running = All-nil (LeavesCommand (port_at 0)) };
+  reads = record { before = []; later = losing_turn; here = refl; running = All-nil (DoesNotWriteCmd (port_at 0)) };
   exact = λ e slot on s. (λ ok. (no_bit slot, no_bit slot), λ clear. (ended, sym (ap (λ (x : Pending). x.request) (in_book 0 e on.here)), answer_here));
 }
 

@@ -8,15 +8,15 @@ use Rattle.ata_types.specs.declared.request.Outcome.TheVariants as outcome
 use Rattle.adapter.specs.Device.{Device}
 use Rattle.adapter.specs.declared.access.DeviceStep.{DeviceStep}
 use Rattle.refinement.specs.Relation.{port_at}
-use Rattle.block_machine.specs.Events.{HadDisk, Happens, Served, Service}
+use Rattle.block_machine.specs.Events.{ShowsRealDisk, Happens, Served, Service}
 use Rattle.block_machine.specs.Histories.{Happening}
-use Rattle.block_machine.specs.Ports.{IsInterrupted, IsServiced, SamePort}
+use Rattle.block_machine.specs.Ports.{IsStoppedOrStuck, IsServiced, SamePort}
 use Rattle.block_machine.specs.State.{Pending}
 use Rattle.block_machine.specs.Steps.{Step, Answer}
 use Rattle.identify.specs.declared.wanted.Wanted.TheVariants.{Any}
 use Rattle.driver_history.specs.Heeding.{ServesReady}
 use Rattle.driver_history.specs.Histories.{BootsAnew, FindsDone, IsIssuedOn, IsPortAlive, CallCorresponds, PortCorresponds}
-use Rattle.driver_history.specs.Trace.{LeavesCommand}
+use Rattle.driver_history.specs.Trace.{DoesNotWriteCmd}
 use Rattle.witnesses.specs.Fatal.{FatalErrorIsAHistory, fatal_accesses, fatal_evidence, looking}
 use Rattle.witnesses.proofs.history.Accepting.{asked, both, first, issuing, submit, submit_happens, submit_parts, submit_ties, waiting, bits_set, leaves_other, none_there, not_ended, the_answer}
 use Rattle.witnesses.proofs.history.Breaking.{allowed, broken, does, outset}
@@ -56,7 +56,7 @@ is_restart = record {
   failed_all = λ f. named 0;
   failed_only = λ n h. (named_is 0 n h, shows_fatal);
   writes = (inl refl, (inr refl, of_first));
-  running = All-from_recursion (LeavesCommand (port_at 0)) looking (tt, (λ is. cc, (λ is. cc, (tt, tt))));
+  running = All-from_recursion (DoesNotWriteCmd (port_at 0)) looking (tt, (λ is. cc, (λ is. cc, (tt, tt))));
   unfound = λ e slot s clear. bits_set 0 broken refl (λ k. refl) (λ k. refl) e slot s clear;
   told = λ e o here. (the_answer outcome.Unplugged e o here).1;
   own = ((tt, λ d. d), (tt, tt), λ n. refl);
@@ -68,11 +68,11 @@ is_restart = record {
 becomes : (n : ℕ) → IsServiced both fatal_evidence one (port_at n)
 becomes n = (λ is. absurd (not_dead n is), λ _. (may_become (port_at 0 ∷ []) n, changes n))
   where
-    changes : (n : ℕ) → SamePort both one (port_at n) ⊎ IsInterrupted fatal_evidence (port_at n)
+    changes : (n : ℕ) → SamePort both one (port_at n) ⊎ IsStoppedOrStuck fatal_evidence (port_at n)
     changes zero = inr (inl (named 0))
     changes (suc n) = inl (others_same n)
 
-had_disk : (n : ℕ) → SamePort both one (port_at n) ⊎ HadDisk broken_at.abstract (answer ∷ []) (booted_at outset).abstract (port_at n)
+had_disk : (n : ℕ) → SamePort both one (port_at n) ⊎ ShowsRealDisk broken_at.abstract (answer ∷ []) (booted_at outset).abstract (port_at n)
 had_disk zero = inr (λ shows. inl refl)
 had_disk (suc n) = inl (others_same n)
 

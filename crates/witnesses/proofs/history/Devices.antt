@@ -21,7 +21,7 @@ use Rattle.adapter.specs.Steps.{Can, StepLeads, DeviceTransition, Steps, device_
 use Rattle.adapter.specs.Steps.DeviceTransition.{Fall}
 use Rattle.adapter.specs.declared.tape.Entry.{Entry}
 use Rattle.refinement.specs.Relation.{port_at}
-use Rattle.driver_history.specs.Trace.{LeavesEngine, IsServing, IsOfPorts}
+use Rattle.driver_history.specs.Trace.{LeavesEngine, IsAccessForPorts, IsOfPorts}
 use Rattle.witnesses.specs.Scene.{device_with, having}
 
 -- ---- one port is changed
@@ -192,12 +192,12 @@ AreServing Such (Writing r v ∷ accesses) = ((r ≢ Ghc) × IsOfPorts Such (Wri
 AreServing Such (Loading at bytes ∷ accesses) = (at + length bytes ≤ DRIVER_BYTES) × AreServing Such accesses
 AreServing Such (Storing at bytes ∷ accesses) = (at + length bytes ≤ DRIVER_BYTES) × AreServing Such accesses
 
-pub serving : (Such : Port → Type 0) (accesses : List Access) → AreServing Such accesses → All (IsServing Such) accesses
-serving Such [] of = All-nil (IsServing Such)
-serving Such (Reading r v ∷ accesses) of = All-cons (IsServing Such) (Reading r v) accesses (tt, tt, of.0) (serving Such accesses of.1)
-serving Such (Writing r v ∷ accesses) of = All-cons (IsServing Such) (Writing r v) accesses (tt, of.0.0, of.0.1) (serving Such accesses of.1)
-serving Such (Loading at bytes ∷ accesses) of = All-cons (IsServing Such) (Loading at bytes) accesses (of.0, tt, tt) (serving Such accesses of.1)
-serving Such (Storing at bytes ∷ accesses) of = All-cons (IsServing Such) (Storing at bytes) accesses (of.0, tt, tt) (serving Such accesses of.1)
+pub serving : (Such : Port → Type 0) (accesses : List Access) → AreServing Such accesses → All (IsAccessForPorts Such) accesses
+serving Such [] of = All-nil (IsAccessForPorts Such)
+serving Such (Reading r v ∷ accesses) of = All-cons (IsAccessForPorts Such) (Reading r v) accesses (tt, tt, of.0) (serving Such accesses of.1)
+serving Such (Writing r v ∷ accesses) of = All-cons (IsAccessForPorts Such) (Writing r v) accesses (tt, of.0.0, of.0.1) (serving Such accesses of.1)
+serving Such (Loading at bytes ∷ accesses) of = All-cons (IsAccessForPorts Such) (Loading at bytes) accesses (of.0, tt, tt) (serving Such accesses of.1)
+serving Such (Storing at bytes ∷ accesses) of = All-cons (IsAccessForPorts Such) (Storing at bytes) accesses (of.0, tt, tt) (serving Such accesses of.1)
 
 -- accesses follow others
 pub does_append : (early late : List Access) (old mid new : Device) → DoesAll early old mid → DoesAll late mid new → DoesAll (early ++ late) old new

@@ -11,29 +11,29 @@ use Rattle.ata_types.specs.declared.request.Reply.{Reply}
 use Rattle.adapter.specs.Device.{Device}
 use Rattle.adapter.specs.declared.access.DeviceStep.{DeviceStep}
 use Rattle.refinement.specs.Relation.{port_at}
-use Rattle.refinement.specs.Acts.{at_slots}
+use Rattle.refinement.specs.Acts.{driver_state}
 use Rattle.refinement.specs.Driver.{IsBacked, DriverRelation}
 use Rattle.refinement.specs.Slots.{ServesRequest, RelatesSlot}
 use Rattle.refinement.specs.Witness.{first_id}
 use Rattle.block_machine.specs.Events.{Service, Served, Happens}
 use Rattle.block_machine.specs.Histories.{Happening, JointState}
-use Rattle.block_machine.specs.Ports.{IsServiced, Ports, AreFit}
+use Rattle.block_machine.specs.Ports.{IsServiced, Ports, PortsWellFormed}
 use Rattle.block_machine.specs.Left.{after}
 use Rattle.block_machine.specs.State.{Pending, Machine}
-use Rattle.block_machine.specs.Steps.{Step, Answer, NoneKept}
+use Rattle.block_machine.specs.Steps.{Step, Answer, NoneQuarantined}
 use Rattle.host_boot.specs.Taken.{wanted_of}
 use Rattle.identify.specs.declared.wanted.Wanted.TheVariants.{Any}
 use Rattle.driver_history.specs.Evidence.{IsEvidencedOf}
-use Rattle.driver_history.specs.Histories.{CallCorresponds, PortCorresponds, ProbesDisk, IsUnfitOrForeign, IsPortAlive}
-use Rattle.driver_history.specs.Holds.{HoldsOf, HoldsWith, NoneWaits}
-use Rattle.driver_history.specs.Trace.{LeavesEngine, IsServing}
+use Rattle.driver_history.specs.Histories.{CallCorresponds, PortCorresponds, ProbesDisk, HasUnservedDisk, IsPortAlive}
+use Rattle.driver_history.specs.Holds.{PortStateInvariant, DriverInvariantWith, HasNoUnanswered}
+use Rattle.driver_history.specs.Trace.{LeavesEngine, IsAccessForPorts}
 use Rattle.host_boot.specs.Resets.{ReadsGlobalControl}
 use Rattle.witnesses.specs.Dead.{reset_accesses, StuckResetIsAHistory}
 use Rattle.witnesses.specs.Scene.{having, showing}
 use Rattle.hba_regs.specs.declared.reg.Reg.TheVariants.{Ghc}
 use Rattle.adapter.specs.Access.{DoesAll}
 use Rattle.adapter.specs.Rules.{IsOn}
-use Rattle.refinement.specs.Acts.{at_slots}
+use Rattle.refinement.specs.Acts.{driver_state}
 use Rattle.refinement.specs.Driver.{DriverRelation}
 use Rattle.block_machine.specs.Events.{Reset, WasReset}
 use Rattle.block_machine.specs.Ports.{Evidence, IsStuck}
@@ -79,15 +79,15 @@ not_on : IsOn pending → ⊥
 not_on on = absurd (true≢false on.no_reset)
 
 -- nothing that the machine agrees with changes by a reset that is pending
-still_knows : (m : Machine) → DriverRelation m (at_slots first_slots submitted) → DriverRelation m (at_slots first_slots pending)
+still_knows : (m : Machine) → DriverRelation m (driver_state first_slots submitted) → DriverRelation m (driver_state first_slots pending)
 still_knows m k = record {
   agrees = record { slot = k.agrees.slot; apart = k.agrees.apart; received = k.agrees.received; disk = k.agrees.disk; memory = k.agrees.memory; sectors = k.agrees.sectors; lasting = k.agrees.lasting };
   have = k.have;
 }
 
 -- what holds of each port, where requests are port 0's alone
-port_dead : (m : Machine) → ((n : ℕ) → n ≢ 0 → NoneWaits m (port_at n)) → ((n : ℕ) → n ≢ 0 → NoneKept m (port_at n)) → (n : ℕ)
-    → HoldsOf (wanted_of (Any ∷ Any ∷ []) n) first_slots (record { device = pending; abstract = record { machine = m; ports = dead } }) (port_at n) (dead.served (port_at n)) (dead.state (port_at n))
+port_dead : (m : Machine) → ((n : ℕ) → n ≢ 0 → HasNoUnanswered m (port_at n)) → ((n : ℕ) → n ≢ 0 → NoneQuarantined m (port_at n)) → (n : ℕ)
+    → PortStateInvariant (wanted_of (Any ∷ Any ∷ []) n) first_slots (record { device = pending; abstract = record { machine = m; ports = dead } }) (port_at n) (dead.served (port_at n)) (dead.state (port_at n))
 port_dead m waits kept zero = record { why = inr not_on; waits = λ on. absurd (not_on on) }
 port_dead m waits kept (suc zero) = record { why = inr not_on; waits = λ on. absurd (not_on on) }
 port_dead m waits kept (suc (suc n)) = unserved_at first_slots (record { device = pending; abstract = record { machine = m; ports = dead } }) (suc (suc n)) refl refl
@@ -98,8 +98,8 @@ all_dead zero is = refl
 all_dead (suc zero) is = refl
 all_dead (suc (suc n)) is = absurd (true≢false (sym is))
 
-holds_dead : (m : Machine) → DriverRelation m (at_slots first_slots pending) → ((n : ℕ) → n ≢ 0 → NoneWaits m (port_at n)) → ((n : ℕ) → n ≢ 0 → NoneKept m (port_at n))
-    → HoldsWith (Any ∷ Any ∷ []) first_slots (record { device = pending; abstract = record { machine = m; ports = dead } })
+holds_dead : (m : Machine) → DriverRelation m (driver_state first_slots pending) → ((n : ℕ) → n ≢ 0 → HasNoUnanswered m (port_at n)) → ((n : ℕ) → n ≢ 0 → NoneQuarantined m (port_at n))
+    → DriverInvariantWith (Any ∷ Any ∷ []) first_slots (record { device = pending; abstract = record { machine = m; ports = dead } })
 holds_dead m knows waits kept = record {
   knows = knows;
   served = λ port low. served_of pages read_memory (issued ∷ second ∷ []) port.0;
@@ -107,7 +107,7 @@ holds_dead m knows waits kept = record {
   port = λ port low. port_dead m waits kept port.0;
 }
 
-waits_first : (n : ℕ) → n ≢ 0 → NoneWaits issuing (port_at n)
+waits_first : (n : ℕ) → n ≢ 0 → HasNoUnanswered issuing (port_at n)
 waits_first n ne e here is = ne (sym (sym (ap (λ (x : Pending). x.request.port.0) (in_book 0 e here)) ∙ ap (λ (p : Port). p.0) is))
 
 not_ready : (n : ℕ) → dead.state (port_at n) ≡ Ready → ⊥
@@ -115,7 +115,7 @@ not_ready zero is = let x : Dead ≡ Ready = is in cc
 not_ready (suc zero) is = let x : Dead ≡ Ready = is in cc
 not_ready (suc (suc n)) is = let x : Absent ≡ Ready = is in cc
 
-fit_dead : AreFit dead
+fit_dead : PortsWellFormed dead
 fit_dead = record {
   few = (fit_ready plain_disks).few;
   absent = λ port is. absent_of port.0 is;
@@ -245,9 +245,9 @@ slot_kept zero zero = serves_kept
 slot_kept zero (suc k) = holds_submitted.knows.agrees.slot zero (suc k)
 slot_kept (suc n) k = holds_submitted.knows.agrees.slot (suc n) k
 
-knows_kept : DriverRelation answered (at_slots first_slots pending)
+knows_kept : DriverRelation answered (driver_state first_slots pending)
 knows_kept =
-    let k : DriverRelation issuing (at_slots first_slots submitted) = holds_submitted.knows in
+    let k : DriverRelation issuing (driver_state first_slots submitted) = holds_submitted.knows in
     record {
       agrees = record {
         slot = slot_kept;
@@ -263,7 +263,7 @@ knows_kept =
           (λ kept. have_first e n (ap (λ (x : Pending). x.request.port.0) (is_kept e kept)) (ap (λ (x : Pending). x.request.id) (is_kept e kept)) at_port) may);
     }
 
-kept_first : (n : ℕ) → n ≢ 0 → NoneKept answered (port_at n)
+kept_first : (n : ℕ) → n ≢ 0 → NoneQuarantined answered (port_at n)
 kept_first n ne e here is = ne (sym (sym (ap (λ (x : Pending). x.request.port.0) (is_kept e here)) ∙ ap (λ (p : Port). p.0) is))
 
 not_unplugged : (e : Pending) → Contains (answer ∷ []) (Answer e outcome.Unplugged) → ⊥
@@ -320,7 +320,7 @@ probes n served =
       changed = λ bad. absurd (not_bad is bad);
     }
   where
-    not_bad : dead.state (port_at n) ≡ Dead → IsUnfitOrForeign dead (port_at n) → ⊥
+    not_bad : dead.state (port_at n) ≡ Dead → HasUnservedDisk dead (port_at n) → ⊥
     not_bad is (inl foreign) = let x : Dead ≡ Foreign = sym is ∙ foreign in cc
     not_bad is (inr unfit) = let x : Dead ≡ Unfit unfit.0 = sym is ∙ unfit.1 in cc
 
@@ -352,7 +352,7 @@ service_backed = record { telling = refl; gained = []; tape = refl; tells = (tt,
 service_ties : CallCorresponds (Any ∷ Any ∷ []) pending_at service
 service_ties = record {
   accesses = [];
-  came = (refl, All-nil (IsServing (IsPortAlive dead)));
+  came = (refl, All-nil (IsAccessForPorts (IsPortAlive dead)));
   backed = service_backed;
   evidenced = record { faults = λ f here. absurd (nowhere f here); port = λ port. service_evidenced port.0 };
   grounded = tt;

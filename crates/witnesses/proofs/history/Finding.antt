@@ -25,7 +25,7 @@ use Rattle.adapter.specs.declared.access.DeviceStep.{DeviceStep}
 use Rattle.adapter.specs.declared.command.Operation.TheVariants.{ReadQueued}
 use Rattle.adapter.specs.declared.tape.Entry.{Entry}
 use Rattle.adapter.specs.declared.tape.Entry.TheVariants as entry
-use Rattle.refinement.specs.Acts.{InSlots}
+use Rattle.refinement.specs.Acts.{DriverSlots}
 use Rattle.refinement.specs.Relation.{port_at}
 use Rattle.refinement.specs.Driver.{IsBacked}
 use Rattle.refinement.specs.Slots.{ServesRequest}
@@ -40,9 +40,9 @@ use Rattle.block_machine.specs.declared.due.Unanswered.{Unanswered}
 use Rattle.identify.specs.declared.wanted.Wanted.TheVariants.{Any}
 use Rattle.driver_history.specs.Heeding.{ServesReady}
 use Rattle.driver_history.specs.Evidence.{IsEvidencedOf, ShowsFailure, ShowsLoss}
-use Rattle.driver_history.specs.Histories.{FindsDone, IsAnsweredOk, IsIssuedOn, IsPortAlive, CallCorresponds, PortCorresponds, unissued}
-use Rattle.driver_history.specs.Holds.{mode_of}
-use Rattle.driver_history.specs.Trace.{LeavesCommand, LeavesEngine}
+use Rattle.driver_history.specs.Histories.{FindsDone, IsAnsweredOk, IsIssuedOn, IsPortAlive, CallCorresponds, PortCorresponds, with_issue_undone}
+use Rattle.driver_history.specs.Holds.{mode_of_disk}
+use Rattle.driver_history.specs.Trace.{DoesNotWriteCmd, LeavesEngine}
 use Rattle.witnesses.specs.Scene.{queueing_cap}
 use Rattle.witnesses.proofs.history.Command.{queued_read}
 use Rattle.witnesses.proofs.history.Devices.{serving}
@@ -73,8 +73,8 @@ stay_serviced disk evidence n unstuck = (
 pub record Discovery : Type 0 where
   pub disk : Kind
   pub machine : Machine
-  pub slots : InSlots
-  pub slots_then : InSlots
+  pub slots : DriverSlots
+  pub slots_then : DriverSlots
   pub more : List Entry
   pub memory : ℕ → ℕ
   pub port : DevicePort
@@ -147,8 +147,8 @@ module _ (c : Discovery) where
     pub lent : c.machine.lent (record { 0 = c.frame_number }) ≡ Some c.id
     pub on_disk : c.sector < 256
     pub unended : (e : Pending) → Contains c.machine.book e → e.ended ≡ false
-    pub none_due : (port : Port) → NoneDue (mode_of queueing_cap c.disk.info) (map unanswered answered.book) port
-    pub none_issued : unissued steps (map unanswered answered.book) ≡ map unanswered answered.book
+    pub none_due : (port : Port) → NoneDue (mode_of_disk queueing_cap c.disk.info) (map unanswered answered.book) port
+    pub none_issued : with_issue_undone steps (map unanswered answered.book) ≡ map unanswered answered.book
     pub does : DoesAll masks before.device served_at.device
     pub exact : (e : Pending) (slot : ℕ) → IsIssuedOn (port_at 0) c.machine e → ServesRequest c.machine c.memory c.port 0 slot e.request.id
         → IsAnsweredOk e steps ↔ ((bit c.ci slot ≡ false) × (bit c.sact slot ≡ false))
@@ -216,7 +216,7 @@ module _ (c : Discovery) where
     finds zero e on = record {
       ci = c.ci;
       sact = c.sact;
-      reads = record { before = []; later = []; here = refl; running = All-from_recursion (LeavesCommand (port_at 0)) [] tt };
+      reads = record { before = []; later = []; here = refl; running = All-from_recursion (DoesNotWriteCmd (port_at 0)) [] tt };
       exact = is.exact;
     }
     finds (suc n) e on = absurd (let z : 0 ≡ suc n = sym (is.agreed.first_alone e on.here) ∙ ap (λ (q : Port). q.0) on.port_is in omega (arith, z))
@@ -298,7 +298,7 @@ module _ (c : Discovery) where
       grounded = tt;
       issues = λ port ready r here at_port. (
         λ issued. absurd (true≢false (sym issued)),
-        λ due. absurd (is.none_due port r at_port (subst (λ (book : List Unanswered). IsDue (mode_of queueing_cap c.disk.info) book r) is.none_issued due)),
+        λ due. absurd (is.none_due port r at_port (subst (λ (book : List Unanswered). IsDue (mode_of_disk queueing_cap c.disk.info) book r) is.none_issued due)),
       );
       port = λ port. service_part port.0;
       holds = (c.slots_then, holds c.disk c.slots_then answered (c.more ++ gained) memory_then c.port_then is.agreeing);

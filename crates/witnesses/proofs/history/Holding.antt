@@ -1,5 +1,5 @@
 -- What holds between two calls, of ports of these devices; and the evidence of ports that aren't named.
-use Rattle.refinement.specs.Links.{IsPlugging}
+use Rattle.refinement.specs.Links.{IsPlugEvent}
 use Rattle.refinement.specs.Errors.{IsFatalOf}
 use Rattle.std.proofs.lemmas.List.Elements.{All-contains, Contains-append_right}
 use Rattle.std.proofs.lemmas.List.{append_cancel_left}
@@ -18,23 +18,23 @@ use Rattle.adapter.specs.Idle.{IsIdlePort}
 use Rattle.adapter.specs.declared.access.DeviceStep.{DeviceStep}
 use Rattle.adapter.specs.declared.command.Operation.TheVariants.{Identify}
 use Rattle.adapter.specs.declared.tape.Entry.{Entry}
-use Rattle.refinement.specs.Acts.{InSlots}
+use Rattle.refinement.specs.Acts.{DriverSlots}
 use Rattle.refinement.specs.Relation.{port_at}
 use Rattle.refinement.specs.Facts.{IsFaulted, IsFaultOf}
 use Rattle.refinement.specs.Slots.{Free, Serves, SlotStates, IsMove}
 use Rattle.refinement.specs.Witness.{first_id}
-use Rattle.block_machine.specs.Events.{Ask, CallResult}
+use Rattle.block_machine.specs.Events.{AbstractCall, CallResult}
 use Rattle.block_machine.specs.Histories.{JointState}
 use Rattle.block_machine.specs.Ports.{Ports, Evidence}
 use Rattle.block_machine.specs.State.{Pending}
-use Rattle.block_machine.specs.Steps.{NoneKept}
+use Rattle.block_machine.specs.Steps.{NoneQuarantined}
 use Rattle.block_machine.specs.declared.due.QueueMode.{QueueMode}
 use Rattle.port_boot.specs.States.{HasFitDisk}
 use Rattle.port_control.specs.Ports.{programmed}
-use Rattle.error_recovery.specs.Evidence.{GainsRunning}
+use Rattle.error_recovery.specs.Evidence.{GainsSinceStart}
 use Rattle.driver_history.specs.Evidence.{IsEvidencedOf, ShowsFailure, ShowsLoss, Gains}
-use Rattle.driver_history.specs.Histories.{IsUnfitOrForeign, ProbesDisk, LosesNoPortError}
-use Rattle.driver_history.specs.Holds.{HasNothing, HasRequests, IsClients, IsQueuedAsAsked, IsUnservedAt, NoneWaits, Runs}
+use Rattle.driver_history.specs.Histories.{HasUnservedDisk, ProbesDisk, LosesNoPortError}
+use Rattle.driver_history.specs.Holds.{HasNothing, ReadySlotsInvariant, IsFreeOrServes, IsQueuedAsAsked, IsUnservedAt, HasNoUnanswered, EngineRuns}
 use Rattle.driver_history.specs.Trace.{LeavesEngine}
 use Rattle.witnesses.specs.Scene.{page_entry, page_move}
 use Rattle.witnesses.proofs.history.Pages.{Kind}
@@ -43,7 +43,7 @@ use Rattle.witnesses.proofs.history.Members.{only}
 -- ---- slots
 
 -- no slot is in use
-abbrev pub no_slots : InSlots
+abbrev pub no_slots : DriverSlots
 no_slots = record { uses = λ port slot. Free; parked = λ port. [] }
 
 -- slot 0 of port 0 serves request 1
@@ -52,7 +52,7 @@ uses_first zero zero = Serves first_id
 uses_first zero (suc slot) = Free
 uses_first (suc port) slot = Free
 
-abbrev pub first_slots : InSlots
+abbrev pub first_slots : DriverSlots
 first_slots = record { uses = uses_first; parked = λ port. [] }
 
 -- no other does
@@ -63,8 +63,8 @@ serves_first (suc port) slot id is = absurd (let x : Free ≡ Serves id = is in 
 
 -- ---- ports
 
-pub unserved_at : (s : InSlots) (i : JointState Device) (port : ℕ) → i.abstract.ports.state (port_at port) ≡ Absent → i.device.port port ≡ empty_port → HasNothing s port → NoneWaits i.abstract.machine (port_at port)
-    → NoneKept i.abstract.machine (port_at port) → IsUnservedAt s i (port_at port)
+pub unserved_at : (s : DriverSlots) (i : JointState Device) (port : ℕ) → i.abstract.ports.state (port_at port) ≡ Absent → i.device.port port ≡ empty_port → HasNothing s port → HasNoUnanswered i.abstract.machine (port_at port)
+    → NoneQuarantined i.abstract.machine (port_at port) → IsUnservedAt s i (port_at port)
 unserved_at s i port absent quiet slots waits kept = record {
   absent = absent;
   idle = subst IsIdlePort (sym quiet) (record { st = refl; cr = refl; fre = refl; fr = refl; ci = λ s. refl; sact = λ s. refl; taken = λ s. refl });
@@ -79,7 +79,7 @@ unfaulted f = ⊎_elim (λ a. let x : NotHalted ≡ HaltedPlain = a in cc) (λ a
 
 -- a port runs on which no fault is on record
 pub runs_on : (port : ℕ) (d : Device) → (d.port port).st ≡ true → (d.port port).cr ≡ true → (d.port port).fre ≡ true → (d.port port).bases ≡ programmed port → (d.port port).notes.link_count ≡ MOST_READINGS
-    → (d.port port).notes.st_set_at ≤ length d.tape → (d.port port).link_due ≡ false → (d.port port).is 30 ≡ false → (d.port port).halt ≡ NotHalted → Runs port d
+    → (d.port port).notes.st_set_at ≤ length d.tape → (d.port port).link_due ≡ false → (d.port port).is 30 ≡ false → (d.port port).halt ≡ NotHalted → EngineRuns port d
 runs_on port d st cr fre bases saw known linked calm whole = record {
   st = st;
   cr = cr;
@@ -110,7 +110,7 @@ fit_disk disk port d before later is det ie since last = record {
 }
 
 -- nothing is in its slots
-pub requests_none : (s : InSlots) (i : JointState Device) (port : Port) (mode : QueueMode) → ((slot : ℕ) → s.uses port.0 slot ≡ Free) → s.parked port.0 ≡ [] → HasRequests s i port mode
+pub requests_none : (s : DriverSlots) (i : JointState Device) (port : Port) (mode : QueueMode) → ((slot : ℕ) → s.uses port.0 slot ≡ Free) → s.parked port.0 ≡ [] → ReadySlotsInvariant s i port mode
 requests_none s i port mode free unparked = record {
   clients = λ slot. inl (free slot);
   low = λ slot above. free slot;
@@ -123,7 +123,7 @@ requests_none s i port mode free unparked = record {
     unserved slot id is = let z : Free ≡ Serves id = sym (free slot) ∙ is in cc
 
 -- slot 0 of port 0 serves the one request, by a command of its kind
-pub requests_first : (i : JointState Device) (mode : QueueMode) → 1 ≤ mode.usable → ((e : Pending) → Contains i.abstract.machine.book e → IsQueuedAsAsked mode i.device 0 0 e) → HasRequests first_slots i (port_at 0) mode
+pub requests_first : (i : JointState Device) (mode : QueueMode) → 1 ≤ mode.usable → ((e : Pending) → Contains i.abstract.machine.book e → IsQueuedAsAsked mode i.device 0 0 e) → ReadySlotsInvariant first_slots i (port_at 0) mode
 requests_first i mode usable kind = record {
   clients = clients;
   low = λ slot above. low slot (omega (arith, usable, above));
@@ -132,7 +132,7 @@ requests_first i mode usable kind = record {
   alone = λ slot e s plain. alone slot e s.serves;
 }
   where
-    clients : (slot : ℕ) → IsClients (uses_first 0 slot)
+    clients : (slot : ℕ) → IsFreeOrServes (uses_first 0 slot)
     clients zero = inr (first_id, refl)
     clients (suc slot) = inl refl
 
@@ -179,7 +179,7 @@ pub unfailing : (p : DevicePort) → ((place : ℕ) → 27 ≤ place → p.is pl
 unfailing p calm fails = ⊎_elim (λ fatal. absurd (true≢false (sym fatal.set ∙ calm fatal.place fatal.from))) (λ fault. absurd (true≢false (sym fault ∙ calm 30 (omega arith)))) fails
 
 -- a port that isn't named, wasn't stopped, and showed no trouble if it was ready
-pub unnamed_evidenced : (ask : Ask DeviceStep) (said : CallResult) (accesses : List Access) (old : JointState Device) (ports : Ports) (new : Device) (evidence : Evidence) (port : Port) → IsUnnamed evidence port
+pub unnamed_evidenced : (ask : AbstractCall DeviceStep) (said : CallResult) (accesses : List Access) (old : JointState Device) (ports : Ports) (new : Device) (evidence : Evidence) (port : Port) → IsUnnamed evidence port
     → (old.abstract.ports.state port ≡ Ready → (ShowsLoss port old.device new → ⊥) × (ShowsFailure (old.device.port port.0) → ⊥)) → All (LeavesEngine port) accesses
     → IsEvidencedOf ask said accesses old ports new evidence port
 unnamed_evidenced ask said accesses old ports new evidence port un calm left = record {
@@ -209,7 +209,7 @@ tries_ready accesses old ports new port ready = record {
     not_absent : old.abstract.ports.state port ≡ Absent → ⊥
     not_absent is = let x : Ready ≡ Absent = sym ready ∙ is in cc
 
-    not_bad : IsUnfitOrForeign old.abstract.ports port → ⊥
+    not_bad : HasUnservedDisk old.abstract.ports port → ⊥
     not_bad (inl is) = let x : Ready ≡ Foreign = sym ready ∙ is in cc
     not_bad (inr is) = let x : Ready ≡ Unfit is.0 = sym ready ∙ is.1 in cc
 
@@ -222,7 +222,7 @@ gained_none Is old new gained is none g =
     All-contains (λ e. Is e → ⊥) gained g.entry none (subst (λ (es : List Entry). Contains es g.entry) same g.here) g.is
 
 -- so it was not while ST was one either
-pub ran_none : (Is : Entry → Type 0) (port : ℕ) (old new : Device) → (Gains Is old new → ⊥) → GainsRunning Is port old new → ⊥
+pub ran_none : (Is : Entry → Type 0) (port : ℕ) (old new : Device) → (Gains Is old new → ⊥) → GainsSinceStart Is port old new → ⊥
 ran_none Is port old new none g = none (record {
   gained = g.before ++ (g.entry ∷ g.later);
   tape = g.tape;
@@ -233,7 +233,7 @@ ran_none Is port old new none g = none (record {
 
 -- neither a fault, nor a fatal error, nor a disk of the port that goes or comes
 abbrev pub IsCalm : ℕ → Entry → Type 0
-IsCalm port e = (IsFaultOf port e → ⊥) × (IsFatalOf port e → ⊥) × (IsPlugging port e → ⊥)
+IsCalm port e = (IsFaultOf port e → ⊥) × (IsFatalOf port e → ⊥) × (IsPlugEvent port e → ⊥)
 
 pub each : {X : Type 0} {P Q : X → Type 0} (xs : List X) → ((x : X) → P x → Q x) → All P xs → All Q xs
 each xs goes all k d low = goes _ (all k d low)
@@ -247,7 +247,7 @@ no_trouble evidence old ports new port gained is none served calm = record {
   changes = λ tends why. absurd (⊎_elim (λ change. (calm (served tends.0)).0 (inl change)) plugs why);
   fault = λ ready g. absurd (ran_none (IsFaultOf port.0) port.0 old.device new faults g);
   fatal = λ ready g. absurd (ran_none (IsFatalOf port.0) port.0 old.device new fatals g);
-  disk = λ ready g. absurd (ran_none (IsPlugging port.0) port.0 old.device new plugs g);
+  disk = λ ready g. absurd (ran_none (IsPlugEvent port.0) port.0 old.device new plugs g);
 }
   where
     faults : Gains (IsFaultOf port.0) old.device new → ⊥
@@ -256,5 +256,5 @@ no_trouble evidence old ports new port gained is none served calm = record {
     fatals : Gains (IsFatalOf port.0) old.device new → ⊥
     fatals = gained_none (IsFatalOf port.0) old.device new gained is (each gained (λ e (c : IsCalm port.0 e). c.1) none)
 
-    plugs : Gains (IsPlugging port.0) old.device new → ⊥
-    plugs = gained_none (IsPlugging port.0) old.device new gained is (each gained (λ e (c : IsCalm port.0 e). c.2) none)
+    plugs : Gains (IsPlugEvent port.0) old.device new → ⊥
+    plugs = gained_none (IsPlugEvent port.0) old.device new gained is (each gained (λ e (c : IsCalm port.0 e). c.2) none)

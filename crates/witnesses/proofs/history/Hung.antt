@@ -14,12 +14,12 @@ use Rattle.refinement.specs.Relation.{port_at}
 use Rattle.refinement.specs.Facts.{RunsWell}
 use Rattle.block_machine.specs.Events.{Happens, HasTimedOut, RestartsTimedOut, Served, Tick}
 use Rattle.block_machine.specs.Histories.{Happening}
-use Rattle.block_machine.specs.Ports.{IsInterrupted, MayBecome, SamePort}
+use Rattle.block_machine.specs.Ports.{IsStoppedOrStuck, MayBecome, SamePort}
 use Rattle.block_machine.specs.State.{Pending}
 use Rattle.block_machine.specs.Steps.{Again, Answer, Step}
 use Rattle.identify.specs.declared.wanted.Wanted.TheVariants.{Any}
 use Rattle.driver_history.specs.Histories.{BootsAnew, FindsDone, CallCorresponds, PortCorresponds}
-use Rattle.driver_history.specs.Trace.{LeavesCommand}
+use Rattle.driver_history.specs.Trace.{DoesNotWriteCmd}
 use Rattle.witnesses.specs.Hung.{HungPortIsAHistory}
 use Rattle.witnesses.specs.Restart.{restart_evidence, restarting}
 use Rattle.witnesses.proofs.history.Accepting.{asked, bits_set, both, first, issued_at, issued_for, not_ended, submit, submit_happens, submit_parts, submit_ties, waiting_for}
@@ -83,7 +83,7 @@ is_restart = record {
   failed_all = λ f. absurd (unfailing issued (λ place from. refl) f);
   failed_only = λ n h. absurd (nowhere (port_at n) h);
   writes = of_first;
-  running = All-nil (LeavesCommand (port_at 0));
+  running = All-nil (DoesNotWriteCmd (port_at 0));
   unfound = λ e slot s clear. bits_set 2 issued refl (λ k. refl) (λ k. refl) e slot s clear;
   told = λ e o here. (the_answer e o here).1;
   own = (((tt, λ d. d), λ d. d), ((tt, tt), tt), λ n. refl);
@@ -109,7 +109,7 @@ is_hung port is = subst (HasTimedOut (issued_at 2).abstract) (sym is) hung
 other : (n : ℕ) → HasTimedOut (issued_at 2).abstract (port_at (suc n)) → ⊥
 other n h = let same = ap (λ (p : Port). p.0) (hung_first 2 (port_at (suc n)) h) in omega (arith, same)
 
-interrupted : (port : Port) → IsInterrupted (restart_evidence []) port → HasTimedOut (issued_at 2).abstract port
+interrupted : (port : Port) → IsStoppedOrStuck (restart_evidence []) port → HasTimedOut (issued_at 2).abstract port
 interrupted port (inl h) = is_hung port (ap port_at (named_is 0 port.0 h))
 interrupted port (inr h) = absurd (nowhere port h)
 
@@ -125,7 +125,7 @@ restarts_hung = record {
   answer = λ e o here. is_hung e.request.port (answers_first e o here);
   ended = λ port h e here at_port ended. absurd (not_ended 2 e here ended);
   anew = λ port h e here. absurd (nowhere e here);
-  interrupts = λ port. (λ h. subst (IsInterrupted (restart_evidence [])) (sym (hung_first 2 port h)) (inl (named 0)), interrupted port);
+  interrupts = λ port. (λ h. subst (IsStoppedOrStuck (restart_evidence [])) (sym (hung_first 2 port h)) (inl (named 0)), interrupted port);
   finds = λ e here. (not_dead_then e.request.port.0, λ ready. absurd (not_ready_first e.request.port (answers_first e outcome.Unplugged here) ready));
   disk = λ port h shows. inl (subst (λ (p : Port). (issued_for 2).present p ≡ true) (sym (hung_first 2 port h)) refl);
 }

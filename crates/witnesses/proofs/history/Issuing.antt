@@ -17,22 +17,22 @@ use Rattle.adapter.specs.Access.{Access, DoesAll}
 use Rattle.adapter.specs.Access.Access.{Reading, Writing, Loading, Storing}
 use Rattle.adapter.specs.Device.{DevicePort, Device}
 use Rattle.adapter.specs.declared.access.DeviceStep.{DeviceStep}
-use Rattle.refinement.specs.Acts.{InSlots}
+use Rattle.refinement.specs.Acts.{DriverSlots}
 use Rattle.refinement.specs.Relation.{port_at}
 use Rattle.refinement.specs.Driver.{IsBacked}
 use Rattle.block_machine.specs.Due.{IsDue}
-use Rattle.block_machine.specs.Events.{Happens, Submit, Submitted, AllIssued, IsIssuedIn, situation_of}
+use Rattle.block_machine.specs.Events.{Happens, Submit, Submitted, NoneDueWhereReady, IsIssuedIn, situation_of}
 use Rattle.block_machine.specs.Histories.{JointState, Happening}
 use Rattle.block_machine.specs.Left.{after}
 use Rattle.block_machine.specs.Ports.{Evidence}
 use Rattle.block_machine.specs.Refusals.{IsAcceptable}
 use Rattle.block_machine.specs.State.{Accepted, Block, Machine, block_of, unanswered}
-use Rattle.block_machine.specs.Steps.{Step, Accept, Issue, MayAccept, May, newly_accepted, unanswered_of}
+use Rattle.block_machine.specs.Steps.{Step, Accept, Issue, MayAccept, May, newly_accepted, unanswered_count}
 use Rattle.block_machine.specs.declared.due.Unanswered.{Unanswered}
 use Rattle.identify.specs.declared.wanted.Wanted.TheVariants.{Any}
 use Rattle.driver_history.specs.Evidence.{IsEvidencedOf}
-use Rattle.driver_history.specs.Histories.{IssuesDue, IssuesOn, CallCorresponds, PortCorresponds, unissued}
-use Rattle.driver_history.specs.Holds.{mode_of}
+use Rattle.driver_history.specs.Histories.{IssuesDue, IsIssuingAccess, CallCorresponds, PortCorresponds, with_issue_undone}
+use Rattle.driver_history.specs.Holds.{mode_of_disk}
 use Rattle.driver_history.specs.Trace.{LeavesEngine}
 use Rattle.witnesses.specs.Scene.{having, queueing_cap}
 use Rattle.witnesses.proofs.history.Holding.{IsCalm, IsUnnamed, each, no_trouble, unnamed_evidenced}
@@ -55,7 +55,7 @@ pub record MayTake (disk : Kind) (m : Machine) (id : RequestId) (k n : ℕ) : Ty
   pub rows : m.rows ≡ two_rows
   pub id_is : id.0 ≡ m.next
   pub left : m.next < 2 ^ 64
-  pub few : unanswered_of m.book client < 16
+  pub few : unanswered_count m.book client < 16
   pub owned : m.owner (frame n) ≡ Some client
   pub free : m.lent (frame n) ≡ None
   pub from : 100 ≤ k
@@ -107,7 +107,7 @@ pub none_named : (port : Port) → IsUnnamed nothing port
 none_named port = record { lost = nowhere port; gone = nowhere port; failed = nowhere port; fatal = nowhere port; stopped = nowhere port; stuck = nowhere port }
 
 -- what issues on port 0 leaves each engine alone
-leaves_engine : (port : Port) (access : Access) → IssuesOn (port_at 0) access → LeavesEngine port access
+leaves_engine : (port : Port) (access : Access) → IsIssuingAccess (port_at 0) access → LeavesEngine port access
 leaves_engine port (Reading r v) i = absurd i
 leaves_engine port (Loading at bytes) i = absurd i
 leaves_engine port (Storing at bytes) i = (tt, tt)
@@ -130,8 +130,8 @@ unplugged p p' a b (suc (suc n)) = refl
 pub record Submission : Type 0 where
   pub disk : Kind
   pub machine : Machine
-  pub slots : InSlots
-  pub slots_then : InSlots
+  pub slots : DriverSlots
+  pub slots_then : DriverSlots
   pub memory : ℕ → ℕ
   pub memory_then : ℕ → ℕ
   pub port : DevicePort
@@ -146,7 +146,7 @@ module _ (c : Submission) where
   accepted = accepted_as c.id c.sector c.frame_number (block_of c.machine.memory (frame c.frame_number ∷ []))
 
   abbrev pub submit_steps : List Step
-  submit_steps = Issue (mode_of queueing_cap c.disk.info) (newly_accepted accepted) ∷ Accept accepted ∷ []
+  submit_steps = Issue (mode_of_disk queueing_cap c.disk.info) (newly_accepted accepted) ∷ Accept accepted ∷ []
 
   abbrev pub issuing : Machine
   issuing = after c.machine submit_steps
@@ -167,24 +167,24 @@ module _ (c : Submission) where
     pub stands : Stands c.port
     pub agreeing : Agreeing c.disk c.slots_then issuing [] c.memory_then c.port_then
     pub takes : MayTake c.disk c.machine c.id c.sector c.frame_number
-    pub may : May (after c.machine (Accept accepted ∷ [])) (Issue (mode_of queueing_cap c.disk.info) (newly_accepted accepted))
-    pub all_issued : AllIssued submitted_at.abstract
-    pub due : (port : Port) → IssuesDue (mode_of queueing_cap c.disk.info) submit_steps issuing port
+    pub may : May (after c.machine (Accept accepted ∷ [])) (Issue (mode_of_disk queueing_cap c.disk.info) (newly_accepted accepted))
+    pub all_issued : NoneDueWhereReady submitted_at.abstract
+    pub due : (port : Port) → IssuesDue (mode_of_disk queueing_cap c.disk.info) submit_steps issuing port
     pub does : DoesAll c.accesses before.device submitted_at.device
-    pub only : All (IssuesOn (port_at 0)) c.accesses
+    pub only : All (IsIssuingAccess (port_at 0)) c.accesses
 
   -- A request that was due while no other was unanswered, and is issued: so exactly what is due is issued.
-  pub due_alone : unissued submit_steps (map unanswered issuing.book) ≡ unanswered (newly_accepted accepted) ∷ []
-      → IsDue (mode_of queueing_cap c.disk.info) (unanswered (newly_accepted accepted) ∷ []) (unanswered (newly_accepted accepted)) → IsIssuedIn c.id submit_steps
-      → (port : Port) → IssuesDue (mode_of queueing_cap c.disk.info) submit_steps issuing port
+  pub due_alone : with_issue_undone submit_steps (map unanswered issuing.book) ≡ unanswered (newly_accepted accepted) ∷ []
+      → IsDue (mode_of_disk queueing_cap c.disk.info) (unanswered (newly_accepted accepted) ∷ []) (unanswered (newly_accepted accepted)) → IsIssuedIn c.id submit_steps
+      → (port : Port) → IssuesDue (mode_of_disk queueing_cap c.disk.info) submit_steps issuing port
   due_alone alone due issued port r here at_port = subst AllRight (sym alone) right r here
     where
       AllRight : List Unanswered → Type 0
-      AllRight book = (r : Unanswered) → Contains book r → IsIssuedIn r.id submit_steps ↔ IsDue (mode_of queueing_cap c.disk.info) book r
+      AllRight book = (r : Unanswered) → Contains book r → IsIssuedIn r.id submit_steps ↔ IsDue (mode_of_disk queueing_cap c.disk.info) book r
 
       right : AllRight (unanswered (newly_accepted accepted) ∷ [])
       right r here =
-          subst (λ (x : Unanswered). IsIssuedIn x.id submit_steps ↔ IsDue (mode_of queueing_cap c.disk.info) (unanswered (newly_accepted accepted) ∷ []) x)
+          subst (λ (x : Unanswered). IsIssuedIn x.id submit_steps ↔ IsDue (mode_of_disk queueing_cap c.disk.info) (unanswered (newly_accepted accepted) ∷ []) x)
           (sym (only (unanswered (newly_accepted accepted)) r here)) (λ _. due, λ _. issued)
 
   module _ (is : IsIssued) where

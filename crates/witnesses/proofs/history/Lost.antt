@@ -13,7 +13,7 @@ use Rattle.adapter.specs.declared.command.Operation.TheVariants as operation
 use Rattle.adapter.specs.declared.command.Operation.TheVariants.{Identify}
 use Rattle.adapter.specs.declared.tape.Entry.{Entry}
 use Rattle.adapter.specs.declared.tape.Entry.TheVariants as entry
-use Rattle.refinement.specs.Acts.{at_slots}
+use Rattle.refinement.specs.Acts.{driver_state}
 use Rattle.refinement.specs.Relation.{port_at}
 use Rattle.refinement.specs.Driver.{DriverRelation}
 use Rattle.refinement.specs.Slots.{IsEmptySlot, IsMove}
@@ -24,7 +24,7 @@ use Rattle.block_machine.specs.State.{Machine, Pending}
 use Rattle.block_machine.specs.Steps.{Step, Touch, End, Answer, Unplug, AllTouched, mark_ended, touch}
 use Rattle.host_boot.specs.Taken.{wanted_of}
 use Rattle.identify.specs.declared.wanted.Wanted.TheVariants.{Any}
-use Rattle.driver_history.specs.Holds.{HoldsOf, HoldsWith, IsReadyAt, IsStoppedAt}
+use Rattle.driver_history.specs.Holds.{PortStateInvariant, DriverInvariantWith, IsReadyAt, IsStoppedAt}
 use Rattle.witnesses.specs.Scene.{having, page_entry, plain, showing}
 use Rattle.witnesses.proofs.history.Holding.{fit_disk, no_slots, requests_none, runs_on, unserved_at}
 use Rattle.witnesses.proofs.history.Submitting.{command}
@@ -74,7 +74,7 @@ one_in zero = refl
 one_in (suc zero) = refl
 one_in (suc (suc n)) = cond-false (suc (suc n) == 1) false false (ne_eqb (suc (suc n)) 1 (omega arith))
 
-knows_lost : DriverRelation served (at_slots no_slots lost)
+knows_lost : DriverRelation served (driver_state no_slots lost)
 unfolding changed
 knows_lost = agreeing served no_slots tape_lost memory_done found gone
     (record { own_first = refl; own_second = refl; disks = (refl, refl); present = one_in; ids = refl; sizes = refl; bytes = refl; lasting = (refl, refl); still = refl })
@@ -117,12 +117,12 @@ lost_absent = record {
   kept = λ e k. absurd (nowhere e k);
 }
 
-port_lost : (n : ℕ) → HoldsOf (wanted_of (Any ∷ Any ∷ []) n) no_slots lost_at (port_at n) (one.served (port_at n)) (one.state (port_at n))
+port_lost : (n : ℕ) → PortStateInvariant (wanted_of (Any ∷ Any ∷ []) n) no_slots lost_at (port_at n) (one.served (port_at n)) (one.state (port_at n))
 port_lost zero = lost_ready
 port_lost (suc zero) = lost_absent
 port_lost (suc (suc n)) = unserved_at no_slots lost_at (suc (suc n)) refl refl (record { free = λ slot. refl; unparked = refl }) (λ e here. absurd (nowhere e here)) (λ e kept. absurd (nowhere e kept))
 
-pub holds_lost : HoldsWith (Any ∷ Any ∷ []) no_slots lost_at
+pub holds_lost : DriverInvariantWith (Any ∷ Any ∷ []) no_slots lost_at
 holds_lost = record {
   knows = knows_lost;
   served = λ port low. served_of tape_lost memory_done (found ∷ gone ∷ []) port.0;

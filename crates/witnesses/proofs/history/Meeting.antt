@@ -16,11 +16,11 @@ use Rattle.adapter.specs.declared.access.FatalError.TheVariants.{Interface}
 use Rattle.adapter.specs.declared.command.Operation.TheVariants.{Identify}
 use Rattle.adapter.specs.declared.tape.Entry.{Entry}
 use Rattle.adapter.specs.declared.tape.Entry.TheVariants as entry
-use Rattle.refinement.specs.Acts.{at_slots}
+use Rattle.refinement.specs.Acts.{driver_state}
 use Rattle.refinement.specs.Relation.{port_at}
 use Rattle.refinement.specs.Driver.{IsBacked, DriverRelation}
 use Rattle.refinement.specs.Facts.{IsFaultOf}
-use Rattle.refinement.specs.Links.{IsPlugging}
+use Rattle.refinement.specs.Links.{IsPlugEvent}
 use Rattle.refinement.specs.Slots.{IsMove, RelatesSlot, ServesRequest}
 use Rattle.refinement.specs.Witness.{first_id}
 use Rattle.block_machine.specs.Due.{is_plain}
@@ -32,7 +32,7 @@ use Rattle.host_boot.specs.Taken.{wanted_of}
 use Rattle.identify.specs.declared.wanted.Wanted.TheVariants.{Any}
 use Rattle.driver_history.specs.Evidence.{Gains, IsEvidencedOf, ShowsFailure, ShowsLoss}
 use Rattle.driver_history.specs.Histories.{LosesNoPortError, CallCorresponds, PortCorresponds}
-use Rattle.driver_history.specs.Holds.{HoldsOf, HoldsWith, IsQueuedAsAsked, IsReadyAt}
+use Rattle.driver_history.specs.Holds.{PortStateInvariant, DriverInvariantWith, IsQueuedAsAsked, IsReadyAt}
 use Rattle.driver_history.specs.Trace.{LeavesEngine}
 use Rattle.witnesses.specs.Scene.{having, page_entry, plain}
 use Rattle.witnesses.proofs.history.Accepting.{both, holds_submitted, in_book, issuing, submitted_at, waiting}
@@ -86,7 +86,7 @@ present zero = refl
 present (suc zero) = refl
 present (suc (suc n)) = refl
 
-knows : DriverRelation issuing (at_slots first_slots (dev broken))
+knows : DriverRelation issuing (driver_state first_slots (dev broken))
 knows = agreeing issuing first_slots tape_broken read_memory broken second
     (record { own_first = refl; own_second = refl; disks = (refl, refl); present = present; ids = refl; sizes = refl; bytes = refl; lasting = (refl, refl); still = refl })
     slots holds_submitted.knows.agrees.apart (λ f b from small. past_driver f b from) holds_submitted.knows.have
@@ -110,14 +110,14 @@ port_ready = record {
   kept = λ e k. absurd (nowhere e k);
 }
 
-port_broken : (n : ℕ) → HoldsOf (wanted_of (Any ∷ Any ∷ []) n) first_slots broken_at (port_at n) (both.served (port_at n)) (both.state (port_at n))
+port_broken : (n : ℕ) → PortStateInvariant (wanted_of (Any ∷ Any ∷ []) n) first_slots broken_at (port_at n) (both.served (port_at n)) (both.state (port_at n))
 port_broken zero = port_ready
 port_broken (suc zero) = second_ready plain_disks first_slots issuing gained read_memory broken (unpaged 1) (λ slot. refl) refl refl
 port_broken (suc (suc n)) = unserved_at first_slots broken_at (suc (suc n)) refl refl (record { free = λ slot. refl; unparked = refl })
     (λ e here is. let z : 0 ≡ suc (suc n) = sym (ap (λ (x : Pending). x.request.port.0) (in_book 0 e here)) ∙ ap (λ (p : Port). p.0) is in omega (arith, z))
     (λ e kept. absurd (nowhere e kept))
 
-pub holds_broken : HoldsWith (Any ∷ Any ∷ []) first_slots broken_at
+pub holds_broken : DriverInvariantWith (Any ∷ Any ∷ []) first_slots broken_at
 holds_broken = record {
   knows = knows;
   served = λ port low. served_of tape_broken read_memory (broken ∷ second ∷ []) port.0;
@@ -169,8 +169,8 @@ evidenced n = unnamed_evidenced meeting.event.ask meeting.event.said [] submitte
 fatal_alone : (n : ℕ) → n ≢ 0 → All (IsCalm n) gained
 fatal_alone n ne = All-cons (IsCalm n) (entry.Fatal (port_at 0)) [] (λ x. x, λ (is : 0 ≡ n). ne (sym is), λ x. x) (All-nil (IsCalm n))
 
-pub no_plugging : All (λ e. IsPlugging 0 e → ⊥) gained
-no_plugging = All-cons (λ e. IsPlugging 0 e → ⊥) (entry.Fatal (port_at 0)) [] (λ x. x) (All-nil (λ e. IsPlugging 0 e → ⊥))
+pub no_plugging : All (λ e. IsPlugEvent 0 e → ⊥) gained
+no_plugging = All-cons (λ e. IsPlugEvent 0 e → ⊥) (entry.Fatal (port_at 0)) [] (λ x. x) (All-nil (λ e. IsPlugEvent 0 e → ⊥))
 
 port_error : (n : ℕ) → LosesNoPortError nothing submitted_at both (dev broken) (port_at n)
 port_error zero = record {
@@ -178,14 +178,14 @@ port_error zero = record {
   changes = λ tends why. absurd (⊎_elim (λ change. (quiet 0 refl).0 (inl change)) plugs why);
   fault = λ ready g. absurd (ran_none (IsFaultOf 0) 0 submitted (dev broken) faults g);
   fatal = λ ready g. shows_fatal;
-  disk = λ ready g. absurd (ran_none (IsPlugging 0) 0 submitted (dev broken) plugs g);
+  disk = λ ready g. absurd (ran_none (IsPlugEvent 0) 0 submitted (dev broken) plugs g);
 }
   where
     faults : Gains (IsFaultOf 0) submitted (dev broken) → ⊥
     faults = gained_none (IsFaultOf 0) submitted (dev broken) gained refl (All-cons (λ e. IsFaultOf 0 e → ⊥) (entry.Fatal (port_at 0)) [] (λ x. x) (All-nil (λ e. IsFaultOf 0 e → ⊥)))
 
-    plugs : Gains (IsPlugging 0) submitted (dev broken) → ⊥
-    plugs = gained_none (IsPlugging 0) submitted (dev broken) gained refl no_plugging
+    plugs : Gains (IsPlugEvent 0) submitted (dev broken) → ⊥
+    plugs = gained_none (IsPlugEvent 0) submitted (dev broken) gained refl no_plugging
 port_error (suc n) = no_trouble nothing submitted_at both (dev broken) (port_at (suc n)) gained refl (fatal_alone (suc n) (omega arith)) (served_ready (suc n)) (quiet (suc n))
 
 pub meeting_part : (n : ℕ) → PortCorresponds submitted_at meeting [] (port_at n)

@@ -13,24 +13,24 @@ use Rattle.adapter.specs.Device.{Device}
 use Rattle.adapter.specs.declared.access.DeviceStep.{DeviceStep}
 use Rattle.adapter.specs.declared.access.DeviceStep.TheVariants as asked
 use Rattle.adapter.specs.declared.tape.Entry.TheVariants as entry
-use Rattle.refinement.specs.Acts.{at_slots}
+use Rattle.refinement.specs.Acts.{driver_state}
 use Rattle.refinement.specs.Relation.{port_at}
 use Rattle.refinement.specs.Driver.{IsBacked, DriverRelation}
-use Rattle.refinement.specs.Links.{IsPlugging}
+use Rattle.refinement.specs.Links.{IsPlugEvent}
 use Rattle.refinement.specs.Slots.{IsEmptySlot}
-use Rattle.block_machine.specs.Events.{AnswersService, Device as Told, HadDisk, Happens, Served, Service, Stepped}
+use Rattle.block_machine.specs.Events.{AnswersService, Device as Told, ShowsRealDisk, Happens, Served, Service, Stepped}
 use Rattle.block_machine.specs.Histories.{Happening, JointState}
 use Rattle.block_machine.specs.Left.{after}
-use Rattle.block_machine.specs.Ports.{AreFit, Evidence, IsInterrupted, IsServiced, Ports, SamePort}
+use Rattle.block_machine.specs.Ports.{PortsWellFormed, Evidence, IsStoppedOrStuck, IsServiced, Ports, SamePort}
 use Rattle.block_machine.specs.State.{Machine}
 use Rattle.block_machine.specs.Steps.{Answer, Step, Unplug}
 use Rattle.host_boot.specs.Taken.{wanted_of}
 use Rattle.identify.specs.declared.wanted.Wanted.TheVariants.{Any}
 use Rattle.port_control.specs.Engines.{Stops}
 use Rattle.driver_history.specs.Evidence.{Gains, IsEvidencedOf, ShowsChange}
-use Rattle.driver_history.specs.Histories.{IsUnfitOrForeign, IsPortAlive, CallCorresponds, PortCorresponds, ProbesDisk}
-use Rattle.driver_history.specs.Holds.{HoldsOf}
-use Rattle.driver_history.specs.Trace.{LeavesCommand, LeavesEngine, ResetsLink}
+use Rattle.driver_history.specs.Histories.{HasUnservedDisk, IsPortAlive, CallCorresponds, PortCorresponds, ProbesDisk}
+use Rattle.driver_history.specs.Holds.{PortStateInvariant}
+use Rattle.driver_history.specs.Trace.{DoesNotWriteCmd, LeavesEngine, ResetsLink}
 use Rattle.witnesses.specs.Scene.{having, showing}
 use Rattle.witnesses.specs.Missing.{MissingDiskIsAHistory, passing, looking}
 use Rattle.witnesses.proofs.history.Accepting.{first, submit, submit_happens, submit_ties}
@@ -92,7 +92,7 @@ not_dead_then zero is = let x : Absent ≡ Dead = is in cc
 not_dead_then (suc zero) is = let x : Unfit 8 ≡ Dead = is in cc
 not_dead_then (suc (suc n)) is = let x : Absent ≡ Dead = is in cc
 
-fit_then : AreFit one_absent
+fit_then : PortsWellFormed one_absent
 fit_then = record {
   few = fit.few;
   absent = λ port is. absent_of port.0 is;
@@ -121,11 +121,11 @@ becomes n = (
   λ _. (record { served = refl; stuck = (λ is. absurd (not_dead_then n is), λ h. absurd (nowhere (port_at n) h)); keeps = λ is. (refl, refl) }, changes n),
 )
   where
-    changes : (n : ℕ) → SamePort unfit_ports one_absent (port_at n) ⊎ IsInterrupted evidence (port_at n)
+    changes : (n : ℕ) → SamePort unfit_ports one_absent (port_at n) ⊎ IsStoppedOrStuck evidence (port_at n)
     changes zero = inr (inl (named 0))
     changes (suc n) = inl (same_past n)
 
-had_disk : (n : ℕ) → SamePort unfit_ports one_absent (port_at n) ⊎ HadDisk unplugged_at.abstract [] looked_at.abstract (port_at n)
+had_disk : (n : ℕ) → SamePort unfit_ports one_absent (port_at n) ⊎ ShowsRealDisk unplugged_at.abstract [] looked_at.abstract (port_at n)
 had_disk zero = inr (λ shows. absurd shows)
 had_disk (suc n) = inl (same_past n)
 
@@ -143,9 +143,9 @@ unplug_happens = record {
 }
 
 -- another port's disk neither goes nor comes
-gains_none : (n : ℕ) → Gains (IsPlugging (suc n)) rebooted unplugged → ⊥
-gains_none n = gained_none (IsPlugging (suc n)) rebooted unplugged gained refl
-    (All-cons (λ e. IsPlugging (suc n) e → ⊥) (entry.Unplug (port_at 0)) [] (λ (is : 0 ≡ suc n). omega (arith, is)) (All-nil (λ e. IsPlugging (suc n) e → ⊥)))
+gains_none : (n : ℕ) → Gains (IsPlugEvent (suc n)) rebooted unplugged → ⊥
+gains_none n = gained_none (IsPlugEvent (suc n)) rebooted unplugged gained refl
+    (All-cons (λ e. IsPlugEvent (suc n) e → ⊥) (entry.Unplug (port_at 0)) [] (λ (is : 0 ≡ suc n). omega (arith, is)) (All-nil (λ e. IsPlugEvent (suc n) e → ⊥)))
 
 -- a port that isn't the first shows no change
 quiet : (n : ℕ) → ShowsChange (having (unfit 0 ∷ unfit 1 ∷ []) (suc n)) → ⊥
@@ -171,7 +171,7 @@ unplug_part n = record {
   heeds = λ why. ⊎_elim (nowhere (port_at n)) (nowhere (port_at n)) why;
 }
   where
-    changes : (n : ℕ) → ShowsChange (rebooted.port n) ⊎ Gains (IsPlugging n) rebooted unplugged → ShowsChange (unplugged.port n)
+    changes : (n : ℕ) → ShowsChange (rebooted.port n) ⊎ Gains (IsPlugEvent n) rebooted unplugged → ShowsChange (unplugged.port n)
     changes zero why = inl refl
     changes (suc n) why = absurd (⊎_elim (quiet n) (gains_none n) why)
 
@@ -195,7 +195,7 @@ free zero k = record { issued = refl; free = refl; unarmed = refl }
 free (suc zero) k = record { issued = refl; free = refl; unarmed = refl }
 free (suc (suc n)) k = record { issued = refl; free = refl; unarmed = refl }
 
-unplug_knows : DriverRelation without (at_slots no_slots unplugged)
+unplug_knows : DriverRelation without (driver_state no_slots unplugged)
 unplug_knows = agreeing without no_slots tape_gone read_memory gone (unfit 1)
     (record { own_first = refl; own_second = refl; disks = (refl, refl); present = present; ids = refl; sizes = refl; bytes = refl; lasting = (refl, refl); still = refl })
     free free_apart (λ f b from small. past_driver f b from) (λ n e may at_port. ⊎_elim (λ z. absurd (nowhere e z.0)) (λ z. absurd (nowhere e z)) may)
@@ -205,7 +205,7 @@ unplug_knows = agreeing without no_slots tape_gone read_memory gone (unfit 1)
     present (suc zero) = refl
     present (suc (suc n)) = cond-false (suc (suc n) == 0) false false (ne_eqb (suc (suc n)) 0 (omega arith))
 
-still_unfit : (n : ℕ) → HoldsOf (wanted_of (Any ∷ Any ∷ []) n) no_slots unplugged_at (port_at n) (unfit_ports.served (port_at n)) (unfit_ports.state (port_at n))
+still_unfit : (n : ℕ) → PortStateInvariant (wanted_of (Any ∷ Any ∷ []) n) no_slots unplugged_at (port_at n) (unfit_ports.served (port_at n)) (unfit_ports.state (port_at n))
 still_unfit zero = record {
   on = record { ae = refl; no_reset = refl };
   ends = (
@@ -287,7 +287,7 @@ stops = record {
   later = Writing (Px (port_at 0) Serr) 0xffffffff ∷ Reading (Px (port_at 0) Ssts) 0 ∷ passing;
   here = refl;
   clears = refl;
-  only = All-nil (LeavesCommand (port_at 0));
+  only = All-nil (DoesNotWriteCmd (port_at 0));
   shown = refl;
 }
 
@@ -350,7 +350,7 @@ probes (suc (suc n)) = record {
   changed = λ bad. absurd (not_bad bad);
 }
   where
-    not_bad : IsUnfitOrForeign unfit_ports (port_at (suc (suc n))) → ⊥
+    not_bad : HasUnservedDisk unfit_ports (port_at (suc (suc n))) → ⊥
     not_bad (inl is) = let x : Absent ≡ Foreign = is in cc
     not_bad (inr is) = let x : Absent ≡ Unfit is.0 = is.1 in cc
 
@@ -379,9 +379,9 @@ service_part n = record {
     quiet_past zero shows = quiet 0 shows
     quiet_past (suc n) shows = quiet (suc n) shows
 
-    changes : (n : ℕ) → ShowsChange (unplugged.port n) ⊎ Gains (IsPlugging n) unplugged looked_over → IsInterrupted evidence (port_at n) ⊎ ShowsChange (looked_over.port n)
+    changes : (n : ℕ) → ShowsChange (unplugged.port n) ⊎ Gains (IsPlugEvent n) unplugged looked_over → IsStoppedOrStuck evidence (port_at n) ⊎ ShowsChange (looked_over.port n)
     changes zero why = inl (inl (named 0))
-    changes (suc n) why = absurd (⊎_elim (quiet_past n) (gained_none (IsPlugging (suc n)) unplugged looked_over [] (sym (append-nil _)) (All-nil (λ e. IsPlugging (suc n) e → ⊥))) why)
+    changes (suc n) why = absurd (⊎_elim (quiet_past n) (gained_none (IsPlugEvent (suc n)) unplugged looked_over [] (sym (append-nil _)) (All-nil (λ e. IsPlugEvent (suc n) e → ⊥))) why)
 
 service_backed : IsBacked unplugged looked_over without []
 service_backed = record {
@@ -403,7 +403,7 @@ free_then zero k = record { issued = refl; free = refl; unarmed = refl }
 free_then (suc zero) k = record { issued = refl; free = refl; unarmed = refl }
 free_then (suc (suc n)) k = record { issued = refl; free = refl; unarmed = refl }
 
-service_knows : DriverRelation without (at_slots no_slots looked_over)
+service_knows : DriverRelation without (driver_state no_slots looked_over)
 service_knows = agreeing without no_slots tape_gone read_memory absent passed
     (record { own_first = refl; own_second = refl; disks = (refl, refl); present = present; ids = refl; sizes = refl; bytes = refl; lasting = (refl, refl); still = refl })
     free_then free_apart (λ f b from small. past_driver f b from) (λ n e may at_port. ⊎_elim (λ z. absurd (nowhere e z.0)) (λ z. absurd (nowhere e z)) may)
@@ -413,7 +413,7 @@ service_knows = agreeing without no_slots tape_gone read_memory absent passed
     present (suc zero) = refl
     present (suc (suc n)) = cond-false (suc (suc n) == 0) false false (ne_eqb (suc (suc n)) 0 (omega arith))
 
-holds_of : (n : ℕ) → HoldsOf (wanted_of (Any ∷ Any ∷ []) n) no_slots looked_at (port_at n) (one_absent.served (port_at n)) (one_absent.state (port_at n))
+holds_of : (n : ℕ) → PortStateInvariant (wanted_of (Any ∷ Any ∷ []) n) no_slots looked_at (port_at n) (one_absent.served (port_at n)) (one_absent.state (port_at n))
 holds_of zero = record {
   on = record { ae = refl; no_reset = refl };
   ends = (

@@ -4,8 +4,8 @@ use Rattle.std.specs.Int.{bit_at}
 use Rattle.std.specs.Prelude.{IsTrue}
 use Rattle.std.proofs.lemmas.Bool.{true≢false}
 use Rattle.std.proofs.lemmas.List.{get_or-replicate, get_or_append_left}
-use Rattle.block_machine.specs.Ports.{IsMode}
-use Rattle.driver_history.specs.Holds.{mode_of}
+use Rattle.block_machine.specs.Ports.{IsValidMode}
+use Rattle.driver_history.specs.Holds.{mode_of_disk}
 use Rattle.identify.specs.Page.{HasNoUnfit, AllowsTrim, identity_word}
 use Rattle.identify.specs.declared.DiskInfo.{DiskInfo}
 use Rattle.identify.specs.declared.Unfit.TheVariants.{BadChecksum, Word83, No48Bit, SectorSize, NoFlush, NoSectors}
@@ -57,7 +57,7 @@ pub record Kind : Type 0 where
   pub page : List ℕ
   pub info : DiskInfo
   pub fits : IsFit None page info
-  pub mode : IsMode (mode_of queueing_cap info)
+  pub mode : IsValidMode (mode_of_disk queueing_cap info)
 
 -- the disks that take commands one at a time
 abbrev pub plain_disks : Kind

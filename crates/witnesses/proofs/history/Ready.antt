@@ -10,19 +10,19 @@ use Rattle.adapter.specs.Device.{Bases, Disk, DevicePort, Device}
 use Rattle.adapter.specs.FirstRead.{first_disk, first_disk_sector}
 use Rattle.adapter.specs.declared.command.Operation.TheVariants.{Identify}
 use Rattle.adapter.specs.declared.tape.Entry.{Entry}
-use Rattle.refinement.specs.Acts.{InSlots, at_slots}
-use Rattle.refinement.specs.Relation.{ServeApart, HaveSlots, IsReceiving, SameMemory, SameSectors, HasLasting, port_at}
+use Rattle.refinement.specs.Acts.{DriverSlots, driver_state}
+use Rattle.refinement.specs.Relation.{ServeApart, HaveSlots, HasReceivedArea, SameMemory, SameSectors, HasLasting, port_at}
 use Rattle.refinement.specs.Driver.{DriverRelation}
 use Rattle.refinement.specs.Slots.{Free, Serves, IsEmptySlot, IsMove, RelatesSlot}
 use Rattle.block_machine.specs.Histories.{JointState}
 use Rattle.block_machine.specs.Left.{IsInitial}
-use Rattle.block_machine.specs.Ports.{Ports, AreFit}
+use Rattle.block_machine.specs.Ports.{Ports, PortsWellFormed}
 use Rattle.block_machine.specs.State.{Machine, Pending}
-use Rattle.block_machine.specs.Steps.{NoneKept}
+use Rattle.block_machine.specs.Steps.{NoneQuarantined}
 pub use Rattle.block_machine.proofs.Setting.{acceptable, client, empty, empty_starts, frame, granted, its_row, request, row, two_rows}
 use Rattle.driver_history.specs.Evidence.{ShowsFailure, ShowsLoss}
-use Rattle.driver_history.specs.Histories.{Begins}
-use Rattle.driver_history.specs.Holds.{HasRequests, HoldsOf, HoldsWith, IsReadyAt, mode_of}
+use Rattle.driver_history.specs.Histories.{IsFirstInstant}
+use Rattle.driver_history.specs.Holds.{ReadySlotsInvariant, PortStateInvariant, DriverInvariantWith, IsReadyAt, mode_of_disk}
 use Rattle.host_boot.specs.Taken.{IsServed, wanted_of}
 use Rattle.identify.specs.declared.wanted.Wanted.TheVariants.{Any, Nothing}
 use Rattle.port_control.specs.Ports.{programmed}
@@ -65,8 +65,8 @@ pub record AreDisks (m : Machine) (tape : List Entry) (p q : DevicePort) : Type 
   pub lasting : (p.lasting ≡ first_lasting) × (q.lasting ≡ first_lasting)
   pub still : all_still tape ≡ true
 
-module _ (m : Machine) (s : InSlots) (tape : List Entry) (memory : ℕ → ℕ) (p q : DevicePort) (are : AreDisks m tape p q) where
-  received : (n : ℕ) → (having (p ∷ q ∷ []) n).fre ≡ true → IsReceiving (having (p ∷ q ∷ []) n) n
+module _ (m : Machine) (s : DriverSlots) (tape : List Entry) (memory : ℕ → ℕ) (p q : DevicePort) (are : AreDisks m tape p q) where
+  received : (n : ℕ) → (having (p ∷ q ∷ []) n).fre ≡ true → HasReceivedArea (having (p ∷ q ∷ []) n) n
   received zero f = record { below = omega arith; area = ap (λ (b : Bases). b.fb) are.own_first }
   received (suc zero) f = record { below = omega arith; area = ap (λ (b : Bases). b.fb) are.own_second }
   received (suc (suc n)) f = absurd (true≢false (sym f))
@@ -92,7 +92,7 @@ module _ (m : Machine) (s : InSlots) (tape : List Entry) (memory : ℕ → ℕ) 
   lasts (suc (suc n)) k inside bytes w = absurd (omega (arith, inside))
 
   pub agreeing : ((n k : ℕ) → RelatesSlot m memory tape (having (p ∷ q ∷ []) n) n k (s.uses n k)) → ServeApart s.uses → SameMemory m memory → ((n : ℕ) → HaveSlots s.uses m n (s.parked n))
-      → DriverRelation m (at_slots s (device_with tape memory (p ∷ q ∷ [])))
+      → DriverRelation m (driver_state s (device_with tape memory (p ∷ q ∷ [])))
   agreeing slots apart same have = record {
     agrees = record {
       slot = slots;
@@ -134,7 +134,7 @@ not_dead zero is = let x : Ready ≡ Dead = is in cc
 not_dead (suc zero) is = let x : Ready ≡ Dead = is in cc
 not_dead (suc (suc n)) is = let x : Absent ≡ Dead = is in cc
 
-pub fit_ready : (disk : Kind) → AreFit (two_ready disk)
+pub fit_ready : (disk : Kind) → PortsWellFormed (two_ready disk)
 fit_ready disk = record {
   few = λ port is. few_of port.0 is;
   absent = λ port is. absent_of port.0 is;
@@ -199,7 +199,7 @@ pub shows_none : (tape : List Entry) (memory : ℕ → ℕ) (p : DevicePort) →
 shows_none tape memory p stands =
     calm tape memory p (ap (λ (q : DevicePort). q.serr_n) stands.same) (ap (λ (q : DevicePort). q.serr_x) stands.same) (ap (λ (q : DevicePort). q.ssts_det) stands.same) stands.quiet
 
-module _ (disk : Kind) (s : InSlots) (m : Machine) (more : List Entry) (memory : ℕ → ℕ) (p : DevicePort) where
+module _ (disk : Kind) (s : DriverSlots) (m : Machine) (more : List Entry) (memory : ℕ → ℕ) (p : DevicePort) where
   -- both disks have sent their pages, and this was done since
   abbrev pub served_with : Device
   served_with = device_with (sent disk.page ++ more) memory (p ∷ second ∷ [])
@@ -215,7 +215,7 @@ module _ (disk : Kind) (s : InSlots) (m : Machine) (more : List Entry) (memory :
     info = disk.info;
     disk = fit_disk disk 1 served_with (page_entry disk.page 0 ∷ []) more refl refl refl refl unpaged;
     shows = record { serial = refl; sectors = refl; trims = refl; mode = refl };
-    slots = requests_none s instant_with (port_at 1) (mode_of queueing_cap disk.info) free unparked;
+    slots = requests_none s instant_with (port_at 1) (mode_of_disk queueing_cap disk.info) free unparked;
     kept = λ e k. absurd (nowhere e (subst (λ (es : List Pending). Contains es e) unkept k));
   }
 
@@ -233,7 +233,7 @@ module _ (disk : Kind) (s : InSlots) (m : Machine) (more : List Entry) (memory :
     pub apart : ServeApart s.uses
     pub frames : SameMemory m memory
     pub have : (e : Pending) → Contains m.book e → (slot : ℕ) × (s.uses 0 slot ≡ Serves e.request.id)
-    pub requests : HasRequests s instant_with (port_at 0) (mode_of queueing_cap disk.info)
+    pub requests : ReadySlotsInvariant s instant_with (port_at 0) (mode_of_disk queueing_cap disk.info)
 
   module _ (a : Agreeing) where
     -- what was so when the port was booted
@@ -271,7 +271,7 @@ module _ (disk : Kind) (s : InSlots) (m : Machine) (more : List Entry) (memory :
         (λ here. let found = a.have e here.0 in (found.0, subst (λ (q : ℕ). s.uses q found.0 ≡ Serves e.request.id) (sym (a.first_alone e here.0) ∙ at_port) found.1))
         (λ kept. absurd (nowhere e (subst (λ (es : List Pending). Contains es e) a.unkept kept))) may)
 
-    unkept : (n : ℕ) → NoneKept m (port_at n)
+    unkept : (n : ℕ) → NoneQuarantined m (port_at n)
     unkept n e kept = absurd (nowhere e (subst (λ (es : List Pending). Contains es e) a.unkept kept))
 
     first_ready : IsReadyAt Any s instant_with (port_at 0)
@@ -286,14 +286,14 @@ module _ (disk : Kind) (s : InSlots) (m : Machine) (more : List Entry) (memory :
       kept = unkept 0;
     }
 
-    port_of : (n : ℕ) → HoldsOf (wanted_of (Any ∷ Any ∷ []) n) s instant_with (port_at n) (two_served (port_at n)) (two_states (port_at n))
+    port_of : (n : ℕ) → PortStateInvariant (wanted_of (Any ∷ Any ∷ []) n) s instant_with (port_at n) (two_served (port_at n)) (two_states (port_at n))
     port_of zero = first_ready
     port_of (suc zero) = second_ready (a.unpaged 1) (a.others 0) (a.unparked 1) a.unkept
     port_of (suc (suc n)) = unserved_at s instant_with (suc (suc n)) refl refl (record { free = a.others (suc n); unparked = a.unparked (suc (suc n)) })
         (λ e here is. let z : 0 ≡ suc (suc n) = sym (a.first_alone e here) ∙ ap (λ (q : Port). q.0) is in omega (arith, z))
         (unkept (suc (suc n)))
 
-    pub holds : HoldsWith (Any ∷ Any ∷ []) s instant_with
+    pub holds : DriverInvariantWith (Any ∷ Any ∷ []) s instant_with
     holds = record {
       knows = agreeing m s (sent disk.page ++ more) memory p second are_disks slot_of a.apart a.frames have_of;
       served = λ port low. served_of (sent disk.page ++ more) memory (p ∷ second ∷ []) port.0;
@@ -322,16 +322,16 @@ agrees_none disk m more memory p stands disks none unkept unpaged still free fra
   apart = free_apart;
   frames = frames;
   have = λ e here. absurd (empty_book e here);
-  requests = requests_none no_slots (instant_with disk no_slots m more memory p) (port_at 0) (mode_of queueing_cap disk.info) (λ slot. refl) refl;
+  requests = requests_none no_slots (instant_with disk no_slots m more memory p) (port_at 0) (mode_of_disk queueing_cap disk.info) (λ slot. refl) refl;
 }
   where
     empty_book : (e : Pending) → Contains m.book e → ⊥
     empty_book e here = nowhere e (subst (λ (es : List Pending). Contains es e) none here)
 
-holds_first : (disk : Kind) → HoldsWith (Any ∷ Any ∷ []) no_slots (instant_with disk no_slots start [] zeros (running_port 0))
+holds_first : (disk : Kind) → DriverInvariantWith (Any ∷ Any ∷ []) no_slots (instant_with disk no_slots start [] zeros (running_port 0))
 holds_first disk = holds disk no_slots start [] zeros (running_port 0)
     (agrees_none disk start [] zeros (running_port 0) (record { same = refl; quiet = λ place from. refl }) (refl, refl, refl, refl) refl refl no_page refl
     (λ k. record { issued = refl; free = refl; unarmed = refl }) (λ f b from small. refl))
 
-pub begins : (disk : Kind) → Begins (Any ∷ Any ∷ []) (instant_with disk no_slots start [] zeros (running_port 0))
+pub begins : (disk : Kind) → IsFirstInstant (Any ∷ Any ∷ []) (instant_with disk no_slots start [] zeros (running_port 0))
 begins disk = ((no_slots, holds_first disk), (record { ae = refl; no_reset = refl }, refl))

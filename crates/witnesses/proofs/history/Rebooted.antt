@@ -18,17 +18,17 @@ use Rattle.adapter.specs.Access.Access.{Reading, Writing}
 use Rattle.adapter.specs.Device.{Device, DevicePort}
 use Rattle.adapter.specs.declared.access.DeviceStep.{DeviceStep}
 use Rattle.adapter.specs.declared.command.Operation.TheVariants.{Identify}
-use Rattle.refinement.specs.Acts.{at_slots}
+use Rattle.refinement.specs.Acts.{driver_state}
 use Rattle.refinement.specs.Relation.{port_at}
 use Rattle.refinement.specs.Driver.{IsBacked, DriverRelation}
-use Rattle.refinement.specs.Links.{SparesRegister}
+use Rattle.refinement.specs.Links.{DoesNotWrite}
 use Rattle.refinement.specs.Slots.{IsEmptySlot, IsMove, ServesRequest}
-use Rattle.refinement.specs.Tape.{AllOwn, PutsInDisks}
+use Rattle.refinement.specs.Tape.{NoneByDevice, PutsInDisks}
 use Rattle.refinement.specs.Witness.{first_id}
-use Rattle.block_machine.specs.Events.{Ask, CallResult, UnplugsAll}
+use Rattle.block_machine.specs.Events.{AbstractCall, CallResult, AnswersAllUnplugged}
 use Rattle.block_machine.specs.Histories.{JointState}
-use Rattle.block_machine.specs.Left.{AllTellSectors, after}
-use Rattle.block_machine.specs.Ports.{AreFit, Evidence, MayBecome, Ports, SamePort}
+use Rattle.block_machine.specs.Left.{AllStepsFaithful, after}
+use Rattle.block_machine.specs.Ports.{PortsWellFormed, Evidence, MayBecome, Ports, SamePort}
 use Rattle.block_machine.specs.State.{Machine, Pending}
 use Rattle.block_machine.specs.Steps.{Step, Answer}
 use Rattle.host_boot.specs.Taken.{wanted_of}
@@ -36,8 +36,8 @@ use Rattle.identify.specs.declared.wanted.Wanted.TheVariants.{Any}
 use Rattle.driver_history.specs.Evidence.{IsEvidencedOf, ShowsFailure, ShowsLoss}
 use Rattle.error_recovery.specs.Evidence.{ShowsFatal}
 use Rattle.driver_history.specs.Histories.{FindsDone, IsAnsweredOk, LosesNoPortError, RunsWellAnew}
-use Rattle.driver_history.specs.Holds.{HoldsOf, HoldsWith, IsReadyAt, IsStoppedAt}
-use Rattle.driver_history.specs.Trace.{LeavesCommand, ResetsLink}
+use Rattle.driver_history.specs.Holds.{PortStateInvariant, DriverInvariantWith, IsReadyAt, IsStoppedAt}
+use Rattle.driver_history.specs.Trace.{DoesNotWriteCmd, ResetsLink}
 use Rattle.port_control.specs.Engines.{Stops}
 use Rattle.witnesses.specs.Restart.{asking, placing, resetting, restart_evidence, restarting, stopping}
 use Rattle.witnesses.specs.Scene.{having, page_entry, plain, showing}
@@ -57,7 +57,7 @@ use Rattle.witnesses.proofs.history.Submitting.{issued, second}
 abbrev pub one : Ports
 one = showing plain_disks.info (true ∷ true ∷ []) (Unfit 8 ∷ Ready ∷ [])
 
-pub fit_one : AreFit one
+pub fit_one : PortsWellFormed one
 fit_one = record {
   few = (fit_ready plain_disks).few;
   absent = λ port is. absent_of port.0 is;
@@ -123,7 +123,7 @@ module _ (c : Outset) where
   present (suc zero) = refl
   present (suc (suc n)) = refl
 
-  knows : DriverRelation answered (at_slots no_slots booted)
+  knows : DriverRelation answered (driver_state no_slots booted)
   knows = agreeing answered no_slots (tape c) read_memory (unfit c) second
       (record { own_first = refl; own_second = refl; disks = (refl, refl); present = present; ids = refl; sizes = refl; bytes = refl; lasting = (refl, refl); still = c.still })
       free free_apart (λ f b from small. past_driver f b from) (λ n e may at_port. ⊎_elim (λ z. absurd (nowhere e z.0)) (λ z. absurd (nowhere e z)) may)
@@ -155,12 +155,12 @@ module _ (c : Outset) where
       kept = λ e k. absurd (nowhere e k);
     }
 
-    port_booted : (n : ℕ) → HoldsOf (wanted_of (Any ∷ Any ∷ []) n) no_slots booted_at (port_at n) (one.served (port_at n)) (one.state (port_at n))
+    port_booted : (n : ℕ) → PortStateInvariant (wanted_of (Any ∷ Any ∷ []) n) no_slots booted_at (port_at n) (one.served (port_at n)) (one.state (port_at n))
     port_booted zero = port_unfit
     port_booted (suc zero) = port_ready
     port_booted (suc (suc n)) = unserved_at no_slots booted_at (suc (suc n)) refl refl (record { free = λ slot. refl; unparked = refl }) (λ e here. absurd (nowhere e here)) (λ e kept. absurd (nowhere e kept))
 
-    pub holds_booted : HoldsWith (Any ∷ Any ∷ []) no_slots booted_at
+    pub holds_booted : DriverInvariantWith (Any ∷ Any ∷ []) no_slots booted_at
     holds_booted = record {
       knows = knows;
       served = λ port low. served_of (tape c) read_memory (unfit c ∷ second ∷ []) port.0;
@@ -187,7 +187,7 @@ module _ (looked : List Access) where
     later = placing ++ resetting;
     here = sym (append_assoc looked (asking ++ Reading (Px (port_at 0) Cmd) 0xc011 ∷ []) _);
     clears = refl;
-    only = All-nil (LeavesCommand (port_at 0));
+    only = All-nil (DoesNotWriteCmd (port_at 0));
     shown = refl;
   }
 
@@ -201,8 +201,8 @@ module _ (looked : List Access) where
     here = sym (append_assoc looked (asking ++ (stopping ++ placing)) _);
     sends = refl;
     ends = refl;
-    held = All-nil (SparesRegister (Px (port_at 0) Sctl));
-    left = All-from_recursion (SparesRegister (Px (port_at 0) Sctl)) rest (tt, (λ is. cc, (λ is. cc, (tt, (tt, tt)))));
+    held = All-nil (DoesNotWrite (Px (port_at 0) Sctl));
+    left = All-from_recursion (DoesNotWrite (Px (port_at 0) Sctl)) rest (tt, (λ is. cc, (λ is. cc, (tt, (tt, tt)))));
   }
 
 -- they write registers of port 0, and IS
@@ -221,7 +221,7 @@ of_served Such tended = (tended, (tended, (tended, ((λ is. cc, tended), (tended
 -- A call that restarts the port: what it asks and says, its steps, the machine and port 0 when it began, its accesses before the masks are read, what was so
 -- then, and the ports on which something had failed.
 pub record Restart : Type 0 where
-  pub ask : Ask DeviceStep
+  pub ask : AbstractCall DeviceStep
   pub said : CallResult
   pub steps : List Step
   pub machine : Machine
@@ -253,10 +253,10 @@ module _ (c : Restart) where
     pub failed_all : ShowsFailure c.port → Contains c.failed (port_at 0)
     pub failed_only : (n : ℕ) → Contains c.failed (port_at n) → (n ≡ 0) × ShowsFatal c.port
     pub writes : WritesOf IsWritten accesses
-    pub running : All (LeavesCommand (port_at 0)) c.looked
+    pub running : All (DoesNotWriteCmd (port_at 0)) c.looked
     pub unfound : (e : Pending) (slot : ℕ) → ServesRequest c.machine read_memory c.port 0 slot e.request.id → bit 1 slot ≡ false → ⊥
     pub told : (e : Pending) (o : Outcome) → Contains c.steps (Answer e o) → o ≡ outcome.Unplugged
-    pub own : AllOwn c.steps × AllTellSectors c.machine c.steps × ((n : ℕ) → PutsInDisks n [] c.steps)
+    pub own : NoneByDevice c.steps × AllStepsFaithful c.machine c.steps × ((n : ℕ) → PutsInDisks n [] c.steps)
     pub plugged : issued.plugged ≡ c.port.plugged ++ []
 
   module _ (is : IsRestart) where
@@ -307,7 +307,7 @@ module _ (c : Restart) where
     none_ok e a = let same : outcome.Ok ≡ outcome.Unplugged = is.told a.0 outcome.Ok a.2 in cc
 
     -- and no request is left
-    pub unplugs : UnplugsAll c.steps answered
+    pub unplugs : AnswersAllUnplugged c.steps answered
     unplugs = record {
       emptied = λ e other here there. absurd (nowhere other there);
       alike = λ e other here there. absurd (let x : outcome.PortDead ≡ outcome.Unplugged = is.told other outcome.PortDead there in cc);

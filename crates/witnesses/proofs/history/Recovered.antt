@@ -20,11 +20,11 @@ use Rattle.adapter.specs.declared.access.DeviceStep.{DeviceStep}
 use Rattle.adapter.specs.declared.command.Operation.TheVariants.{Identify}
 use Rattle.adapter.specs.declared.tape.Entry.TheVariants as entry
 use Rattle.refinement.specs.Relation.{port_at}
-use Rattle.refinement.specs.Acts.{at_slots}
+use Rattle.refinement.specs.Acts.{driver_state}
 use Rattle.refinement.specs.Driver.{IsBacked, DriverRelation}
 use Rattle.refinement.specs.Errors.{IsFatalOf}
 use Rattle.refinement.specs.Facts.{IsFaultOf, RunsWell}
-use Rattle.refinement.specs.Links.{IsPlugging}
+use Rattle.refinement.specs.Links.{IsPlugEvent}
 use Rattle.refinement.specs.Slots.{IsEmptySlot, IsMove}
 use Rattle.refinement.specs.Witness.{first_id}
 use Rattle.block_machine.specs.Events.{Service, Served, Happens}
@@ -34,12 +34,12 @@ use Rattle.block_machine.specs.State.{Pending, Machine}
 use Rattle.block_machine.specs.Steps.{Step, Answer}
 use Rattle.host_boot.specs.Taken.{wanted_of}
 use Rattle.identify.specs.declared.wanted.Wanted.TheVariants.{Any}
-use Rattle.error_recovery.specs.Evidence.{GainsRunning}
+use Rattle.error_recovery.specs.Evidence.{GainsSinceStart}
 use Rattle.driver_history.specs.Heeding.{ServesReady}
 use Rattle.driver_history.specs.Evidence.{Gains, IsEvidencedOf, ShowsLoss, ShowsFailure}
 use Rattle.driver_history.specs.Histories.{CallCorresponds, PortCorresponds, FindsDone, IsAnsweredOk, IsIssuedOn, LosesNoPortError, RunsWellAnew, IsPortAlive}
-use Rattle.driver_history.specs.Holds.{HoldsOf, HoldsWith, IsReadyAt}
-use Rattle.driver_history.specs.Trace.{LeavesCommand}
+use Rattle.driver_history.specs.Holds.{PortStateInvariant, DriverInvariantWith, IsReadyAt}
+use Rattle.driver_history.specs.Trace.{DoesNotWriteCmd}
 use Rattle.port_control.specs.Engines.{Stops}
 use Rattle.witnesses.specs.Recovery.{fault_evidence, recovery_accesses, told_fault, RecoveryIsAHistory}
 use Rattle.witnesses.specs.Scene.{having, page_entry}
@@ -76,7 +76,7 @@ present zero = refl
 present (suc zero) = refl
 present (suc (suc n)) = refl
 
-knows : DriverRelation answered (at_slots no_slots recovered)
+knows : DriverRelation answered (driver_state no_slots recovered)
 knows = agreeing answered no_slots tape_failed read_memory started second
     (record { own_first = refl; own_second = refl; disks = (refl, refl); present = present; ids = refl; sizes = refl; bytes = refl; lasting = (refl, refl); still = refl })
     free free_apart (λ f b from small. past_driver f b from) (λ n e may at_port. ⊎_elim (λ z. absurd (nowhere e z.0)) (λ z. absurd (nowhere e z)) may)
@@ -97,12 +97,12 @@ ready = record {
   kept = λ e k. absurd (nowhere e k);
 }
 
-port_recovered : (n : ℕ) → HoldsOf (wanted_of (Any ∷ Any ∷ []) n) no_slots recovered_at (port_at n) (both.served (port_at n)) (both.state (port_at n))
+port_recovered : (n : ℕ) → PortStateInvariant (wanted_of (Any ∷ Any ∷ []) n) no_slots recovered_at (port_at n) (both.served (port_at n)) (both.state (port_at n))
 port_recovered zero = ready
 port_recovered (suc zero) = second_ready plain_disks no_slots answered (entry.Fault fault ∷ []) read_memory started (unpaged 1) (λ slot. refl) refl refl
 port_recovered (suc (suc n)) = unserved_at no_slots recovered_at (suc (suc n)) refl refl (record { free = λ slot. refl; unparked = refl }) (λ e here. absurd (nowhere e here)) (λ e kept. absurd (nowhere e kept))
 
-holds_recovered : HoldsWith (Any ∷ Any ∷ []) no_slots recovered_at
+holds_recovered : DriverInvariantWith (Any ∷ Any ∷ []) no_slots recovered_at
 holds_recovered = record {
   knows = knows;
   served = λ port low. served_of tape_failed read_memory (started ∷ second ∷ []) port.0;
@@ -130,7 +130,7 @@ stops = record {
   later = from_fall;
   here = refl;
   clears = refl;
-  only = All-nil (LeavesCommand (port_at 0));
+  only = All-nil (DoesNotWriteCmd (port_at 0));
   shown = refl;
 }
 
@@ -192,7 +192,7 @@ finds : FindsDone (port_at 0) recovery_accesses submitted_at (answer ∷ [])
 finds = record {
   ci = 1;
   sact = 0;
-  reads = record { before = []; later = Reading (Px (port_at 0) Tfd) 0x4041 ∷ from_stop; here = refl; running = All-nil (LeavesCommand (port_at 0)) };
+  reads = record { before = []; later = Reading (Px (port_at 0) Tfd) 0x4041 ∷ from_stop; here = refl; running = All-nil (DoesNotWriteCmd (port_at 0)) };
   exact = λ e slot on s. (λ ok. absurd (none_ok e ok), λ clear. absurd (bits_set 0 issued refl (λ k. refl) (λ k. refl) e slot s clear.0));
 }
 
@@ -220,7 +220,7 @@ fault_alone : (n : ℕ) → n ≢ 0 → All (IsCalm n) (entry.Fault fault ∷ []
 fault_alone n ne = All-cons (IsCalm n) (entry.Fault fault) [] (λ (is : 0 ≡ n). ne (sym is), λ x. x, λ x. x) (All-nil (IsCalm n))
 
 -- it came before ST was set again
-too_early : GainsRunning (IsFaultOf 0) 0 submitted recovered → ⊥
+too_early : GainsSinceStart (IsFaultOf 0) 0 submitted recovered → ⊥
 too_early g =
     let same : g.before ++ (g.entry ∷ g.later) ≡ entry.Fault fault ∷ [] = append_cancel_left pages (g.before ++ (g.entry ∷ g.later)) (entry.Fault fault ∷ []) (sym g.tape) in
     let long : length (g.before ++ (g.entry ∷ g.later)) ≡ 1 = ap (λ (es : List Entry). length es) same in
@@ -234,7 +234,7 @@ port_error zero = record {
   changes = λ tends why. inl (inl (named 0));
   fault = λ ready g. absurd (too_early g);
   fatal = λ ready g. absurd (ran_none (IsFatalOf 0) 0 submitted recovered (gained_none (IsFatalOf 0) submitted recovered (entry.Fault fault ∷ []) refl (All-cons (λ e. IsFatalOf 0 e → ⊥) (entry.Fault fault) [] (λ x. x) (All-nil (λ e. IsFatalOf 0 e → ⊥)))) g);
-  disk = λ ready g. absurd (ran_none (IsPlugging 0) 0 submitted recovered (gained_none (IsPlugging 0) submitted recovered (entry.Fault fault ∷ []) refl (All-cons (λ e. IsPlugging 0 e → ⊥) (entry.Fault fault) [] (λ x. x) (All-nil (λ e. IsPlugging 0 e → ⊥)))) g);
+  disk = λ ready g. absurd (ran_none (IsPlugEvent 0) 0 submitted recovered (gained_none (IsPlugEvent 0) submitted recovered (entry.Fault fault ∷ []) refl (All-cons (λ e. IsPlugEvent 0 e → ⊥) (entry.Fault fault) [] (λ x. x) (All-nil (λ e. IsPlugEvent 0 e → ⊥)))) g);
 }
 port_error (suc n) = no_trouble fault_evidence submitted_at both recovered (port_at (suc n)) (entry.Fault fault ∷ []) refl (fault_alone (suc n) (omega arith)) (served_ready (suc n)) (quiet (suc n))
 

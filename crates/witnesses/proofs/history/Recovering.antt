@@ -21,7 +21,7 @@ use Rattle.block_machine.specs.Ports.{RequestFault}
 use Rattle.block_machine.specs.State.{Pending}
 use Rattle.error_recovery.specs.Evidence.{HasFailed}
 use Rattle.driver_history.specs.Evidence.{IsFaultTold}
-use Rattle.driver_history.specs.Trace.{LeavesCommand}
+use Rattle.driver_history.specs.Trace.{DoesNotWriteCmd}
 use Rattle.witnesses.specs.Recovery.{recovery_accesses, told_fault}
 use Rattle.witnesses.specs.Scene.{device_with}
 use Rattle.witnesses.proofs.history.Command.{read_memory}
@@ -210,11 +210,11 @@ allowed = (
 
 -- ---- the fault
 
-running : All (LeavesCommand (port_at 0)) until_stop
+running : All (DoesNotWriteCmd (port_at 0)) until_stop
 running =
-    All-cons (LeavesCommand (port_at 0)) (Reading (Px (port_at 0) Ci) 1) (Reading (Px (port_at 0) Sact) 0 ∷ Reading (Px (port_at 0) Tfd) 0x4041 ∷ []) tt
-    (All-cons (LeavesCommand (port_at 0)) (Reading (Px (port_at 0) Sact) 0) (Reading (Px (port_at 0) Tfd) 0x4041 ∷ []) tt
-    (All-cons (LeavesCommand (port_at 0)) (Reading (Px (port_at 0) Tfd) 0x4041) [] tt (All-nil (LeavesCommand (port_at 0)))))
+    All-cons (DoesNotWriteCmd (port_at 0)) (Reading (Px (port_at 0) Ci) 1) (Reading (Px (port_at 0) Sact) 0 ∷ Reading (Px (port_at 0) Tfd) 0x4041 ∷ []) tt
+    (All-cons (DoesNotWriteCmd (port_at 0)) (Reading (Px (port_at 0) Sact) 0) (Reading (Px (port_at 0) Tfd) 0x4041 ∷ []) tt
+    (All-cons (DoesNotWriteCmd (port_at 0)) (Reading (Px (port_at 0) Tfd) 0x4041) [] tt (All-nil (DoesNotWriteCmd (port_at 0)))))
 
 has_failed : HasFailed (port_at 0) recovery_accesses submitted recovered fault
 has_failed = record {

@@ -18,24 +18,24 @@ use Rattle.adapter.specs.Access.{Access}
 use Rattle.adapter.specs.Access.Access.{Reading, Writing}
 use Rattle.adapter.specs.Device.{Device}
 use Rattle.adapter.specs.declared.access.DeviceStep.{DeviceStep}
-use Rattle.refinement.specs.Acts.{at_slots}
+use Rattle.refinement.specs.Acts.{driver_state}
 use Rattle.refinement.specs.Relation.{port_at}
 use Rattle.refinement.specs.Driver.{IsBacked, DriverRelation}
-use Rattle.refinement.specs.Links.{SparesRegister}
+use Rattle.refinement.specs.Links.{DoesNotWrite}
 use Rattle.refinement.specs.Places.{list_of, received_of}
 use Rattle.refinement.specs.Slots.{IsEmptySlot}
 use Rattle.refinement.specs.Witness.{first_id}
 use Rattle.block_machine.specs.Events.{AnswersReset, Happens, Reset, ShowsDisk, WasReset}
 use Rattle.block_machine.specs.Histories.{Happening, JointState}
 use Rattle.block_machine.specs.Left.{after}
-use Rattle.block_machine.specs.Ports.{AreFit, Evidence, IsInterrupted, MayBecome, Ports}
+use Rattle.block_machine.specs.Ports.{PortsWellFormed, Evidence, IsStoppedOrStuck, MayBecome, Ports}
 use Rattle.block_machine.specs.State.{Machine, Pending}
 use Rattle.block_machine.specs.Steps.{Answer, Release, Step}
 use Rattle.host_boot.specs.Taken.{wanted_of}
 use Rattle.identify.specs.declared.wanted.Wanted.TheVariants.{Any}
 use Rattle.driver_history.specs.Evidence.{IsEvidencedOf}
 use Rattle.driver_history.specs.Histories.{IsPortServed, CallCorresponds, PortCorresponds}
-use Rattle.driver_history.specs.Holds.{HoldsOf}
+use Rattle.driver_history.specs.Holds.{PortStateInvariant}
 use Rattle.driver_history.specs.Trace.{IsDriversOwn, IsOfPorts, LeavesEngine, ResetsLink}
 use Rattle.witnesses.specs.Reset.{ResetIsAHistory, adapter_reset, booting, rebooting}
 use Rattle.witnesses.specs.Scene.{having, showing}
@@ -92,7 +92,7 @@ not_dead zero is = let x : Unfit 8 ≡ Dead = is in cc
 not_dead (suc zero) is = let x : Unfit 8 ≡ Dead = is in cc
 not_dead (suc (suc n)) is = let x : Absent ≡ Dead = is in cc
 
-pub fit : AreFit unfit_ports
+pub fit : PortsWellFormed unfit_ports
 fit = record {
   few = (fit_ready plain_disks).few;
   absent = λ port is. absent_of port.0 is;
@@ -213,8 +213,8 @@ links zero is = record {
   here = refl;
   sends = refl;
   ends = refl;
-  held = All-nil (SparesRegister (Px (port_at 0) Sctl));
-  left = All-from_recursion (SparesRegister (Px (port_at 0) Sctl)) (after_link 0 ++ booting 1)
+  held = All-nil (DoesNotWrite (Px (port_at 0) Sctl));
+  left = All-from_recursion (DoesNotWrite (Px (port_at 0) Sctl)) (after_link 0 ++ booting 1)
       (tt, (λ is. cc, (λ is. cc, (tt, (tt, (tt, (other_port Clb, (other_port Clbu, (other_port Fb, (other_port Fbu, (tt, (other_port Cmd, (other_port Sctl, (other_port Sctl, (tt, (other_port Serr, (other_port Is, (tt, (tt, tt)))))))))))))))))));
 }
 links (suc zero) is = record {
@@ -226,8 +226,8 @@ links (suc zero) is = record {
   here = refl;
   sends = refl;
   ends = refl;
-  held = All-nil (SparesRegister (Px (port_at 1) Sctl));
-  left = All-from_recursion (SparesRegister (Px (port_at 1) Sctl)) (after_link 1) (tt, (λ is. cc, (λ is. cc, (tt, (tt, tt)))));
+  held = All-nil (DoesNotWrite (Px (port_at 1) Sctl));
+  left = All-from_recursion (DoesNotWrite (Px (port_at 1) Sctl)) (after_link 1) (tt, (λ is. cc, (λ is. cc, (tt, (tt, tt)))));
 }
 links (suc (suc n)) is = absurd (true≢false (sym is))
 
@@ -257,7 +257,7 @@ evidenced n =
     written = (omega arith, (omega arith, (omega arith, (omega arith, (omega arith, (omega arith, (omega arith, (omega arith, (omega arith, (omega arith, (omega arith, (omega arith, (omega arith, (omega arith, (omega arith, (omega arith, (omega arith, (omega arith, (omega arith, (omega arith, tt))))))))))))))))))))
 
     -- a port that isn't served has its engine left
-    engines : (n : ℕ) → All (LeavesEngine (port_at n)) rebooting ⊎ IsInterrupted evidence (port_at n)
+    engines : (n : ℕ) → All (LeavesEngine (port_at n)) rebooting ⊎ IsStoppedOrStuck evidence (port_at n)
     engines zero = inr (inl (0, omega arith, refl))
     engines (suc zero) = inr (inl (1, omega arith, refl))
     engines (suc (suc n)) = inl (leaves IsWritten (port_at (suc (suc n))) (λ below. omega (arith, below)) (λ below. omega (arith, below)) rebooting written)
@@ -308,7 +308,7 @@ free zero k = record { issued = refl; free = refl; unarmed = refl }
 free (suc zero) k = record { issued = refl; free = refl; unarmed = refl }
 free (suc (suc n)) k = record { issued = refl; free = refl; unarmed = refl }
 
-knows : DriverRelation answered (at_slots no_slots rebooted)
+knows : DriverRelation answered (driver_state no_slots rebooted)
 knows = agreeing answered no_slots pages read_memory (unfit 0) (unfit 1)
     (record { own_first = refl; own_second = refl; disks = (refl, refl); present = present; ids = refl; sizes = refl; bytes = refl; lasting = (refl, refl); still = refl })
     free free_apart (λ f b from small. past_driver f b from) (λ n e may at_port. ⊎_elim (λ z. absurd (nowhere e z.0)) (λ z. absurd (nowhere e z)) may)
@@ -318,7 +318,7 @@ knows = agreeing answered no_slots pages read_memory (unfit 0) (unfit 1)
     present (suc zero) = refl
     present (suc (suc n)) = refl
 
-pub holds_of : (n : ℕ) → HoldsOf (wanted_of (Any ∷ Any ∷ []) n) no_slots rebooted_at (port_at n) (unfit_ports.served (port_at n)) (unfit_ports.state (port_at n))
+pub holds_of : (n : ℕ) → PortStateInvariant (wanted_of (Any ∷ Any ∷ []) n) no_slots rebooted_at (port_at n) (unfit_ports.served (port_at n)) (unfit_ports.state (port_at n))
 holds_of zero = record {
   on = record { ae = refl; no_reset = refl };
   ends = (

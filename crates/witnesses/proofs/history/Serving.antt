@@ -19,7 +19,7 @@ use Rattle.block_machine.specs.State.{Block, Machine, Pending}
 use Rattle.block_machine.specs.Steps.{newly_issued, newly_accepted}
 use Rattle.block_machine.specs.declared.due.QueueMode.{QueueMode}
 use Rattle.block_machine.specs.declared.due.Unanswered.{Unanswered}
-use Rattle.driver_history.specs.Holds.{IsQueuedAsAsked, mode_of}
+use Rattle.driver_history.specs.Holds.{IsQueuedAsAsked, mode_of_disk}
 use Rattle.witnesses.specs.Scene.{queueing_cap}
 use Rattle.witnesses.proofs.history.Holding.{first_slots, requests_first, serves_first, uses_first}
 use Rattle.witnesses.proofs.history.Issuing.{accepted_as}
@@ -61,8 +61,8 @@ serves_one m memory p slot c id k n held age list below here op first told stage
 -- A slot of a running port that has neither an issued command nor a taken one serves no request that hasn't ended.
 pub serves_none : (m : Machine) (memory : ℕ → ℕ) (p : DevicePort) (slot : ℕ) (id : RequestId) (s : ServesRequest m memory p 0 slot id) → p.st ≡ true → p.ci slot ≡ false → p.taken slot ≡ None
     → s.pending.ended ≡ false → ⊥
-serves_none m memory p slot id s started unissued free unended = ⊎_elim
-    (λ (w : Waits memory p 0 slot s.pending s.command). true≢false (sym w.issued ∙ unissued))
+serves_none m memory p slot id s started with_issue_undone free unended = ⊎_elim
+    (λ (w : Waits memory p 0 slot s.pending s.command). true≢false (sym w.issued ∙ with_issue_undone))
     (λ r. ⊎_elim
     (λ (w : IsTakenFor memory p 0 slot s.pending s.command s.places). let x : None ≡ Some w.command = sym free ∙ w.taken in cc)
     (λ r. ⊎_elim
@@ -80,7 +80,7 @@ module _ (disk : Kind) (m : Machine) (more : List Entry) (memory : ℕ → ℕ) 
   the_request = aged age (outstanding_as first_id k n held)
 
   abbrev mode : QueueMode
-  mode = mode_of queueing_cap disk.info
+  mode = mode_of_disk queueing_cap disk.info
 
   -- Request 1, a read by this command, is the one of the book; it is in slot 0 of port 0, and no other slot is in use.
   pub record HasOne : Type 0 where
@@ -92,7 +92,7 @@ module _ (disk : Kind) (m : Machine) (more : List Entry) (memory : ℕ → ℕ) 
     pub still : all_still more ≡ true
     pub op : op_of c.operation ≡ Some Read
     pub first : c.first ≡ k
-    pub kind : is_queued c.operation ≡ not (is_plain (mode_of queueing_cap disk.info) Read)
+    pub kind : is_queued c.operation ≡ not (is_plain (mode_of_disk queueing_cap disk.info) Read)
     pub told : SlotDecodesTo memory 0 0 0 c (piece_addresses (4096 * n) 1)
     pub stage : Stage memory p 0 0 (aged age (outstanding_as first_id k n held)) c (piece_addresses (4096 * n) 1)
     pub others : (slot : ℕ) → IsEmptySlot p (suc slot)

@@ -6,7 +6,7 @@ use Rattle.ata_types.specs.declared.Port.{Port}
 use Rattle.ata_types.specs.declared.request.RequestId.{RequestId}
 use Rattle.adapter.specs.Device.{Device}
 use Rattle.adapter.specs.Decoding.{piece_addresses}
-use Rattle.refinement.specs.Acts.{InSlots}
+use Rattle.refinement.specs.Acts.{DriverSlots}
 use Rattle.refinement.specs.Relation.{ServeApart, port_at}
 use Rattle.refinement.specs.Served.{second_id}
 use Rattle.refinement.specs.Slots.{Free, RelatesSlot, Serves, Stage, SlotStates}
@@ -19,7 +19,7 @@ use Rattle.block_machine.specs.State.{Block, Machine, Pending, unanswered}
 use Rattle.block_machine.specs.Steps.{Accept, Issue, May, newly_accepted}
 use Rattle.block_machine.specs.declared.due.Unanswered.{Unanswered}
 use Rattle.driver_history.specs.Histories.{IssuesDue}
-use Rattle.driver_history.specs.Holds.{HasRequests, IsClients, IsQueuedAsAsked}
+use Rattle.driver_history.specs.Holds.{ReadySlotsInvariant, IsFreeOrServes, IsQueuedAsAsked}
 use Rattle.witnesses.specs.Scene.{queued, running_port}
 use Rattle.witnesses.proofs.history.Command.{queued_read, zeros}
 use Rattle.witnesses.proofs.history.Devices.{other_bit}
@@ -64,7 +64,7 @@ two_uses zero (suc zero) = Serves second_id
 two_uses zero (suc (suc slot)) = Free
 two_uses (suc port) slot = Free
 
-abbrev pub two_slots : InSlots
+abbrev pub two_slots : DriverSlots
 two_slots = record { uses = two_uses; parked = λ port. [] }
 
 abbrev pub submission_two : Submission
@@ -174,7 +174,7 @@ two_apart zero slot (suc q) k id u v = absurd (let x : Free ≡ Serves id = v in
 two_apart zero slot zero (suc (suc k)) id u v = absurd (let x : Free ≡ Serves id = v in cc)
 
 -- the command of each is queued, and so is its request
-two_requests : HasRequests two_slots (issued_on.submitted_at submission_two) (port_at 0) queued
+two_requests : ReadySlotsInvariant two_slots (issued_on.submitted_at submission_two) (port_at 0) queued
 two_requests = record {
   clients = clients;
   low = low;
@@ -183,7 +183,7 @@ two_requests = record {
   alone = λ slot e s plain. absurd (true≢false (sym plain ∙ each_has (λ x. is_plain queued x.request.asked.op ≡ false) refl refl e s.here));
 }
   where
-    clients : (slot : ℕ) → IsClients (two_uses 0 slot)
+    clients : (slot : ℕ) → IsFreeOrServes (two_uses 0 slot)
     clients zero = inr (first_id, refl)
     clients (suc zero) = inr (second_id, refl)
     clients (suc (suc slot)) = inl refl

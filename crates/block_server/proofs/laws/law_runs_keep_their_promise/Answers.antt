@@ -4,12 +4,12 @@ use Rattle.block_server.proofs.laws.law_runs_keep_their_promise.Goals as goal
 pub returns : goal.returns
 returns g c =
     let laws : HistoryLaws = record {
-      seen = c.law_seen_are_answered.ensures;
+      seen = c.law_clear_bits_are_answered.ensures;
       well = c.law_healthy_calls_go_well.ensures;
-      rest = c.law_answers_rest.ensures;
+      rest = c.law_answers_justified.ensures;
       moves = c.law_moves_keep_to_their_places.ensures;
       run = c.law_histories_are_runs.ensures;
       reads = c.law_reads_hold.ensures;
-      lasts = c.law_plugs_find.ensures;
+      lasts = c.law_replugs_keep_flushed_writes.ensures;
     } in
     record { none = no_call laws g.A.Adapter.device; one = one_call laws g.A.Adapter.device; more = more_calls laws g.A.Adapter.device }

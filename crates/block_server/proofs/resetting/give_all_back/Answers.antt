@@ -5,7 +5,7 @@ use Rattle.std.proofs.lemmas.List.{drop_all, get_or_default, length-map, map-set
 use Rattle.std.proofs.lemmas.List.Edits.{map_over_more}
 use Rattle.dma_frames.specs.Loan.{Lending}
 use Rattle.server_history.specs.Kept.{TakesBack}
-use Rattle.server_history.specs.Server.{AreOfTwo, IsLentOut, kept_at}
+use Rattle.server_history.specs.Server.{DifferInRequest, IsLentOut, quarantined_at}
 use Rattle.block_server.specs.FourPorts.{by_port, without_loans}
 use Rattle.port_driver.specs.Parts.{no_port}
 use Rattle.port_driver.specs.declared.served_port.ServedPort.{ServedPort}
@@ -13,7 +13,7 @@ use Rattle.block_server.proofs.Keeping.{BackSoFar, all_taken, next_out, next_so_
 use Rattle.block_server.proofs.resetting.give_all_back.Goals as goal
 
 -- what is kept of the port at this place
-kept_there : (ports : List ServedPort) (number : ℕ) (default : ServedPort) → number < length ports → kept_at (by_port (λ p. p.kept) ports) number ≡ (get_or ports number default).kept
+kept_there : (ports : List ServedPort) (number : ℕ) (default : ServedPort) → number < length ports → quarantined_at (by_port (λ p. p.kept) ports) number ≡ (get_or ports number default).kept
 kept_there ports number default low = get_or-map (λ (p : ServedPort). p.kept) ports number no_port ∙ ap (λ (p : ServedPort). p.kept) (get_or_default ports number no_port default low)
 
 four : (ports : List ServedPort) → length (by_port (λ p. p.kept) ports) ≡ 4 → length ports ≡ 4
@@ -35,7 +35,7 @@ give_back-requires-clause-apart c =
     let so_far = c.loop-number.invariant.back in
     let ports = c.loop-number.ports in
     let number = c.loop-number.number in
-    subst (AllPairs AreOfTwo) (kept_there ports number _ (let long = four ports so_far.four in let low = c.loop-number-test.true in omega (arith, long, low)))
+    subst (AllPairs DifferInRequest) (kept_there ports number _ (let long = four ports so_far.four in let low = c.loop-number-test.true in omega (arith, long, low)))
     (next_two c.law_loans_end_in_turn.ensures (by_port (λ p. p.kept) c.args.ports.now) (by_port (λ p. p.kept) ports) c.args.table.now c.loop-number.table number c.requires so_far.back (so_far.left number (omega arith)))
 
 -- one more has none

@@ -57,7 +57,7 @@ loop-number-preserved g c =
       four = length-set ports number issued.new.self ∙ four;
       found = map-set_same (λ (q : ServedPort). q.found) ports number issued.new.self c.index-ports-number.result (ap (λ (q : ServedPort). q.found) issued.ensures.rest) ∙ so_far.found;
       kept = λ s kept.
-          reviving.issues_keep c.law_requests_keep.ensures.issued (port_at number) (due_ids (mode_in (now s) (port_at number)) (port_at number) (asks_of (now s).book)) (now s) (later s) (so_far.kept s kept)
+          reviving.issues_keep c.law_requests_preserve_invariant.ensures.issued (port_at number) (due_ids (mode_in (now s) (port_at number)) (port_at number) (asks_of (now s).book)) (now s) (later s) (so_far.kept s kept)
           (all s (so_far.kept s kept));
       rest = λ s kept last issues.
           let holds = so_far.kept s kept in

@@ -6,7 +6,7 @@ use Rattle.refinement.specs.Relation.{port_at}
 use Rattle.block_server.specs.FourPorts.{by_port}
 use Rattle.block_server.specs.Seen.{with_ports}
 use Rattle.port_driver.specs.declared.served_port.ServedPort.{ServedPort}
-use Rattle.server_history.specs.Resets.{MaySettle, SettlesPort}
+use Rattle.server_history.specs.Resets.{MayResolve, ResolvesPort}
 use Rattle.server_history.specs.Server.{ServerState}
 use Rattle.block_server.proofs.Placing as placing
 use Rattle.block_server.proofs.Reviving as reviving
@@ -36,19 +36,19 @@ pub resolve_after_reset-requires-clause-room : goal.resolve_after_reset-requires
 resolve_after_reset-requires-clause-room c = c.loop-number.invariant.room
 
 -- the port's requests were resolved
-module _ (c : After-resolve_after_reset) (s : ServerState) (may : MaySettle (with_ports s s.device c.loop-number.shared c.loop-number.ports)) (low : c.loop-number.number < length c.loop-number.ports) where
+module _ (c : After-resolve_after_reset) (s : ServerState) (may : MayResolve (with_ports s s.device c.loop-number.shared c.loop-number.ports)) (low : c.loop-number.number < length c.loop-number.ports) where
   abbrev now : ServerState
   now = with_ports s s.device c.loop-number.shared c.loop-number.ports
 
   abbrev after : ServerState
   after = with_ports s s.device c.resolve_after_reset.new.shared (set c.loop-number.ports c.loop-number.number c.resolve_after_reset.new.self)
 
-  settled : (its : List Reply) × (c.resolve_after_reset.new.replies.items ≡ c.loop-number.replies.items ++ its) × SettlesPort (port_at c.loop-number.number) its now after
+  settled : (its : List Reply) × (c.resolve_after_reset.new.replies.items ≡ c.loop-number.replies.items ++ its) × ResolvesPort (port_at c.loop-number.number) its now after
   settled =
       let one = c.resolve_after_reset.ensures.settles now may (placing.has_parts s s.device c.loop-number.shared c.loop-number.ports c.loop-number.number c.index-ports-number.result low) in (
         one.0,
         one.1,
-        subst (SettlesPort (port_at c.loop-number.number) one.0 now)
+        subst (ResolvesPort (port_at c.loop-number.number) one.0 now)
             (placing.placed s s.device c.loop-number.shared c.loop-number.ports c.loop-number.number s.device c.resolve_after_reset.new.shared c.resolve_after_reset.new.self) one.2,
       )
 
@@ -69,7 +69,7 @@ loop-number-preserved c =
       found = map-set_same (λ (p : ServedPort). p.found) ports number c.resolve_after_reset.new.self c.index-ports-number.result (ap (λ (p : ServedPort). p.found) c.resolve_after_reset.ensures.rest) ∙ so_far.found;
       settle = λ s may.
           let one = settled at s (so_far.settle s may) low in
-          c.law_resolving_goes_on.ensures (now at s (so_far.settle s may) low) (after at s (so_far.settle s may) low) (port_at number) one.0 small (so_far.settle s may) one.2;
+          c.law_may_resolve_persists.ensures (now at s (so_far.settle s may) low) (after at s (so_far.settle s may) low) (port_at number) one.0 small (so_far.settle s may) one.2;
       rest = λ s may later new settles.
           let one = settled at s (so_far.settle s may) low in
           let all = so_far.rest s may (one.0 ++ later) new

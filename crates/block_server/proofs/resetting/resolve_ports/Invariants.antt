@@ -3,7 +3,7 @@ use Rattle.ata_types.specs.declared.request.Reply.{Reply}
 use Rattle.ata_types.specs.declared.limits.TheConstants.{MOST_UNANSWERED}
 use Rattle.block_server.specs.FourPorts.{by_port}
 use Rattle.block_server.specs.Seen.{with_ports}
-use Rattle.server_history.specs.Resets.{MaySettle, SettlePorts}
+use Rattle.server_history.specs.Resets.{MayResolve, ResolvePorts}
 use Rattle.server_history.specs.Server.{ServerState}
 use Rattle.block_server.proofs.resetting.resolve_ports.Given as goal
 
@@ -11,9 +11,9 @@ abbrev pub invariant-loop-number : goal.invariant-loop-number
 invariant-loop-number l = record {
   four : length l.ports ≡ 4;
   found : by_port (λ p. p.found) l.ports ≡ by_port (λ p. p.found) l.fn.ports;
-  settle : (s : ServerState) → MaySettle (with_ports s s.device l.fn.shared l.fn.ports) → MaySettle (with_ports s s.device l.shared l.ports);
-  rest : (s : ServerState) → MaySettle (with_ports s s.device l.fn.shared l.fn.ports) → (later : List Reply) (new : ServerState)
-      → SettlePorts l.number (drop l.number (by_port (λ p. p.found) l.fn.ports)) later (with_ports s s.device l.shared l.ports) new
-      → (its : List Reply) × (l.replies.items ++ later ≡ l.fn.replies.items ++ its) × SettlePorts 0 (by_port (λ p. p.found) l.fn.ports) its (with_ports s s.device l.fn.shared l.fn.ports) new;
+  settle : (s : ServerState) → MayResolve (with_ports s s.device l.fn.shared l.fn.ports) → MayResolve (with_ports s s.device l.shared l.ports);
+  rest : (s : ServerState) → MayResolve (with_ports s s.device l.fn.shared l.fn.ports) → (later : List Reply) (new : ServerState)
+      → ResolvePorts l.number (drop l.number (by_port (λ p. p.found) l.fn.ports)) later (with_ports s s.device l.shared l.ports) new
+      → (its : List Reply) × (l.replies.items ++ later ≡ l.fn.replies.items ++ its) × ResolvePorts 0 (by_port (λ p. p.found) l.fn.ports) its (with_ports s s.device l.fn.shared l.fn.ports) new;
   room : length l.replies.items + length l.shared.book ≤ MOST_UNANSWERED;
 }

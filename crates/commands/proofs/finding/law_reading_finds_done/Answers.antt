@@ -7,10 +7,10 @@ returns c = finds_done (record {
   on = c.law_adapter_stays.ensures.on;
   controls = c.law_controls_stay.ensures;
   ends = c.law_ended_is_clear.ensures.ends;
-  reached = c.law_going_composes.ensures.reached;
-  device = c.law_histories_go_on.ensures.device;
-  after_both = c.law_histories_go_on.ensures.after;
+  reached = c.law_advances_compose.ensures.reached;
+  device = c.law_histories_compose.ensures.device;
+  after_both = c.law_histories_compose.ensures.after;
   reading = c.law_reading_is_followed.ensures;
-  keeps = c.law_steps_keep.ensures;
+  keeps = c.law_steps_guarantee.ensures;
   kept = c.law_steps_spare_the_book.ensures.kept;
 })

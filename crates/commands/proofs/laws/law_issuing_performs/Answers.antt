@@ -3,7 +3,7 @@ use Rattle.commands.proofs.laws.law_issuing_performs.Goals as goal
 
 pub returns : goal.returns
 returns c =
-    let laws : Laws = record { goes = c.law_acts_give.ensures.goes; reached = c.law_going_composes.ensures.reached; silent = c.law_acts_give.ensures.silent } in
+    let laws : Laws = record { goes = c.law_acts_advance_driver.ensures.goes; reached = c.law_advances_compose.ensures.reached; silent = c.law_acts_advance_driver.ensures.silent } in
     record {
       performs = performs;
       ends = λ port slot r frames mode e old new s m i is reached knows fits. ends laws port slot r frames mode e old new s m i is reached knows fits;

@@ -11,9 +11,9 @@ use Rattle.commands.proofs.ncq.prepare_in.Goals as goal
 pub prds_in-prds-requires : goal.prds_in-prds-requires
 prds_in-prds-requires g c =
     let small = c.requires.small in
-    let few = c.requires.fits.few in
-    let some = c.requires.fits.some in
-    let number = c.requires.fits.number in (
+    let few = c.requires.may.fits.few in
+    let some = c.requires.may.fits.some in
+    let number = c.requires.may.fits.number in (
       omega (arith, small),
       (
         record {
@@ -30,39 +30,39 @@ pub as_slice-requires : goal.as_slice-requires
 as_slice-requires g c = let small = c.requires.small in omega (arith, small)
 
 pub arm-requires-clause-there : goal.arm-requires-clause-there
-arm-requires-clause-there g c = (c.law_stores_leave_the_port.ensures c.args.port c.args.slot.0 _ _ c.requires.may.on c.requires.may.there c.requires.may.may c.write_table.ensures.followed).0
+arm-requires-clause-there g c = (c.law_stores_leave_the_port.ensures c.args.port c.args.slot.0 _ _ c.requires.may.may.on c.requires.may.may.there c.requires.may.may.may c.write_table.ensures.followed).0
 
 pub arm-requires-clause-started : goal.arm-requires-clause-started
-arm-requires-clause-started g c = (c.law_stores_leave_the_port.ensures c.args.port c.args.slot.0 _ _ c.requires.may.on c.requires.may.there c.requires.may.may c.write_table.ensures.followed).1.started
+arm-requires-clause-started g c = (c.law_stores_leave_the_port.ensures c.args.port c.args.slot.0 _ _ c.requires.may.may.on c.requires.may.may.there c.requires.may.may.may c.write_table.ensures.followed).1.started
 
 pub returns-clause-armed : goal.returns-clause-armed
 returns-clause-armed g c =
     let q = c.requires in
-    let few = q.fits.few in
+    let few = q.may.fits.few in
     let places : pieces c.prds_in-prds.result.items ≡ places_of c.args.frames.now c.args.transfer.now.range.count =
     c.prds_in-prds.ensures.places (omega arith) ∙ ap (places_of c.args.frames.now) (omega arith) in
     let transfer = c.args.transfer.now in
     let port = c.args.port.0 in
     let slot = c.args.slot.0 in
     let addresses = addresses_of port transfer.op transfer.range.count c.args.frames.now in
-    let table = table_says transfer c.args.frames.now port slot q.fits.transfers q.fits.some few q.fits.first c.command.result c.prds_in-prds.result.items c.command.ensures
+    let table = table_says transfer c.args.frames.now port slot q.may.fits.transfers q.may.fits.some few q.may.fits.first c.command.result c.prds_in-prds.result.items c.command.ensures
     (c.prds_in-prds.ensures.whole (omega arith)) places in
     record {
-      on = q.may.on;
-      there = q.may.there;
-      small = q.slot;
-      usable = q.usable;
-      agreed = q.may.agreed;
-      may = q.may.may;
-      kind = kind_of transfer.queued transfer.op q.fits.transfers;
-      head = never_trim slot transfer.op q.fits.transfers;
+      on = q.may.may.on;
+      there = q.may.may.there;
+      small = q.may.small;
+      usable = q.may.usable;
+      agreed = q.may.may.agreed;
+      may = q.may.may.may;
+      kind = kind_of transfer.queued transfer.op q.may.fits.transfers;
+      head = never_trim slot transfer.op q.may.fits.transfers;
       mid = g.A.Adapter.device c.write_table.new.adapter;
       mid_on = c.write_table.ensures.on;
-      stores = stored_for port slot _ _ transfer.op q.fits.transfers c.write_table.ensures.followed;
+      stores = stored_for port slot _ _ transfer.op q.may.fits.transfers c.write_table.ensures.followed;
       told =
           let P : List Prd → Type 0 = λ es. IsTableFor slot c.command.result es (meaning_of transfer) addresses in
           c.write_table.ensures.says (meaning_of transfer) addresses (subst P (sym c.as_slice.ensures.value) table);
-      block = no_block transfer.range port _ transfer.op q.fits.transfers;
+      block = no_block transfer.range port _ transfer.op q.may.fits.transfers;
       alone = c.bit_of-own.ensures;
       arms = c.arm.ensures.arms;
     }

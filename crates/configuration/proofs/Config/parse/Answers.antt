@@ -5,14 +5,14 @@ use Rattle.toml.specs.View.{table_view}
 use Rattle.configuration.specs.Document.{IsDocument, unreadable}
 use Rattle.configuration.specs.Schema.{HasAllKeys}
 use Rattle.configuration.proofs.Blank.{blank-document, blank-keys}
-use Rattle.configuration.proofs.Told.{IsToldOf-document}
+use Rattle.configuration.proofs.Told.{IsTextFault-document}
 use Rattle.configuration.proofs.Config.parse.Goals as goal
 
 pub returns-in-Ok-clause-refused : goal.returns-in-Ok-clause-refused
 returns-in-Ok-clause-refused c =
     let is : IsDocument c.args.text.now (table_view c.in-Ok.table) =
     record { utf8 = c.in-Ok.ensures.ok.0; is = c.in-Ok.ensures.ok.1 } in
-    IfErr-weaker c.from_document.result _ _ (IsToldOf-document c.args.text.now (table_view c.in-Ok.table) is)
+    IfErr-weaker c.from_document.result _ _ (IsTextFault-document c.args.text.now (table_view c.in-Ok.table) is)
     c.from_document.ensures.refused
 
 pub returns-in-Err-2-clause-refused : goal.returns-in-Err-2-clause-refused

@@ -1,6 +1,6 @@
 use Rattle.std.proofs.Common.{◌≡◌, ◌+◌, ◌∙◌, ℕ, sym, ap, subst, length, arith, Some}
 use Rattle.byteorder.specs.Endian.{little_from}
-use Rattle.adapter.specs.Commands.{pieces_moved}
+use Rattle.adapter.specs.Commands.{piece_count}
 use Rattle.adapter.specs.Memory.{bytes_at}
 use Rattle.adapter.specs.Decoding.{pieces, HasPrds}
 use Rattle.device_model.proofs.Absurd.{some-none, some_one}
@@ -46,5 +46,5 @@ returns-then-count_pieces-pieces-clause-only c = λ _ list header m places is s.
     let stand : HasPrds memory (c.in-Some.header.table + 128) s.prds = subst (λ t. HasPrds memory (t + 128) s.prds) table s.stand in
     let same : are.standing ≡ s.prds = has_once memory _ are.standing s.prds (omega (arith, are.number_is, c.from-entries.ensures, entries)) are.stand stand in
     let many : length (pieces c.read_prds.new.prds) ≡ length (pieces s.prds) = ap length (are.same ∙ ap pieces same) in
-    let asked : c.pieces.result ≡ pieces_moved (transfer_operation k) m.count = c.pieces.ensures ∙ ap (λ n. pieces_moved (transfer_operation k) n) count in
+    let asked : c.pieces.result ≡ piece_count (transfer_operation k) m.count = c.pieces.ensures ∙ ap (λ n. piece_count (transfer_operation k) n) count in
     c.if-count_pieces-pieces.true (rw c.as_slice.ensures.same at c.count_pieces.ensures ∙ (many ∙ (said_count k memory list c.args.slot m places is s ∙ sym asked)))

@@ -2,7 +2,7 @@ use Rattle.std.proofs.Common.{rules, ◌≡◌, ◌∙◌, ◌<◌, length, subs
 use Rattle.adapter.specs.Steps.{IsWorking}
 use Rattle.device_model.proofs.Absurd.{some_one}
 use Rattle.device_model.specs.Whole.{no_media}
-use Rattle.device_model.specs.View.{blank_port, held_in, transfer_operation, port_of}
+use Rattle.device_model.specs.View.{blank_port, taken_in, transfer_operation, port_of}
 use Rattle.device_model.specs.declared.port.PortModel.{PortModel}
 use Rattle.device_model.specs.declared.port.TakenCommand.{TakenCommand}
 use Rattle.device_model.proofs.SlotLemmas.{at_port, slot_taken}
@@ -26,5 +26,5 @@ returns-then-is_working_on-clause-found c =
     let works = rw (at_port c.args.ports.now c.args.port c.index-ports-port-2.result small) at c.is_working_on.ensures.works c.if-is_working_on.true in
     record {
       held = found;
-      works = λ m. record { taken = slot_taken (held_in p.taken) c.in_ok-command.command.now c.args.slot found; working = works m };
+      works = λ m. record { taken = slot_taken (taken_in p.taken) c.in_ok-command.command.now c.args.slot found; working = works m };
     }

@@ -2,11 +2,11 @@ use Rattle.disk_page.proofs.lawful.law_base.Goals as goal
 
 pub returns : goal.returns
 returns c = record {
-  seen_at = c.law_port_registers_are_accessed.ensures.seen;
-  put_at = c.law_port_registers_are_accessed.ensures.put;
-  law_steps_keep = c.law_steps_keep.ensures;
-  controls_none = c.law_controls_are_kept.ensures.none;
-  controls_more = c.law_controls_are_kept.ensures.more;
+  seen_at = c.law_port_register_accesses.ensures.seen;
+  put_at = c.law_port_register_accesses.ensures.put;
+  law_steps_guarantee = c.law_steps_guarantee.ensures;
+  controls_none = c.law_kept_controls_compose.ensures.none;
+  controls_more = c.law_kept_controls_compose.ensures.more;
   access_on = c.law_adapter_stays.ensures.on;
   access_same = c.law_adapter_stays.ensures.same;
   access_clear = c.law_over_stays.ensures.clear_access;

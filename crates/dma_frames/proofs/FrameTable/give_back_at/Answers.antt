@@ -1,4 +1,4 @@
-use Rattle.std.proofs.Common.{List, Bool, true, false, Option, Some, None, cond, ◌≡◌, ◌<◌, length, ap, sym, ◌∙◌, subst, arith}
+use Rattle.std.proofs.Common.{List, Bool, true, false, Some, None, cond, ◌≡◌, ◌<◌, length, ap, sym, ◌∙◌, subst, arith}
 use Rattle.std.specs.List.{All}
 use Rattle.std.proofs.lemmas.Option.{same_Some}
 use Rattle.ata_types.specs.declared.request.Frame.{Frame}

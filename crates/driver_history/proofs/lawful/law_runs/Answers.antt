@@ -5,7 +5,7 @@ returns c = record {
   legal = c.law_runs_are_legal.ensures.legal;
   touches = c.law_runs_are_legal.ensures.touches;
   reads = c.law_every_read_holds.ensures;
-  joined = c.law_histories_go_on.ensures.after;
-  told = c.law_histories_go_on.ensures.told;
-  lived = c.law_living_was_accepted.ensures;
+  joined = c.law_histories_compose.ensures.after;
+  told = c.law_histories_compose.ensures.told;
+  lived = c.law_holder_was_accepted.ensures;
 }

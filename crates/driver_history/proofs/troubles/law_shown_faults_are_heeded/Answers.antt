@@ -4,7 +4,7 @@ use Rattle.adapter.specs.Device.{Device}
 use Rattle.adapter.specs.declared.access.DeviceStep.{DeviceStep}
 use Rattle.ata_types.specs.declared.Port.{Port}
 use Rattle.ata_types.specs.declared.PortState.TheVariants.{Ready}
-use Rattle.block_machine.specs.Events.{Ask, Service, abstract_after}
+use Rattle.block_machine.specs.Events.{AbstractCall, Service, abstract_after}
 use Rattle.block_machine.specs.Histories.{Happening, JointState, now}
 use Rattle.identify.specs.declared.wanted.Wanted.{Wanted}
 use Rattle.driver_history.specs.Heeding.{HeedsAt, ServesReady}
@@ -22,14 +22,14 @@ heeds_fault wanted first past h port history asks asked failure =
     let evidenced = history.2.evidenced.port port in
     let failed = evidenced.failed_all asked failure in
     let serves : ServesReady old.abstract h.event.evidence h.event.steps (abstract_after old.abstract h.event) port =
-    subst (λ (ask : Ask DeviceStep). HeedsAt port ask old.abstract h.event.evidence h.event.steps (abstract_after old.abstract h.event)) asks (history.2.port port).heeds asked in
+    subst (λ (ask : AbstractCall DeviceStep). HeedsAt port ask old.abstract h.event.evidence h.event.steps (abstract_after old.abstract h.event)) asks (history.2.port port).heeds asked in
     record {
       ended = serves.ended;
       stopped = serves.interrupts (inl failed);
       anew = serves.anew (inl failed);
       single = serves.single;
       fatal = λ shown. (serves.fatal (evidenced.fatal_all asked shown)).1;
-      told = subst (λ (ask : Ask DeviceStep). TellsPlainFaults ask old h.event.ports h.device h.event.steps port) asks ties.faults;
+      told = subst (λ (ask : AbstractCall DeviceStep). TellsPlainFaults ask old h.event.ports h.device h.event.steps port) asks ties.faults;
     }
 
 pub returns : goal.returns

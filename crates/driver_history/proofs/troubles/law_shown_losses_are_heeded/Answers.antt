@@ -4,7 +4,7 @@ use Rattle.adapter.specs.Device.{Device}
 use Rattle.adapter.specs.declared.access.DeviceStep.{DeviceStep}
 use Rattle.ata_types.specs.declared.Port.{Port}
 use Rattle.ata_types.specs.declared.PortState.TheVariants.{Ready}
-use Rattle.block_machine.specs.Events.{Ask, Service, abstract_after}
+use Rattle.block_machine.specs.Events.{AbstractCall, Service, abstract_after}
 use Rattle.block_machine.specs.Histories.{Happening, JointState, now}
 use Rattle.identify.specs.declared.wanted.Wanted.{Wanted}
 use Rattle.driver_history.specs.Heeding.{HeedsAt, ServesReady}
@@ -20,7 +20,7 @@ heeds_loss wanted first past h port history asks asked loss =
     let old = now first past in
     let gone = (history.2.evidenced.port port).gone_all asked loss in
     let serves : ServesReady old.abstract h.event.evidence h.event.steps (abstract_after old.abstract h.event) port =
-    subst (λ (ask : Ask DeviceStep). HeedsAt port ask old.abstract h.event.evidence h.event.steps (abstract_after old.abstract h.event)) asks (history.2.port port).heeds asked in
+    subst (λ (ask : AbstractCall DeviceStep). HeedsAt port ask old.abstract h.event.evidence h.event.steps (abstract_after old.abstract h.event)) asks (history.2.port port).heeds asked in
     record { ended = serves.ended; emptied = serves.emptied gone; told = serves.told gone; stopped = serves.interrupts (inr gone) }
 
 pub returns : goal.returns

@@ -4,7 +4,7 @@ use Rattle.error_recovery.proofs.lawful.law_base.Goals as goal
 pub returns : goal.returns
 returns c = record {
   access_on = c.law_adapter_stays.ensures.on;
-  seen = c.law_port_registers_are_accessed.ensures.seen;
+  seen = c.law_port_register_accesses.ensures.seen;
   tape = c.law_tapes.ensures;
   access_controls = c.law_controls_stay.ensures;
   access_notes = c.law_notes_stay.ensures.access;
@@ -15,7 +15,7 @@ returns c = record {
   access_shows_disk = c.law_plugging_is_found.ensures.access;
   access_linked = c.law_link_is_kept.ensures.access;
   access_runs_linked = c.law_running_goes_on.ensures.access;
-  up_of = c.law_faults_are_plain.ensures.up;
+  up_of = c.law_plain_work_stays.ensures.up;
   well_of = c.law_running_well_is_found.ensures.well;
   runs_well = c.law_faults_show_before_the_end.ensures.well;
   fault_shown = c.law_fault_is_found.ensures.shown;

@@ -3,7 +3,7 @@ use Rattle.host_boot.proofs.lawful.law_base.Goals as goal
 pub returns : goal.returns
 returns c = record {
   found = record { disk_on = c.law_what_was_found_goes_on.ensures.disk; ready_on = c.law_what_was_found_goes_on.ensures.ready; ends_on = c.law_what_was_found_goes_on.ensures.ends };
-  law_steps_keep = c.law_steps_keep.ensures;
+  law_steps_guarantee = c.law_steps_guarantee.ensures;
   access_on = c.law_adapter_stays.ensures.on;
   access_same = c.law_adapter_stays.ensures.same;
   tape = c.law_tapes.ensures;
@@ -11,11 +11,11 @@ returns c = record {
   hr_begins = c.law_reset_is_found.ensures.begins;
   hr_told = c.law_reset_is_found.ensures.told;
   reset_idle = c.law_reset_is_idle.ensures;
-  keeps_device = c.law_device_or_none_stays.ensures.access;
+  keeps_device = c.law_disk_in_stays_shown.ensures.access;
   own_access = c.law_a_disk_is_in_where_one_shows.ensures.access;
   own_all = c.law_a_disk_is_in_where_one_shows.ensures.accesses;
   own_begins = c.law_a_disk_is_in_where_one_shows.ensures.begins;
-  shows_device = c.law_none_comes_in.ensures.shown;
+  shows_device = c.law_no_disk_comes_in.ensures.shown;
   does_append = c.law_accesses_compose.ensures.all;
   same_refl = c.law_adapter_stays.ensures.same_none;
   same_more = c.law_adapter_stays.ensures.same_more;

@@ -7,7 +7,7 @@ use Rattle.ata_types.specs.declared.call.CallResult.{CallResult}
 use Rattle.ata_types.specs.declared.request.Reply.{Reply}
 use Rattle.adapter.specs.declared.access.DeviceStep.{DeviceStep}
 use Rattle.block_server.specs.Promise.{Simulates}
-use Rattle.block_server.specs.Sayings.{last_of, with_replies}
+use Rattle.block_server.specs.CallResults.{last_of, with_replies}
 use Rattle.play.proofs.session.make_call.Goals as goal
 
 on_ok : {T E : Type 0} (r : Result T E) (P : Type 0) → OnOk r P → IsOk r → P

@@ -6,9 +6,9 @@ use Rattle.play.proofs.session.perform.Given as goal
 
 abbrev pub invariant-loop-rest : goal.invariant-loop-rest
 invariant-loop-rest g l = record {
-  fed : g.A.Watched.ended l.server.adapter ≡ false;
+  fed : g.A.TapedAdapter.ended l.server.adapter ≡ false;
   room : 1 ≤ vec_capacity l.room.said.earlier;
-  played : PlayedSoFar g.A.Adapter.device g.A.Watched.ended l.trace l.initial.server (lines_of l.script) l.server l.shown l.rest
+  played : PlayedSoFar g.A.Adapter.device g.A.TapedAdapter.ended l.trace l.initial.server (lines_of l.script) l.server l.shown l.rest
       (g.W.Write.contents l.initial.out) (g.W.Write.contents l.out);
 }
 

@@ -4,14 +4,14 @@ use Rattle.device_model.specs.declared.model.Model.{Model}
 use Rattle.device_model.specs.Modelled.{is_starved}
 use Rattle.play.specs.Played.{Played, Ends, IsServerOfModel, IsWhy, ended_by_stop}
 use Rattle.play.specs.declared.session.Ended.{Ended}
-use Rattle.play.specs.declared.session.Stop.{Stop}
-use Rattle.play.specs.declared.session.Stop.TheVariants.{NoMemory, Unwritten}
+use Rattle.play.specs.declared.session.PlayError.{PlayError}
+use Rattle.play.specs.declared.session.PlayError.TheVariants.{NoMemory, Unwritten}
 use Rattle.play.proofs.Answering.{played_of}
 use Rattle.play.proofs.session.play.Goals as goal
 
 -- a run that stopped in its midst was played so far
 stopped : {S : Type 0} (size : S → ℕ) (told : S → Option (ℕ → List ℕ)) (config script : List ℕ) (image blank : S) (trace : Bool) (old new : Option (List ℕ))
-    (model : Model S) (stop : Stop) (played : Played size told config script image blank trace old new model) → IsWhy (is_starved model) played.ran.part stop
+    (model : Model S) (stop : PlayError) (played : Played size told config script image blank trace old new model) → IsWhy (is_starved model) played.ran.part stop
     → Ends size told config script image blank trace old new (ended_by_stop stop) (Some model)
 stopped size told config script image blank trace old new model NoMemory played why = (played, why)
 stopped size told config script image blank trace old new model Unwritten played why = (played, why)

@@ -2,7 +2,7 @@ use Rattle.port_boot.proofs.lawful.law_base.Goals as goal
 
 pub returns : goal.returns
 returns c = record {
-  put_at = c.law_port_registers_are_accessed.ensures.put;
+  put_at = c.law_port_register_accesses.ensures.put;
   access_on = c.law_adapter_stays.ensures.on;
   write_stays = c.law_writing_is_permitted.ensures.rules;
   tape = c.law_tapes.ensures;

@@ -2,7 +2,7 @@ use Rattle.std.proofs.Common.{inr, refl}
 use Rattle.hba_regs.specs.declared.reg.PortReg.TheVariants.{Ssts}
 use Rattle.hba_regs.specs.declared.reg.Reg.TheVariants.{Px}
 use Rattle.adapter.specs.Access.Access.{Reading}
-use Rattle.port_control.specs.LookLaws.AccessKind.{Looking}
+use Rattle.port_control.specs.EventLaws.AccessPurpose.{Looking}
 use Rattle.port_control.proofs.looks.Stretching.{spared_on}
 use Rattle.port_control.proofs.events.has_device.Goals as goal
 

@@ -2,10 +2,10 @@ use Rattle.port_control.proofs.lawful.law_base.Goals as goal
 
 pub returns : goal.returns
 returns c = record {
-  seen = c.law_port_registers_are_accessed.ensures.seen;
-  put = c.law_port_registers_are_accessed.ensures.put;
+  seen = c.law_port_register_accesses.ensures.seen;
+  put = c.law_port_register_accesses.ensures.put;
   does_append = c.law_accesses_compose.ensures.all;
-  law_steps_keep = c.law_steps_keep.ensures;
+  law_steps_guarantee = c.law_steps_guarantee.ensures;
   access_on = c.law_adapter_stays.ensures.on;
   write_stays = c.law_writing_is_permitted.ensures.rules;
   list_may = c.law_placing_is_permitted.ensures.list;
@@ -29,7 +29,7 @@ returns c = record {
   errors_cleared = c.law_errors_are_cleared.ensures.errors;
   causes_cleared = c.law_errors_are_cleared.ensures.causes;
   access_clear = c.law_causes_stay_clear.ensures.access;
-  halted_writes = c.law_halted_stays.ensures.writes;
+  halted_writes = c.law_stopped_engine_stays.ensures.writes;
   law_stop_is_found = c.law_stop_is_found.ensures;
   reset_writes = c.law_reset_is_found.ensures.writes;
   bits_clear = c.law_stopped_slots_tell.ensures.clear;

@@ -27,7 +27,7 @@ loop-slot-preserved c = record {
       let now = with_answers s c.loop-slot.table c.loop-slot.book c.loop-slot.slots port in
       let some = c.loop-slot.invariant.answers s port l in
       let answers = c.answer_one.ensures.answers now port c.args.done some.lends in
-      let more = finishing.one_more c.law_a_used_slot_has_its_request.ensures c.law_requests_keep.ensures.answered c.law_operations_change_one_request.ensures.answered port c.args.done
+      let more = finishing.one_more c.law_a_used_slot_has_its_request.ensures c.law_requests_preserve_invariant.ensures.answered c.law_operations_change_one_request.ensures.answered port c.args.done
       before c.loop-slot.replies.items s now c.loop-slot.table c.loop-slot.book c.loop-slot.slots some c.in-Some.slot.0 c.in-Some.ensures.found
       c.answer_one.result then.table then.book then.slots answers c.answer_one.ensures.freed in
       let R : List Reply → Type 0 = λ after. AnswersSome port c.args.done before after s (with_answers s then.table then.book then.slots port) then.table then.book then.slots in

@@ -2,7 +2,7 @@ use Rattle.std.proofs.Common.{sym, ap, subst, ◌<◌, ◌∙◌, List, length, 
 use Rattle.ata_types.specs.declared.request.ClientId.{ClientId}
 use Rattle.ata_types.specs.declared.request.Outcome.TheVariants.{Ok}
 use Rattle.port_driver.specs.Ports.{AnswersSlot, with_answers}
-use Rattle.request_queue.specs.Entries.{Held}
+use Rattle.request_queue.specs.Entries.{BookEntry}
 use Rattle.port_driver.proofs.Finishing as finishing
 use Rattle.port_driver.proofs.answering.answer_one.Goals as goal
 
@@ -23,7 +23,7 @@ returns-clause-answers c = λ s port done l.
 pub returns-clause-fewer : goal.returns-clause-fewer
 returns-clause-fewer c =
     let e = c.release-entry.ensures.entry in
-    subst (λ (b : List Held). length b < length c.args.book.now) (sym c.release-entry.ensures.rest)
+    subst (λ (b : List BookEntry). length b < length c.args.book.now) (sym c.release-entry.ensures.rest)
     (finishing.shorter c.in-Some.used.id c.args.book.now e.0 e.1 (ap (λ r. r.id) e.2 ∙ e.3))
 
 pub returns-clause-freed : goal.returns-clause-freed

@@ -33,7 +33,7 @@ returns-in-Restart-clause-finds g c =
       stopped = stopped;
       gives_up = c.stop_for_reset-recovered.ensures.gives_up true;
       is = subst F (sym c.in-Restart.is) (c.reboot_port-booted.result, refl, subst B its.0 boots);
-      mode_is = c.mode_found-mode.ensures.found _ boots.slots boots.queued;
+      mode_is = c.probed_mode-mode.ensures.found _ boots.slots boots.queued;
     }
 
 pub returns-in_default : goal.returns-in_default

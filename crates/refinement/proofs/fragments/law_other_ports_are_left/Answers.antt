@@ -1,6 +1,6 @@
 use Rattle.std.proofs.Common.{refl}
 use Rattle.hba_regs.specs.declared.reg.PortReg.TheVariants.{Sact, Ci}
-use Rattle.refinement.specs.Driven.{AnyAccess, IsOf}
+use Rattle.refinement.specs.Driven.{AnyAccess, SparesOtherPorts}
 use Rattle.refinement.proofs.driver.PortAccesses.{leaves_none, leaves_more, other_left, other_recorded, of_spares_ghc, of_spares_others, on_over, same_over, tape_over}
 use Rattle.refinement.proofs.driver.Stretches.{followed_silent}
 use Rattle.refinement.proofs.fragments.law_other_ports_are_left.Goals as goal
@@ -18,7 +18,7 @@ pub returns-clause-more : goal.returns-clause-more
 returns-clause-more c = leaves_more
 
 pub returns-clause-on : goal.returns-clause-on
-returns-clause-on c = λ port old new on driven. on_over (IsOf port) old new driven (of_spares_ghc port) on
+returns-clause-on c = λ port old new on driven. on_over (SparesOtherPorts port) old new driven (of_spares_ghc port) on
 
 pub returns-clause-adapter : goal.returns-clause-adapter
 returns-clause-adapter c = same_over AnyAccess

@@ -3,7 +3,7 @@ use Rattle.refinement.proofs.driver.Stretches.{followed_plain, followed_silent}
 use Rattle.refinement.proofs.kinds.law_followed_fragments_give.Goals as goal
 
 pub returns-clause-agreed : goal.returns-clause-agreed
-returns-clause-agreed g c = λ kind. agreed_to (g.K.Kinds.may kind) (g.K.Kinds.fits kind)
+returns-clause-agreed g c = λ kind. agreed_to (g.K.AccessKinds.may kind) (g.K.AccessKinds.fits kind)
 
 pub returns-clause-silent : goal.returns-clause-silent
 returns-clause-silent g c = λ kind next uses port o old new fits issues arms own none followed a.

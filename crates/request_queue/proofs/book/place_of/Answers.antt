@@ -4,14 +4,14 @@ use Rattle.std.proofs.lemmas.List.{get_or_default}
 use Rattle.std.proofs.lemmas.Option.{slice_get-get_or}
 use Rattle.std.specs.List.{AllPairs, slice_get}
 use Rattle.ata_types.specs.declared.request.RequestId.{RequestId}
-use Rattle.request_queue.specs.Entries.{Held, IsEarlier}
+use Rattle.request_queue.specs.Entries.{BookEntry, IsEarlier}
 use Rattle.request_queue.specs.declared.PendingRequest.{PendingRequest}
 use Rattle.request_queue.proofs.Changing.{request_is}
 use Rattle.request_queue.proofs.book.place_of.Goals as goal
 
 -- where the last one has no later id, it has this one
-last_is : (es : List Held) (last : ℕ) (r : PendingRequest) (id : RequestId) → AllPairs IsEarlier es → last + 1 ≡ length es → slice_get (map (λ (e : Held). e.entry) es) last ≡ Some r
-    → (k : ℕ) (d : Held) → k < length es → (get_or es k d).entry.id.0 ≡ id.0 → r.id.0 ≤ id.0 → k ≡ last
+last_is : (es : List BookEntry) (last : ℕ) (r : PendingRequest) (id : RequestId) → AllPairs IsEarlier es → last + 1 ≡ length es → slice_get (map (λ (e : BookEntry). e.entry) es) last ≡ Some r
+    → (k : ℕ) (d : BookEntry) → k < length es → (get_or es k d).entry.id.0 ≡ id.0 → r.id.0 ≤ id.0 → k ≡ last
 last_is es last r id ordered long is k d lt its low = ⊎_elim
     (λ same. same)
     (λ (other : k ≢ last).
@@ -21,8 +21,8 @@ last_is es last r id ordered long is k d lt its low = ⊎_elim
     (cases_eq k last)
 
 -- its id, whatever stands where nothing is
-its : (es : List Held) (e : Held) (id : RequestId) (k : ℕ) → k < length es → get_or es k e ≡ e → e.entry.id ≡ id → (d : Held) → (get_or es k d).entry.id.0 ≡ id.0
-its es e id k lt here named d = ap (λ (x : Held). x.entry.id.0) (get_or_default es k d e lt ∙ here) ∙ ap (λ (i : RequestId). i.0) named
+its : (es : List BookEntry) (e : BookEntry) (id : RequestId) (k : ℕ) → k < length es → get_or es k e ≡ e → e.entry.id ≡ id → (d : BookEntry) → (get_or es k d).entry.id.0 ≡ id.0
+its es e id k lt here named d = ap (λ (x : BookEntry). x.entry.id.0) (get_or_default es k d e lt ∙ here) ∙ ap (λ (i : RequestId). i.0) named
 
 pub loop-past-init : goal.loop-past-init
 loop-past-init c =
@@ -53,7 +53,7 @@ returns-then-request-id c =
     let last = c.len-last.result - 1 in
     let is : e.1.0 ≡ last = last_is es last c.request.result c.args.id c.requires.ordered (omega (arith, long, here)) c.request.ensures e.1.0 e.0 e.1.1 (its es e.0 c.args.id e.1.0 e.1.1 e.1.2 e.2 e.0) c.if-request-id.true in (
       e.0,
-      subst (λ (n : ℕ). slice_get es n ≡ Some e.0) is (slice_get-get_or es e.1.0 e.0 e.1.1 ∙ ap (λ (x : Held). Some x) e.1.2),
+      subst (λ (n : ℕ). slice_get es n ≡ Some e.0) is (slice_get-get_or es e.1.0 e.0 e.1.1 ∙ ap (λ (x : BookEntry). Some x) e.1.2),
       e.2,
     )
 
@@ -63,7 +63,7 @@ loop-past-preserved-then-request-id-2 c = record {
   place = (k, not_before, x.2, x.3);
 }
   where
-    x : (k : ℕ) × (c.loop-past.first ≤ k) × (k < c.loop-past.past) × ((d : Held) → (get_or c.args.store.now k d).entry.id.0 ≡ c.args.id.0)
+    x : (k : ℕ) × (c.loop-past.first ≤ k) × (k < c.loop-past.past) × ((d : BookEntry) → (get_or c.args.store.now k d).entry.id.0 ≡ c.args.id.0)
     x = c.loop-past.invariant.place
 
     k : ℕ
@@ -72,7 +72,7 @@ loop-past-preserved-then-request-id-2 c = record {
     middle : ℕ
     middle = c.loop-past.first + (c.loop-past.past - c.loop-past.first) / 2
 
-    d : Held
+    d : BookEntry
     d = record { entry = c.request-in-loop-past.result; frames = [] }
 
     here : (get_or c.args.store.now middle d).entry.id.0 ≤ c.args.id.0
@@ -97,7 +97,7 @@ loop-past-preserved c = record {
   place = (k, x.1, before, x.3);
 }
   where
-    x : (k : ℕ) × (c.loop-past.first ≤ k) × (k < c.loop-past.past) × ((d : Held) → (get_or c.args.store.now k d).entry.id.0 ≡ c.args.id.0)
+    x : (k : ℕ) × (c.loop-past.first ≤ k) × (k < c.loop-past.past) × ((d : BookEntry) → (get_or c.args.store.now k d).entry.id.0 ≡ c.args.id.0)
     x = c.loop-past.invariant.place
 
     k : ℕ
@@ -106,7 +106,7 @@ loop-past-preserved c = record {
     middle : ℕ
     middle = c.loop-past.first + (c.loop-past.past - c.loop-past.first) / 2
 
-    d : Held
+    d : BookEntry
     d = record { entry = c.request-in-loop-past.result; frames = [] }
 
     high : c.args.id.0 < (get_or c.args.store.now middle d).entry.id.0

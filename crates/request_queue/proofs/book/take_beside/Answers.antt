@@ -3,7 +3,7 @@ use Rattle.std.specs.List.{remove, slice_get}
 use Rattle.std.proofs.lemmas.Option.{slice_get-get_or}
 use Rattle.block_machine.specs.declared.due.Unanswered.{Unanswered}
 use Rattle.request_queue.specs.Counts.{AreCounts}
-use Rattle.request_queue.specs.Entries.{Held, BookIsInOrder, asks_of, without_entry}
+use Rattle.request_queue.specs.Entries.{BookEntry, BookIsInOrder, asks_of, without_entry}
 use Rattle.request_queue.specs.Flushes.{flushes_of}
 use Rattle.request_queue.specs.Holders.{AreHolders}
 use Rattle.request_queue.specs.Sectors.{AreIndexed}
@@ -15,12 +15,12 @@ use Rattle.request_queue.proofs.Holding.{fewer_holders}
 use Rattle.request_queue.proofs.Indexing.{asks_less}
 use Rattle.request_queue.proofs.book.take_beside.Goals as goal
 
-module _ (es : List Held) (i : ℕ) (r : PendingRequest) (lt : i < length es) (s : BookIsInOrder es) (is : slice_get (map (λ (e : Held). e.entry) es) i ≡ Some r) where
-  abbrev d : Held
+module _ (es : List BookEntry) (i : ℕ) (r : PendingRequest) (lt : i < length es) (s : BookIsInOrder es) (is : slice_get (map (λ (e : BookEntry). e.entry) es) i ≡ Some r) where
+  abbrev d : BookEntry
   d = record { entry = r; frames = [] }
 
   -- the request with its frames
-  abbrev e : Held
+  abbrev e : BookEntry
   e = record { entry = r; frames = (get_or es i d).frames }
 
   at : slice_get es i ≡ Some e
@@ -47,16 +47,16 @@ module _ (es : List Held) (i : ℕ) (r : PendingRequest) (lt : i < length es) (s
 pub take_sectors-requires-clause-ordered : goal.take_sectors-requires-clause-ordered
 take_sectors-requires-clause-ordered c = asks_in_order c.args.store.now c.requires.ordered.ordered
 
-pub search_anew-requires-clause-flushes : goal.search_anew-requires-clause-flushes
-search_anew-requires-clause-flushes c =
+pub refind_holders-requires-clause-flushes : goal.refind_holders-requires-clause-flushes
+refind_holders-requires-clause-flushes c =
     let es = c.args.store.now in
     let r = c.request-request.result in
     c.as_slice.ensures.value
     ∙ (fewer_flushes es r.id c.args.flushes.now.items c.take_flush.new.flushes.items c.requires.beside.listed c.take_flush.ensures.list
     ∙ ap flushes_of (ap asks_of (sym (dropped es c.args.place r c.requires.place c.requires.ordered c.request-request.ensures)) ∙ asks_less es c.args.place))
 
-pub search_anew-requires-clause-but : goal.search_anew-requires-clause-but
-search_anew-requires-clause-but c =
+pub refind_holders-requires-clause-but : goal.refind_holders-requires-clause-but
+refind_holders-requires-clause-but c =
     let es = c.args.store.now in
     let r = c.request-request.result in
     rw (c.remove.ensures.items) (fewer_holders es c.args.holders.now.items c.args.place (e es c.args.place r c.requires.place c.requires.ordered c.request-request.ensures) r.id c.requires.beside.held
@@ -71,7 +71,7 @@ returns-clause-beside c =
       indexed = subst (λ (book : List Unanswered). AreIndexed book c.take_sectors.new.sectors) less c.take_sectors.ensures;
       listed = fewer_flushes es r.id c.args.flushes.now.items c.take_flush.new.flushes.items c.requires.beside.listed c.take_flush.ensures.list
           ∙ ap flushes_of (ap asks_of (sym (dropped es c.args.place r c.requires.place c.requires.ordered c.request-request.ensures)));
-      held = subst (λ (book : List Unanswered). AreHolders book c.search_anew.new.holders.items) less c.search_anew.ensures.holders;
+      held = subst (λ (book : List Unanswered). AreHolders book c.refind_holders.new.holders.items) less c.refind_holders.ensures.holders;
       counted = subst (λ (n : ℕ). AreCounts (remove es c.args.place) (set c.args.counts.now n (get_or c.args.counts.now n 0 - 1))) (sym c.from.ensures)
           (fewer es c.args.place r c.requires.place c.requires.ordered c.request-request.ensures c.args.counts.now c.requires.beside.counted);
     }

@@ -7,7 +7,7 @@ use Rattle.std.proofs.lemmas.Option.{get_or_from_slice_get, slice_get-get_or}
 use Rattle.ata_types.specs.declared.request.RequestId.{RequestId}
 use Rattle.block_machine.specs.declared.due.Unanswered.{Unanswered}
 use Rattle.block_machine.specs.Due.{is_plain}
-use Rattle.request_queue.specs.Entries.{Held, asks, asks_of}
+use Rattle.request_queue.specs.Entries.{BookEntry, asks, asks_of}
 use Rattle.request_queue.specs.Holders.{IsHolderOf, has_holder}
 use Rattle.request_queue.specs.Walk.{is_issued_plain}
 use Rattle.request_queue.specs.Store.{asks_at, blank_entry}
@@ -40,7 +40,7 @@ loop-place-preserved c =
     let alone : Unanswered → Bool = is_issued_plain c.args.mode in
     let are = c.requires.holders in
     let n = are.number in
-    let long = length-map es (λ (e : Held). asks e.entry) in
+    let long = length-map es (λ (e : BookEntry). asks e.entry) in
     let end = c.loop-place.auto.place-end in
     let more = c.loop-place-test.true in
     let inside : i < length book = omega (arith, end, more, n) in

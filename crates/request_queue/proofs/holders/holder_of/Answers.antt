@@ -1,7 +1,7 @@
 use Rattle.std.proofs.Common.{◌≡◌, List, Option, get_or, false, sym, ap, ◌∙◌, subst, arith}
 use Rattle.std.specs.List.{Contains, list_any}
 use Rattle.ata_types.specs.declared.request.RequestId.{RequestId}
-use Rattle.request_queue.specs.declared.ranges.Item.{Item}
+use Rattle.request_queue.specs.declared.ranges.BookRange.{BookRange}
 use Rattle.request_queue.specs.Holders.{IsHolderOf}
 use Rattle.request_queue.specs.Items.{is_earlier_conflict}
 use Rattle.request_queue.specs.Sectors.{index_of_port, item_of}
@@ -17,8 +17,8 @@ returns-in-Some c = λ book is flushes.
     let e = by_default lists c.index_of_port.result (index_of_port r.port) c.index-sectors-index_of_port.result c.index_of_port.ensures (omega (arith, four, in_four r.port)) in
     subst (λ (h : Option RequestId). IsHolderOf book r h) (sym c.of.ensures)
     (one_holds book lists is c.args.flushes.now flushes r (sym c.may_have_holder.ensures ∙ c.if-not-may_have_holder.false) c.in-Some.holder
-    (subst (λ (xs : List Item). Contains xs c.in-Some.holder) e c.in-Some.ensures.found.0)
-    (ap (λ (i : Item). is_earlier_conflict i c.in-Some.holder) (sym c.item_of.ensures) ∙ c.in-Some.ensures.found.1))
+    (subst (λ (xs : List BookRange). Contains xs c.in-Some.holder) e c.in-Some.ensures.found.0)
+    (ap (λ (i : BookRange). is_earlier_conflict i c.in-Some.holder) (sym c.item_of.ensures) ∙ c.in-Some.ensures.found.1))
 
 pub returns-in-None : goal.returns-in-None
 returns-in-None c = λ book is flushes.
@@ -27,6 +27,6 @@ returns-in-None c = λ book is flushes.
     let four = is.four in
     let e = by_default lists c.index_of_port.result (index_of_port r.port) c.index-sectors-index_of_port.result c.index_of_port.ensures (omega (arith, four, in_four r.port)) in
     by_flushes book lists is c.args.flushes.now flushes r (sym c.may_have_holder.ensures ∙ c.if-not-may_have_holder.false)
-    (subst (λ (xs : List Item). list_any (is_earlier_conflict (item_of r)) xs ≡ false) e
-    (subst (λ (i : Item). list_any (is_earlier_conflict i) (get_or lists c.index_of_port.result c.index-sectors-index_of_port.result) ≡ false) c.item_of.ensures c.in-None.ensures.none))
+    (subst (λ (xs : List BookRange). list_any (is_earlier_conflict (item_of r)) xs ≡ false) e
+    (subst (λ (i : BookRange). list_any (is_earlier_conflict i) (get_or lists c.index_of_port.result c.index-sectors-index_of_port.result) ≡ false) c.item_of.ensures c.in-None.ensures.none))
     c.held_by_flush.result c.held_by_flush.ensures.none c.held_by_flush.ensures.found

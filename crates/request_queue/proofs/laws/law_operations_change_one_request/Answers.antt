@@ -1,4 +1,4 @@
-use Rattle.request_queue.specs.Entries.{at_entry}
+use Rattle.request_queue.specs.Entries.{update_if_id}
 use Rattle.request_queue.proofs.Finding.{changed_there, other_there, without_is}
 use Rattle.request_queue.proofs.Members.{map_in}
 use Rattle.request_queue.proofs.laws.law_operations_change_one_request.Goals as goal
@@ -10,7 +10,7 @@ pub returns-clause-others : goal.returns-clause-others
 returns-clause-others c = other_there
 
 pub returns-clause-only : goal.returns-clause-only
-returns-clause-only c entries id change e here = map_in (at_entry id change) entries e here
+returns-clause-only c entries id change e here = map_in (update_if_id id change) entries e here
 
 pub returns-clause-answered : goal.returns-clause-answered
 returns-clause-answered c = without_is

@@ -3,8 +3,8 @@ use Rattle.std.proofs.Common.{◌≡◌, ◌≢◌, ◌<◌, ◌++◌, ◌∷◌
 use Rattle.std.proofs.lemmas.Bool.{not-true}
 use Rattle.std.proofs.lemmas.List.{length-map}
 use Rattle.std.specs.List.{All, insert}
-use Rattle.request_queue.specs.declared.ranges.Item.{Item}
-use Rattle.request_queue.specs.Entries.{Held, asks, asks_of}
+use Rattle.request_queue.specs.declared.ranges.BookRange.{BookRange}
+use Rattle.request_queue.specs.Entries.{BookEntry, asks, asks_of}
 use Rattle.request_queue.specs.Sectors.{item_of, index_of_port}
 use Rattle.request_queue.proofs.Indexing.{flush_accepted, accepted, room_left, items_fresh, put_back, by_default, in_four}
 use Rattle.request_queue.proofs.sectors.add_sectors.Goals as goal
@@ -22,9 +22,9 @@ insert-requires-clause-room c =
     let lists = c.args.sectors.now in
     let four = c.requires.indexed.four in
     let few = c.requires.room in
-    let n = length-map c.args.store.now (λ (e : Held). asks e.entry) in
+    let n = length-map c.args.store.now (λ (e : BookEntry). asks e.entry) in
     let e = by_default lists c.index_of_port.result (index_of_port r.port) c.index-sectors-index_of_port.result c.index_of_port.ensures (omega (arith, four, in_four r.port)) in
-    subst (λ (xs : List Item). length xs < MOST_UNANSWERED) (sym e) (room_left (asks_of c.args.store.now) lists c.requires.indexed r (omega (arith, n, few)))
+    subst (λ (xs : List BookRange). length xs < MOST_UNANSWERED) (sym e) (room_left (asks_of c.args.store.now) lists c.requires.indexed r (omega (arith, n, few)))
 
 pub insert-requires-clause-fresh : goal.insert-requires-clause-fresh
 insert-requires-clause-fresh c =
@@ -32,8 +32,8 @@ insert-requires-clause-fresh c =
     let lists = c.args.sectors.now in
     let four = c.requires.indexed.four in
     let e = by_default lists c.index_of_port.result (index_of_port r.port) c.index-sectors-index_of_port.result c.index_of_port.ensures (omega (arith, four, in_four r.port)) in
-    subst (λ (xs : List Item). All (λ (x : Item). x.id ≢ c.item_of.result.id) xs) (sym e)
-    (subst (λ (i : Item). All (λ (x : Item). x.id ≢ i.id) (get_or lists (index_of_port r.port) [])) (sym c.item_of.ensures) (items_fresh (asks_of c.args.store.now) lists c.requires.indexed r c.requires.newest))
+    subst (λ (xs : List BookRange). All (λ (x : BookRange). x.id ≢ c.item_of.result.id) xs) (sym e)
+    (subst (λ (i : BookRange). All (λ (x : BookRange). x.id ≢ i.id) (get_or lists (index_of_port r.port) [])) (sym c.item_of.ensures) (items_fresh (asks_of c.args.store.now) lists c.requires.indexed r c.requires.newest))
 
 pub returns : goal.returns
 returns c =
@@ -45,5 +45,5 @@ returns c =
     let len = ap length e in
     let place = c.insert.ensures.0 in
     put_back (asks_of c.args.store.now ++ r ∷ []) lists c.index_of_port.result (index_of_port r.port) _ (insert (get_or lists (index_of_port r.port) []) place (item_of r)) c.index_of_port.ensures
-    (c.insert.ensures.2 ∙ (ap (λ (xs : List Item). insert xs place c.item_of.result) e ∙ ap (insert (get_or lists (index_of_port r.port) []) place) c.item_of.ensures))
+    (c.insert.ensures.2 ∙ (ap (λ (xs : List BookRange). insert xs place c.item_of.result) e ∙ ap (insert (get_or lists (index_of_port r.port) []) place) c.item_of.ensures))
     (accepted (asks_of c.args.store.now) lists c.requires.indexed r (not-true _ (sym c.if-not-has_sectors.ensures)) c.requires.newest place (omega (arith, within, len)))

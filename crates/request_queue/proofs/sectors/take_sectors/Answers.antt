@@ -1,7 +1,7 @@
 use Rattle.std.proofs.Common.{◌≡◌, [], List, Bool, not, true, false, Some, get_or, subst, sym, ap, ◌∙◌, arith, refl}
 use Rattle.std.proofs.lemmas.Bool.{not-true}
 use Rattle.std.specs.List.{Contains, remove, slice_get}
-use Rattle.request_queue.specs.declared.ranges.Item.{Item}
+use Rattle.request_queue.specs.declared.ranges.BookRange.{BookRange}
 use Rattle.request_queue.specs.Entries.{asks_of}
 use Rattle.request_queue.specs.Sectors.{index_of_port}
 use Rattle.request_queue.proofs.Indexing.{flush_answered, answered, its_item, put_back, by_default, in_four}
@@ -21,7 +21,7 @@ remove-requires c =
     let lists = c.args.sectors.now in
     let four = c.requires.indexed.four in
     let e = by_default lists c.index_of_port.result (index_of_port r.port) c.index-sectors-index_of_port.result c.index_of_port.ensures (omega (arith, four, in_four r.port)) in
-    subst (λ (xs : List Item). Contains xs c.item_of.result) (sym e)
+    subst (λ (xs : List BookRange). Contains xs c.item_of.result) (sym e)
     (subst (Contains (get_or lists (index_of_port r.port) [])) (sym c.item_of.ensures)
     (its_item (asks_of c.args.store.now) lists c.requires.indexed r c.requires.ordered c.args.place c.asks-request.ensures (not-true _ (sym c.if-not-has_sectors.ensures))))
 
@@ -33,6 +33,6 @@ returns c =
     let e = by_default lists c.index_of_port.result (index_of_port r.port) c.index-sectors-index_of_port.result c.index_of_port.ensures (omega (arith, four, in_four r.port)) in
     let place = c.remove.ensures.0 in
     put_back (remove (asks_of c.args.store.now) c.args.place) lists c.index_of_port.result (index_of_port r.port) _ (remove (get_or lists (index_of_port r.port) []) place) c.index_of_port.ensures
-    (c.remove.ensures.2 ∙ ap (λ (xs : List Item). remove xs place) e)
+    (c.remove.ensures.2 ∙ ap (λ (xs : List BookRange). remove xs place) e)
     (answered (asks_of c.args.store.now) lists c.requires.indexed r c.requires.ordered c.args.place c.asks-request.ensures (not-true _ (sym c.if-not-has_sectors.ensures)) place
-    (ap (λ (xs : List Item). slice_get xs place) (sym e) ∙ (c.remove.ensures.1 ∙ ap Some c.item_of.ensures)))
+    (ap (λ (xs : List BookRange). slice_get xs place) (sym e) ∙ (c.remove.ensures.1 ∙ ap Some c.item_of.ensures)))

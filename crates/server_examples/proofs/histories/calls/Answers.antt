@@ -2,7 +2,7 @@ use Rattle.std.proofs.Common.{◌≡◌, Global, List, Vec, sym, subst}
 use Rattle.std.specs.Prelude.{IfOk, IfSome, Option, Ok, Err}
 use Rattle.std.specs.Result.{result_ok}
 use Rattle.std.specs.declared.result.Result.{Result}
-use Rattle.block_server.specs.Sayings.{said_in}
+use Rattle.block_server.specs.CallResults.{results_in}
 use Rattle.arrayvec.specs.ArrayVec.{ArrayVec}
 use Rattle.ata_types.specs.declared.call.Call.{Call}
 use Rattle.ata_types.specs.declared.call.CallResult.{CallResult}
@@ -21,5 +21,5 @@ listed Is said is (Err e) has = tt
 pub returns-in-Ok : goal.returns-in-Ok
 returns-in-Ok g c =
     let Is : List (CallResult (ArrayVec Reply)) → Type 0 = λ said. HasRun g.A.Adapter.device c.args.server.now c.run.new.self c.args.asked.now said in
-    let ran = has_run g.A.Adapter.device c.args.server.now c.run.new.self c.args.asked.now (said_in c.new-said.result) (said_in c.run.new.out) c.in-Ok.ensures.done c.new-said.ensures c.requires.begun c.requires.telling in
-    subst (λ (o : Option (Vec (CallResult (ArrayVec Reply)) Global)). IfSome o (λ list. Is list.items)) (sym c.ok.ensures.value) (listed Is (said_in c.run.new.out) ran c.into_list.result c.into_list.ensures)
+    let ran = has_run g.A.Adapter.device c.args.server.now c.run.new.self c.args.asked.now (results_in c.new-said.result) (results_in c.run.new.out) c.in-Ok.ensures.done c.new-said.ensures c.requires.begun c.requires.telling in
+    subst (λ (o : Option (Vec (CallResult (ArrayVec Reply)) Global)). IfSome o (λ list. Is list.items)) (sym c.ok.ensures.value) (listed Is (results_in c.run.new.out) ran c.into_list.result c.into_list.ensures)

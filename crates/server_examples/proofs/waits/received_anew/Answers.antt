@@ -1,7 +1,7 @@
 use Rattle.std.proofs.Common.{ℕ, ◌≡◌, arith, sym, ap, ◌∙◌, subst}
 use Rattle.ata_types.specs.declared.Port.{Port}
 use Rattle.hba_regs.specs.Bits.{bit}
-use Rattle.refinement.specs.Driven.{AnyUse, IsControl}
+use Rattle.refinement.specs.Driven.{AnyUse, OnPortWriting}
 use Rattle.refinement.proofs.driver.PortAccesses.{law_agreeing_goes_on, same_over}
 use Rattle.host_boot.specs.declared.ProbeResult.TheVariants.{Ready, Unserved}
 use Rattle.host_boot.proofs.Beginning.{taken_there}
@@ -20,7 +20,7 @@ pub receive-requires : goal.receive-requires
 receive-requires g c =
     let taken = c.take_over-host.ensures.taken in
     let followed = c.in-Ok.ensures.halts.told.followed in
-    let same = same_over (IsControl IsCommandRegister (record { 0 = 0 })) _ _ followed.driven in
+    let same = same_over (OnPortWriting IsCommandRegister (record { 0 = 0 })) _ _ followed.driven in
     let none : Ready c.in-Ready.field-0 ≡ Unserved → ⊥ = λ e. absurd cc in
     let there = taken_there _ _ 0 _ _ taken (omega arith) (λ e. none (sym c.in-Ready.is ∙ e)) in
     let M : Port → Type 0 = λ p. MayBeginReceiving p (g.A.Adapter.device c.stop.new.adapter) in

@@ -2,14 +2,14 @@ use Rattle.server_history.proofs.lawful.law_basics.Goals as goal
 
 pub returns : goal.returns
 returns c = record {
-  keeps = c.law_steps_keep.ensures;
+  keeps = c.law_steps_guarantee.ensures;
   device_adds = c.law_device_steps_are_parts.ensures;
-  fit = c.law_each_instant_holds.ensures.fit;
+  fit = c.law_driver_invariant_holds.ensures.fit;
   ready_served = c.law_ready_ports_are_served.ensures;
-  was_on = c.law_steps_switch_nothing_on.ensures;
-  joined = c.law_steps_go_on.ensures.joined;
-  may = c.law_steps_go_on.ensures.may;
-  reached = c.law_steps_go_on.ensures.reached;
+  was_on = c.law_steps_never_switch_on.ensures;
+  joined = c.law_step_lists_compose.ensures.joined;
+  may = c.law_step_lists_compose.ensures.may;
+  reached = c.law_step_lists_compose.ensures.reached;
   history_reached = c.law_histories_reach_their_machines.ensures;
   one = λ m reached a b. c.law_one_id_is_in_the_book_once.ensures m a b reached;
   ended_issued = c.law_ended_is_issued.ensures;

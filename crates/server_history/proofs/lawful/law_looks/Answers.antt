@@ -2,9 +2,9 @@ use Rattle.server_history.proofs.lawful.law_looks.Goals as goal
 
 pub returns : goal.returns
 returns c = record {
-  seen = c.law_port_registers_are_accessed.ensures.seen;
+  seen = c.law_port_register_accesses.ensures.seen;
   noted = c.law_notes_are_set.ensures.counts;
-  shown_stays = c.law_device_or_none_stays.ensures.access;
+  shown_stays = c.law_disk_in_stays_shown.ensures.access;
   fragments = c.law_fragments.ensures;
   services_spare = c.law_services_spare_registers.ensures.port;
   services_spare_host = c.law_services_spare_registers.ensures.host;
@@ -14,10 +14,10 @@ returns c = record {
   fails_reads = c.law_failures_are_found.ensures.reads;
   looks_changed = c.law_errors_are_seen.ensures.changed;
   looks_unlinked = c.law_errors_are_seen.ensures.unlinked;
-  looks_failed = c.law_answers_tell.ensures.failed;
-  looks_undisturbed = c.law_answers_tell.ensures.undisturbed;
+  looks_failed = c.law_port_events_tell.ensures.failed;
+  looks_undisturbed = c.law_port_events_tell.ensures.undisturbed;
   looks_calm = c.law_errors_are_seen.ensures.calm;
-  looks_broken = c.law_answers_tell.ensures.broken;
+  looks_broken = c.law_port_events_tell.ensures.broken;
   looks_fault = c.law_errors_are_heeded.ensures.fault;
   looks_fatal = c.law_errors_are_heeded.ensures.fatal;
   looks_disk = c.law_errors_are_heeded.ensures.disk;

@@ -3,7 +3,7 @@ use Rattle.server_history.proofs.lawful.law_recoveries.Goals as goal
 pub returns : goal.returns
 returns c = record {
   counted = c.law_slots_are_counted.ensures.all;
-  gone_reached = c.law_going_composes.ensures.reached;
+  gone_reached = c.law_advances_compose.ensures.reached;
   put_other = c.law_putting_is_of_one_slot.ensures.others;
   own_on = c.law_a_disk_is_in_where_one_shows.ensures.accesses;
   of_recorded = c.law_other_ports_are_left.ensures.recorded;

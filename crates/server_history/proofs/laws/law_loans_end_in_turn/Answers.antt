@@ -6,7 +6,7 @@ use Rattle.ata_types.specs.declared.request.RequestId.{RequestId}
 use Rattle.dma_frames.specs.Loan.{Lending}
 use Rattle.dma_frames.specs.Table.{Table, lent_to}
 use Rattle.server_history.specs.Kept.{TakesBack}
-use Rattle.server_history.specs.Server.{AreOfTwo, IsLentOut}
+use Rattle.server_history.specs.Server.{DifferInRequest, IsLentOut}
 use Rattle.server_history.proofs.laws.law_loans_end_in_turn.Goals as goal
 
 same_request : {a b : RequestId} → Some a ≡ Some b → a ≡ b
@@ -17,7 +17,7 @@ its_frame : (table : Table) (loan : Lending) (f : Frame) → IsLentOut table loa
 its_frame table loan f out here = All-contains (λ (g : Frame). lent_to table g ≡ Some loan.request) loan.frames f out here
 
 -- the frames of a loan stay lent where loans of other requests end
-stays : (old new : Table) (ended : List Lending) (loan : Lending) → TakesBack old new (Contains ended) → ((other : Lending) → Contains ended other → IsLentOut old other × AreOfTwo other loan) → IsLentOut old loan → IsLentOut new loan
+stays : (old new : Table) (ended : List Lending) (loan : Lending) → TakesBack old new (Contains ended) → ((other : Lending) → Contains ended other → IsLentOut old other × DifferInRequest other loan) → IsLentOut old loan → IsLentOut new loan
 stays old new ended loan back others out k d small =
     let f = get_or loan.frames k d in
     back.others f (λ other such here. (others other such).1 (same_request (sym (its_frame old other f (others other such).0 here) ∙ out k d small))) ∙ out k d small

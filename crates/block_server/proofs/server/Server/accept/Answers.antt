@@ -18,10 +18,10 @@ use Rattle.port_driver.specs.declared.served_port.Shared.{Shared}
 use Rattle.block_server.proofs.Placing as placing
 use Rattle.block_server.specs.Seen.{seen}
 use Rattle.block_server.specs.View.{ServerView, server_of}
-use Rattle.request_queue.specs.Entries.{Held, asks, asks_of}
+use Rattle.request_queue.specs.Entries.{BookEntry, asks, asks_of}
 use Rattle.server_history.specs.Histories.{ExtendsHistory}
 use Rattle.server_history.specs.Served.{Accepts, accepted_as, accepting}
-use Rattle.server_history.specs.Server.{ServerState, mode_in, server_situation, state_of}
+use Rattle.server_history.specs.Server.{ServerState, mode_in, admission_context, state_of}
 use Rattle.block_server.proofs.Standing.{is_on, of_on}
 use Rattle.block_server.proofs.Accepting as accepted
 use Rattle.block_server.proofs.Newest as newest
@@ -30,15 +30,17 @@ use Rattle.block_server.proofs.server.Server.accept.Goals as goal
 use Rattle.block_server.proofs.server.Server.accept.Goals.{After-index-self-from, After-issue_due}
 
 pub overflow_add-id : goal.overflow_add-id
-overflow_add-id g c = let h = accepted.next_fits (server_of g.A.Adapter.device (seen c.self.inside)) c.args.r.now (subst (λ (v : ServerView g.row.A.Denot). IsAcceptable (server_situation (server_of g.A.Adapter.device v)) c.args.r.now) (sym c.self.view_is) c.requires.acceptable) in omega (arith, h)
+overflow_add-id g c = let h = accepted.next_fits (server_of g.A.Adapter.device (seen c.self.inside)) c.args.r.now (subst (λ (v : ServerView g.row.A.Denot). IsAcceptable (admission_context (server_of g.A.Adapter.device v)) c.args.r.now) (sym c.self.view_is) c.requires.acceptable) in omega (arith, h)
 
-pub lend-loan-requires-clause-clear : goal.lend-loan-requires-clause-clear
-lend-loan-requires-clause-clear g c =
-    rw c.deref_mut.ensures.value (subst (λ (frames : List Frame). HasNoFault (owner_of c.self.inside.shared.table.value) (lent_to c.self.inside.shared.table.value) c.args.r.now.client frames) (sym c.as_slice.ensures.value)
-    (accepted.faultless (server_of g.A.Adapter.device (seen c.self.inside)) c.args.r.now (subst (λ (v : ServerView g.row.A.Denot). IsAcceptable (server_situation (server_of g.A.Adapter.device v)) c.args.r.now) (sym c.self.view_is) c.requires.acceptable)))
+pub accept-requires-clause-frames : goal.accept-requires-clause-frames
+accept-requires-clause-frames g c = (
+  rw c.deref_mut.ensures.value (subst (λ (frames : List Frame). HasNoFault (owner_of c.self.inside.shared.table.value) (lent_to c.self.inside.shared.table.value) c.args.r.now.client frames) (sym c.as_slice.ensures.value)
+      (accepted.faultless (server_of g.A.Adapter.device (seen c.self.inside)) c.args.r.now (subst (λ (v : ServerView g.row.A.Denot). IsAcceptable (admission_context (server_of g.A.Adapter.device v)) c.args.r.now) (sym c.self.view_is) c.requires.acceptable))),
+  c.as_slice.ensures.fits,
+)
 
 pub accept-requires-clause-few : goal.accept-requires-clause-few
-accept-requires-clause-few g c = accepted.has_place (server_of g.A.Adapter.device (seen c.self.inside)) c.args.r.now (subst (λ (v : ServerView g.row.A.Denot). IsAcceptable (server_situation (server_of g.A.Adapter.device v)) c.args.r.now) (sym c.self.view_is) c.requires.acceptable) (is_on g.A.Adapter.device (seen c.self.inside) c.args.self.now c.self.view_is c.requires.on c.self.invariant).kept c.args.port (subst (λ (v : ServerView g.row.A.Denot). IsFor v.grants c.args.r.now c.args.port) (sym c.self.view_is) c.requires.port)
+accept-requires-clause-few g c = accepted.has_place (server_of g.A.Adapter.device (seen c.self.inside)) c.args.r.now (subst (λ (v : ServerView g.row.A.Denot). IsAcceptable (admission_context (server_of g.A.Adapter.device v)) c.args.r.now) (sym c.self.view_is) c.requires.acceptable) (is_on g.A.Adapter.device (seen c.self.inside) c.args.self.now c.self.view_is c.requires.on c.self.invariant).kept c.args.port (subst (λ (v : ServerView g.row.A.Denot). IsFor v.grants c.args.r.now c.args.port) (sym c.self.view_is) c.requires.port)
 
 -- the port that it is for
 abbrev its_port : (g : Over) (c : After-index-self-from g) → ServedPort
@@ -48,7 +50,7 @@ has_port : (g : Over) (c : After-index-self-from g) → HasPortAt (server_of g.A
 has_port g c =
     let v = c.self.inside in
     let four = placing.four_ports v.ports (is_on g.A.Adapter.device (seen v) c.args.self.now c.self.view_is c.requires.on c.self.invariant).kept.four in
-    let acc = (subst (λ (v : ServerView g.row.A.Denot). IsAcceptable (server_situation (server_of g.A.Adapter.device v)) c.args.r.now) (sym c.self.view_is) c.requires.acceptable) in
+    let acc = (subst (λ (v : ServerView g.row.A.Denot). IsAcceptable (admission_context (server_of g.A.Adapter.device v)) c.args.r.now) (sym c.self.view_is) c.requires.acceptable) in
     let is_for = subst (λ (x : ServerView g.row.A.Denot). IsFor x.grants c.args.r.now c.args.port) (sym c.self.view_is) c.requires.port in
     let small = accepted.low (server_of g.A.Adapter.device (seen v)) c.args.r.now acc (is_on g.A.Adapter.device (seen v) c.args.self.now c.self.view_is c.requires.on c.self.invariant).kept c.args.port is_for in
     let from = c.from.ensures in
@@ -56,23 +58,23 @@ has_port g c =
 
 -- what the server has once it is accepted
 lends : (g : Over) (c : After-index-self-from g)
-    → HasFoundPort (accepting c.args.port c.args.r.now (record { 0 = c.self.inside.last + 1 }) c.lend-loan.new.self (server_of g.A.Adapter.device (seen c.self.inside))) (g.A.Adapter.device c.self.inside.adapter) c.accept.new.self (its_port g c).slots c.args.port (its_port g c).mode (its_port g c).found
+    → HasFoundPort (accepting c.args.port c.args.r.now (record { 0 = c.self.inside.last + 1 }) c.accept.new.table (server_of g.A.Adapter.device (seen c.self.inside))) (g.A.Adapter.device c.self.inside.adapter) c.accept.new.self (its_port g c).slots c.args.port (its_port g c).mode (its_port g c).found
 lends g c =
-    let acc = (subst (λ (v : ServerView g.row.A.Denot). IsAcceptable (server_situation (server_of g.A.Adapter.device v)) c.args.r.now) (sym c.self.view_is) c.requires.acceptable) in
+    let acc = (subst (λ (v : ServerView g.row.A.Denot). IsAcceptable (admission_context (server_of g.A.Adapter.device v)) c.args.r.now) (sym c.self.view_is) c.requires.acceptable) in
     let is_for = subst (λ (x : ServerView g.row.A.Denot). IsFor x.grants c.args.r.now c.args.port) (sym c.self.view_is) c.requires.port in
     accepted.lends (server_of g.A.Adapter.device (seen c.self.inside)) c.args.r.now acc (is_on g.A.Adapter.device (seen c.self.inside) c.args.self.now c.self.view_is c.requires.on c.self.invariant).kept c.args.port is_for
-    c.law_requests_keep.ensures.accepted (record { 0 = c.self.inside.last + 1 }) refl c.as_slice.result.now c.as_slice.ensures.value
-    c.lend-loan.new.self (rw c.deref_mut.ensures.value at c.lend-loan.ensures.lent) c.lend-loan.result.frames c.lend-loan.ensures.frames c.accept.new.self c.accept.ensures
+    c.law_requests_preserve_invariant.ensures.accepted (record { 0 = c.self.inside.last + 1 }) refl c.as_slice.result.now c.as_slice.ensures.value
+    c.accept.new.table (rw c.deref_mut.ensures.value at c.accept.ensures.lent) c.accept.new.self c.accept.ensures.last
     (its_port g c).slots (has_port g c).slots_are (its_port g c).mode (has_port g c).mode_is (its_port g c).found (has_port g c).found_is
 
 pub issue_due-requires : goal.issue_due-requires
 issue_due-requires g c =
     let at = (goal.at.issue_due-requires g c).After-index-self-from in
     let s = server_of g.A.Adapter.device (seen c.self.inside) in
-    let acc = subst (λ (v : ServerView g.row.A.Denot). IsAcceptable (server_situation (server_of g.A.Adapter.device v)) c.args.r.now) (sym c.self.view_is) c.requires.acceptable in
+    let acc = subst (λ (v : ServerView g.row.A.Denot). IsAcceptable (admission_context (server_of g.A.Adapter.device v)) c.args.r.now) (sym c.self.view_is) c.requires.acceptable in
     let is_for = subst (λ (v : ServerView g.row.A.Denot). IsFor v.grants c.args.r.now c.args.port) (sym c.self.view_is) c.requires.port in
     let kept = (is_on g.A.Adapter.device (seen c.self.inside) c.args.self.now c.self.view_is c.requires.on c.self.invariant).kept in
-    record { ready = ap state_of (sym (has_port g at).found_is) ∙ accepted.ready s c.args.r.now acc kept c.args.port is_for; lends = (accepting c.args.port c.args.r.now (record { 0 = c.self.inside.last + 1 }) c.lend-loan.new.self (server_of g.A.Adapter.device (seen c.self.inside)), lends g at) }
+    record { ready = ap state_of (sym (has_port g at).found_is) ∙ accepted.ready s c.args.r.now acc kept c.args.port is_for; lends = (accepting c.args.port c.args.r.now (record { 0 = c.self.inside.last + 1 }) c.accept.new.table (server_of g.A.Adapter.device (seen c.self.inside)), lends g at) }
 
 abbrev at_issuing : (g : Over) (c : After-issue_due g) → After-index-self-from g
 at_issuing g c = (goal.at.returns-clause-cost g c).After-index-self-from
@@ -81,7 +83,7 @@ at_issuing g c = (goal.at.returns-clause-cost g c).After-index-self-from
 abbrev after : (g : Over) (c : After-issue_due g) → ServerView g.row.A.Denot
 after g c = seen (record c.self.inside {
   adapter = c.issue_due.new.adapter;
-  shared = record { table = with_value c.self.inside.shared.table c.lend-loan.new.self; book = c.issue_due.new.book };
+  shared = record { table = with_value c.self.inside.shared.table c.accept.new.table; book = c.issue_due.new.book };
   ports = set c.self.inside.ports c.from.result c.issue_due.new.self;
   last = c.self.inside.last + 1;
 })
@@ -92,42 +94,42 @@ sent g c =
     let v = c.self.inside in
     let s = (server_of g.A.Adapter.device (seen v)) in
     let id : RequestId = record { 0 = v.last + 1 } in
-    let acc = (subst (λ (v : ServerView g.row.A.Denot). IsAcceptable (server_situation (server_of g.A.Adapter.device v)) c.args.r.now) (sym c.self.view_is) c.requires.acceptable) in
+    let acc = (subst (λ (v : ServerView g.row.A.Denot). IsAcceptable (admission_context (server_of g.A.Adapter.device v)) c.args.r.now) (sym c.self.view_is) c.requires.acceptable) in
     let is_for = subst (λ (x : ServerView g.row.A.Denot). IsFor x.grants c.args.r.now c.args.port) (sym c.self.view_is) c.requires.port in
     let accepts = accepted.accepts s c.args.r.now acc (is_on g.A.Adapter.device (seen v) c.args.self.now c.self.view_is c.requires.on c.self.invariant).kept c.args.port is_for
-    c.law_requests_keep.ensures.accepted id refl c.as_slice.result.now c.as_slice.ensures.value
-    c.lend-loan.new.self (rw c.deref_mut.ensures.value at c.lend-loan.ensures.lent) c.lend-loan.result.frames c.lend-loan.ensures.frames c.accept.new.self c.accept.ensures in
-    let more : ServerState = accepting c.args.port c.args.r.now id c.lend-loan.new.self s in
+    c.law_requests_preserve_invariant.ensures.accepted id refl c.as_slice.result.now c.as_slice.ensures.value
+    c.accept.new.table (rw c.deref_mut.ensures.value at c.accept.ensures.lent) c.accept.new.self c.accept.ensures.last in
+    let more : ServerState = accepting c.args.port c.args.r.now id c.accept.new.table s in
     let new = g.A.Adapter.device c.issue_due.new.adapter in
     let u = c.issue_due.new.self.slots in
-    let shared : Shared = record { table = with_value v.shared.table c.lend-loan.new.self; book = c.issue_due.new.book } in
+    let shared : Shared = record { table = with_value v.shared.table c.accept.new.table; book = c.issue_due.new.book } in
     subst (Accepts c.args.port c.args.r.now id s) (sym (placing.slots_placed (record s { last = v.last + 1 }) v.ports c.from.result c.index-self-from.result new shared c.issue_due.new.self c.issue_due.ensures.rest))
     (subst (λ (n : ℕ). Accepts c.args.port c.args.r.now id s (record more { device = new; slots = slice_set (by_port (λ p. p.slots) v.ports) n u; book = c.issue_due.new.book })) (sym c.from.ensures)
     (accepts (with_port_slots more new c.issue_due.new.book u c.args.port) (c.issue_due.ensures.issues more (lends g (at_issuing g c)))))
 
 pub invariant_of-self : goal.invariant_of-self
 invariant_of-self g c = of_on c.self.view_is c.requires.on (
-    (c.law_acceptances_add.ensures (server_of g.A.Adapter.device (seen c.self.inside)) (server_of g.A.Adapter.device (after g c)) c.args.port c.args.r.now (record { 0 = c.self.inside.last + 1 }) (is_on g.A.Adapter.device (seen c.self.inside) c.args.self.now c.self.view_is c.requires.on c.self.invariant) (subst (λ (v : ServerView g.row.A.Denot). IsAcceptable (server_situation (server_of g.A.Adapter.device v)) c.args.r.now) (sym c.self.view_is) c.requires.acceptable) (sent g c)).settled)
+    (c.law_acceptances_extend_history.ensures (server_of g.A.Adapter.device (seen c.self.inside)) (server_of g.A.Adapter.device (after g c)) c.args.port c.args.r.now (record { 0 = c.self.inside.last + 1 }) (is_on g.A.Adapter.device (seen c.self.inside) c.args.self.now c.self.view_is c.requires.on c.self.invariant) (subst (λ (v : ServerView g.row.A.Denot). IsAcceptable (admission_context (server_of g.A.Adapter.device v)) c.args.r.now) (sym c.self.view_is) c.requires.acceptable) (sent g c)).settled)
 
 pub returns-clause-accepts : goal.returns-clause-accepts
 returns-clause-accepts g c =
     subst (λ (v : ServerView g.row.A.Denot). AcceptsRequest g.A.Adapter.device v (after g c) c.args.r.now (record { 0 = c.self.inside.last + 1 })) c.self.view_is (record {
-      acceptable = (subst (λ (v : ServerView g.row.A.Denot). IsAcceptable (server_situation (server_of g.A.Adapter.device v)) c.args.r.now) (sym c.self.view_is) c.requires.acceptable);
+      acceptable = (subst (λ (v : ServerView g.row.A.Denot). IsAcceptable (admission_context (server_of g.A.Adapter.device v)) c.args.r.now) (sym c.self.view_is) c.requires.acceptable);
       port = c.args.port;
       accepts = sent g c;
       stuck = refl;
       same = λ none.
-          let book = accepted.its_book (server_of g.A.Adapter.device (seen c.self.inside)) c.args.r.now (subst (λ (v : ServerView g.row.A.Denot). IsAcceptable (server_situation (server_of g.A.Adapter.device v)) c.args.r.now) (sym c.self.view_is) c.requires.acceptable) (is_on g.A.Adapter.device (seen c.self.inside) c.args.self.now c.self.view_is c.requires.on c.self.invariant).kept c.args.port (subst (λ (v : ServerView g.row.A.Denot). IsFor v.grants c.args.r.now c.args.port) (sym c.self.view_is) c.requires.port)
-          c.law_requests_keep.ensures.accepted (record { 0 = c.self.inside.last + 1 }) refl c.as_slice.result.now c.as_slice.ensures.value
-          c.lend-loan.new.self (rw c.deref_mut.ensures.value at c.lend-loan.ensures.lent) c.lend-loan.result.frames c.lend-loan.ensures.frames c.accept.new.self c.accept.ensures in
-          c.issue_due.ensures.none (subst (λ (b : List Held). due_of (its_port g (at_issuing g c)).mode c.args.port (asks_of b) ≡ []) book
+          let book = accepted.its_book (server_of g.A.Adapter.device (seen c.self.inside)) c.args.r.now (subst (λ (v : ServerView g.row.A.Denot). IsAcceptable (admission_context (server_of g.A.Adapter.device v)) c.args.r.now) (sym c.self.view_is) c.requires.acceptable) (is_on g.A.Adapter.device (seen c.self.inside) c.args.self.now c.self.view_is c.requires.on c.self.invariant).kept c.args.port (subst (λ (v : ServerView g.row.A.Denot). IsFor v.grants c.args.r.now c.args.port) (sym c.self.view_is) c.requires.port)
+          c.law_requests_preserve_invariant.ensures.accepted (record { 0 = c.self.inside.last + 1 }) refl c.as_slice.result.now c.as_slice.ensures.value
+          c.accept.new.table (rw c.deref_mut.ensures.value at c.accept.ensures.lent) c.accept.new.self c.accept.ensures.last in
+          c.issue_due.ensures.none (subst (λ (b : List BookEntry). due_of (its_port g (at_issuing g c)).mode c.args.port (asks_of b) ≡ []) book
           (subst (λ (m : QueueMode). due_of m c.args.port (asks_of (accepting c.args.port c.args.r.now (record { 0 = c.self.inside.last + 1 }) (sent g c).table (server_of g.A.Adapter.device (seen c.self.inside))).book) ≡ []) (has_port g (at_issuing g c)).mode_is none));
     })
 
 pub returns-clause-adds : goal.returns-clause-adds
 returns-clause-adds g c =
     subst (λ (v : ServerView g.row.A.Denot). ExtendsHistory (server_of g.A.Adapter.device v) (server_of g.A.Adapter.device (after g c)) (Submit c.args.r.now) (Submitted (Ok (record { 0 = c.self.inside.last + 1 })))) c.self.view_is
-    (c.law_acceptances_add.ensures (server_of g.A.Adapter.device (seen c.self.inside)) (server_of g.A.Adapter.device (after g c)) c.args.port c.args.r.now (record { 0 = c.self.inside.last + 1 }) (is_on g.A.Adapter.device (seen c.self.inside) c.args.self.now c.self.view_is c.requires.on c.self.invariant) (subst (λ (v : ServerView g.row.A.Denot). IsAcceptable (server_situation (server_of g.A.Adapter.device v)) c.args.r.now) (sym c.self.view_is) c.requires.acceptable) (sent g c)).adds
+    (c.law_acceptances_extend_history.ensures (server_of g.A.Adapter.device (seen c.self.inside)) (server_of g.A.Adapter.device (after g c)) c.args.port c.args.r.now (record { 0 = c.self.inside.last + 1 }) (is_on g.A.Adapter.device (seen c.self.inside) c.args.self.now c.self.view_is c.requires.on c.self.invariant) (subst (λ (v : ServerView g.row.A.Denot). IsAcceptable (admission_context (server_of g.A.Adapter.device v)) c.args.r.now) (sym c.self.view_is) c.requires.acceptable) (sent g c)).adds
 
 pub accept-requires-clause-fresh : goal.accept-requires-clause-fresh
 accept-requires-clause-fresh g c = search rules
@@ -145,7 +147,7 @@ returns-clause-cost g c =
     let none : due_of m c.args.port book ≡ [] =
     newest.none_of_them m c.args.port book (λ x has. (exact.own m c.args.port book x has, (exact.exact m c.args.port book x (exact.own m c.args.port book x has)).0 has)) (settled.issued c.args.port) in
     let alone = newest.due_alone m book its refl c.args.port (newest.all_earlier s.book s.last its refl settled.kept.handed_out) none in
-    let there : asks_of c.accept.new.self ≡ book ++ its ∷ [] = ap asks_of c.accept.ensures ∙ newest.asks_more s.book (record { entry = (accepted_as c.args.port c.args.r.now id).entry; frames = c.lend-loan.result.frames }) in
+    let there : asks_of c.accept.new.self ≡ book ++ its ∷ [] = ap asks_of c.accept.ensures.last ∙ newest.asks_more s.book (record { entry = (accepted_as c.args.port c.args.r.now id).entry; frames = c.as_slice.result.now }) in
     let few : length (due_of m c.args.port (asks_of c.accept.new.self)) ≤ 1 = subst (λ (xs : List Unanswered). length (due_of m c.args.port xs) ≤ 1) (sym there) alone in
     let one : length (due_of (its_port g (at_issuing g c)).mode c.args.port (asks_of c.accept.new.self)) ≤ 1 = subst (λ (m : QueueMode). length (due_of m c.args.port (asks_of c.accept.new.self)) ≤ 1) (has_port g (at_issuing g c)).mode_is few in
     let same = ap (λ (v : ServerView g.row.A.Denot). g.A.Adapter.access_count v.adapter) c.self.view_is in

@@ -9,15 +9,15 @@ use Rattle.block_server.specs.Calls.{IsFor}
 use Rattle.block_server.specs.Seen.{seen}
 use Rattle.block_server.specs.View.{ServerView, server_of}
 use Rattle.host_boot.specs.Taken.{probe_result_of}
-use Rattle.server_history.specs.Server.{last_disk_of, remembered_at, last_sectors_of, server_situation, state_of, trims_of}
+use Rattle.server_history.specs.Server.{last_disk_of, remembered_at, last_sectors_of, admission_context, state_of, trims_of}
 use Rattle.block_server.proofs.Refusing as refusing
 use Rattle.block_server.proofs.Ruling.{rule_first}
 use Rattle.block_server.proofs.server.Server.admit.Goals as goal
 
 pub returns-in-Err-clause-refused : goal.returns-in-Err-clause-refused
 returns-in-Err-clause-refused g c =
-    subst (λ (v : ServerView g.row.A.Denot). IsFirstRefusal (server_situation (server_of g.A.Adapter.device v)) c.args.r.now (Rule c.in-Err.rule)) c.self.view_is
-    (rule_first (server_situation (server_of g.A.Adapter.device (seen c.self.inside))) c.args.r.now c.in-Err.rule (rw c.deref.ensures at c.in-Err.ensures.err))
+    subst (λ (v : ServerView g.row.A.Denot). IsFirstRefusal (admission_context (server_of g.A.Adapter.device v)) c.args.r.now (Rule c.in-Err.rule)) c.self.view_is
+    (rule_first (admission_context (server_of g.A.Adapter.device (seen c.self.inside))) c.args.r.now c.in-Err.rule (rw c.deref.ensures at c.in-Err.ensures.err))
 
 pub unreachable-requires : goal.unreachable-requires
 unreachable-requires g c =
@@ -27,7 +27,7 @@ unreachable-requires g c =
 pub returns-in_default-state : goal.returns-in_default-state
 returns-in_default-state g c = record {
   admitted = tt;
-  refused = subst (λ (v : ServerView g.row.A.Denot). IsFirstRefusal (server_situation (server_of g.A.Adapter.device v)) c.args.r.now (PortNotReady c.state-state.result)) c.self.view_is
+  refused = subst (λ (v : ServerView g.row.A.Denot). IsFirstRefusal (admission_context (server_of g.A.Adapter.device v)) c.args.r.now (PortNotReady c.state-state.result)) c.self.view_is
       (refusing.not_ready (server_of g.A.Adapter.device (seen c.self.inside)) c.args.r.now (rw c.deref.ensures at c.in_default.ensures.ok) c.in-Some.row c.row.result c.in-Some.is
       (λ other its. (c.row.ensures other).1 its) ((c.row.ensures c.in-Some.row).0 c.in-Some.is) c.state-state.result
       (subst (λ (v : ServerView g.row.A.Denot). c.state-state.result ≡ state_of (probe_result_of v.ports c.in-Some.row.port.0)) (sym c.self.view_is) c.state-state.ensures.state)
@@ -36,14 +36,14 @@ returns-in_default-state g c = record {
 
 pub returns-then-leaves_disk-clause-refused : goal.returns-then-leaves_disk-clause-refused
 returns-then-leaves_disk-clause-refused g c =
-    subst (λ (v : ServerView g.row.A.Denot). IsFirstRefusal (server_situation (server_of g.A.Adapter.device v)) c.args.r.now OutsideDisk) c.self.view_is
+    subst (λ (v : ServerView g.row.A.Denot). IsFirstRefusal (admission_context (server_of g.A.Adapter.device v)) c.args.r.now OutsideDisk) c.self.view_is
     (refusing.outside_disk (server_of g.A.Adapter.device (seen c.self.inside)) c.args.r.now (rw c.deref.ensures at c.in_default.ensures.ok) c.in-Some.row c.row.result c.in-Some.is
     (λ other its. (c.row.ensures other).1 its) ((c.row.ensures c.in-Some.row).0 c.in-Some.is) (sym (subst (λ (v : ServerView g.row.A.Denot). c.state-state.result ≡ state_of (probe_result_of v.ports c.in-Some.row.port.0)) (sym c.self.view_is) c.state-state.ensures.state) ∙ c.in-Ready.is)
     (subst (λ (n : ℕ). (c.args.r.now.op ≢ Flush) × (n < c.args.r.now.first.0 + c.args.r.now.count)) (subst (λ (v : ServerView g.row.A.Denot). c.sectors.result ≡ last_sectors_of (last_disk_of (probe_result_of v.ports c.in-Some.row.port.0) (remembered_at v.remembered c.in-Some.row.port.0))) (sym c.self.view_is) c.sectors.ensures) (c.leaves_disk.ensures.0 c.if-leaves_disk.true)))
 
 pub returns-then-lacks_trim-clause-refused : goal.returns-then-lacks_trim-clause-refused
 returns-then-lacks_trim-clause-refused g c =
-    subst (λ (v : ServerView g.row.A.Denot). IsFirstRefusal (server_situation (server_of g.A.Adapter.device v)) c.args.r.now TrimUnsupported) c.self.view_is
+    subst (λ (v : ServerView g.row.A.Denot). IsFirstRefusal (admission_context (server_of g.A.Adapter.device v)) c.args.r.now TrimUnsupported) c.self.view_is
     (refusing.trim_unsupported (server_of g.A.Adapter.device (seen c.self.inside)) c.args.r.now (rw c.deref.ensures at c.in_default.ensures.ok) c.in-Some.row c.row.result c.in-Some.is
     (λ other its. (c.row.ensures other).1 its) ((c.row.ensures c.in-Some.row).0 c.in-Some.is) (sym (subst (λ (v : ServerView g.row.A.Denot). c.state-state.result ≡ state_of (probe_result_of v.ports c.in-Some.row.port.0)) (sym c.self.view_is) c.state-state.ensures.state) ∙ c.in-Ready.is)
     (λ leaves. absurd (true≢false (sym (c.leaves_disk.ensures.1 (subst (λ (n : ℕ). (c.args.r.now.op ≢ Flush) × (n < c.args.r.now.first.0 + c.args.r.now.count)) (sym (subst (λ (v : ServerView g.row.A.Denot). c.sectors.result ≡ last_sectors_of (last_disk_of (probe_result_of v.ports c.in-Some.row.port.0) (remembered_at v.remembered c.in-Some.row.port.0))) (sym c.self.view_is) c.sectors.ensures)) leaves)) ∙ c.if-leaves_disk.false)))
@@ -52,7 +52,7 @@ returns-then-lacks_trim-clause-refused g c =
 
 pub returns-then-unanswered-ge-CLIENT_PLACES-clause-refused : goal.returns-then-unanswered-ge-CLIENT_PLACES-clause-refused
 returns-then-unanswered-ge-CLIENT_PLACES-clause-refused g c =
-    subst (λ (v : ServerView g.row.A.Denot). IsFirstRefusal (server_situation (server_of g.A.Adapter.device v)) c.args.r.now ClientFull) c.self.view_is
+    subst (λ (v : ServerView g.row.A.Denot). IsFirstRefusal (admission_context (server_of g.A.Adapter.device v)) c.args.r.now ClientFull) c.self.view_is
     (refusing.client_full (server_of g.A.Adapter.device (seen c.self.inside)) c.args.r.now (rw c.deref.ensures at c.in_default.ensures.ok) c.in-Some.row c.row.result c.in-Some.is
     (λ other its. (c.row.ensures other).1 its) ((c.row.ensures c.in-Some.row).0 c.in-Some.is) (sym (subst (λ (v : ServerView g.row.A.Denot). c.state-state.result ≡ state_of (probe_result_of v.ports c.in-Some.row.port.0)) (sym c.self.view_is) c.state-state.ensures.state) ∙ c.in-Ready.is)
     (λ leaves. absurd (true≢false (sym (c.leaves_disk.ensures.1 (subst (λ (n : ℕ). (c.args.r.now.op ≢ Flush) × (n < c.args.r.now.first.0 + c.args.r.now.count)) (sym (subst (λ (v : ServerView g.row.A.Denot). c.sectors.result ≡ last_sectors_of (last_disk_of (probe_result_of v.ports c.in-Some.row.port.0) (remembered_at v.remembered c.in-Some.row.port.0))) (sym c.self.view_is) c.sectors.ensures)) leaves)) ∙ c.if-leaves_disk.false)))
@@ -61,7 +61,7 @@ returns-then-unanswered-ge-CLIENT_PLACES-clause-refused g c =
 
 pub returns-then-self-ge18446744073709551615-clause-refused : goal.returns-then-self-ge18446744073709551615-clause-refused
 returns-then-self-ge18446744073709551615-clause-refused g c =
-    subst (λ (v : ServerView g.row.A.Denot). IsFirstRefusal (server_situation (server_of g.A.Adapter.device v)) c.args.r.now IdsSpent) c.self.view_is
+    subst (λ (v : ServerView g.row.A.Denot). IsFirstRefusal (admission_context (server_of g.A.Adapter.device v)) c.args.r.now IdsSpent) c.self.view_is
     (refusing.ids_spent (server_of g.A.Adapter.device (seen c.self.inside)) c.args.r.now (rw c.deref.ensures at c.in_default.ensures.ok) c.in-Some.row c.row.result c.in-Some.is
     (λ other its. (c.row.ensures other).1 its) ((c.row.ensures c.in-Some.row).0 c.in-Some.is) (sym (subst (λ (v : ServerView g.row.A.Denot). c.state-state.result ≡ state_of (probe_result_of v.ports c.in-Some.row.port.0)) (sym c.self.view_is) c.state-state.ensures.state) ∙ c.in-Ready.is)
     (λ leaves. absurd (true≢false (sym (c.leaves_disk.ensures.1 (subst (λ (n : ℕ). (c.args.r.now.op ≢ Flush) × (n < c.args.r.now.first.0 + c.args.r.now.count)) (sym (subst (λ (v : ServerView g.row.A.Denot). c.sectors.result ≡ last_sectors_of (last_disk_of (probe_result_of v.ports c.in-Some.row.port.0) (remembered_at v.remembered c.in-Some.row.port.0))) (sym c.self.view_is) c.sectors.ensures)) leaves)) ∙ c.if-leaves_disk.false)))
@@ -71,7 +71,7 @@ returns-then-self-ge18446744073709551615-clause-refused g c =
 
 pub returns-clause-admitted : goal.returns-clause-admitted
 returns-clause-admitted g c =
-    subst (λ (v : ServerView g.row.A.Denot). IsAcceptable (server_situation (server_of g.A.Adapter.device v)) c.args.r.now × IsFor v.grants c.args.r.now c.in-Some.row.port) c.self.view_is (
+    subst (λ (v : ServerView g.row.A.Denot). IsAcceptable (admission_context (server_of g.A.Adapter.device v)) c.args.r.now × IsFor v.grants c.args.r.now c.in-Some.row.port) c.self.view_is (
       refusing.none_applies (server_of g.A.Adapter.device (seen c.self.inside)) c.args.r.now (rw c.deref.ensures at c.in_default.ensures.ok) c.in-Some.row c.row.result c.in-Some.is
           (λ other its. (c.row.ensures other).1 its) ((c.row.ensures c.in-Some.row).0 c.in-Some.is) (sym (subst (λ (v : ServerView g.row.A.Denot). c.state-state.result ≡ state_of (probe_result_of v.ports c.in-Some.row.port.0)) (sym c.self.view_is) c.state-state.ensures.state) ∙ c.in-Ready.is)
           (λ leaves. absurd (true≢false (sym (c.leaves_disk.ensures.1 (subst (λ (n : ℕ). (c.args.r.now.op ≢ Flush) × (n < c.args.r.now.first.0 + c.args.r.now.count)) (sym (subst (λ (v : ServerView g.row.A.Denot). c.sectors.result ≡ last_sectors_of (last_disk_of (probe_result_of v.ports c.in-Some.row.port.0) (remembered_at v.remembered c.in-Some.row.port.0))) (sym c.self.view_is) c.sectors.ensures)) leaves)) ∙ c.if-leaves_disk.false)))

@@ -3,7 +3,7 @@ use Rattle.std.proofs.lemmas.Result.{err_from_is_err_and}
 use Rattle.adapter.specs.Access.{Stores}
 use Rattle.adapter.specs.Rules.{IsUnowned, IsStable}
 use Rattle.block_machine.specs.Events.{StoreAt}
-use Rattle.block_machine.specs.Refusals.{IsFirstMemFault, IsOpen}
+use Rattle.block_machine.specs.Refusals.{IsFirstMemFault, MayAccessFrame}
 use Rattle.dma_frames.specs.Table.{owner_of, lent_to}
 use Rattle.block_server.specs.Seen.{seen}
 use Rattle.block_server.specs.View.{ServerView, server_of}
@@ -23,16 +23,16 @@ returns-in_err-address-clause-adds g c =
     subst P c.self.view_is (
     subst (λ r. ExtendsHistory s s (StoreAt c.args.client c.args.frame c.args.offset c.args.bytes.now) (store_said r)) (sym (told.1 ∙ ap Err told.2))
     (let why = subst Q (sym c.self.view_is) c.in_err-address.ensures.err in
-    c.law_refusals_add.ensures.store c.self.inside.stuck s c.args.client c.args.frame c.args.offset c.args.bytes.now c.in_err-address.field-0.0 c.self.invariant why))
+    c.law_refusals_extend_history.ensures.store c.self.inside.stuck s c.args.client c.args.frame c.args.offset c.args.bytes.now c.in_err-address.field-0.0 c.self.invariant why))
 
 pub store-requires : goal.store-requires
 store-requires g c =
-    let P : ServerView g.row.A.Denot → Type 0 = λ v. IsOpen (owner_of v.table) (lent_to v.table) c.args.client c.args.frame c.args.offset (length c.args.bytes.now) in
+    let P : ServerView g.row.A.Denot → Type 0 = λ v. MayAccessFrame (owner_of v.table) (lent_to v.table) c.args.client c.args.frame c.args.offset (length c.args.bytes.now) in
     subst (λ (at : ℕ). IsStable (IsUnowned at (length c.args.bytes.now)) (g.A.Adapter.device c.self.inside.adapter)) (sym c.in_ok-address.ensures.ok.1)
     (let s = server_of g.A.Adapter.device (seen c.self.inside) in
     let opened = subst P (sym c.self.view_is) c.in_ok-address.ensures.ok.0 in
-    let booked = holds_either c.self.inside.stuck c.self.invariant (λ _ settled. c.law_book_invariant_holds.ensures.kept s settled.kept) (λ _ stalled. stalled.booked) in
-    c.law_open_bytes_are_free.ensures s c.args.client c.args.frame c.args.offset (length c.args.bytes.now) booked opened)
+    let booked = holds_either c.self.inside.stuck c.self.invariant (λ _ settled. c.law_server_invariant_holds.ensures.kept s settled.kept) (λ _ stalled. stalled.booked) in
+    c.law_open_frames_are_accessible.ensures s c.args.client c.args.frame c.args.offset (length c.args.bytes.now) booked opened)
 
 -- what it leaves, and that it adds an event
 went : (g : Over) (c : After-store g) → InvariantBy c.self.inside.stuck (server_of g.A.Adapter.device (record (seen c.self.inside) { adapter = c.store.new.self }))
@@ -40,10 +40,10 @@ went : (g : Over) (c : After-store g) → InvariantBy c.self.inside.stuck (serve
 went g c =
     let device = g.A.Adapter.device in
     let s = seen c.self.inside in
-    let Q : ServerView g.row.A.Denot → Type 0 = λ v. IsOpen (owner_of v.table) (lent_to v.table) c.args.client c.args.frame c.args.offset (length c.args.bytes.now) in
+    let Q : ServerView g.row.A.Denot → Type 0 = λ v. MayAccessFrame (owner_of v.table) (lent_to v.table) c.args.client c.args.frame c.args.offset (length c.args.bytes.now) in
     let opened = subst Q (sym c.self.view_is) c.in_ok-address.ensures.ok.0 in
     let stores = subst (λ (at : ℕ). Stores at c.args.bytes.now (device s.adapter) (device c.store.new.self)) c.in_ok-address.ensures.ok.1 c.store.ensures.does in
-    c.law_client_bytes_add.ensures.store s.stuck (server_of device s) (device c.store.new.self) c.args.client c.args.frame c.args.offset c.args.bytes.now c.self.invariant opened stores
+    c.law_client_bytes_extend_history.ensures.store s.stuck (server_of device s) (device c.store.new.self) c.args.client c.args.frame c.args.offset c.args.bytes.now c.self.invariant opened stores
 
 pub invariant_of-self : goal.invariant_of-self
 invariant_of-self g c = (went g c).0

@@ -7,8 +7,8 @@ use Rattle.grants.specs.Rows.{SameRows}
 use Rattle.host_boot.specs.Taken.{TakesOver, probe_result_of}
 use Rattle.host_boot.specs.declared.ProbeResult.{ProbeResult}
 use Rattle.identify.specs.declared.wanted.Wanted.{Wanted}
-use Rattle.server_history.specs.Histories.{HasBegun}
-use Rattle.server_history.specs.Server.{ServerState, SettledInvariant, mode_found}
+use Rattle.server_history.specs.Histories.{StartsHistory}
+use Rattle.server_history.specs.Server.{ServerState, SettledInvariant, probed_mode}
 use Rattle.block_server.specs.Seen.{seen}
 use Rattle.block_server.specs.View.{server_of}
 use Rattle.block_server.proofs.Making.{NewPorts, new_fits, new_ports}
@@ -29,16 +29,16 @@ new_server g c = server_of g.A.Adapter.device (seen (record {
   adapter = c.take_over-host.new.adapter;
   grants = c.in-Ok-from_rows.grants;
   shared = record { table = c.in-Ok-boxed.table; book = c.in-Ok-new.book };
-  ports = c.begin_anew.new.ports;
+  ports = c.note_probe_result.new.ports;
   last = 0;
   stuck = false;
 }))
 
 -- what it has of its ports
-has_ports : (g : Over) (c : After-law_a_new_server_has_begun g) → NewPorts c.take_over-host.result c.wanted.result.now c.begin_anew.new.ports
+has_ports : (g : Over) (c : After-law_a_new_server_has_begun g) → NewPorts c.take_over-host.result c.wanted.result.now c.note_probe_result.new.ports
 has_ports g c =
-    new_ports c.take_over-host.result c.take_over-host.ensures.four c.wanted.result.now c.in-Ok-none_kept.kept c.in-Ok-none_kept.ensures c.unserved_ports-ports.result c.begin_anew.new.ports
-    c.unserved_ports-ports.ensures.wanted c.unserved_ports-ports.ensures.kept c.unserved_ports-ports.ensures.found c.unserved_ports-ports.ensures.forgotten c.begin_anew.ensures
+    new_ports c.take_over-host.result c.take_over-host.ensures.four c.wanted.result.now c.in-Ok-none_kept.kept c.in-Ok-none_kept.ensures c.unserved_ports-ports.result c.note_probe_result.new.ports
+    c.unserved_ports-ports.ensures.wanted c.unserved_ports-ports.ensures.kept c.unserved_ports-ports.ensures.found c.unserved_ports-ports.ensures.forgotten c.note_probe_result.ensures
 
 its_rows : (g : Over) (c : After-law_a_new_server_has_begun g) → SameRows c.in-Ok.plan.grants c.in-Ok-from_rows.grants
 its_rows g c = subst (λ (rows : List GrantRow). SameRows rows c.in-Ok-from_rows.grants) c.grants.ensures.grants c.in-Ok-from_rows.ensures.rows
@@ -49,7 +49,7 @@ its_taken g c =
     let same = c.wanted-2.ensures.wanted ∙ sym c.wanted.ensures.wanted ∙ sym (has_ports g c).wanted in
     subst (λ (wanted : List Wanted). TakesOver wanted c.take_over-host.result (g.A.Adapter.device c.args.adapter) (new_server g c).device) same c.take_over-host.ensures.taken
 
-begun : (g : Over) (c : After-law_a_new_server_has_begun g) → SettledInvariant (new_server g c) × HasBegun (new_server g c)
+begun : (g : Over) (c : After-law_a_new_server_has_begun g) → SettledInvariant (new_server g c) × StartsHistory (new_server g c)
 begun g c =
     let device = g.A.Adapter.device in
     let plan = c.in-Ok.plan in
@@ -60,7 +60,7 @@ begun g c =
     c.law_a_new_server_has_begun.ensures s host (device c.args.adapter) c.requires.ready.idle (g.met.A.Adapter.tells c.args.adapter) (its_taken g c)
     (new_fits s host plan c.in-Ok.ensures.fits (its_rows g c)
     (rw c.owners.ensures.owners at c.in-Ok-boxed.ensures.only) room c.in-Ok-from_rows.ensures.names c.in-Ok-from_rows.ensures.few c.in-Ok-boxed.ensures.free has.found c.take_over-host.ensures.four has.four_remembered has.forgotten has.four_kept has.unkept has.four_slots has.four_modes has.places
-    (λ port low. has.modes s.device.cap c.take_over-host.ensures.taken.slots c.take_over-host.ensures.taken.queued port low ∙ ap (λ (found : List ProbeResult). mode_found s.device.cap (probe_result_of found port)) (sym has.found)) has.usable has.unused c.in-Ok-new.ensures refl)
+    (λ port low. has.modes s.device.cap c.take_over-host.ensures.taken.slots c.take_over-host.ensures.taken.queued port low ∙ ap (λ (found : List ProbeResult). probed_mode s.device.cap (probe_result_of found port)) (sym has.found)) has.usable has.unused c.in-Ok-new.ensures refl)
 
 pub invariant_of-result : goal.invariant_of-result
 invariant_of-result g c = (begun g c).0

@@ -7,10 +7,10 @@ use Rattle.host_boot.specs.Taken.{TakesOver}
 use Rattle.host_boot.specs.declared.ProbeResult.{ProbeResult}
 use Rattle.identify.specs.declared.wanted.Wanted.{Wanted}
 use Rattle.server_history.specs.Histories.{ExtendsSettled, ExtendsHistory, ExtendsStuck}
-use Rattle.server_history.specs.Kept.{IsKeptIn, MayGoBack, TakesBack}
-use Rattle.server_history.specs.Resets.{IsReinitialized, IssuePorts, ResetsServer, SettlePorts}
+use Rattle.server_history.specs.Kept.{IsKeptIn, MayGiveBack, TakesBack}
+use Rattle.server_history.specs.Resets.{IsReinitialized, IssuePorts, ResetsServer, ResolvePorts}
 use Rattle.server_history.specs.Server.{InCallInvariant, ServerState}
-use Rattle.server_history.specs.Stalled.{ResetGetsStuck, BookInvariant}
+use Rattle.server_history.specs.StuckServer.{ResetGetsStuck, ServerInvariant}
 use Rattle.block_server.specs.FourPorts.{EachBecomes, BeginsAsHostFound, by_port}
 use Rattle.block_server.specs.Seen.{seen, with_ports}
 use Rattle.block_server.specs.View.{ServerView, server_of}
@@ -30,9 +30,9 @@ use Rattle.block_server.proofs.server.Server.reset_into.Goals.{After-note_stuck_
 abbrev stuck_server : (g : Over) (c : After-note_stuck_reset g) → ServerState
 stuck_server g c = with_ports (server_of g.A.Adapter.device (seen c.self.inside)) (g.A.Adapter.device c.reset.new.adapter) c.self.inside.shared c.note_stuck_reset.new.ports
 
-stuck_books : (g : Over) (c : After-note_stuck_reset g) → BookInvariant (server_of g.A.Adapter.device (seen c.self.inside))
+stuck_books : (g : Over) (c : After-note_stuck_reset g) → ServerInvariant (server_of g.A.Adapter.device (seen c.self.inside))
 stuck_books g c =
-    holds_either c.self.inside.stuck c.self.invariant (λ _ settled. c.law_book_invariant_holds.ensures.kept (server_of g.A.Adapter.device (seen c.self.inside)) settled.kept) (λ _ stalled. stalled.booked)
+    holds_either c.self.inside.stuck c.self.invariant (λ _ settled. c.law_server_invariant_holds.ensures.kept (server_of g.A.Adapter.device (seen c.self.inside)) settled.kept) (λ _ stalled. stalled.booked)
 
 got_stuck : (g : Over) (c : After-note_stuck_reset g) → ResetGetsStuck (server_of g.A.Adapter.device (seen c.self.inside)) (stuck_server g c)
 got_stuck g c =
@@ -41,7 +41,7 @@ got_stuck g c =
     becoming.gets_stuck (server_of device (seen v)) (device v.adapter) (device c.reset.new.adapter) v.shared v.ports c.note_stuck_reset.new.ports (placing.four_ports v.ports (stuck_books g c).four) c.note_stuck_reset.ensures c.in-Err.ensures.stuck
 
 stuck_then : (g : Over) (c : After-note_stuck_reset g) → ExtendsStuck (server_of g.A.Adapter.device (seen c.self.inside)) (stuck_server g c) Reset (WasReset None)
-stuck_then g c = c.law_stuck_resets_add.ensures (server_of g.A.Adapter.device (seen c.self.inside)) (stuck_server g c) (stuck_books g c) (got_stuck g c)
+stuck_then g c = c.law_stuck_resets_extend_history.ensures (server_of g.A.Adapter.device (seen c.self.inside)) (stuck_server g c) (stuck_books g c) (got_stuck g c)
 
 pub invariant_of-self : goal.invariant_of-self
 invariant_of-self g c = (stuck_then g (goal.at.invariant_of-self g c).After-note_stuck_reset).stalled
@@ -65,21 +65,21 @@ returns-in-Err-clause-resets g c =
 pub give_all_back-requires : goal.give_all_back-requires
 give_all_back-requires g c =
     let s = server_of g.A.Adapter.device (seen c.self.inside) in
-    let booked : BookInvariant s = holds_either c.self.inside.stuck c.self.invariant (λ _ settled. c.law_book_invariant_holds.ensures.kept s settled.kept) (λ _ stalled. stalled.booked) in
+    let booked : ServerInvariant s = holds_either c.self.inside.stuck c.self.invariant (λ _ settled. c.law_server_invariant_holds.ensures.kept s settled.kept) (λ _ stalled. stalled.booked) in
     let laws = c.law_quarantined_loans_are_lent.ensures in
-    subst (λ (table : Table). MayGoBack table s.kept) (sym c.deref_mut.ensures.value)
+    subst (λ (table : Table). MayGiveBack table s.kept) (sym c.deref_mut.ensures.value)
     (reviving.may_go s booked (λ port. laws.lent s port booked) (λ port. laws.two s port booked) (λ port other a b. laws.one s port other a b booked))
 
 -- the server as its adapter was taken over again, with no loan kept
-its_books : (g : Over) (c : After-resolve_ports-arg-3-1 g) → BookInvariant (server_of g.A.Adapter.device (seen c.self.inside))
+its_books : (g : Over) (c : After-resolve_ports-arg-3-1 g) → ServerInvariant (server_of g.A.Adapter.device (seen c.self.inside))
 its_books g c =
-    holds_either c.self.inside.stuck c.self.invariant (λ _ settled. c.law_book_invariant_holds.ensures.kept (server_of g.A.Adapter.device (seen c.self.inside)) settled.kept) (λ _ stalled. stalled.booked)
+    holds_either c.self.inside.stuck c.self.invariant (λ _ settled. c.law_server_invariant_holds.ensures.kept (server_of g.A.Adapter.device (seen c.self.inside)) settled.kept) (λ _ stalled. stalled.booked)
 
 abbrev shared_then : (g : Over) (c : After-resolve_ports-arg-3-1 g) → Shared
 shared_then g c = record { table = with_value c.self.inside.shared.table c.give_all_back.new.table; book = c.self.inside.shared.book }
 
 abbrev taken : (g : Over) (c : After-resolve_ports-arg-3-1 g) → ServerState
-taken g c = with_ports (server_of g.A.Adapter.device (seen c.self.inside)) (g.A.Adapter.device c.take_over-host.new.adapter) (shared_then g c) c.begin_anew.new.ports
+taken g c = with_ports (server_of g.A.Adapter.device (seen c.self.inside)) (g.A.Adapter.device c.take_over-host.new.adapter) (shared_then g c) c.note_probe_result.new.ports
 
 takes : (g : Over) (c : After-resolve_ports-arg-3-1 g) → IsReinitialized (server_of g.A.Adapter.device (seen c.self.inside)) (taken g c)
 takes g c =
@@ -89,8 +89,8 @@ takes g c =
     let back = c.give_all_back.ensures in
     let new = device c.take_over-host.new.adapter in
     let idle = device c.reset.new.adapter in
-    becoming.takes_again (server_of device (seen v)) (device v.adapter) idle new v.shared (shared_then g c) v.ports c.begin_anew.new.ports (placing.four_ports v.ports (its_books g c).four) host c.take_over-host.ensures.four
-    (subst (λ (ports : List ServedPort). EachBecomes (BeginsAsHostFound host) ports c.begin_anew.new.ports) back.ports c.begin_anew.ensures) c.in_default.ensures.reset
+    becoming.takes_again (server_of device (seen v)) (device v.adapter) idle new v.shared (shared_then g c) v.ports c.note_probe_result.new.ports (placing.four_ports v.ports (its_books g c).four) host c.take_over-host.ensures.four
+    (subst (λ (ports : List ServedPort). EachBecomes (BeginsAsHostFound host) ports c.note_probe_result.new.ports) back.ports c.note_probe_result.ensures) c.in_default.ensures.reset
     (subst (λ (table : Table). TakesBack table c.give_all_back.new.table (IsKeptIn (by_port (λ p. p.kept) v.ports))) c.deref_mut.ensures.value back.back)
     (subst (λ (wanted : List Wanted). TakesOver wanted host idle new) (c.wanted_disks.ensures ∙ ap (by_port (λ p. p.wanted)) back.ports) c.take_over-host.ensures.taken) refl
 
@@ -104,12 +104,12 @@ at_settling g c = (goal.at.issue_ports-requires g c).After-resolve_ports-arg-3-1
 abbrev settled : (g : Over) (c : After-issue_ports-arg-3-1 g) → ServerState
 settled g c = with_ports (taken g (at_settling g c)) (taken g (at_settling g c)).device c.resolve_ports.new.shared c.resolve_ports.new.ports
 
-settles : (g : Over) (c : After-issue_ports-arg-3-1 g) → SettlePorts 0 (taken g (at_settling g c)).ports c.resolve_ports.new.replies.items (taken g (at_settling g c)) (settled g c)
+settles : (g : Over) (c : After-issue_ports-arg-3-1 g) → ResolvePorts 0 (taken g (at_settling g c)).ports c.resolve_ports.new.replies.items (taken g (at_settling g c)) (settled g c)
 settles g c =
     let a = at_settling g c in
     let from = taken g a in
     let all = c.resolve_ports.ensures.settles from (c.law_a_reset_server_goes_on.ensures.settle (server_of g.A.Adapter.device (seen c.self.inside)) from (its_books g a) (takes g a)) in
-    subst (λ (replies : List Reply). SettlePorts 0 from.ports replies from (settled g c)) (sym (all.1 ∙ ap (λ (told : List Reply). told ++ all.0) c.clear.ensures)) all.2
+    subst (λ (replies : List Reply). ResolvePorts 0 from.ports replies from (settled g c)) (sym (all.1 ∙ ap (λ (told : List Reply). told ++ all.0) c.clear.ensures)) all.2
 
 keeps : (g : Over) (c : After-issue_ports-arg-3-1 g) → InCallInvariant (settled g c)
 keeps g c =
@@ -133,7 +133,7 @@ was_reset g c =
     let I : List ProbeResult → Type 0 = λ found. IssuePorts 0 found (settled g i) (after g c) in
     let resets : ResetsServer c.resolve_ports.new.replies.items s (after g c) =
     record { taken = taken g a; takes = takes g a; settled = settled g i; settles = settles g i; issues = subst I c.resolve_ports.ensures.found (c.issue_ports.ensures.issues (settled g i) (keeps g i)) } in
-    (resets, c.law_resets_add.ensures s (after g c) c.resolve_ports.new.replies.items (its_books g a) resets)
+    (resets, c.law_resets_extend_history.ensures s (after g c) c.resolve_ports.new.replies.items (its_books g a) resets)
 
 pub invariant_of-self-2 : goal.invariant_of-self-2
 invariant_of-self-2 g c = (was_reset g c).1.settled

@@ -12,7 +12,7 @@ use Rattle.port_driver.specs.Ports.{HasFoundPort}
 use Rattle.port_driver.specs.declared.served_port.ServedPort.{ServedPort}
 use Rattle.port_driver.specs.declared.served_port.Shared.{Shared}
 use Rattle.block_server.proofs.Placing as placing
-use Rattle.server_history.specs.Stalled.{StuckInvariant, BookInvariant}
+use Rattle.server_history.specs.StuckServer.{StuckInvariant, ServerInvariant}
 use Rattle.port_driver.specs.Dispositions.{BookIsSound}
 use Rattle.block_server.specs.Revoking.{RevokesAndIssues}
 use Rattle.block_server.specs.Seen.{seen}
@@ -30,15 +30,15 @@ returns-in_default-clause-adds g c =
     let none = c.in_default.ensures.none refl in
     let P : ServerView g.row.A.Denot → Type 0 = λ v. ExtendsHistory (server_of device v) (server_of device (record s { grants = c.revoke.new.self })) (RevokeOf c.args.client c.args.number) (WasRevoked None) in
     let Q : List GrantRow → Type 0 = λ rows. ExtendsHistory (server_of device s) (server_of device (record s { grants = rows })) (RevokeOf c.args.client c.args.number) (WasRevoked None) in
-    subst P c.self.view_is (subst Q (sym none.0) (c.law_refusals_add.ensures.revoke c.self.inside.stuck (server_of device s) c.args.client c.args.number c.self.invariant none.1))
+    subst P c.self.view_is (subst Q (sym none.0) (c.law_refusals_extend_history.ensures.revoke c.self.inside.stuck (server_of device s) c.args.client c.args.number c.self.invariant none.1))
 
 pub answer_waiting-requires : goal.answer_waiting-requires
 answer_waiting-requires g c =
     let s = server_of g.A.Adapter.device (seen c.self.inside) in
-    let b : BookInvariant s = holds_either c.self.inside.stuck c.self.invariant (λ _ settled. c.law_book_invariant_holds.ensures.kept s settled.kept) (λ _ stalled. stalled.booked) in
+    let b : ServerInvariant s = holds_either c.self.inside.stuck c.self.invariant (λ _ settled. c.law_server_invariant_holds.ensures.kept s settled.kept) (λ _ stalled. stalled.booked) in
     let marked : BookIsSound s.table (all_marked_under c.args.client c.args.number s.book) = record {
       ordered = c.law_the_book_stays_in_order.ensures.revoked s.book c.args.client c.args.number b.ordered;
-      accepted = c.law_accepted_requests_stay.ensures.revoked s.table s.book c.args.client c.args.number b.accepted;
+      accepted = c.law_accepted_is_preserved.ensures.revoked s.table s.book c.args.client c.args.number b.accepted;
     } in
     let sound : BookIsSound s.table c.revoke-2.new.self = subst (BookIsSound s.table) (sym c.revoke-2.ensures) marked in
     let all = c.law_the_book_stays_in_order.ensures.all c.revoke-2.new.self sound.ordered in
@@ -61,7 +61,7 @@ added_off : (g : Over) (c : Then-self g) → ExtendsStuck (server_of g.A.Adapter
 added_off g c =
     let s = server_of g.A.Adapter.device (seen c.self.inside) in
     let stalled : StuckInvariant s = holds_either c.self.inside.stuck c.self.invariant (λ on _. absurd (let z : false ≡ true = sym on ∙ c.if-self.true in cc)) (λ _ stalled. stalled) in
-    c.law_stuck_revocations_add.ensures s (server_of g.A.Adapter.device (after_off g c)) c.args.client c.args.number c.answer_waiting.new.replies.items stalled (revoked_off g c)
+    c.law_stuck_revocations_extend_history.ensures s (server_of g.A.Adapter.device (after_off g c)) c.args.client c.args.number c.answer_waiting.new.replies.items stalled (revoked_off g c)
 
 pub invariant_of-self-then-self : goal.invariant_of-self-then-self
 invariant_of-self-then-self g c = subst (λ (b : Bool). InvariantBy b (server_of g.A.Adapter.device (after_off g c))) (sym c.if-self.true) (added_off g c).stalled
@@ -102,7 +102,7 @@ revoked_on g c =
 
 -- it goes on
 keeps_on : (g : Over) (c : After-index-self-from g) → InCallInvariant (mid_on g c)
-keeps_on g c = c.law_requests_keep.ensures.revoked (server_of g.A.Adapter.device (seen c.self.inside)) (mid_on g c) c.args.client c.args.number c.answer_waiting.new.replies.items (is_on g c).kept (revoked_on g c)
+keeps_on g c = c.law_requests_preserve_invariant.ensures.revoked (server_of g.A.Adapter.device (seen c.self.inside)) (mid_on g c) c.args.client c.args.number c.answer_waiting.new.replies.items (is_on g c).kept (revoked_on g c)
 
 -- the grant's port
 abbrev its_port : (g : Over) (c : After-index-self-from g) → ServedPort
@@ -154,7 +154,7 @@ issued_on g c =
 
 -- it adds an event
 added_on : (g : Over) (c : After-issue_where_ready g) → ExtendsSettled (server_of g.A.Adapter.device (seen c.self.inside)) (server_of g.A.Adapter.device (after_on g c)) (RevokeOf c.args.client c.args.number) (WasRevoked (Some c.answer_waiting.new.replies.items))
-added_on g c = c.law_revocations_add.ensures (server_of g.A.Adapter.device (seen c.self.inside)) (mid_on g (before g c)) (server_of g.A.Adapter.device (after_on g c)) c.args.client c.args.number c.answer_waiting.new.replies.items (is_on g (before g c)) (revoked_on g (before g c)) (issued_on g c)
+added_on g c = c.law_revocations_extend_history.ensures (server_of g.A.Adapter.device (seen c.self.inside)) (mid_on g (before g c)) (server_of g.A.Adapter.device (after_on g c)) c.args.client c.args.number c.answer_waiting.new.replies.items (is_on g (before g c)) (revoked_on g (before g c)) (issued_on g c)
 
 pub invariant_of-self-2 : goal.invariant_of-self-2
 invariant_of-self-2 g c = subst (λ (b : Bool). InvariantBy b (server_of g.A.Adapter.device (after_on g c))) (sym c.if-self.false) (added_on g c).settled

@@ -1,10 +1,10 @@
 use Rattle.std.proofs.Common.{◌<◌, ◌≡◌, ◌+◌, ◌++◌, ◌∷◌, List, sym, ◌∙◌, ap, subst, [], append_assoc, length, length-append, take, arith, refl, rules}
 use Rattle.std.proofs.lemmas.List.{append-nil, take_all, take_more}
 use Rattle.adapter.specs.Counted.{MakesAtMost}
-use Rattle.block_server.specs.Costs.{most_of_all}
+use Rattle.block_server.specs.Costs.{most_accesses_of_all}
 use Rattle.block_server.proofs.Counting.{most_more, most_taken}
 use Rattle.block_server.specs.Promise.{RunsAsPromised, Simulates}
-use Rattle.block_server.specs.Sayings.{said_in, with_replies}
+use Rattle.block_server.specs.CallResults.{results_in, with_replies}
 use Rattle.arrayvec.specs.ArrayVec.{ArrayVec}
 use Rattle.ata_types.specs.declared.call.Call.{Call}
 use Rattle.ata_types.specs.declared.call.CallResult.{CallResult}
@@ -14,7 +14,7 @@ use Rattle.block_server.proofs.server.Server.run.Goals as goal
 
 pub loop-at-init : goal.loop-at-init
 loop-at-init g c = record {
-  ran = record { said = []; told = sym (append-nil (said_in c.args.out.now)); each = refl; keeps = c.law_runs_keep_their_promise.ensures.none c.args.self.now };
+  ran = record { said = []; told = sym (append-nil (results_in c.args.out.now)); each = refl; keeps = c.law_runs_keep_their_promise.ensures.none c.args.self.now };
   length = omega arith;
   last = λ some. absurd (omega (arith, some));
   room = omega arith;
@@ -34,7 +34,7 @@ loop-at-preserved g c =
     record {
       ran = record {
         said = so_far.said ++ one ∷ [];
-        told = ap (λ (l : List (CallResult (ArrayVec Reply))). l ++ one ∷ []) before ∙ append_assoc (said_in c.args.out.now) so_far.said (one ∷ []);
+        told = ap (λ (l : List (CallResult (ArrayVec Reply))). l ++ one ∷ []) before ∙ append_assoc (results_in c.args.out.now) so_far.said (one ∷ []);
         each = subst Q calls (length-append so_far.said (one ∷ []) ∙ ap (λ n. n + 1) so_far.each ∙ sym (length-append (take c.loop-at.at c.args.calls.now) (call ∷ [])));
         keeps = subst P calls (c.law_runs_keep_their_promise.ensures.more _ _ _ _ _ _ _ so_far.keeps (c.law_runs_keep_their_promise.ensures.one _ _ call one c.make_call-said.ensures.adds c.make_call-said.ensures.wanted));
       };
@@ -42,7 +42,7 @@ loop-at-preserved g c =
       last = λ some. refl;
       room = omega (arith, c.loop-at.invariant.room, c.reserve.ensures.capacity, c.go_on.ensures.capacity);
       cost =
-          let M : List (Call DeviceStep) → Type 0 = λ calls. MakesAtMost (most_of_all calls) (g.A.Adapter.access_count c.args.self.now.adapter) (g.A.Adapter.access_count c.make_call-said.new.self.adapter) in
+          let M : List (Call DeviceStep) → Type 0 = λ calls. MakesAtMost (most_accesses_of_all calls) (g.A.Adapter.access_count c.args.self.now.adapter) (g.A.Adapter.access_count c.make_call-said.new.self.adapter) in
           let more = most_more (take c.loop-at.at c.args.calls.now) call in
           subst M calls (omega (arith, more, c.loop-at.invariant.cost, c.make_call-said.ensures.cost));
     }
@@ -52,7 +52,7 @@ returns-then-is_err-clause-ample g c = search rules
 
 pub returns-clause-done : goal.returns-clause-done
 returns-clause-done g c =
-    let P : List (Call DeviceStep) → Type 0 = λ calls. RunsAsPromised g.A.Adapter.device c.args.self.now c.loop-at.self calls (said_in c.args.out.now) (said_in c.loop-at.out) in
+    let P : List (Call DeviceStep) → Type 0 = λ calls. RunsAsPromised g.A.Adapter.device c.args.self.now c.loop-at.self calls (results_in c.args.out.now) (results_in c.loop-at.out) in
     subst P (take_all c.loop-at.at c.args.calls.now (omega arith)) c.loop-at.invariant.ran
 
 pub returns-clause-last : goal.returns-clause-last

@@ -68,7 +68,7 @@ returns-clause-services g c =
 pub returns-clause-adds : goal.returns-clause-adds
 returns-clause-adds g c =
     let device = g.A.Adapter.device in
-    (c.law_services_add.ensures (server_of device c.args.self.now) (server_of device (seen c.loop-number.self-inside)) c.loop-number.replies.items
+    (c.law_services_extend_history.ensures (server_of device c.args.self.now) (server_of device (seen c.loop-number.self-inside)) c.loop-number.replies.items
     (now_on device c.self.view_is c.if-self.false c.self.invariant) (served g c)).adds
 
 pub loop-number-init : goal.loop-number-init

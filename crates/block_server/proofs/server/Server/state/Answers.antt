@@ -7,15 +7,15 @@ use Rattle.block_server.proofs.server.Server.state.Goals as goal
 
 pub returns-in-Unserved-clause-adds : goal.returns-in-Unserved-clause-adds
 returns-in-Unserved-clause-adds g c =
-    shown_adds g.A.Adapter.device c.law_refusals_add.ensures.state (seen c.self.inside) c.args.self.now c.self.view_is c.args.port Absent c.self.invariant
+    shown_adds g.A.Adapter.device c.law_refusals_extend_history.ensures.state (seen c.self.inside) c.args.self.now c.self.view_is c.args.port Absent c.self.invariant
     (ap state_of (sym c.in-Unserved.is ∙ c.found.ensures))
 
 pub returns-in-Ready-clause-adds : goal.returns-in-Ready-clause-adds
 returns-in-Ready-clause-adds g c =
-    shown_adds g.A.Adapter.device c.law_refusals_add.ensures.state (seen c.self.inside) c.args.self.now c.self.view_is c.args.port Ready c.self.invariant
+    shown_adds g.A.Adapter.device c.law_refusals_extend_history.ensures.state (seen c.self.inside) c.args.self.now c.self.view_is c.args.port Ready c.self.invariant
     (ap state_of (sym c.in-Ready.is ∙ c.found.ensures))
 
 pub returns-in-Unready-clause-adds : goal.returns-in-Unready-clause-adds
 returns-in-Unready-clause-adds g c =
-    shown_adds g.A.Adapter.device c.law_refusals_add.ensures.state (seen c.self.inside) c.args.self.now c.self.view_is c.args.port c.in-Unready.state c.self.invariant
+    shown_adds g.A.Adapter.device c.law_refusals_extend_history.ensures.state (seen c.self.inside) c.args.self.now c.self.view_is c.args.port c.in-Unready.state c.self.invariant
     (ap state_of (sym c.in-Unready.is ∙ c.found.ensures))

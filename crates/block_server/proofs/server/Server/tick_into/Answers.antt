@@ -5,7 +5,7 @@ use Rattle.std.proofs.lemmas.List.{length-map}
 use Rattle.ata_types.specs.declared.request.Reply.{Reply}
 use Rattle.refinement.specs.Relation.{port_at}
 use Rattle.host_boot.specs.Taken.{probe_result_of}
-use Rattle.request_queue.specs.Entries.{Held, IsOverdue, aged}
+use Rattle.request_queue.specs.Entries.{BookEntry, IsOverdue, aged}
 use Rattle.block_machine.specs.Events.{Served, Tick}
 use Rattle.block_server.specs.Calls.{TicksBy}
 use Rattle.server_history.specs.Histories.{ExtendsHistory, InvariantBy}
@@ -31,7 +31,7 @@ older g c =
 
 older_now : (g : Over) (c : After-overdue_ports-overdue g) → record (server_of g.A.Adapter.device (seen c.self.inside)) { book = c.tick-any_overdue.new.self } ≡ a_tick_older (server_of g.A.Adapter.device c.args.self.now)
 older_now g c =
-    ap (λ (book : List Held). record (server_of g.A.Adapter.device (seen c.self.inside)) { book = book }) (older g c)
+    ap (λ (book : List BookEntry). record (server_of g.A.Adapter.device (seen c.self.inside)) { book = book }) (older g c)
     ∙ ap (λ (v : ServerView g.row.A.Denot). a_tick_older (server_of g.A.Adapter.device v)) c.self.view_is
 
 pub tick-requires-clause-settled : goal.tick-requires-clause-settled
@@ -54,7 +54,7 @@ loop-number-preserved g c =
     let s = server_of device (seen v) in
     let default = c.index-self-number.result in
     let new = c.tick.new in
-    let O : List Held → Type 0 = λ book. IsTrue (slice_index_or c.overdue_ports-overdue.result number false) ↔ IsOverdue (port_at number) book in
+    let O : List BookEntry → Type 0 = λ book. IsTrue (slice_index_or c.overdue_ports-overdue.result number false) ↔ IsOverdue (port_at number) book in
     let at = (goal.at.loop-number-preserved g c).After-overdue_ports-overdue in
     let exact : O old.book = subst O (ap (λ (x : ServerState). x.book) (older_now g at)) (c.overdue_ports-overdue.ensures number small) in
     record {
@@ -94,7 +94,7 @@ returns-clause-ticks g c =
 pub returns-clause-adds : goal.returns-clause-adds
 returns-clause-adds g c =
     let device = g.A.Adapter.device in
-    (c.law_ticks_add.ensures (server_of device c.args.self.now) (server_of device (seen c.loop-number.self-inside)) c.loop-number.replies.items
+    (c.law_ticks_extend_history.ensures (server_of device c.args.self.now) (server_of device (seen c.loop-number.self-inside)) c.loop-number.replies.items
     (now_on device c.self.view_is c.if-self.false c.self.invariant) (ticked g c)).adds
 
 -- since a reset that got stuck there is no ready port
@@ -112,7 +112,7 @@ pub returns-then-self-clause-adds : goal.returns-then-self-clause-adds
 returns-then-self-clause-adds g c =
     let s = server_of g.A.Adapter.device c.args.self.now in
     subst (λ (replies : List Reply). ExtendsHistory s s Tick (Served replies)) (sym c.clear.ensures)
-    (c.law_stuck_ticks_add.ensures s (now_off g.A.Adapter.device c.self.view_is c.if-self.true c.self.invariant)).adds
+    (c.law_stuck_ticks_extend_history.ensures s (now_off g.A.Adapter.device c.self.view_is c.if-self.true c.self.invariant)).adds
 
 pub loop-number-init : goal.loop-number-init
 loop-number-init g c =
@@ -123,7 +123,7 @@ loop-number-init g c =
     let ports = ap (λ (x : ServerView g.row.A.Denot). x.ports) c.self.view_is in
     let settled = now_on device refl c.if-self.false c.self.invariant in
     let now : SettledInvariant (record (server_of device (seen v)) { book = c.tick-any_overdue.new.self }) =
-    subst (λ (book : List Held). SettledInvariant (record (server_of device (seen v)) { book = book })) (sym (older g at)) (c.law_requests_get_older.ensures (server_of device (seen v)) settled) in
+    subst (λ (book : List BookEntry). SettledInvariant (record (server_of device (seen v)) { book = book })) (sym (older g at)) (c.law_aging_keeps_invariant.ensures (server_of device (seen v)) settled) in
     let four = placing.four_ports v.ports settled.kept.four in
     record {
       first = ap length (sym ports) ∙ length-map v.ports (λ (p : ServedPort). p.found) ∙ four;

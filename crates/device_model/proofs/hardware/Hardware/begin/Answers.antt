@@ -16,8 +16,8 @@ use Rattle.device_model.proofs.Ready.{ahead_is, ahead_of, ready_held, ready_to_g
 use Rattle.device_model.proofs.Stepping.{fetch_takes}
 use Rattle.device_model.proofs.hardware.Hardware.begin.Goals as goal
 
-pub begin_said-requires-clause-may : goal.begin_said-requires-clause-may
-begin_said-requires-clause-may c =
+pub begin_decoded-requires-clause-may : goal.begin_decoded-requires-clause-may
+begin_decoded-requires-clause-may c =
     let P : ℕ → Type 0 = λ q. HasUntaken (slice_index_or c.args.self.now.ports q blank_port) c.args.slot in
     subst P c.from-place.ensures (c.has_untaken.ensures.may c.if-has_untaken.true)
 
@@ -30,14 +30,14 @@ returns-in_err-rest-clause-left c = λ _.
           let P : ℕ → Type 0 = λ q. WorksOnIn (slice_index_or c.args.self.now.ports q blank_port) c.args.slot w.0 in
           let rest = ready_is_held c.args.self.now c.from-place.result c.args.port c.args.slot w.0 c.from-place.ensures w.1
           (c.has_untaken.ensures.only c.if-has_untaken.false) o left clears ready in
-          none_and _ _ (c.rest_at.ensures.only w.0 left clears (subst P c.from-place.ensures w.1) rest) c.in_err-rest.was,
+          none_and _ _ (c.remaining_at.ensures.only w.0 left clears (subst P c.from-place.ensures w.1) rest) c.in_err-rest.was,
       refl,
     )
 
-pub returns-then-not-grow-clause-left : goal.returns-then-not-grow-clause-left
-returns-then-not-grow-clause-left c = λ _.
+pub returns-then-not-reserve_all-clause-left : goal.returns-then-not-reserve_all-clause-left
+returns-then-not-reserve_all-clause-left c = λ _.
     -- the command that is ready is the one that is held, and so much is left of it
-    let ready_one : (o : Outside) (n m : ℕ) (may : MayFinish (device_of c.args.self.now o) c.args.port c.args.slot n m) (cache : Cache) → (c.in_ok-rest.rest.left ≡ n) × (c.in_ok-rest.rest.clears ≡ m) × (HasOldRoom cache (changes_ahead may.t.meaning.operation (bytes_of c.args.self.now.memory.items) may.t n) → HasOldRoom cache c.growths_of.result.old_sectors) =
+    let ready_one : (o : Outside) (n m : ℕ) (may : MayFinish (device_of c.args.self.now o) c.args.port c.args.slot n m) (cache : Cache) → (c.in_ok-rest.rest.left ≡ n) × (c.in_ok-rest.rest.clears ≡ m) × (HasOldRoom cache (changes_ahead may.t.meaning.operation (bytes_of c.args.self.now.memory.items) may.t n) → HasOldRoom cache c.reservations_of.result.old_sectors) =
     λ o n m may cache.
     let h = c.args.self.now in
     let rest = c.in_ok-rest.rest in
@@ -45,20 +45,20 @@ returns-then-not-grow-clause-left c = λ _.
     let never = c.has_untaken.ensures.only c.if-has_untaken.false in
     let P : ℕ → Type 0 = λ q. WorksOnIn (slice_index_or h.ports q blank_port) c.args.slot found.0 in
     let held = subst P (sym c.from-place.ensures) found.1 in
-    let one = some_and _ _ rest (c.rest_at.ensures.only found.0 n m found.1 (ready_is_held h c.from-place.result c.args.port c.args.slot found.0 c.from-place.ensures held never o n m may)) c.in_ok-rest.was in
+    let one = some_and _ _ rest (c.remaining_at.ensures.only found.0 n m found.1 (ready_is_held h c.from-place.result c.args.port c.args.slot found.0 c.from-place.ensures held never o n m may)) c.in_ok-rest.was in
     let w = ready_held h o c.from-place.result c.args.port c.args.slot n m c.from-place.ensures may never in
     let same : may.t ≡ taken_of found.0 = w.2 ∙ ap taken_of (some_one (sym w.1.held ∙ held.held)) in (
       one.0,
       one.1,
-      ahead_is h o cache c.args.port c.args.slot rest.left c.growths_of.result.old_sectors n m found.0 may same one.0
-          (c.growths_of.ensures.old_sectors ∙ c.in_ok-rest.ensures.changes found.0 found.1),
+      ahead_is h o cache c.args.port c.args.slot rest.left c.reservations_of.result.old_sectors n m found.0 may same one.0
+          (c.reservations_of.ensures.old_sectors ∙ c.in_ok-rest.ensures.changes found.0 found.1),
     ) in
     let h = c.args.self.now in
     let rest = c.in_ok-rest.rest in
     let found = c.in_ok-rest.ensures.found in
     let P : ℕ → Type 0 = λ q. WorksOnIn (slice_index_or h.ports q blank_port) c.args.slot found.0 in
     let held = subst P (sym c.from-place.ensures) found.1 in
-    let entries = c.growths_of.ensures.entries in
+    let entries = c.reservations_of.ensures.entries in
     inr (record {
       left = rest.left;
       clears = rest.clears;
@@ -67,13 +67,13 @@ returns-then-not-grow-clause-left c = λ _.
           let one = ready_one o n m may c.args.cache.now in
           let left = one.0 in
           let clears = one.1 in
-          c.grow.ensures.lacked c.if-not-grow.true (omega (arith, room, left, clears, entries)) (one.2 old);
+          c.reserve_all.ensures.lacked c.if-not-reserve_all.true (omega (arith, room, left, clears, entries)) (one.2 old);
       lacks = λ o n m may room old.
-          let one = ready_one o n m may c.grow.new.cache in
+          let one = ready_one o n m may c.reserve_all.new.cache in
           let left = one.0 in
           let clears = one.1 in
-          c.grow.ensures.lacks c.if-not-grow.true (omega (arith, room, left, clears, entries)) (one.2 old);
-      same = λ o. ap (λ (items : List Entry). record (device_of h o) { tape = items }) c.grow.ensures.items;
+          c.reserve_all.ensures.lacks c.if-not-reserve_all.true (omega (arith, room, left, clears, entries)) (one.2 old);
+      same = λ o. ap (λ (items : List Entry). record (device_of h o) { tape = items }) c.reserve_all.ensures.items;
       told = refl;
     })
 
@@ -83,8 +83,8 @@ returns-clause-ahead c = λ o t taken.
     let found = c.in_ok-rest.ensures.found in
     let P : ℕ → Type 0 = λ q. WorksOnIn (slice_index_or h.ports q blank_port) c.args.slot found.0 in
     let same : taken_of found.0 ≡ t = some_one (sym (found.1.works (o.media c.args.port)).taken ∙ taken) in
-    ahead_of c.grow.new.cache (bytes_of h.memory.items) c.in_ok-rest.rest.left c.growths_of.result.old_sectors found.0 t same
-    (c.growths_of.ensures.old_sectors ∙ c.in_ok-rest.ensures.changes found.0 found.1) (c.grow.ensures.old_room c.if-not-grow.false)
+    ahead_of c.reserve_all.new.cache (bytes_of h.memory.items) c.in_ok-rest.rest.left c.reservations_of.result.old_sectors found.0 t same
+    (c.reservations_of.ensures.old_sectors ∙ c.in_ok-rest.ensures.changes found.0 found.1) (c.reserve_all.ensures.old_room c.if-not-reserve_all.false)
 
 pub returns-clause-begun : goal.returns-clause-begun
 returns-clause-begun c =
@@ -93,12 +93,12 @@ returns-clause-begun c =
     let found = c.in_ok-rest.ensures.found in
     let P : ℕ → Type 0 = λ q. WorksOnIn (slice_index_or h.ports q blank_port) c.args.slot found.0 in
     let held = subst P (sym c.from-place.ensures) found.1 in
-    let new : Hardware = record h { tape = c.grow.new.tape } in
-    let room : vec_len c.grow.new.tape + c.growths_of.result.entries ≤ vec_capacity c.grow.new.tape = c.grow.ensures.room c.if-not-grow.false in
-    let entries = c.growths_of.ensures.entries in
+    let new : Hardware = record h { tape = c.reserve_all.new.tape } in
+    let room : vec_len c.reserve_all.new.tape + c.reservations_of.result.entries ≤ vec_capacity c.reserve_all.new.tape = c.reserve_all.ensures.room c.if-not-reserve_all.false in
+    let entries = c.reservations_of.ensures.entries in
     let ready : (o : Outside) → MayFinish (device_of h o) c.args.port c.args.slot rest.left rest.clears =
     ready_to_go h c.from-place.result c.args.port c.args.slot found.0 c.from-place.ensures rest.left rest.clears found.2 held in
-    let same : (o : Outside) → device_of new o ≡ device_of h o = λ o. ap (λ (items : List Entry). record (device_of h o) { tape = items }) c.grow.ensures.items in
+    let same : (o : Outside) → device_of new o ≡ device_of h o = λ o. ap (λ (items : List Entry). record (device_of h o) { tape = items }) c.reserve_all.ensures.items in
     record {
       ready = ready;
       going = λ o.
@@ -109,6 +109,6 @@ returns-clause-begun c =
       room = omega (arith, room, entries);
       did = λ never. true-false never refl;
       same = λ _ o. same o;
-      tape = c.grow.ensures.items;
+      tape = c.reserve_all.ensures.items;
       starved = refl;
     }

@@ -7,7 +7,7 @@ use Rattle.adapter.specs.Asked.{EndsAndPosts}
 use Rattle.device_model.specs.Sent.{SendsEnd}
 use Rattle.device_model.specs.View.{blank_port, cause_of, transfer_operation, taken_of}
 use Rattle.device_model.specs.Whole.{device_of, outside_ended}
-use Rattle.device_model.specs.declared.port.Transfer.{Transfer}
+use Rattle.device_model.specs.declared.port.CommandKind.{CommandKind}
 use Rattle.device_model.specs.declared.hardware.Hardware.{Hardware}
 use Rattle.device_model.proofs.Finishing.{holds}
 use Rattle.device_model.proofs.Stepping.{may_end, port_ends}
@@ -23,7 +23,7 @@ returns-clause-did c = λ o.
     let found = c.in-Some.ensures.found in
     let kind : c.in-Some.transfer ≡ found.0.transfer = found.3 in
     let P : ℕ → Type 0 = λ q. WorksOnIn (slice_index_or h.ports q blank_port) c.args.slot found.0 in
-    let R : Transfer → ℕ → Type 0 = λ k q. EndsAndPosts (SendsEnd c.args.slot) port c.args.slot (device_of h o) (device_of c.send_end.new.self (outside_ended o q (transfer_operation k))) in
+    let R : CommandKind → ℕ → Type 0 = λ k q. EndsAndPosts (SendsEnd c.args.slot) port c.args.slot (device_of h o) (device_of c.send_end.new.self (outside_ended o q (transfer_operation k))) in
     subst (λ q. R c.in-Some.transfer q) c.from-place.ensures
     (subst (λ k. R k p) (sym kind)
     (port_ends h o p port c.args.slot c.end.new.self found.0 c.record.new.tape _ c.from-place.ensures small (subst P (sym c.from-place.ensures) found.1)
@@ -36,7 +36,7 @@ returns-in_default-clause-left c = λ _ o.
       λ may.
           let t : FetchedCommand = may.1 in
           let w = holds c.args.self.now o c.args.port c.args.slot t may.2.works in
-          absurd (c.finished_at.ensures.none c.in_default.is w.0 w.1 (subst IsFinished w.2 may.2.finished)),
+          absurd (c.kind_if_finished.ensures.none c.in_default.is w.0 w.1 (subst IsFinished w.2 may.2.finished)),
       refl,
     )
 

@@ -4,8 +4,8 @@ use Rattle.device_model.specs.View.{blank_port}
 use Rattle.device_model.proofs.Stepping.{fetch_takes}
 use Rattle.device_model.proofs.hardware.Hardware.fetch.Goals as goal
 
-pub fetch_said-requires-clause-may : goal.fetch_said-requires-clause-may
-fetch_said-requires-clause-may c =
+pub fetch_decoded-requires-clause-may : goal.fetch_decoded-requires-clause-may
+fetch_decoded-requires-clause-may c =
     let P : ℕ → Type 0 = λ q. HasUntaken (slice_index_or c.args.self.now.ports q blank_port) c.args.slot in
     subst P c.from.ensures (c.has_untaken.ensures.may c.if-has_untaken.true)
 

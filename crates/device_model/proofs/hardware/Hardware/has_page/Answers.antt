@@ -10,8 +10,8 @@ use Rattle.device_model.proofs.Ready.{Ends, page_barred, page_held, page_unheld,
 use Rattle.device_model.proofs.SlotLemmas.{at_port, none_filled}
 use Rattle.device_model.proofs.hardware.Hardware.has_page.Goals as goal
 
-pub says_page-requires-clause-may : goal.says_page-requires-clause-may
-says_page-requires-clause-may c = c.has_untaken.ensures.may c.if-has_untaken.true
+pub decodes_page-requires-clause-may : goal.decodes_page-requires-clause-may
+decodes_page-requires-clause-may c = c.has_untaken.ensures.may c.if-has_untaken.true
 
 pub returns-then-can_end : goal.returns-then-can_end
 returns-then-can_end c =
@@ -67,9 +67,9 @@ returns-then-not-is_used c = λ o.
     page_unused h c.args.port c.args.slot unissued untaken o
 
 -- issued, with the code of another command
-pub returns-then-not-may_say_page : goal.returns-then-not-may_say_page
-returns-then-not-may_say_page c = λ o.
+pub returns-then-not-may_decode_page : goal.returns-then-not-may_decode_page
+returns-then-not-may_decode_page c = λ o.
     let h = c.args.self.now in
     let some : c.args.port < length h.ports = search rules in
-    let none = rw (at_port h.ports c.args.port c.index-self-port-then-has_untaken.result some) at (rw c.deref.ensures.value at (c.may_say_page.ensures c.if-not-may_say_page.true)) in
+    let none = rw (at_port h.ports c.args.port c.index-self-port-then-has_untaken.result some) at (rw c.deref.ensures.value at (c.may_decode_page.ensures c.if-not-may_decode_page.true)) in
     (page_unmeant h c.args.port c.args.slot none o, page_unsaid h c.args.port c.args.slot _ refl none (c.has_untaken.ensures.may c.if-has_untaken.true) o)

@@ -7,11 +7,11 @@ use Rattle.adapter.specs.declared.tape.Entry.TheVariants as entry
 use Rattle.device_model.specs.Exchanged.{piece_of}
 use Rattle.device_model.specs.Fetched.{bytes_of}
 use Rattle.device_model.specs.Slots.{IsNext}
-use Rattle.device_model.specs.View.{blank_port, held_in, transfer_operation}
+use Rattle.device_model.specs.View.{blank_port, taken_in, transfer_operation}
 use Rattle.device_model.specs.declared.hardware.Hardware.{Hardware}
 use Rattle.device_model.specs.declared.port.TakenCommand.{TakenCommand}
-use Rattle.device_model.specs.declared.port.Transfer.{Transfer}
-use Rattle.device_model.specs.declared.port.Transfer.TheVariants.{Trim}
+use Rattle.device_model.specs.declared.port.CommandKind.{CommandKind}
+use Rattle.device_model.specs.declared.port.CommandKind.TheVariants.{Trim}
 use Rattle.device_model.specs.declared.steps.NextMove.{NextMove}
 use Rattle.device_model.proofs.Absurd.{true-false}
 use Rattle.device_model.proofs.Exchanging.{next_after, port_moves_over}
@@ -28,8 +28,8 @@ returns-clause-moved c = λ old o t is next.
     let again : c.piece_in-2.result.now ≡ bytes = c.piece_in-2.ensures
     ∙ ap (λ (l : List ℕ). bytes_at (bytes_of l) c.args.next.address 512) c.deref-2.ensures.value in
     let small : c.from.result < length h.ports = search rules in
-    let held : held_in (slice_index_or h.ports c.args.port blank_port).taken c.args.slot ≡ Some t =
-    subst (λ (x : Hardware). held_in (slice_index_or x.ports c.args.port blank_port).taken c.args.slot ≡ Some t)
+    let held : taken_in (slice_index_or h.ports c.args.port blank_port).taken c.args.slot ≡ Some t =
+    subst (λ (x : Hardware). taken_in (slice_index_or x.ports c.args.port blank_port).taken c.args.slot ≡ Some t)
     (sym is.rest) next.holds.held in
     let here = rw (← c.from.ensures) at held in
     let noted : c.push_reserved.new.self.items
@@ -62,7 +62,7 @@ returns-clause-after c =
     (λ n one.
     let ranged = is.behind.ranged one.0 in
     let no_trim : c.args.next.transfer ≡ Trim → ⊥ = λ (e : c.args.next.transfer ≡ Trim).
-    true-false ranged (ap (λ (k : Transfer). is_ranged (transfer_operation k)) (sym is.transfer_is ∙ e)) in
+    true-false ranged (ap (λ (k : CommandKind). is_ranged (transfer_operation k)) (sym is.transfer_is ∙ e)) in
     let next = next_after h c.from.result c.args.port c.args.slot c.args.next t _ c.push_reserved.new.self h.starved is one.0 c.from.ensures small
     (rw (at_port h.ports c.from.result c.index-self-from.result small) at c.advance.ensures.rest)
     ((rw (at_port h.ports c.from.result c.index-self-from.result small) at (c.advance.ensures.held t)) here no_trim) in

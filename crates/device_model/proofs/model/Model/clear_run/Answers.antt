@@ -3,7 +3,7 @@ use Rattle.adapter.specs.declared.access.DeviceStep.TheVariants as asked
 use Rattle.adapter.specs.Steps.{disk_cleared}
 use Rattle.device_model.specs.Cached.{CallFails, HasOldRoom}
 use Rattle.device_model.specs.Disks.{bay_of, disk_over, failing, lasting_of}
-use Rattle.device_model.specs.Does.{Completes, HasCleared, CommandFails, IsCause, LacksMemory, cleared_on_disk}
+use Rattle.device_model.specs.Does.{Completes, HasCleared, CommandFails, IsSectorFault, LacksMemory, cleared_on_disk}
 use Rattle.device_model.specs.Modelled.{device_at, media_of, outside_at}
 use Rattle.device_model.specs.Trims.{HasClear, next_uncleared, span}
 use Rattle.device_model.specs.View.{taken_of}
@@ -37,7 +37,7 @@ returns-in_default-clause-answers g c =
       says = refl;
       which = refl;
       others = λ _ _. refl;
-      keeps = record { identities = λ _ _. refl; out = λ _ _ _. refl; caches = λ _. refl; queue = refl; accesses = refl };
+      keeps = record { identities = λ _ _. refl; out = λ _ _ _. refl; port_has_cache = λ _. refl; queue = refl; accesses = refl };
       disks = λ _. refl;
       why = λ served may.
           absurd (
@@ -64,7 +64,7 @@ returns-then-not-room-clause-answers g c =
       says = refl;
       which = refl;
       others = λ _ _. refl;
-      keeps = record { identities = λ _ _. refl; out = λ _ _ _. refl; caches = λ _. refl; queue = refl; accesses = refl };
+      keeps = record { identities = λ _ _. refl; out = λ _ _ _. refl; port_has_cache = λ _. refl; queue = refl; accesses = refl };
       disks = λ _. refl;
       why = λ _ _. (lacks, refl);
       starved_on = λ _. refl;
@@ -269,7 +269,7 @@ fewer g c =
 
 -- with this error
 cause : (g : Over) (c : goal.After-fail-failed g) →
-    IsCause c.in-Some-index_mut.bay.cache.is_on true (c.in-Some.run'.first + c.clear-count.result) (g.S.SectorStore.size c.in-Some-index_mut.bay.disk.store) c.if-count-on_disk.error
+    IsSectorFault c.in-Some-index_mut.bay.cache.is_on true (c.in-Some.run'.first + c.clear-count.result) (g.S.SectorStore.size c.in-Some-index_mut.bay.disk.store) c.if-count-on_disk.error
     (g.S.SectorStore.failures c.in-Some-index_mut.bay.disk.store) (g.S.SectorStore.failures c.clear-count.new.self.disk.store) × (c.if-count-on_disk.error < 256)
 cause g c =
     let a = c.in-Some-index_mut.bay in

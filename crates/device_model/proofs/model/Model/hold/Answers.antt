@@ -16,7 +16,7 @@ returns-clause-holds g c = λ held.
         others = λ _ _. refl;
         pages = gains_none g.S.SectorStore.size _ _ refl;
         disks = λ _ _. refl;
-        keeps = record { out = λ _ _ _. refl; identities = λ _ _. refl; caches = λ _. refl; queue = refl; accesses = refl };
+        keeps = record { out = λ _ _ _. refl; identities = λ _ _. refl; port_has_cache = λ _. refl; queue = refl; accesses = refl };
         starved = refl;
       },
     )
@@ -33,7 +33,7 @@ returns-clause-releases g c = λ held.
         others = λ _ _. refl;
         pages = gains_none g.S.SectorStore.size _ _ refl;
         disks = λ _ _. refl;
-        keeps = record { out = λ _ _ _. refl; identities = λ _ _. refl; caches = λ _. refl; queue = refl; accesses = refl };
+        keeps = record { out = λ _ _ _. refl; identities = λ _ _. refl; port_has_cache = λ _. refl; queue = refl; accesses = refl };
         starved = refl;
       },
     )

@@ -48,7 +48,7 @@ pub returns : goal.returns
 returns g c =
     let m = c.args.self.now in
     let a = c.in-Some.bay in
-    let b = c.put_back.new.self in
+    let b = c.put_in_lossy.new.self in
     let small = c.if-place-ge-PORTS.false in
     let at = c.from-place.ensures in
     let was = seat_is m c.from-place.result c.args.port.0 c.index_mut.result.now a c.from-place.ensures
@@ -56,7 +56,7 @@ returns g c =
     c.index_mut.ensures.value c.in-Some.is in
     let yes = c.if-not-plug.false in
     did_lose g.S.SectorStore.size g.S.SectorStore.told g.S.SectorStore.failures m _ c.args.port refl refl refl a b was
-    (ap (λ k. slice_set m.bays.items k (Some b)) c.from-place.ensures) c.put_back.ensures.loses c.put_back.ensures.rest c.put_back.ensures.later
+    (ap (λ k. slice_set m.bays.items k (Some b)) c.from-place.ensures) c.put_in_lossy.ensures.loses c.put_in_lossy.ensures.rest c.put_in_lossy.ensures.later
     (omega (arith, small, at))
     (λ d is. ap (λ (x : Device). (x.port c.args.port.0).present) is ∙ c.plug.ensures.free yes (outside_at g.S.SectorStore.size g.S.SectorStore.told m))
     g.met.S.SectorStore.tells_sectors (λ o disk name same. c.plug.ensures.did yes o disk (name ∙ sym c.number.ensures) same) (c.plug.ensures.fed yes)

@@ -12,16 +12,16 @@ use Rattle.adapter.specs.declared.tape.Entry.{Entry}
 use Rattle.adapter.specs.declared.tape.Entry.TheVariants as entry
 use Rattle.sector_store.specs.declared.store.Failures.{Failures}
 use Rattle.adapter.specs.declared.access.DeviceStep.TheVariants as asked
-use Rattle.device_model.specs.Disks.{bay_of, caches, disk_in_bay, failing, disk_failures, has_cache, lasting_of}
+use Rattle.device_model.specs.Disks.{bay_of, port_has_cache, disk_in_bay, failing, disk_failures, has_cache, lasting_of}
 use Rattle.device_model.specs.Cached.{CallFails, HasOldRoom}
 use Rattle.device_model.specs.Does.{Completes, CommandFails, LacksMemory}
-use Rattle.device_model.specs.Exchanged.{Exchanges, piece_of}
+use Rattle.device_model.specs.Exchanged.{TransfersPiece, piece_of}
 use Rattle.device_model.specs.Finishing.{HasMove}
 use Rattle.device_model.specs.Modelled.{device_at, media_of, outside_at}
 use Rattle.device_model.specs.Slots.{IsNext}
 use Rattle.device_model.specs.Trims.{written_ahead}
 use Rattle.device_model.specs.View.{Media, transfer_operation, taken_of}
-use Rattle.device_model.specs.declared.port.Transfer.{Transfer}
+use Rattle.device_model.specs.declared.port.CommandKind.{CommandKind}
 use Rattle.device_model.specs.Whole.{Outside, device_of, outside_after}
 use Rattle.device_model.specs.declared.bay.Bay.{Bay}
 use Rattle.device_model.specs.declared.hardware.Hardware.{Hardware}
@@ -94,10 +94,10 @@ was g c =
 
 -- it was exchanged with the bay as it was, but that its cache has grown
 exchanged : (g : Over) (c : goal.After-note_move g) →
-    Exchanges g.S.SectorStore.size g.S.SectorStore.told g.S.SectorStore.failures (record c.in-Some.bay { cache = c.reserve.new.self.cache }) c.transfer_piece.new.self c.in-Some-next_move.next
+    TransfersPiece g.S.SectorStore.size g.S.SectorStore.told g.S.SectorStore.failures (record c.in-Some.bay { cache = c.reserve.new.self.cache }) c.transfer_piece.new.self c.in-Some-next_move.next
     (piece_of c.reserve-room.new.self c.in-Some-next_move.next) (piece_of c.transfer_piece.new.hardware c.in-Some-next_move.next) c.transfer_piece.result
 exchanged g c =
-    let P : Bay g.row.S.Denot → Type 0 = λ x. Exchanges g.S.SectorStore.size g.S.SectorStore.told g.S.SectorStore.failures x c.transfer_piece.new.self c.in-Some-next_move.next
+    let P : Bay g.row.S.Denot → Type 0 = λ x. TransfersPiece g.S.SectorStore.size g.S.SectorStore.told g.S.SectorStore.failures x c.transfer_piece.new.self c.in-Some-next_move.next
     (piece_of c.reserve-room.new.self c.in-Some-next_move.next) (piece_of c.transfer_piece.new.hardware c.in-Some-next_move.next) c.transfer_piece.result in
     subst P c.reserve.ensures.rest c.transfer_piece.ensures.exchanges
 
@@ -273,7 +273,7 @@ past_ranged g c = by (is_ranged (transfer_operation c.in-Some-next_move.next.tra
         × (is_ranged (transfer_operation found.0.transfer) ≡ true) × (g.S.SectorStore.size c.in-Some.bay.disk.store ≤ c.in-Some-next_move.next.sector)
     by true e = (
       sym found.1.sector_is,
-      ap (λ (k : Transfer). is_ranged (transfer_operation k)) (sym found.1.transfer_is) ∙ e,
+      ap (λ (k : CommandKind). is_ranged (transfer_operation k)) (sym found.1.transfer_is) ∙ e,
       elim (cases_lt c.in-Some-next_move.next.sector c.sectors.result) [
         | inl below ↦ absurd (never (λ _. below))
         | inr past ↦ let size = c.sectors.ensures in omega (arith, past, size)
@@ -327,10 +327,10 @@ was_store g c =
     c.index_mut.ensures.value c.in-Some.is
 
 exchanged_so : (g : Over) (c : goal.After-fail-failed-then-not-transfer_piece g) →
-    Exchanges g.S.SectorStore.size g.S.SectorStore.told g.S.SectorStore.failures (record c.in-Some.bay { cache = c.reserve.new.self.cache }) c.transfer_piece.new.self c.in-Some-next_move.next
+    TransfersPiece g.S.SectorStore.size g.S.SectorStore.told g.S.SectorStore.failures (record c.in-Some.bay { cache = c.reserve.new.self.cache }) c.transfer_piece.new.self c.in-Some-next_move.next
     (piece_of c.reserve-room.new.self c.in-Some-next_move.next) (piece_of c.transfer_piece.new.hardware c.in-Some-next_move.next) c.transfer_piece.result
 exchanged_so g c =
-    let P : Bay g.row.S.Denot → Type 0 = λ x. Exchanges g.S.SectorStore.size g.S.SectorStore.told g.S.SectorStore.failures x c.transfer_piece.new.self c.in-Some-next_move.next
+    let P : Bay g.row.S.Denot → Type 0 = λ x. TransfersPiece g.S.SectorStore.size g.S.SectorStore.told g.S.SectorStore.failures x c.transfer_piece.new.self c.in-Some-next_move.next
     (piece_of c.reserve-room.new.self c.in-Some-next_move.next) (piece_of c.transfer_piece.new.hardware c.in-Some-next_move.next) c.transfer_piece.result in
     subst P c.reserve.ensures.rest c.transfer_piece.ensures.exchanges
 
@@ -398,24 +398,24 @@ store_failed g c =
     let ranged = (exchanged_so g c).ranged c.if-not-transfer_piece.true in
     let here = c.is_on.ensures.0 c.if-not-is_on.false ranged in
     let listed = c.sectors.ensures in
-    let on : c.reserve.new.self.cache.is_on ≡ caches m c.args.port.0 = c.reserve.ensures.same.is_on ∙ sym (ap has_cache (was_store g c)) in
-    let Q : Bool → ℕ → Type 0 = λ writes sector. CallFails (caches m c.args.port.0) writes sector (g.S.SectorStore.failures a.disk.store) (g.S.SectorStore.failures b.disk.store) in
+    let on : c.reserve.new.self.cache.is_on ≡ port_has_cache m c.args.port.0 = c.reserve.ensures.same.is_on ∙ sym (ap has_cache (was_store g c)) in
+    let Q : Bool → ℕ → Type 0 = λ writes sector. CallFails (port_has_cache m c.args.port.0) writes sector (g.S.SectorStore.failures a.disk.store) (g.S.SectorStore.failures b.disk.store) in
     let O : Bool → Type 0 = λ x. CallFails x (reads_memory (transfer_operation c.in-Some-next_move.next.transfer)) c.in-Some-next_move.next.sector (g.S.SectorStore.failures a.disk.store) (g.S.SectorStore.failures b.disk.store) in
     let failed = subst O on ((exchanged_so g c).fails c.if-not-transfer_piece.true (omega (arith, here, listed))) in
-    let writes = ap (λ (k : Transfer). reads_memory (transfer_operation k)) next.1.transfer_is in
+    let writes = ap (λ (k : CommandKind). reads_memory (transfer_operation k)) next.1.transfer_is in
     let size : ((device_at g.S.SectorStore.size g.S.SectorStore.told m).port c.args.port.0).disk.size ≡ g.S.SectorStore.size a.disk.store =
     ap (λ x. (media_of g.S.SectorStore.size g.S.SectorStore.told x).disk.size) (was_store g c) in
     let sector : c.in-Some-next_move.next.sector ≡ next_sector (taken_of next.0) = next.1.sector_is in
     let before : disk_failures g.S.SectorStore.failures m c.args.port.0 ≡ g.S.SectorStore.failures a.disk.store = ap (failing g.S.SectorStore.failures) (was_store g c) in
     let now : disk_failures g.S.SectorStore.failures (store_model g c) c.args.port.0 ≡ g.S.SectorStore.failures b.disk.store =
     ap (failing g.S.SectorStore.failures) (seated_here m (store_model g c) c.args.port.0 a b (was_store g c) (store_items g c)) in
-    let R : Option Failures → Option Failures → Type 0 = λ x y. CallFails (caches m c.args.port.0) (reads_memory (transfer_operation next.0.transfer)) (next_sector (taken_of next.0)) x y in
+    let R : Option Failures → Option Failures → Type 0 = λ x y. CallFails (port_has_cache m c.args.port.0) (reads_memory (transfer_operation next.0.transfer)) (next_sector (taken_of next.0)) x y in
     let called = subst (λ w. Q w (next_sector (taken_of next.0))) writes (subst (Q (reads_memory (transfer_operation c.in-Some-next_move.next.transfer))) next.1.sector_is failed) in
     fails_to_move g.S.SectorStore.size g.S.SectorStore.told g.S.SectorStore.failures c.args.port c.args.slot 0x40 (taken_of next.0) m
     (store_model g c) c.fail-failed-then-not-transfer_piece.new.self (store g c) (store_same g c)
     (store_says m (store_model g c) c.args.port.0 a b (was_store g c) (store_items g c)
     (exchanged_so g c).rest c.args.port.0) (store_fits g c)
-    (ap (λ (k : Transfer). is_ranged (transfer_operation k)) (sym next.1.transfer_is) ∙ ranged)
+    (ap (λ (k : CommandKind). is_ranged (transfer_operation k)) (sym next.1.transfer_is) ∙ ranged)
     (inr (
       omega (arith, here, listed, size, sector),
       refl,
@@ -431,7 +431,7 @@ returns-then-not-transfer_piece-clause-answers g c =
     let a = c.in-Some.bay in
     let b = c.transfer_piece.new.self in
     let next = (grow c.args.port.0 c.args.slot.0 c.reserve-room.ensures.rest c.in-Some-next_move.ensures.found) in
-    let ranged = ap (λ (k : Transfer). is_ranged (transfer_operation k)) (sym next.1.transfer_is)
+    let ranged = ap (λ (k : CommandKind). is_ranged (transfer_operation k)) (sym next.1.transfer_is)
     ∙ (exchanged_so g c).ranged c.if-not-transfer_piece.true in (
       (c.requires.small, taken_of next.0, store_fits g c),
       did_fail g.S.SectorStore.size g.S.SectorStore.told g.S.SectorStore.failures c.args.port c.args.slot 0x40 (taken_of next.0) m
@@ -462,7 +462,7 @@ returns-clause-readies g c = λ _.
           let o : Outside = outside_at g.S.SectorStore.size g.S.SectorStore.told m in
           let one : t ≡ taken_of found.0 = some_one (sym taken ∙ (fits g c).works.taken) in
           let kind : written_ahead t.meaning.operation 1 ≡ written_ahead (transfer_operation c.in-Some-next_move.next.transfer) 1 =
-          ap (λ (x : FetchedCommand). written_ahead x.meaning.operation 1) one ∙ ap (λ (k : Transfer). written_ahead (transfer_operation k) 1) (sym found.1.transfer_is) in
+          ap (λ (x : FetchedCommand). written_ahead x.meaning.operation 1) one ∙ ap (λ (k : CommandKind). written_ahead (transfer_operation k) 1) (sym found.1.transfer_is) in
           let P : ℕ → Type 0 = λ k. HasOldRoom a.cache (k + n) in
           room_there (moved_model g c) c.args.port.0 n c.transfer_piece.new.self (seated_here m (moved_model g c) c.args.port.0 a c.transfer_piece.new.self (was g c) (items g c))
           ((exchanged g c).old_room n
@@ -500,7 +500,7 @@ returns-then-not-reserve-clause-answers g c =
     let fits : HasMove (device_at g.S.SectorStore.size g.S.SectorStore.told m) c.args.port.0 c.args.slot.0 (taken_of r) =
     next_has_move c.reserve-room.new.self o _ c.args.port.0 c.args.slot.0 c.in-Some-next_move.next r (has_disks g.S.SectorStore.size g.S.SectorStore.told m c.args.port.0 a was)
     (c.reserve-room.ensures.same o) found.1 in
-    let changes : written_ahead (transfer_operation r.transfer) 1 ≡ c.written.result = ap (λ (k : Transfer). written_ahead (transfer_operation k) 1) (sym found.1.transfer_is) ∙ sym c.written.ensures in
+    let changes : written_ahead (transfer_operation r.transfer) 1 ≡ c.written.result = ap (λ (k : CommandKind). written_ahead (transfer_operation k) 1) (sym found.1.transfer_is) ∙ sym c.written.ensures in
     let lacks : LacksMemory (asked.Move c.args.port c.args.slot) (device_at g.S.SectorStore.size g.S.SectorStore.told m) m.hardware m.bays.items = (
       taken_of r,
       fits,
@@ -524,5 +524,5 @@ returns-then-not-reserve-clause-page g c = λ t taken sends _ _ _ _.
     let one : t ≡ taken_of found.0 = some_one (sym taken ∙ here) in
     let none : written_ahead (transfer_operation found.0.transfer) 1 ≡ 0 =
     ap (λ (x : FetchedCommand). written_ahead x.meaning.operation 1) (sym one) ∙ page_unwritten t.meaning.operation 1 sends in
-    let changes : written_ahead (transfer_operation found.0.transfer) 1 ≡ c.written.result = ap (λ (k : Transfer). written_ahead (transfer_operation k) 1) (sym found.1.transfer_is) ∙ sym c.written.ensures in
+    let changes : written_ahead (transfer_operation found.0.transfer) 1 ≡ c.written.result = ap (λ (k : CommandKind). written_ahead (transfer_operation k) 1) (sym found.1.transfer_is) ∙ sym c.written.ensures in
     c.reserve.ensures.lacked c.if-not-reserve.true (subst (HasOldRoom a.cache) (sym none ∙ changes) (no_room a.cache))

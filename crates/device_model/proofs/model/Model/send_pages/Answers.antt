@@ -3,7 +3,7 @@ use Rattle.adapter.specs.Device.{Device}
 use Rattle.adapter.specs.declared.access.DeviceStep.TheVariants as asked
 use Rattle.ata_types.specs.declared.Port.{Port}
 use Rattle.ata_types.specs.declared.Slot.{Slot}
-use Rattle.device_model.specs.Finishing.{HasPageCommand, MayPage}
+use Rattle.device_model.specs.Finishing.{HasPageCommand, MayTakePage}
 use Rattle.device_model.specs.Modelled.{device_at}
 use Rattle.device_model.proofs.Absurd.{true-false}
 use Rattle.device_model.proofs.Doing.{left_it}
@@ -25,7 +25,7 @@ loop-found-preserved-then-lacks g c =
     let s : Slot = record { 0 = c.in-Some.found.slot } in
     let d : Device = device_at g.S.SectorStore.size g.S.SectorStore.told m in
     let found = c.in-Some.ensures.port in
-    let stuck : c.loop-found.lacks ≡ false → MayPage d p.0 s.0 × (HasPageCommand d p.0 s.0 → ⊥) =
+    let stuck : c.loop-found.lacks ≡ false → MayTakePage d p.0 s.0 × (HasPageCommand d p.0 s.0 → ⊥) =
     λ (fed : c.loop-found.lacks ≡ false).
     elim c.if-lacks.either [
       | inl ends ↦ found_stuck d p.0 s.0 c.in-Some.found.ends ends c.in-Some.ensures.found

@@ -47,7 +47,7 @@ returns g c =
         says = λ _. refl;
         which = λ _. refl;
         pages = gains_none g.S.SectorStore.size was is (ap (λ (v : Vec Entry). v.items) c.fetch-taken.ensures.tape);
-        keeps = record { out = λ _ _ _. refl; identities = λ _ _. refl; caches = λ _. refl; queue = refl; accesses = refl };
+        keeps = record { out = λ _ _ _. refl; identities = λ _ _. refl; port_has_cache = λ _. refl; queue = refl; accesses = refl };
         starved_on = λ yes. c.fetch-taken.ensures.starved ∙ yes;
       };
       room = λ n room.

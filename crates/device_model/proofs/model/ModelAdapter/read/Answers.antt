@@ -4,7 +4,7 @@ use Rattle.std.specs.Global.{Vec}
 use Rattle.std.specs.Vec.{vec_len, vec_capacity}
 use Rattle.adapter.specs.Device.{Device}
 use Rattle.adapter.specs.declared.tape.Entry.{Entry}
-use Rattle.device_model.specs.Finishing.{HasPageCommand, MayPage}
+use Rattle.device_model.specs.Finishing.{HasPageCommand, MayTakePage}
 use Rattle.device_model.specs.Held.{IsPortHeld}
 use Rattle.device_model.specs.Settled.{DoesOwn, EndsReset, IsSettled}
 use Rattle.device_model.specs.Modelled.{device_at, outside_at}
@@ -25,12 +25,12 @@ note-requires g c = has_port_read c.args.r _ c.requires
 
 pub returns-clause-reads : goal.returns-clause-reads
 returns-clause-reads g c =
-    let o : Outside = outside_at g.S.SectorStore.size g.S.SectorStore.told c.do_queued.new.self in
+    let o : Outside = outside_at g.S.SectorStore.size g.S.SectorStore.told c.do_queued_steps.new.self in
     let last : Outside = outside_at g.S.SectorStore.size g.S.SectorStore.told c.send_pages.new.self in
-    let settled = c.settle_links.ensures.own o in
+    let settled = c.settle_state.ensures.own o in
     record {
       mid = device_of c.send_pages.new.self.hardware last;
-      steps = Steps-trans (begins_steps g.S.SectorStore.size g.S.SectorStore.told g.S.SectorStore.failures _ _ c.do_queued.ensures)
+      steps = Steps-trans (begins_steps g.S.SectorStore.size g.S.SectorStore.told g.S.SectorStore.failures _ _ c.do_queued_steps.ensures)
           (Steps-trans (reset_steps _ _ _ _ settled.1) (Steps-trans (own_steps _ _ _ settled.2) (own_steps _ _ _ c.send_pages.ensures.own)));
       shows = c.shown-value.ensures last;
       effect = c.note.ensures.notes last;
@@ -38,13 +38,13 @@ returns-clause-reads g c =
 
 pub returns-clause-settled : goal.returns-clause-settled
 returns-clause-settled g c =
-    let o : Outside = outside_at g.S.SectorStore.size g.S.SectorStore.told c.do_queued.new.self in
+    let o : Outside = outside_at g.S.SectorStore.size g.S.SectorStore.told c.do_queued_steps.new.self in
     let last : Outside = outside_at g.S.SectorStore.size g.S.SectorStore.told c.send_pages.new.self in
     let P : Device → Type 0 = λ d. IsSettled c.send_pages.new.self.held d in
     let Q : List Bool → Type 0 = λ held. IsSettled held (device_of c.send_pages.new.self.hardware last) in
     subst P (sym (c.note.ensures.notes last))
     (noted_settled c.args.r c.shown-value.result (device_of c.send_pages.new.self.hardware last) _
-    (subst Q (sym c.send_pages.ensures.rest.held) (c.send_pages.ensures.settled _ (c.settle_links.ensures.settled o))))
+    (subst Q (sym c.send_pages.ensures.rest.held) (c.send_pages.ensures.settled _ (c.settle_state.ensures.settled o))))
 
 pub returns-clause-left : goal.returns-clause-left
 returns-clause-left g c =
@@ -56,7 +56,7 @@ returns-clause-left g c =
     disks_kept g.S.SectorStore.size g.S.SectorStore.told (record c.send_pages.new.self { hardware = c.note.new.self }) c.send_pages.new.self port refl has in
     record {
       taken = λ port slot small low disks may.
-          let P : Device → Type 0 = λ d. MayPage d port slot in
+          let P : Device → Type 0 = λ d. MayTakePage d port slot in
           c.send_pages.ensures.left.taken port slot small low (had port disks)
           (noted_may c.args.r c.shown-value.result sent port slot (subst P (c.note.ensures.notes last) may));
       done = λ port slot small low disks has.
@@ -68,27 +68,27 @@ returns-clause-left g c =
 
 pub returns-clause-alone : goal.returns-clause-alone
 returns-clause-alone g c =
-    let mid = c.do_queued.new.self in
+    let mid = c.do_queued_steps.new.self in
     let o : Outside = outside_at g.S.SectorStore.size g.S.SectorStore.told mid in
     let last : Outside = outside_at g.S.SectorStore.size g.S.SectorStore.told c.send_pages.new.self in
-    let after = record mid { hardware = c.settle_links.new.self; held = c.settle_links.new.held } in
-    let settled = c.settle_links.ensures.own o in
+    let after = record mid { hardware = c.settle_state.new.self; held = c.settle_state.new.held } in
+    let settled = c.settle_state.ensures.own o in
     let own = c.send_pages.ensures.rest in
     let P : List Bool → Type 0 = λ held. EndsReset mid.held held (device_at g.S.SectorStore.size g.S.SectorStore.told mid) settled.0 in
     let Q : List Bool → Type 0 = λ held. DoesOwn held settled.0 (device_of c.send_pages.new.self.hardware last) in
     record {
       mid = mid;
-      begins = c.do_queued.ensures;
+      begins = c.do_queued_steps.ensures;
       reset = settled.0;
       ends = subst P (sym own.held) settled.1;
       last = device_of c.send_pages.new.self.hardware last;
-      own = subst Q (sym own.held) (record { settled = device_of c.settle_links.new.self o; settles = settled.2; sends = c.send_pages.ensures.own });
+      own = subst Q (sym own.held) (record { settled = device_of c.settle_state.new.self o; settles = settled.2; sends = c.send_pages.ensures.own });
       shows = c.shown-value.ensures last;
       effect = c.note.ensures.notes last;
       says = own.says;
       which = own.which;
       pages = gains_on g.S.SectorStore.size mid after _ (λ _. refl) (λ _. refl)
-          (gains_none g.S.SectorStore.size mid after (ap (λ (v : Vec Entry). v.items) c.settle_links.ensures.tape))
+          (gains_none g.S.SectorStore.size mid after (ap (λ (v : Vec Entry). v.items) c.settle_state.ensures.tape))
           (gains_on g.S.SectorStore.size after c.send_pages.new.self _ own.says
           (λ q. identity_kept g.S.SectorStore.size after c.send_pages.new.self q (own.which q) (own.keeps.identities q)) own.pages
           (gains_none g.S.SectorStore.size c.send_pages.new.self _
@@ -97,16 +97,16 @@ returns-clause-alone g c =
       keeps = record {
         out = own.keeps.out;
         identities = own.keeps.identities;
-        caches = own.keeps.caches;
+        port_has_cache = own.keeps.port_has_cache;
         queue = own.keeps.queue;
         accesses = own.keeps.accesses;
       };
       starved_since = λ now.
           elim (c.send_pages.ensures.told (sym c.note.ensures.starved ∙ now)) [
-            | inl before ↦ inl (sym c.settle_links.ensures.starved ∙ before)
+            | inl before ↦ inl (sym c.settle_state.ensures.starved ∙ before)
             | inr one ↦
                 let R : Vec Entry → Type 0 = λ tape. vec_len tape + (one.5.left + 1) ≤ vec_capacity tape in
                 inr (one.0, one.1, one.2, one.3, one.4, one.5, λ room. one.6 (subst R c.note.ensures.tape room))
           ];
-      starved_on = λ told. c.note.ensures.starved ∙ own.starved_on (c.settle_links.ensures.starved ∙ told);
+      starved_on = λ told. c.note.ensures.starved ∙ own.starved_on (c.settle_state.ensures.starved ∙ told);
     }

@@ -3,15 +3,15 @@ use Rattle.device_model.proofs.Queueing.{begins_steps}
 use Rattle.device_model.proofs.model.ModelAdapter.store.Goals as goal
 
 pub store-requires : goal.store-requires
-store-requires g c = (c.requires _ (begins_steps g.S.SectorStore.size g.S.SectorStore.told g.S.SectorStore.failures _ _ c.do_queued.ensures)).inside
+store-requires g c = (c.requires _ (begins_steps g.S.SectorStore.size g.S.SectorStore.told g.S.SectorStore.failures _ _ c.do_queued_steps.ensures)).inside
 
 pub returns-clause-stores : goal.returns-clause-stores
-returns-clause-stores g c = record { mid = _; steps = begins_steps g.S.SectorStore.size g.S.SectorStore.told g.S.SectorStore.failures _ _ c.do_queued.ensures; effect = c.store.ensures.stored _ }
+returns-clause-stores g c = record { mid = _; steps = begins_steps g.S.SectorStore.size g.S.SectorStore.told g.S.SectorStore.failures _ _ c.do_queued_steps.ensures; effect = c.store.ensures.stored _ }
 
 pub returns-clause-alone : goal.returns-clause-alone
 returns-clause-alone g c = record {
-  mid = c.do_queued.new.self;
-  begins = c.do_queued.ensures;
+  mid = c.do_queued_steps.new.self;
+  begins = c.do_queued_steps.ensures;
   effect_is = c.store.ensures.stored _;
   rest = refl;
   starved = c.store.ensures.starved;

@@ -4,15 +4,15 @@ use Rattle.device_model.proofs.Queueing.{begins_steps}
 use Rattle.device_model.proofs.model.ModelAdapter.write.Goals as goal
 
 pub write-requires : goal.write-requires
-write-requires g c = has_port_write c.args.r c.args.v _ (c.requires _ (begins_steps g.S.SectorStore.size g.S.SectorStore.told g.S.SectorStore.failures _ _ c.do_queued.ensures))
+write-requires g c = has_port_write c.args.r c.args.v _ (c.requires _ (begins_steps g.S.SectorStore.size g.S.SectorStore.told g.S.SectorStore.failures _ _ c.do_queued_steps.ensures))
 
 pub returns-clause-writes : goal.returns-clause-writes
-returns-clause-writes g c = record { mid = _; steps = begins_steps g.S.SectorStore.size g.S.SectorStore.told g.S.SectorStore.failures _ _ c.do_queued.ensures; effect = c.write.ensures.written _ }
+returns-clause-writes g c = record { mid = _; steps = begins_steps g.S.SectorStore.size g.S.SectorStore.told g.S.SectorStore.failures _ _ c.do_queued_steps.ensures; effect = c.write.ensures.written _ }
 
 pub returns-clause-alone : goal.returns-clause-alone
 returns-clause-alone g c = record {
-  mid = c.do_queued.new.self;
-  begins = c.do_queued.ensures;
+  mid = c.do_queued_steps.new.self;
+  begins = c.do_queued_steps.ensures;
   effect_is = c.write.ensures.written _;
   rest = refl;
   starved = c.write.ensures.starved;

@@ -4,29 +4,29 @@ use Rattle.adapter.specs.Memory.{changed}
 use Rattle.adapter.specs.Steps.{block_after, noted_bytes}
 use Rattle.device_model.proofs.Absurd.{some_one, true-false}
 use Rattle.device_model.specs.Block.{brought}
-use Rattle.device_model.specs.View.{held_in, media_after, transfer_operation, port_of, taken_slots, taken_of}
+use Rattle.device_model.specs.View.{taken_in, media_after, transfer_operation, port_of, taken_slots, taken_of}
 use Rattle.device_model.specs.declared.port.TakenCommand.{TakenCommand}
-use Rattle.device_model.specs.declared.port.Transfer.{Transfer}
-use Rattle.device_model.specs.declared.port.Transfer.TheVariants.{Trim}
+use Rattle.device_model.specs.declared.port.CommandKind.{CommandKind}
+use Rattle.device_model.specs.declared.port.CommandKind.TheVariants.{Trim}
 use Rattle.device_model.proofs.Places.{changed_same}
 use Rattle.device_model.proofs.SlotLemmas.{slots_changed}
 use Rattle.device_model.proofs.Transfers.{no_block}
 use Rattle.device_model.proofs.port.PortModel.advance.Goals as goal
 
 -- the command is of this transfer
-same_kind : (o : Option TakenCommand) (u t : TakenCommand) (k : Transfer) → o ≡ Some u → u.transfer ≡ k → o ≡ Some t → t.transfer ≡ k
+same_kind : (o : Option TakenCommand) (u t : TakenCommand) (k : CommandKind) → o ≡ Some u → u.transfer ≡ k → o ≡ Some t → t.transfer ≡ k
 same_kind o u t k there kind here = ap (λ (x : TakenCommand). x.transfer) (some_one (sym here ∙ there)) ∙ kind
 
 -- a trim keeps its block
 pub returns-then-is_trim-clause-moved : goal.returns-then-is_trim-clause-moved
 returns-then-is_trim-clause-moved c = λ m t held.
-    let was : ℕ → Option TakenCommand = held_in c.args.self.now.taken in
+    let was : ℕ → Option TakenCommand = taken_in c.args.self.now.taken in
     let slot : ℕ = c.args.slot in
     let bytes : List ℕ = c.args.bytes.now in
     let u : TakenCommand = record t { moved = t.moved + 1; block = Some (noted_bytes bytes) } in
     let kind : t.transfer ≡ Trim =
     same_kind (was slot) c.requires.held.0 t c.args.transfer c.requires.held.1 c.requires.held.2 held ∙ c.is_trim.ensures.0 c.if-is_trim.true in
-    let kept : block_after (transfer_operation t.transfer) bytes (brought t.block) ≡ bytes = ap (λ (k : Transfer). block_after (transfer_operation k) bytes (brought t.block)) kind in
+    let kept : block_after (transfer_operation t.transfer) bytes (brought t.block) ≡ bytes = ap (λ (k : CommandKind). block_after (transfer_operation k) bytes (brought t.block)) kind in
     ap (λ (f : ℕ → Option FetchedCommand). record (port_of c.args.self.now (media_after m (taken_of t) bytes)) { taken = f })
     (ap taken_slots (c.add_block.ensures t held)
     ∙ (slots_changed was slot (Some u)
@@ -35,7 +35,7 @@ returns-then-is_trim-clause-moved c = λ m t held.
 -- no other command has one
 pub returns-else-is_trim-clause-moved : goal.returns-else-is_trim-clause-moved
 returns-else-is_trim-clause-moved c = λ m t held.
-    let was : ℕ → Option TakenCommand = held_in c.args.self.now.taken in
+    let was : ℕ → Option TakenCommand = taken_in c.args.self.now.taken in
     let slot : ℕ = c.args.slot in
     let bytes : List ℕ = c.args.bytes.now in
     let kind = same_kind (was slot) c.requires.held.0 t c.args.transfer c.requires.held.1 c.requires.held.2 held in
@@ -52,4 +52,4 @@ returns-then-is_trim-clause-held c = λ t held no_trim. absurd (no_trim (c.is_tr
 pub returns-else-is_trim-clause-held : goal.returns-else-is_trim-clause-held
 returns-else-is_trim-clause-held c = λ t held _.
     ap (λ (f : ℕ → Option TakenCommand). f c.args.slot) (c.add_moved.ensures t held)
-    ∙ changed_same (held_in c.args.self.now.taken) c.args.slot (Some (record t { moved = t.moved + 1 }))
+    ∙ changed_same (taken_in c.args.self.now.taken) c.args.slot (Some (record t { moved = t.moved + 1 }))

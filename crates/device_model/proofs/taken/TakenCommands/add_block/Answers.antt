@@ -3,7 +3,7 @@ use Rattle.std.proofs.lemmas.List.{length-set}
 use Rattle.adapter.specs.Memory.{changed}
 use Rattle.adapter.specs.Steps.{noted_bytes}
 use Rattle.device_model.proofs.Rooms.{in_it, in_taken_room, room_brings, room_changed}
-use Rattle.device_model.specs.View.{held_in}
+use Rattle.device_model.specs.View.{taken_in}
 use Rattle.device_model.specs.declared.port.TakenCommand.{TakenCommand}
 use Rattle.device_model.proofs.taken.TakenCommands.add_block.Goals as goal
 
@@ -36,5 +36,5 @@ returns c = λ t held.
     let now : TakenCommand = c.index_mut-command.result.now in
     let one = in_it is t held in
     room_changed is (record now { moved = now.moved + 1; block = Some c.of.result })
-    ∙ (λ i. changed (held_in c.args.self.now) c.args.slot
+    ∙ (λ i. changed (taken_in c.args.self.now) c.args.slot
     (Some (record (one i) { moved = (one i).moved + 1; block = Some (noted_bytes (c.of.ensures i)) })))

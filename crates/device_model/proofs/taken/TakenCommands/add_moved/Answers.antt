@@ -5,7 +5,7 @@ use Rattle.adapter.specs.Memory.{changed}
 use Rattle.device_model.proofs.Absurd.{some-none}
 use Rattle.device_model.proofs.Rooms.{in_it, in_seen_room, room_changed, room_keeps}
 use Rattle.device_model.proofs.SlotLemmas.{held_none, is_held}
-use Rattle.device_model.specs.View.{held_in}
+use Rattle.device_model.specs.View.{taken_in}
 use Rattle.device_model.specs.declared.port.TakenCommand.{TakenCommand}
 use Rattle.device_model.proofs.taken.TakenCommands.add_moved.Goals as goal
 
@@ -30,7 +30,7 @@ returns-then-is_set c = λ t held.
     let is = in_seen_room small c.self.view_is c.from-then-is_set.ensures c.from.ensures c.is_set.ensures c.if-is_set.true c.index_mut.ensures.value in
     let one = in_it is t held in
     room_changed is (record c.index_mut.result.now { moved = c.index_mut.result.now.moved + 1 })
-    ∙ (λ i. changed (held_in c.args.self.now) c.args.slot (Some (record (one i) { moved = (one i).moved + 1 })))
+    ∙ (λ i. changed (taken_in c.args.self.now) c.args.slot (Some (record (one i) { moved = (one i).moved + 1 })))
 
 pub returns-else-is_set : goal.returns-else-is_set
 returns-else-is_set c = λ t held.

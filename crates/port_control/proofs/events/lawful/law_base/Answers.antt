@@ -3,8 +3,8 @@ use Rattle.port_control.proofs.events.lawful.law_base.Goals as goal
 pub returns : goal.returns
 returns c = record {
   steps_none = c.law_steps_compose.ensures.none;
-  law_steps_keep = c.law_steps_keep.ensures;
-  put = c.law_port_registers_are_accessed.ensures.put;
+  law_steps_guarantee = c.law_steps_guarantee.ensures;
+  put = c.law_port_register_accesses.ensures.put;
   store_leaves = c.law_loads_and_stores_leave_ports.ensures.store;
   access_on = c.law_adapter_stays.ensures.on;
   access_same = c.law_adapter_stays.ensures.same;

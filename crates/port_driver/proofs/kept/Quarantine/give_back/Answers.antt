@@ -3,7 +3,7 @@ use Rattle.std.specs.List.{All, AllPairs, Contains}
 use Rattle.std.proofs.lemmas.List.Elements.{All-contains}
 use Rattle.dma_frames.specs.Loan.{Lending}
 use Rattle.server_history.specs.Kept.{TakesBack}
-use Rattle.server_history.specs.Server.{AreOfTwo, IsLentOut}
+use Rattle.server_history.specs.Server.{DifferInRequest, IsLentOut}
 use Rattle.port_driver.proofs.Keeping.{all_back, is_last, lent_left, none_back, two_left}
 use Rattle.port_driver.proofs.kept.Quarantine.give_back.Goals as goal
 
@@ -11,7 +11,7 @@ pub loop-loan-init : goal.loop-loan-init
 loop-loan-init c = record {
   room = c.self.invariant;
   lent = subst (All (IsLentOut c.args.table.now)) (sym c.self.view_is) c.requires.lent;
-  two = subst (AllPairs AreOfTwo) (sym c.self.view_is) c.requires.apart;
+  two = subst (AllPairs DifferInRequest) (sym c.self.view_is) c.requires.apart;
   goes = λ new given. subst (λ (loans : List Lending). TakesBack c.args.table.now new (Contains loans)) c.self.view_is given;
 }
 
@@ -25,7 +25,7 @@ loop-loan-preserved c =
     let rest = c.pop.new.self.items in
     let loan = c.in-Some.loan in
     let lent = subst (All (IsLentOut c.loop-loan.table)) c.in-Some.ensures.items c.loop-loan.invariant.lent in
-    let two = subst (AllPairs AreOfTwo) c.in-Some.ensures.items c.loop-loan.invariant.two in
+    let two = subst (AllPairs DifferInRequest) c.in-Some.ensures.items c.loop-loan.invariant.two in
     record {
       room = let same = c.in-Some.ensures.capacity in let room = c.loop-loan.invariant.room in omega (arith, same, room);
       lent = lent_left rest loan c.law_loans_end_in_turn.ensures c.loop-loan.table c.give_back.new.self lent two c.give_back.ensures;

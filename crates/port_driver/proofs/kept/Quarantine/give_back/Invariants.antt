@@ -3,14 +3,14 @@ use Rattle.std.specs.List.{All, AllPairs, Contains}
 use Rattle.std.specs.Vec.{vec_capacity}
 use Rattle.dma_frames.specs.Table.{Table}
 use Rattle.server_history.specs.Kept.{TakesBack}
-use Rattle.server_history.specs.Server.{AreOfTwo, IsLentOut}
+use Rattle.server_history.specs.Server.{DifferInRequest, IsLentOut}
 use Rattle.port_driver.proofs.kept.Quarantine.give_back.Given as goal
 
 -- the loans that are left may be given back
 pub record LeftSoFar (l : goal.Live-loop-loan) : Type 0 where
   pub room : 32 ≤ vec_capacity l.self-inside.loans
   pub lent : All (IsLentOut l.table) l.self-inside.loans.items
-  pub two : AllPairs AreOfTwo l.self-inside.loans.items
+  pub two : AllPairs DifferInRequest l.self-inside.loans.items
   -- once these are given back, all are
   pub goes : (new : Table) → TakesBack l.table new (Contains l.self-inside.loans.items) → TakesBack l.fn.table new (Contains l.fn.self)
 

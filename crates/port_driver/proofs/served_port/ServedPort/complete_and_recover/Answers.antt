@@ -15,9 +15,9 @@ Has g c = (s : ServerState) × IsInError s (g.A.Adapter.device c.args.adapter.no
 abbrev troubled : (g : Over) (c : After-done-arg-1 g) → Has g c → Troubled
 troubled g c l = record {
   laws = record {
-    looking = c.law_looks_keep.ensures.looking;
-    finding = c.law_looks_keep.ensures.finding;
-    over = c.law_looks_keep.ensures.found;
+    looking = c.law_looks_preserve_invariant.ensures.looking;
+    finding = c.law_looks_preserve_invariant.ensures.finding;
+    over = c.law_looks_preserve_invariant.ensures.found;
     may = c.law_port_errors_may_be_handled.ensures.may;
     agreed = c.law_port_errors_may_be_handled.ensures.agreed;
     alike = c.law_port_errors_may_be_handled.ensures.alike;

@@ -3,7 +3,7 @@ use Rattle.std.specs.List.Sorted.{IsPermutation}
 use Rattle.std.proofs.lemmas.List.{length-append, set-set}
 use Rattle.port_driver.specs.Parts.{TakesTurn, with_served_port}
 use Rattle.port_driver.specs.Recovery.{HandlesPortErrorOf, IsInError}
-use Rattle.port_driver.specs.Dispositions.{HavePlaces, holding}
+use Rattle.port_driver.specs.Dispositions.{HaveLoanRoom, holding}
 use Rattle.port_driver.specs.Ports.{HasFoundPort, with_port_slots}
 use Rattle.block_machine.specs.declared.due.QueueMode.{QueueMode}
 use Rattle.host_boot.specs.declared.ProbeResult.{ProbeResult}
@@ -11,7 +11,7 @@ use Rattle.identify.specs.declared.DiskInfo.{DiskInfo}
 use Rattle.identify.specs.declared.wanted.Wanted.{Wanted}
 use Rattle.server_history.specs.ErrorHandling.{IsRevalidated, requests_of}
 use Rattle.server_history.specs.Served.{done_reply}
-use Rattle.server_history.specs.Server.{ServerState, kept_at, last_disk_of}
+use Rattle.server_history.specs.Server.{ServerState, quarantined_at, last_disk_of}
 use Rattle.slots.specs.Uses.{PortSlots}
 use Rattle.port_driver.specs.declared.served_port.ServedPort.{ServedPort}
 use Rattle.port_driver.specs.declared.served_port.Shared.{Shared}
@@ -66,18 +66,18 @@ found_so g c disk = record c.complete_and_recover-failed.new.self {
   found = c.resume_or_reboot-found.result.0;
   remembered = disk;
   mode = c.resume_or_reboot-found.result.1;
-  slots = c.begin_anew.new.self.slots;
+  slots = c.note_probe_result.new.self.slots;
 }
 
 -- its disk is the one that it was ready with
-is_anew : (g : Over) (c : After-order_from-arg-1 g) → c.begin_anew.new.self ≡ found_so g c (Some c.in-Ready.was)
+is_anew : (g : Over) (c : After-order_from-arg-1 g) → c.note_probe_result.new.self ≡ found_so g c (Some c.in-Ready.was)
 is_anew g c =
     let then = c.complete_and_recover-failed.new.self in
-    c.begin_anew.ensures.fields
+    c.note_probe_result.ensures.fields
     ∙ ap (λ (f : ProbeResult). found_so g c (last_disk_of f then.remembered)) (ap (λ (p : ServedPort). p.found) c.complete_and_recover-failed.ensures.rest ∙ c.in-Ready.is)
 
 -- what the server kept of the port is kept still
-same_kept : (g : Over) (c : After-complete_and_recover-failed g) (s : ServerState) → Has g c s → c.complete_and_recover-failed.new.self.kept ≡ kept_at s.kept c.args.port.0
+same_kept : (g : Over) (c : After-complete_and_recover-failed g) (s : ServerState) → Has g c s → c.complete_and_recover-failed.new.self.kept ≡ quarantined_at s.kept c.args.port.0
 same_kept g c s h = ap (λ (p : ServedPort). p.kept) c.complete_and_recover-failed.ensures.rest ∙ sym h.before.parts.port_is.kept_is
 
 pub resume_or_reboot-found-requires-clause-mode : goal.resume_or_reboot-found-requires-clause-mode
@@ -90,8 +90,8 @@ pub resume_or_reboot-found-requires-clause-bootable : goal.resume_or_reboot-foun
 resume_or_reboot-found-requires-clause-bootable g c =
     restoring.bootable (recovered g (goal.at.resume_or_reboot-found-requires-clause-bootable g c).After-complete_and_recover-failed c.requires.sees.0 c.requires.sees.1)
 
-pub begin_anew-requires : goal.begin_anew-requires
-begin_anew-requires g c =
+pub note_probe_result-requires : goal.note_probe_result-requires
+note_probe_result-requires g c =
     let few = few_usable (g.A.Adapter.device c.resume_or_reboot-found.new.adapter).cap c.resume_or_reboot-found.result.0 in
     subst (λ (mode : QueueMode). mode.usable ≤ 32) (sym c.resume_or_reboot-found.ensures.mode) few
 
@@ -105,7 +105,7 @@ pub resolve-requires-clause-places : goal.resolve-requires-clause-places
 resolve-requires-clause-places g c =
     let a = (goal.at.resolve-requires-clause-places g c).After-complete_and_recover-failed in
     let x = recovered g a c.requires.sees.0 c.requires.sees.1 in
-    subst (HavePlaces (requests_of c.args.port x.b)) (sym (ap (λ (p : ServedPort). p.kept) c.begin_anew.ensures.fields ∙ same_kept g a c.requires.sees.0 c.requires.sees.1)) (restoring.have_places x c.args.port.0 refl [])
+    subst (HaveLoanRoom (requests_of c.args.port x.b)) (sym (ap (λ (p : ServedPort). p.kept) c.note_probe_result.ensures.fields ∙ same_kept g a c.requires.sees.0 c.requires.sees.1)) (restoring.have_places x c.args.port.0 refl [])
 
 pub order_from-requires : goal.order_from-requires
 order_from-requires g c =
@@ -134,20 +134,20 @@ restored g c s h =
       is_found = subst W wanted_is (c.resume_or_reboot-found.ensures.found c.args.port (restoring.token_of x));
       mode = c.resume_or_reboot-found.result.1;
       mode_is = c.resume_or_reboot-found.ensures.mode;
-      fresh = c.begin_anew.new.self.slots;
-      usable = c.begin_anew.ensures.unused.usable;
-      as_many = c.begin_anew.ensures.unused.places;
-      free = c.begin_anew.ensures.unused.free;
+      fresh = c.note_probe_result.new.self.slots;
+      usable = c.note_probe_result.ensures.unused.usable;
+      as_many = c.note_probe_result.ensures.unused.places;
+      free = c.note_probe_result.ensures.unused.free;
       revalidation = c.revalidation_of-revalidation.result;
       expects = c.revalidation_of-revalidation.ensures;
       now = now;
       later = met.0;
-      meets = subst K (ap (λ (p : ServedPort). p.kept) c.begin_anew.ensures.fields ∙ same_kept g (at_mending g c) s h) met.2;
+      meets = subst K (ap (λ (p : ServedPort). p.kept) c.note_probe_result.ensures.fields ∙ same_kept g (at_mending g c) s h) met.2;
     }
 
 -- and it has what issuing asks
 lends_anew : (g : Over) (c : After-order_from-arg-1 g) (s : ServerState) (h : Has g (at_mending g c) s)
-    → HasFoundPort (restoring.then (recovered g (at_mending g c) s h) (restored g c s h)) (g.A.Adapter.device c.resume_or_reboot-found.new.adapter) c.resolve.new.self.book c.begin_anew.new.self.slots c.args.port c.begin_anew.new.self.mode c.begin_anew.new.self.found
+    → HasFoundPort (restoring.then (recovered g (at_mending g c) s h) (restored g c s h)) (g.A.Adapter.device c.resume_or_reboot-found.new.adapter) c.resolve.new.self.book c.note_probe_result.new.self.slots c.args.port c.note_probe_result.new.self.mode c.note_probe_result.new.self.found
 lends_anew g c s h =
     let x = recovered g (at_mending g c) s h in
     let y = restored g c s h in
@@ -216,7 +216,7 @@ module _ (g : Over) (c : After-issue_where_ready g) (s : ServerState) (h : IsInE
       ∙ ap (λ (p : ServedPort). P p.kept p.slots p) c.issue_where_ready.ensures.rest
       ∙ ap (P c.resolve.new.kept c.issue_where_ready.new.self.slots) (is_anew g (at_order g c))
       ∙ ap (λ (list : List PortSlots). record (restoring.then x y) { device = three; slots = list; book = c.issue_where_ready.new.book })
-      (sym (set-set s.slots c.args.port.0 c.begin_anew.new.self.slots c.issue_where_ready.new.self.slots))
+      (sym (set-set s.slots c.args.port.0 c.note_probe_result.new.self.slots c.issue_where_ready.new.self.slots))
 
   handled : TakesTurn (HandlesPortErrorOf c.args.port c.args.port_error) c.args.replies.now.items c.order_from.new.replies.items s
       (with_served_port s (g.A.Adapter.device c.issue_where_ready.new.adapter) shared c.args.port c.issue_where_ready.new.self)

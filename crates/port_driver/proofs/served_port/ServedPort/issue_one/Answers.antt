@@ -1,4 +1,4 @@
-use Rattle.std.proofs.Common.{List, Some, not, refl, ap, ◌∙◌, subst}
+use Rattle.std.proofs.Common.{◌<◌, ◌≤◌, ◌/◌, ◌%◌, List, Some, not, refl, ap, ◌∙◌, subst}
 use Rattle.refinement.specs.Readying.{IsStored}
 use Rattle.ata_types.specs.declared.request.Frame.{Frame}
 use Rattle.commands.specs.Tasks.{HasBlockOf, IssuesTask, addresses_of, meaning_of}
@@ -7,7 +7,9 @@ use Rattle.request_queue.specs.declared.PendingRequest.{PendingRequest}
 use Rattle.commands.specs.declared.ncq.Task.{Task}
 use Rattle.slots.specs.Uses.{with_use}
 use Rattle.port_driver.proofs.Sending as sending
+use Rattle.port_driver.proofs.served_port.ServedPort.issue_one.Given.{Over}
 use Rattle.port_driver.proofs.served_port.ServedPort.issue_one.Goals as goal
+use Rattle.port_driver.proofs.served_port.ServedPort.issue_one.Goals.{After-frames}
 
 pub unreachable-requires : goal.unreachable-requires
 unreachable-requires g c =
@@ -22,11 +24,11 @@ issue_task-requires-clause-fits g c =
     let book = c.args.book.now in
     let slots = c.args.self.now.slots in
     let lowest = c.law_a_due_request_may_issue.ensures.lowest in
-    let entry_is = sending.entry_is l.0 device book slots c.args.port c.args.self.now.mode c.args.self.now.found c.requires.ready l.1 c.args.id c.requires.due one c.request-entry.result c.request-entry.ensures in
+    let entry_is = sending.entry_is l.0 device book slots c.args.port c.args.self.now.mode c.args.self.now.found c.requires.ready l.1 c.args.id c.requires.due one c.entry.result.0.now c.entry.result.1.now.frames c.entry.ensures.held c.entry.ensures.id.0 in
     sending.may_go l.0.table c.requires.due.0 (sending.its l.0 device book slots c.args.port c.args.self.now.mode c.args.self.now.found c.requires.ready l.1 c.args.id c.requires.due) c.args.self.now.mode c.in-Some.slot.0
     (sending.may_issue l.0 device book slots c.args.port c.args.self.now.mode c.args.self.now.found c.requires.ready l.1 c.args.id c.requires.due lowest c.in-Some.slot.0 c.in-Some.ensures.lowest).2
-    (not c.is_plain.result) (ap not c.is_plain.ensures ∙ ap (λ (x : PendingRequest). not (is_plain c.args.self.now.mode x.op)) entry_is) c.request-entry.result entry_is
-    c.frames.result.now (c.frames.ensures.frames ∙ sending.frames_are l.0 device book slots c.args.port c.args.self.now.mode c.args.self.now.found c.requires.ready l.1 c.args.id c.requires.due one c.loan.result.now.frames c.loan.ensures.held)
+    (not c.is_plain.result) (ap not c.is_plain.ensures ∙ ap (λ (x : PendingRequest). not (is_plain c.args.self.now.mode x.op)) entry_is) c.entry.result.0.now entry_is
+    c.frames.result.now (c.frames.ensures.frames ∙ sending.frames_are l.0 device book slots c.args.port c.args.self.now.mode c.args.self.now.found c.requires.ready l.1 c.args.id c.requires.due one c.entry.result.0.now c.entry.result.1.now.frames c.entry.ensures.held c.entry.ensures.id.0)
 
 pub returns : goal.returns
 returns g c = record {
@@ -36,11 +38,11 @@ returns g c = record {
       let slot = c.in-Some.slot.0 in
       let one = c.law_an_id_is_one_request.ensures.one in
       let e = c.requires.due.0 in
-      let task : Task = record { op = c.request-entry.result.op; range = c.request-entry.result.range; queued = not c.is_plain.result } in
+      let task : Task = record { op = c.entry.result.0.now.op; range = c.entry.result.0.now.range; queued = not c.is_plain.result } in
       let small = (sending.may_issue s (device c.args.adapter.now) c.args.book.now c.args.self.now.slots port c.args.self.now.mode c.args.self.now.found c.requires.ready l c.args.id c.requires.due c.law_a_due_request_may_issue.ensures.lowest slot c.in-Some.ensures.lowest).0 in
-      let entry_is = sending.entry_is s (device c.args.adapter.now) c.args.book.now c.args.self.now.slots port c.args.self.now.mode c.args.self.now.found c.requires.ready l c.args.id c.requires.due one c.request-entry.result c.request-entry.ensures in
-      let task_is = sending.task_is s (device c.args.adapter.now) c.args.book.now c.args.self.now.slots port c.args.self.now.mode c.args.self.now.found c.requires.ready l c.args.id c.requires.due c.is_plain.result c.request-entry.result c.is_plain.ensures entry_is in
-      let lent_is = c.frames.ensures.frames ∙ sending.frames_are s (device c.args.adapter.now) c.args.book.now c.args.self.now.slots port c.args.self.now.mode c.args.self.now.found c.requires.ready l c.args.id c.requires.due one c.loan.result.now.frames c.loan.ensures.held in
+      let entry_is = sending.entry_is s (device c.args.adapter.now) c.args.book.now c.args.self.now.slots port c.args.self.now.mode c.args.self.now.found c.requires.ready l c.args.id c.requires.due one c.entry.result.0.now c.entry.result.1.now.frames c.entry.ensures.held c.entry.ensures.id.0 in
+      let task_is = sending.task_is s (device c.args.adapter.now) c.args.book.now c.args.self.now.slots port c.args.self.now.mode c.args.self.now.found c.requires.ready l c.args.id c.requires.due c.is_plain.result c.entry.result.0.now c.is_plain.ensures entry_is in
+      let lent_is = c.frames.ensures.frames ∙ sending.frames_are s (device c.args.adapter.now) c.args.book.now c.args.self.now.slots port c.args.self.now.mode c.args.self.now.found c.requires.ready l c.args.id c.requires.due one c.entry.result.0.now c.entry.result.1.now.frames c.entry.ensures.held c.entry.ensures.id.0 in
       let F : List Frame → Type 0 = λ frames. IssuesTask port slot task frames (device c.args.adapter.now) (device c.issue_task.new.adapter) in
       let T : Task → Type 0 = λ t. IssuesTask port slot t e.frames (device c.args.adapter.now) (device c.issue_task.new.adapter) in
       let FS : List Frame → Type 0 = λ frames. IsStored (device c.issue_task.new.adapter) port.0 slot (meaning_of task) (addresses_of port.0 task.op task.range.count frames) in
@@ -58,3 +60,16 @@ pub issue_task-requires-clause-may : goal.issue_task-requires-clause-may
 issue_task-requires-clause-may g c =
     let l = c.requires.lends in
     sending.may_issue_task l.0 (g.A.Adapter.device c.args.adapter.now) c.args.book.now c.args.self.now.slots c.args.port c.args.self.now.mode c.args.self.now.found c.requires.ready l.1 c.args.id c.requires.due c.law_a_due_request_may_issue.ensures.lowest c.in-Some.slot.0 c.in-Some.ensures.lowest
+
+-- where it may be issued
+goes_in : (g : Over) (c : After-frames g) → (c.in-Some.slot.0 < 32) × (c.in-Some.slot.0 ≤ (g.A.Adapter.device c.args.adapter.now).cap / 256 % 32)
+goes_in g c =
+    let l = c.requires.lends in
+    let may = sending.may_issue l.0 (g.A.Adapter.device c.args.adapter.now) c.args.book.now c.args.self.now.slots c.args.port c.args.self.now.mode c.args.self.now.found c.requires.ready l.1 c.args.id c.requires.due c.law_a_due_request_may_issue.ensures.lowest c.in-Some.slot.0 c.in-Some.ensures.lowest in
+    (may.0, may.1)
+
+pub issue_task-requires-clause-small : goal.issue_task-requires-clause-small
+issue_task-requires-clause-small g c = (goes_in g c).0
+
+pub issue_task-requires-clause-usable : goal.issue_task-requires-clause-usable
+issue_task-requires-clause-usable g c = (goes_in g c).1

@@ -12,5 +12,6 @@ returns-in_default g c = record {
   rest = refl;
   as_many = refl;
   none = λ none. refl;
+  each = omega arith;
   cost = omega arith;
 }

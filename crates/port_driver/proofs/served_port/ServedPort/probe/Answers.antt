@@ -72,15 +72,15 @@ returns-clause-probes g c = λ s shared h.
     let new = g.A.Adapter.device c.probe_anew-found.new.adapter in
     let found = c.probe_anew-found.result.0 in
     let mode = c.probe_anew-found.result.1 in
-    let slots = c.begin_anew.new.self.slots in
+    let slots = c.note_probe_result.new.self.slots in
     let old = c.args.self.now in
-    let anew_is : c.begin_anew.new.self ≡ record old { found = found; mode = mode; slots = slots } =
-    c.begin_anew.ensures.fields ∙ ap (λ (f : ProbeResult). record old { found = found; remembered = last_disk_of f old.remembered; mode = mode; slots = slots }) c.requires.unready in
+    let anew_is : c.note_probe_result.new.self ≡ record old { found = found; mode = mode; slots = slots } =
+    c.note_probe_result.ensures.fields ∙ ap (λ (f : ProbeResult). record old { found = found; remembered = last_disk_of f old.remembered; mode = mode; slots = slots }) c.requires.unready in
     let F : Wanted → Type 0 = λ wanted. ProbesAnew wanted c.args.port found mode (seen g a s shared h) new in
-    let back : with_served_port s new shared c.args.port c.begin_anew.new.self ≡ anew.found_anew s new found mode slots c.args.port.0 =
+    let back : with_served_port s new shared c.args.port c.note_probe_result.new.self ≡ anew.found_anew s new found mode slots c.args.port.0 =
     ap (with_served_port s new shared c.args.port) anew_is ∙ placing.with_found s c.args.port c.args.self.now h.parts.port_is new shared found mode slots
     ∙ (λ i. record (anew.found_anew s new found mode slots c.args.port.0) { table = sym h.parts.table_is i; book = sym h.parts.book_is i }) in
     subst (λ (x : ServerState). ProbesUnready c.args.port s x × SettledInvariant x) (sym back)
     (anew.booted_settles c.law_an_unready_port_is_probed.ensures.tried s c.args.port c.args.state (unready g a s shared h) h.settled (seen g a s shared h)
     (looks g a s shared h true c.if-not-needs_probe.ensures.looks) (followed g a s shared h) new found mode slots
-    (subst F (sym h.parts.port_is.wanted_is) c.probe_anew-found.ensures.finds) c.begin_anew.ensures.unused c.args.port.0 refl)
+    (subst F (sym h.parts.port_is.wanted_is) c.probe_anew-found.ensures.finds) c.note_probe_result.ensures.unused c.args.port.0 refl)

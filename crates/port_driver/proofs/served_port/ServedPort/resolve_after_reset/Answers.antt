@@ -1,5 +1,5 @@
 use Rattle.std.proofs.Common.{sym, subst}
-use Rattle.server_history.specs.Resets.{SettlesPort}
+use Rattle.server_history.specs.Resets.{ResolvesPort}
 use Rattle.port_driver.proofs.Placing as placing
 use Rattle.port_driver.proofs.Resolving as resolving
 use Rattle.port_driver.proofs.served_port.ServedPort.resolve_after_reset.Goals as goal
@@ -10,6 +10,6 @@ returns-clause-settles c = λ s settle has.
     let new = c.resolve.new in (
       met.0,
       met.1,
-      subst (SettlesPort c.args.port met.0 s) (sym (placing.with_kept s c.args.port c.args.self.now has.port_is s.device new.self new.kept))
+      subst (ResolvesPort c.args.port met.0 s) (sym (placing.with_kept s c.args.port c.args.self.now has.port_is s.device new.self new.kept))
           (resolving.settles_port s c.args.shared.now c.args.port c.args.self.now has new.self.table.value new.self.book new.kept c.reset_revalidation-revalidation.result c.reset_revalidation-revalidation.ensures met.0 met.2),
     )

@@ -45,7 +45,7 @@ module _ (g : Over) (c : After-take_event-look g) (s : ServerState) (h : Has g c
 
   looked_settled : SettledInvariant looked
   looked_settled = record {
-    kept = c.law_looks_keep.ensures.looking s seen c.args.port h.settled.kept ready followed;
+    kept = c.law_looks_preserve_invariant.ensures.looking s seen c.args.port h.settled.kept ready followed;
     issued = h.settled.issued;
   }
 
@@ -117,7 +117,7 @@ module _ (g : Over) (c : After-done-finished g) (s : ServerState) (h : IsSettled
 
   found_settled : SettledInvariant (record s { device = found_device })
   found_settled = record {
-    kept = c.law_looks_keep.ensures.finding (record s { device = g.A.Adapter.device c.take_event-look.new.adapter }) found_device c.args.port c.taken-used.result c.done-finished.result kept
+    kept = c.law_looks_preserve_invariant.ensures.finding (record s { device = g.A.Adapter.device c.take_event-look.new.adapter }) found_device c.args.port c.taken-used.result c.done-finished.result kept
         (ap state_of h.parts.port_is.found_is ∙ c.requires.ready) c.done-finished.ensures.finds;
     issued = h.settled.issued;
   }
@@ -138,7 +138,7 @@ finish-requires-clause-over g c =
     let u = (goal.at.finish-requires-clause-over g c).After-taken-used in
     let l = (goal.at.finish-requires-clause-over g c).After-take_event-look in
     let h = c.requires.settled in
-    λ slot small its. c.law_looks_keep.ensures.found (looked g l h.0 h.1) (g.A.Adapter.device c.done-finished.new.adapter) c.args.port c.taken-used.result c.done-finished.result slot
+    λ slot small its. c.law_looks_preserve_invariant.ensures.found (looked g l h.0 h.1) (g.A.Adapter.device c.done-finished.new.adapter) c.args.port c.taken-used.result c.done-finished.result slot
     (looked_settled g l h.0 h.1).kept (ready g l h.0 h.1) (its_mask g u h.0 h.1) small c.done-finished.ensures.finds its
 
 pub returns-then-finished-ne0-clause-serves : goal.returns-then-finished-ne0-clause-serves

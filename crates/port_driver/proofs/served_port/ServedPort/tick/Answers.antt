@@ -7,7 +7,7 @@ use Rattle.port_control.specs.Looks.{IsLooking}
 use Rattle.identify.specs.declared.DiskInfo.{DiskInfo}
 use Rattle.host_boot.specs.declared.ProbeResult.{ProbeResult}
 use Rattle.host_boot.specs.declared.ProbeResult.TheVariants.{Ready, Unready, Unserved}
-use Rattle.request_queue.specs.Entries.{Held}
+use Rattle.request_queue.specs.Entries.{BookEntry}
 use Rattle.port_control.specs.declared.events.PortError.TheVariants.{TimedOut}
 use Rattle.server_history.specs.Server.{ServerState, state_of}
 use Rattle.server_history.specs.Turns.{is_ready}
@@ -26,7 +26,7 @@ same s device shared port p h =
     placing.with_same s port p h.parts.port_is device shared ∙ (λ i. record s { device = sym h.parts.device_is i; table = sym h.parts.table_is i; book = sym h.parts.book_is i })
 
 -- a port that isn't ready rests
-rests : (found : ProbeResult) → ((info : DiskInfo) → found ≡ Ready info → ⊥) → (book : List Held) (port : Port) (s : ServerState) → TurnInTick found book port [] s s
+rests : (found : ProbeResult) → ((info : DiskInfo) → found ≡ Ready info → ⊥) → (book : List BookEntry) (port : Port) (s : ServerState) → TurnInTick found book port [] s s
 rests (Ready info) unready book port s = absurd (unready info refl)
 rests (Unready state) unready book port s = (refl, refl)
 rests Unserved unready book port s = (refl, refl)
@@ -41,7 +41,7 @@ in_error g c s h = record {
         kept = h.settled.kept;
         ready = ap state_of (h.parts.port_is.found_is ∙ c.in-Ready.is);
         finds = sym h.parts.device_is;
-        followed = subst (IsSimulated (IsLooking c.args.port) AnyUse s.device) h.parts.device_is (c.law_looks_keep.ensures.none c.args.port s.device);
+        followed = subst (IsSimulated (IsLooking c.args.port) AnyUse s.device) h.parts.device_is (c.law_looks_preserve_invariant.ensures.none c.args.port s.device);
       };
 }
 

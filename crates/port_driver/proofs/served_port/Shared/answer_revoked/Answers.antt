@@ -3,7 +3,7 @@ use Rattle.std.specs.List.{Contains}
 use Rattle.ata_types.specs.declared.request.Outcome.TheVariants.{Revoked}
 use Rattle.ata_types.specs.declared.request.Reply.{Reply}
 use Rattle.ata_types.specs.declared.request.RequestId.{RequestId}
-use Rattle.request_queue.specs.Entries.{Held, without_entry}
+use Rattle.request_queue.specs.Entries.{BookEntry, without_entry}
 use Rattle.dma_frames.specs.Loan.{Lending}
 use Rattle.dma_frames.specs.Table.{LendsOnly, Table}
 use Rattle.request_queue.specs.Dispositions.{reply_to}
@@ -19,8 +19,8 @@ returns-clause-resolves c = λ request kept here its.
     let named = ap (λ (r : PendingRequest). r.id) e.2 ∙ e.3 in
     let left : e.0 ≡ request = c.law_an_id_is_one_request.ensures.one c.args.self.now.book e.0 request c.requires.may.sound.ordered e.1 here (named ∙ sym its) in
     let loan : Lending = record { frames = e.0.frames; request = request.entry.id } in
-    let whole : record { entry = request.entry; frames = loan.frames } ≡ request = (λ i. record { entry = ap (λ (h : Held). h.entry) (sym left) i; frames = e.0.frames }) ∙ left in
-    let client = sym (ap (λ (r : PendingRequest). r.client) e.2) ∙ ap (λ (h : Held). h.entry.client) left in
+    let whole : record { entry = request.entry; frames = loan.frames } ≡ request = (λ i. record { entry = ap (λ (h : BookEntry). h.entry) (sym left) i; frames = e.0.frames }) ∙ left in
+    let client = sym (ap (λ (r : PendingRequest). r.client) e.2) ∙ ap (λ (h : BookEntry). h.entry.client) left in
     let reply : record { id = c.args.id; client = it.result.client; outcome = Revoked } ≡ reply_to request Revoked = (λ i. record { id = sym its i; client = client i; outcome = Revoked }) in (
       reply_to request Revoked ∷ [],
       c.push.ensures.items ∙ ap (λ (x : Reply). c.args.replies.now.items ++ x ∷ []) reply,
@@ -29,7 +29,7 @@ returns-clause-resolves c = λ request kept here its.
     )
 
 pub returns-clause-others : goal.returns-clause-others
-returns-clause-others c = λ e here ne. subst (λ (book : List Held). Contains book e) (sym c.release-entry.ensures.rest) ((c.law_operations_change_one_request.ensures.answered c.args.self.now.book c.args.id e).1 (here, ne))
+returns-clause-others c = λ e here ne. subst (λ (book : List BookEntry). Contains book e) (sym c.release-entry.ensures.rest) ((c.law_operations_change_one_request.ensures.answered c.args.self.now.book c.args.id e).1 (here, ne))
 
 pub returns-clause-may : goal.returns-clause-may
 returns-clause-may c =
@@ -40,7 +40,7 @@ returns-clause-may c =
     let r = c.requires.may.room in
     let f = shorter c.args.id c.args.self.now.book it.new.self e.0 e.1 named it.ensures.rest in
     record {
-      sound = sound_back c.args.id c.args.self.now.book it.new.self e.0 c.args.self.now.table.value it.new.table c.law_accepted_requests_stay.ensures.answered
+      sound = sound_back c.args.id c.args.self.now.book it.new.self e.0 c.args.self.now.table.value it.new.table c.law_accepted_is_preserved.ensures.answered
           (c.law_the_book_stays_in_order.ensures.answered c.args.self.now.book c.args.id c.requires.may.sound.ordered) c.requires.may.sound.accepted e.1 named (subst (λ (old : Table). LendsOnly old it.new.table e.0.frames None) c.deref_mut-table.ensures.value e.4) it.ensures.rest;
       room = omega (arith, n, r, f);
     }

@@ -2,12 +2,12 @@ use Rattle.std.proofs.Common.{drop, filter}
 use Rattle.port_driver.specs.Dispositions.{holding}
 use Rattle.port_driver.proofs.Settling.{SoFar}
 use Rattle.ata_types.specs.declared.request.Outcome.TheVariants.{Revoked}
-use Rattle.request_queue.specs.Entries.{Held, waits_under}
+use Rattle.request_queue.specs.Entries.{BookEntry, waits_under}
 use Rattle.request_queue.specs.declared.disposition.Disposition.TheVariants.{Complete}
 use Rattle.dma_frames.specs.Loan.{Lending}
 use Rattle.std.proofs.Common.{List}
 use Rattle.port_driver.proofs.served_port.Shared.answer_waiting.Given as goal
 
 abbrev pub invariant-loop-place : goal.invariant-loop-place
-invariant-loop-place l = (kept : List Lending) → SoFar (λ e. Complete Revoked) (filter (λ (e : Held). waits_under l.fn.client l.fn.number e.entry) l.fn.self.book) (holding l.fn.self.book l.fn.self.table.value kept) l.fn.replies.items
-    (drop l.place (filter (λ (e : Held). waits_under l.fn.client l.fn.number e.entry) l.fn.self.book)) (holding l.self.book l.self.table.value kept) l.replies.items
+invariant-loop-place l = (kept : List Lending) → SoFar (λ e. Complete Revoked) (filter (λ (e : BookEntry). waits_under l.fn.client l.fn.number e.entry) l.fn.self.book) (holding l.fn.self.book l.fn.self.table.value kept) l.fn.replies.items
+    (drop l.place (filter (λ (e : BookEntry). waits_under l.fn.client l.fn.number e.entry) l.fn.self.book)) (holding l.self.book l.self.table.value kept) l.replies.items

@@ -5,32 +5,32 @@ use Rattle.ata_types.specs.declared.request.Reply.{Reply}
 use Rattle.ata_types.specs.declared.request.RequestId.{RequestId}
 use Rattle.dma_frames.specs.Loan.{Lending}
 use Rattle.dma_frames.specs.Table.{Table, LendsOnly}
-use Rattle.request_queue.specs.Entries.{Held, IsAccepted, at_entry, requeued_entry, without_entry}
+use Rattle.request_queue.specs.Entries.{BookEntry, IsAccepted, update_if_id, requeued_entry, without_entry}
 use Rattle.request_queue.specs.Dispositions.{IsResolved, disposition_of, keeps_loan, reply_to}
 use Rattle.request_queue.specs.declared.PendingRequest.{PendingRequest}
 use Rattle.request_queue.specs.declared.disposition.Disposition.{Disposition}
 use Rattle.port_driver.specs.declared.served_port.Shared.{Shared}
-use Rattle.port_driver.specs.Dispositions.{HavePlaces, BookIsSound, MayAnswerAll, holding}
+use Rattle.port_driver.specs.Dispositions.{HaveLoanRoom, BookIsSound, MayAnswerAll, holding}
 use Rattle.port_driver.proofs.Settling.{again, ends_back, ends_kept, kept_issued, left_each, may_go_again, places_kept, places_left, shorter, sound_back}
 use Rattle.port_driver.proofs.served_port.Shared.resolve_one.Goals as goal
 use Rattle.port_driver.proofs.served_port.Shared.resolve_one.Goals.{then-keeps_loan, else-keeps_loan}
 
 -- what was taken out is the request's, with its frames
-whole : (taken request : Held) → taken ≡ request → record { entry = request.entry; frames = taken.frames } ≡ request
-whole taken request left = (λ i. record { entry = ap (λ (h : Held). h.entry) (sym left) i; frames = taken.frames }) ∙ left
+whole : (taken request : BookEntry) → taken ≡ request → record { entry = request.entry; frames = taken.frames } ≡ request
+whole taken request left = (λ i. record { entry = ap (λ (h : BookEntry). h.entry) (sym left) i; frames = taken.frames }) ∙ left
 
 pub keep-requires : goal.keep-requires
 keep-requires c =
     let r = c.request-entry.ensures in
     let q = c.requires.here in
     let same : r.0 ≡ q.0 = c.law_an_id_is_one_request.ensures.one c.args.self.now.book r.0 q.0 c.requires.may.sound.ordered r.1 q.1 (ap (λ (e : PendingRequest). e.id) r.2 ∙ r.3 ∙ sym q.2) in
-    q.3 (ap (λ (h : Held). h.entry.issued) (sym same) ∙ ap (λ (e : PendingRequest). e.issued) r.2 ∙ kept_issued c.in-Complete.outcome c.request-entry.result (sym c.keeps_loan.ensures ∙ c.if-keeps_loan.true))
+    q.3 (ap (λ (h : BookEntry). h.entry.issued) (sym same) ∙ ap (λ (e : PendingRequest). e.issued) r.2 ∙ kept_issued c.in-Complete.outcome c.request-entry.result (sym c.keeps_loan.ensures ∙ c.if-keeps_loan.true))
 
 pub returns-in-Wait-clause-resolves : goal.returns-in-Wait-clause-resolves
 returns-in-Wait-clause-resolves c = λ request here its.
     let r = c.request-entry.ensures in
     let same : r.0 ≡ request = c.law_an_id_is_one_request.ensures.one c.args.self.now.book r.0 request c.requires.may.sound.ordered r.1 here (ap (λ (e : PendingRequest). e.id) r.2 ∙ r.3 ∙ sym its) in
-    let entry : request.entry ≡ c.request-entry.result = ap (λ (h : Held). h.entry) (sym same) ∙ r.2 in
+    let entry : request.entry ≡ c.request-entry.result = ap (λ (h : BookEntry). h.entry) (sym same) ∙ r.2 in
     let disposition = ap (disposition_of c.args.failed.now c.args.revalidation) entry ∙ sym c.disposition.ensures ∙ c.in-Wait.is in
     let h = holding c.args.self.now.book c.args.self.now.table.value c.args.kept.now in
     ([], sym (append-nil c.args.replies.now.items), subst (λ (f : Disposition). IsResolved request f [] h h) (sym disposition) (refl, refl))
@@ -39,7 +39,7 @@ pub returns-in-Requeue-clause-resolves : goal.returns-in-Requeue-clause-resolves
 returns-in-Requeue-clause-resolves c = λ request here its.
     let r = c.request-entry.ensures in
     let same : r.0 ≡ request = c.law_an_id_is_one_request.ensures.one c.args.self.now.book r.0 request c.requires.may.sound.ordered r.1 here (ap (λ (e : PendingRequest). e.id) r.2 ∙ r.3 ∙ sym its) in
-    let entry : request.entry ≡ c.request-entry.result = ap (λ (h : Held). h.entry) (sym same) ∙ r.2 in
+    let entry : request.entry ≡ c.request-entry.result = ap (λ (h : BookEntry). h.entry) (sym same) ∙ r.2 in
     let disposition = ap (disposition_of c.args.failed.now c.args.revalidation) entry ∙ sym c.disposition.ensures ∙ c.in-Requeue.is in
     let h = holding c.args.self.now.book c.args.self.now.table.value c.args.kept.now in
     let n = holding c.requeue.new.self c.args.self.now.table.value c.args.kept.now in
@@ -50,7 +50,7 @@ returns-after-keeps_loan-clause-resolves c = λ request here its.
     let r = c.request-entry.ensures in
     let one = c.law_an_id_is_one_request.ensures.one c.args.self.now.book in
     let same : r.0 ≡ request = one r.0 request c.requires.may.sound.ordered r.1 here (ap (λ (e : PendingRequest). e.id) r.2 ∙ r.3 ∙ sym its) in
-    let entry : request.entry ≡ c.request-entry.result = ap (λ (h : Held). h.entry) (sym same) ∙ r.2 in
+    let entry : request.entry ≡ c.request-entry.result = ap (λ (h : BookEntry). h.entry) (sym same) ∙ r.2 in
     let outcome = c.in-Complete.outcome in
     let disposition = ap (disposition_of c.args.failed.now c.args.revalidation) entry ∙ sym c.disposition.ensures ∙ c.in-Complete.is in
     let keeps = ap (keeps_loan outcome) entry ∙ sym c.keeps_loan.ensures in
@@ -63,7 +63,7 @@ returns-after-keeps_loan-clause-resolves c = λ request here its.
       elim c.if-keeps_loan.branch [
         | then-keeps_loan w ↦
             let loan = w.answer-loan.result.1 in
-            let taken : Held = record { entry = w.answer-loan.result.0; frames = loan.frames } in
+            let taken : BookEntry = record { entry = w.answer-loan.result.0; frames = loan.frames } in
             let left : taken ≡ request = one taken request c.requires.may.sound.ordered w.answer-loan.ensures.entry here (w.answer-loan.ensures.id.0 ∙ sym its) in
             ends_kept request outcome c.args.self.now.book c.if-keeps_loan.self.book c.args.self.now.table.value table c.args.kept.now kept loan (whole taken request left) (w.answer-loan.ensures.id.1 ∙ sym its)
             ((ap (λ (x : Shared). x.book) w.self-is) ∙ w.answer-loan.ensures.rest ∙ named) (disposition_of c.args.failed.now c.args.revalidation request.entry) disposition (keeps ∙ w.if-keeps_loan.true) (w.kept-is ∙ w.keep.ensures) (ap (λ (x : Shared). x.table.value) w.self-is)
@@ -79,7 +79,7 @@ returns-after-keeps_loan-clause-resolves c = λ request here its.
 
 pub returns-in-Requeue-clause-others : goal.returns-in-Requeue-clause-others
 returns-in-Requeue-clause-others c = λ e here ne.
-    subst (λ (book : List Held). Contains book e) (sym c.requeue.ensures) (c.law_operations_change_one_request.ensures.others c.args.self.now.book c.args.id requeued_entry e here ne)
+    subst (λ (book : List BookEntry). Contains book e) (sym c.requeue.ensures) (c.law_operations_change_one_request.ensures.others c.args.self.now.book c.args.id requeued_entry e here ne)
 
 pub returns-in-Requeue-clause-may : goal.returns-in-Requeue-clause-may
 returns-in-Requeue-clause-may c =
@@ -87,32 +87,32 @@ returns-in-Requeue-clause-may c =
     let may = c.requires.may in
     let its = may_go_again c.args.failed.now c.args.revalidation r.0 c.args.self.now.book may.sound.ordered r.1
     (ap (disposition_of c.args.failed.now c.args.revalidation) r.2 ∙ sym c.disposition.ensures ∙ c.in-Requeue.is) in
-    subst (λ (book : List Held). MayAnswerAll c.args.self.now.table.value book c.args.replies.now.items) (sym c.requeue.ensures) (record {
+    subst (λ (book : List BookEntry). MayAnswerAll c.args.self.now.table.value book c.args.replies.now.items) (sym c.requeue.ensures) (record {
       sound = record {
         ordered = c.law_the_book_stays_in_order.ensures.requeued c.args.self.now.book c.args.id may.sound.ordered (r.0, r.1, ap (λ (e : PendingRequest). e.id) r.2 ∙ r.3, its.0, its.1);
-        accepted = c.law_accepted_requests_stay.ensures.requeued c.args.self.now.table.value c.args.self.now.book c.args.id may.sound.accepted;
+        accepted = c.law_accepted_is_preserved.ensures.requeued c.args.self.now.table.value c.args.self.now.book c.args.id may.sound.accepted;
       };
-      room = let as_many = length-map c.args.self.now.book (at_entry c.args.id requeued_entry) in omega (arith, as_many, may.room);
+      room = let as_many = length-map c.args.self.now.book (update_if_id c.args.id requeued_entry) in omega (arith, as_many, may.room);
     })
 
 pub returns-after-keeps_loan-clause-others : goal.returns-after-keeps_loan-clause-others
 returns-after-keeps_loan-clause-others c = λ e here ne.
     let left = (c.law_operations_change_one_request.ensures.answered c.args.self.now.book c.args.id e).1 (here, ne) in
     elim c.if-keeps_loan.branch [
-      | then-keeps_loan w ↦ subst (λ (book : List Held). Contains book e) (sym ((ap (λ (x : Shared). x.book) w.self-is) ∙ w.answer-loan.ensures.rest)) left
-      | else-keeps_loan w ↦ subst (λ (book : List Held). Contains book e) (sym ((ap (λ (x : Shared). x.book) w.self-is) ∙ w.release.ensures.rest)) left
+      | then-keeps_loan w ↦ subst (λ (book : List BookEntry). Contains book e) (sym ((ap (λ (x : Shared). x.book) w.self-is) ∙ w.answer-loan.ensures.rest)) left
+      | else-keeps_loan w ↦ subst (λ (book : List BookEntry). Contains book e) (sym ((ap (λ (x : Shared). x.book) w.self-is) ∙ w.release.ensures.rest)) left
     ]
 
 pub returns-after-keeps_loan-clause-places : goal.returns-after-keeps_loan-clause-places
 returns-after-keeps_loan-clause-places c = λ request rest here its places.
     let r = c.request-entry.ensures in
     let same : r.0 ≡ request = c.law_an_id_is_one_request.ensures.one c.args.self.now.book r.0 request c.requires.may.sound.ordered r.1 here (ap (λ (e : PendingRequest). e.id) r.2 ∙ r.3 ∙ sym its) in
-    let entry : request.entry ≡ c.request-entry.result = ap (λ (h : Held). h.entry) (sym same) ∙ r.2 in
+    let entry : request.entry ≡ c.request-entry.result = ap (λ (h : BookEntry). h.entry) (sym same) ∙ r.2 in
     let keeps = ap (keeps_loan c.in-Complete.outcome) entry ∙ sym c.keeps_loan.ensures in
     elim c.if-keeps_loan.branch [
-      | then-keeps_loan w ↦ subst (HavePlaces rest) (sym (w.kept-is ∙ w.keep.ensures))
+      | then-keeps_loan w ↦ subst (HaveLoanRoom rest) (sym (w.kept-is ∙ w.keep.ensures))
           (places_kept request rest c.args.kept.now w.answer-loan.result.1 (kept_issued c.in-Complete.outcome request.entry (keeps ∙ w.if-keeps_loan.true)) places)
-      | else-keeps_loan w ↦ subst (HavePlaces rest) (sym w.kept-is) (places_left request rest c.args.kept.now places)
+      | else-keeps_loan w ↦ subst (HaveLoanRoom rest) (sym w.kept-is) (places_left request rest c.args.kept.now places)
     ]
 
 pub returns-after-keeps_loan-clause-may : goal.returns-after-keeps_loan-clause-may
@@ -140,7 +140,7 @@ returns-after-keeps_loan-clause-may c =
           let f = shorter c.args.id book c.if-keeps_loan.self.book q.0 q.1 q.2 rest in
           record {
             sound = subst (λ (table : Table). BookIsSound table c.if-keeps_loan.self.book) (sym (ap (λ (x : Shared). x.table.value) w.self-is))
-                (sound_back c.args.id book c.if-keeps_loan.self.book e.0 c.args.self.now.table.value w.release.new.table c.law_accepted_requests_stay.ensures.answered ordered may.sound.accepted e.1 (ap (λ (x : PendingRequest). x.id) e.2 ∙ e.3)
+                (sound_back c.args.id book c.if-keeps_loan.self.book e.0 c.args.self.now.table.value w.release.new.table c.law_accepted_is_preserved.ensures.answered ordered may.sound.accepted e.1 (ap (λ (x : PendingRequest). x.id) e.2 ∙ e.3)
                 (subst (λ (old : Table). LendsOnly old w.release.new.table e.0.frames None) w.deref_mut.ensures.value e.4) rest);
             room = omega (arith, n, may.room, f);
           }

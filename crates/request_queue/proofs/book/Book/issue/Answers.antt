@@ -8,7 +8,7 @@ use Rattle.request_queue.proofs.Counts.{counts_at}
 use Rattle.request_queue.proofs.Flushing.{issued_flushes}
 use Rattle.request_queue.proofs.Holding.{issued_holders}
 use Rattle.request_queue.proofs.Indexing.{issued_indexed}
-use Rattle.request_queue.specs.Entries.{Held, asks_of, at_entry, issue, BookIsInOrder, IsWaiting}
+use Rattle.request_queue.specs.Entries.{BookEntry, asks_of, update_if_id, issue, BookIsInOrder, IsWaiting}
 use Rattle.request_queue.specs.declared.PendingRequest.{PendingRequest}
 use Rattle.request_queue.proofs.Changing.{changed_at, request_at, issued_in_order}
 use Rattle.request_queue.proofs.book.Book.issue.Goals as goal
@@ -21,18 +21,18 @@ invariant_of-self c =
     let found = c.place_of-place.ensures in
     let e = c.replace.ensures in
     let store = c.self.inside.store in
-    let named = subst (λ (x : Held). x.entry.id ≡ c.args.id) (same_Some found.0 e.0 (sym found.1 ∙ e.1)) found.2 in
+    let named = subst (λ (x : BookEntry). x.entry.id ≡ c.args.id) (same_Some found.0 e.0 (sym found.1 ∙ e.1)) found.2 in
     let same = request_at store c.place_of-place.result c.request-old.result e.0 c.request-old.ensures e.1 in
     let here = e.2 ∙ (ap (λ (n : ℕ). set store c.place_of-place.result (record (e.0) { entry = record (c.request-old.result) { issued = true; issues = n; age = 0 } })) (one_more c.request-old.result.issues) ∙ ap (λ (r : PendingRequest). set store c.place_of-place.result (record (e.0) { entry = issue r })) (sym same)) in
     let changed = here ∙ changed_at store c.place_of-place.result e.0 c.args.id issue c.self.invariant.0.ordered e.1 named in
-    let waits = subst (λ (es : List Held). IsWaiting c.args.id es) (sym c.self.view_is) c.requires in (
-      subst (λ (es : List Held). BookIsInOrder es) (sym changed) (issued_in_order store c.args.id waits.0 c.self.invariant.0 waits.1 waits.2 waits.3),
-      subst (λ (es : List Held). AreIndexed (asks_of es) c.self.inside.sectors) (sym changed) (issued_indexed store c.args.id c.self.inside.sectors c.self.invariant.1),
-      subst (λ (es : List Held). AreHolders (asks_of es) (set c.self.inside.holders.items c.place_of-place.result c.nobody.result)) (sym here)
+    let waits = subst (λ (es : List BookEntry). IsWaiting c.args.id es) (sym c.self.view_is) c.requires in (
+      subst (λ (es : List BookEntry). BookIsInOrder es) (sym changed) (issued_in_order store c.args.id waits.0 c.self.invariant.0 waits.1 waits.2 waits.3),
+      subst (λ (es : List BookEntry). AreIndexed (asks_of es) c.self.inside.sectors) (sym changed) (issued_indexed store c.args.id c.self.inside.sectors c.self.invariant.1),
+      subst (λ (es : List BookEntry). AreHolders (asks_of es) (set c.self.inside.holders.items c.place_of-place.result c.nobody.result)) (sym here)
           (rw c.nobody.ensures (issued_holders store c.self.inside.holders.items c.place_of-place.result e.0 c.self.invariant.2 e.1)),
       c.self.invariant.3,
-      subst (λ (es : List Held). AreCounts es c.self.inside.counts) (sym changed) (counts_at store c.args.id issue c.self.inside.counts (λ r. refl) c.self.invariant.4),
-      subst (λ (es : List Held). c.self.inside.flushes.items ≡ flushes_of (asks_of es)) (sym changed) (issued_flushes store c.args.id c.self.inside.flushes.items c.self.invariant.5),
+      subst (λ (es : List BookEntry). AreCounts es c.self.inside.counts) (sym changed) (counts_at store c.args.id issue c.self.inside.counts (λ r. refl) c.self.invariant.4),
+      subst (λ (es : List BookEntry). c.self.inside.flushes.items ≡ flushes_of (asks_of es)) (sym changed) (issued_flushes store c.args.id c.self.inside.flushes.items c.self.invariant.5),
       c.self.invariant.6,
     )
 
@@ -41,8 +41,8 @@ returns c =
     let found = c.place_of-place.ensures in
     let e = c.replace.ensures in
     let store = c.self.inside.store in
-    let named = subst (λ (x : Held). x.entry.id ≡ c.args.id) (same_Some found.0 e.0 (sym found.1 ∙ e.1)) found.2 in
+    let named = subst (λ (x : BookEntry). x.entry.id ≡ c.args.id) (same_Some found.0 e.0 (sym found.1 ∙ e.1)) found.2 in
     let same = request_at store c.place_of-place.result c.request-old.result e.0 c.request-old.ensures e.1 in
     e.2 ∙ (ap (λ (n : ℕ). set store c.place_of-place.result (record (e.0) { entry = record (c.request-old.result) { issued = true; issues = n; age = 0 } })) (one_more c.request-old.result.issues) ∙ ap (λ (r : PendingRequest). set store c.place_of-place.result (record (e.0) { entry = issue r })) (sym same)
     ∙ (changed_at store c.place_of-place.result e.0 c.args.id issue c.self.invariant.0.ordered e.1 named
-    ∙ ap (λ (es : List Held). map (at_entry c.args.id issue) es) c.self.view_is))
+    ∙ ap (λ (es : List BookEntry). map (update_if_id c.args.id issue) es) c.self.view_is))

@@ -2,7 +2,7 @@ use Rattle.std.proofs.Common.{ℕ, ◌≡◌, ◌<◌, ◌≤◌, ◌∙◌, Lis
 use Rattle.std.specs.List.{slice_get}
 use Rattle.std.proofs.lemmas.Bool.{cases_lt, false≢true}
 use Rattle.std.proofs.lemmas.List.{get_or_default}
-use Rattle.request_queue.specs.Entries.{Held, IsOverdueOn}
+use Rattle.request_queue.specs.Entries.{BookEntry, IsOverdueOn}
 use Rattle.request_queue.proofs.Changing.{request_is, place_within}
 use Rattle.request_queue.proofs.book.Book.overdue.Goals as goal
 
@@ -11,8 +11,8 @@ returns-then-is_overdue c =
     let es = c.args.self.now in
     let i = c.loop-place.place in
     let r = c.request.result in
-    let d : Held = record { entry = r; frames = [] } in
-    let here = subst (λ (xs : List Held). slice_get (map (λ (e : Held). e.entry) xs) i ≡ Some r) c.self.view_is c.request.ensures in
+    let d : BookEntry = record { entry = r; frames = [] } in
+    let here = subst (λ (xs : List BookEntry). slice_get (map (λ (e : BookEntry). e.entry) xs) i ≡ Some r) c.self.view_is c.request.ensures in
     (λ yes. (get_or es i d, (i, place_within es i r here, get_or_default es i (get_or es i d) d (place_within es i r here)), subst (IsOverdueOn c.args.port) (sym (request_is es i r d here)) (c.is_overdue.ensures.0 c.if-is_overdue.true)), λ some. refl)
 
 pub loop-place-preserved : goal.loop-place-preserved
@@ -20,7 +20,7 @@ loop-place-preserved c = λ k d lt overdue.
     let es = c.args.self.now in
     let i = c.loop-place.place in
     let r = c.request.result in
-    let here = subst (λ (xs : List Held). slice_get (map (λ (e : Held). e.entry) xs) i ≡ Some r) c.self.view_is c.request.ensures in
+    let here = subst (λ (xs : List BookEntry). slice_get (map (λ (e : BookEntry). e.entry) xs) i ≡ Some r) c.self.view_is c.request.ensures in
     ⊎_elim
     (λ (less : k < i). c.loop-place.invariant k d less overdue)
     (λ (most : i ≤ k).

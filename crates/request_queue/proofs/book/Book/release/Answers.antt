@@ -1,7 +1,7 @@
 use Rattle.std.proofs.Common.{◌∙◌, List, ap, sym, subst, arith}
 use Rattle.std.specs.List.{Contains}
 use Rattle.std.proofs.lemmas.Option.{slice_get_within, get_or_from_slice_get}
-use Rattle.request_queue.specs.Entries.{Held, without_entry}
+use Rattle.request_queue.specs.Entries.{BookEntry, without_entry}
 use Rattle.request_queue.proofs.Beside as beside
 use Rattle.request_queue.proofs.Changing.{there}
 use Rattle.request_queue.proofs.book.Book.release.Goals as goal
@@ -31,9 +31,9 @@ returns-clause-entry c =
     let place = c.place_of-place.result in
     let same = sym (get_or_from_slice_get store place its.0 its.0 its.1) ∙ get_or_from_slice_get store place found.0 its.0 found.1 in (
       its.0,
-      subst (λ (es : List Held). Contains es its.0) c.self.view_is (there store place its.0 its.1),
+      subst (λ (es : List BookEntry). Contains es its.0) c.self.view_is (there store place its.0 its.1),
       its.2,
-      sym (ap (λ e. e.id) its.2) ∙ (ap (λ (e : Held). e.entry.id) same ∙ found.2),
+      sym (ap (λ e. e.id) its.2) ∙ (ap (λ (e : BookEntry). e.entry.id) same ∙ found.2),
       its.3,
     )
 
@@ -41,4 +41,4 @@ pub returns-clause-rest : goal.returns-clause-rest
 returns-clause-rest c =
     let found = c.place_of-place.ensures in
     beside.is_without c.self.inside.store c.place_of-place.result c.args.id found.0 c.self.invariant.0 found.1 found.2 c.release.new.self c.release.ensures.rest
-    ∙ ap (λ (es : List Held). without_entry c.args.id es) c.self.view_is
+    ∙ ap (λ (es : List BookEntry). without_entry c.args.id es) c.self.view_is

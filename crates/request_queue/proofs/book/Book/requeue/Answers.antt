@@ -9,7 +9,7 @@ use Rattle.request_queue.proofs.Counts.{counts_at}
 use Rattle.request_queue.proofs.Flushing.{requeued_flushes}
 use Rattle.request_queue.proofs.Holding.{requeued_holders}
 use Rattle.request_queue.proofs.Indexing.{requeued_indexed}
-use Rattle.request_queue.specs.Entries.{Held, asks_of, at_entry, requeued_entry, BookIsInOrder, MayGoAgain}
+use Rattle.request_queue.specs.Entries.{BookEntry, asks_of, update_if_id, requeued_entry, BookIsInOrder, MayGoAgain}
 use Rattle.request_queue.specs.declared.PendingRequest.{PendingRequest}
 use Rattle.request_queue.proofs.Changing.{changed_at, request_at, waiting_in_order}
 use Rattle.request_queue.proofs.book.Book.requeue.Goals as goal
@@ -20,22 +20,22 @@ invariant_of-self c =
     let e = c.replace.ensures in
     let store = c.self.inside.store in
     let place = c.place_of-place.result in
-    let named = subst (λ (x : Held). x.entry.id ≡ c.args.id) (same_Some found.0 e.0 (sym found.1 ∙ e.1)) found.2 in
+    let named = subst (λ (x : BookEntry). x.entry.id ≡ c.args.id) (same_Some found.0 e.0 (sym found.1 ∙ e.1)) found.2 in
     let same = request_at store place c.request-old.result e.0 c.request-old.ensures e.1 in
     let here = e.2 ∙ ap (λ (r : PendingRequest). set store place (record (e.0) { entry = requeued_entry r })) (sym same) in
     let changed = here ∙ changed_at store place e.0 c.args.id requeued_entry c.self.invariant.0.ordered e.1 named in
-    let waits = subst (λ (es : List Held). MayGoAgain c.args.id es) (sym c.self.view_is) c.requires in
-    let indexed = subst (λ (es : List Held). AreIndexed (asks_of es) c.self.inside.sectors) (sym changed) (requeued_indexed store c.args.id c.self.inside.sectors c.self.invariant.1) in
-    let flushes = subst (λ (es : List Held). c.self.inside.flushes.items ≡ flushes_of (asks_of es)) (sym changed) (requeued_flushes store c.args.id c.self.inside.flushes.items c.self.invariant.5) in
+    let waits = subst (λ (es : List BookEntry). MayGoAgain c.args.id es) (sym c.self.view_is) c.requires in
+    let indexed = subst (λ (es : List BookEntry). AreIndexed (asks_of es) c.self.inside.sectors) (sym changed) (requeued_indexed store c.args.id c.self.inside.sectors c.self.invariant.1) in
+    let flushes = subst (λ (es : List BookEntry). c.self.inside.flushes.items ≡ flushes_of (asks_of es)) (sym changed) (requeued_flushes store c.args.id c.self.inside.flushes.items c.self.invariant.5) in
     let h = c.holder_of-holder.result in (
-      subst (λ (es : List Held). BookIsInOrder es) (sym changed) (waiting_in_order store c.args.id waits.0 c.self.invariant.0 waits.1 waits.2 waits.4),
+      subst (λ (es : List BookEntry). BookIsInOrder es) (sym changed) (waiting_in_order store c.args.id waits.0 c.self.invariant.0 waits.1 waits.2 waits.4),
       indexed,
-      subst (λ (es : List Held). AreHolders (asks_of es) (set c.self.inside.holders.items place h)) (sym here)
+      subst (λ (es : List BookEntry). AreHolders (asks_of es) (set c.self.inside.holders.items place h)) (sym here)
           (requeued_holders store c.self.inside.holders.items place e.0 c.asks.result h c.self.invariant.2 e.1
-          (subst (λ (es : List Held). slice_get (asks_of es) place ≡ Some c.asks.result) here c.asks.ensures)
-          (subst (λ (es : List Held). IsHolderOf (asks_of es) c.asks.result h) here (c.holder_of-holder.ensures (asks_of c.replace.new.self) indexed (c.as_slice.ensures.value ∙ flushes)))),
+          (subst (λ (es : List BookEntry). slice_get (asks_of es) place ≡ Some c.asks.result) here c.asks.ensures)
+          (subst (λ (es : List BookEntry). IsHolderOf (asks_of es) c.asks.result h) here (c.holder_of-holder.ensures (asks_of c.replace.new.self) indexed (c.as_slice.ensures.value ∙ flushes)))),
       c.self.invariant.3,
-      subst (λ (es : List Held). AreCounts es c.self.inside.counts) (sym changed) (counts_at store c.args.id requeued_entry c.self.inside.counts (λ r. refl) c.self.invariant.4),
+      subst (λ (es : List BookEntry). AreCounts es c.self.inside.counts) (sym changed) (counts_at store c.args.id requeued_entry c.self.inside.counts (λ r. refl) c.self.invariant.4),
       flushes,
       c.self.invariant.6,
     )
@@ -45,8 +45,8 @@ returns c =
     let found = c.place_of-place.ensures in
     let e = c.replace.ensures in
     let store = c.self.inside.store in
-    let named = subst (λ (x : Held). x.entry.id ≡ c.args.id) (same_Some found.0 e.0 (sym found.1 ∙ e.1)) found.2 in
+    let named = subst (λ (x : BookEntry). x.entry.id ≡ c.args.id) (same_Some found.0 e.0 (sym found.1 ∙ e.1)) found.2 in
     let same = request_at store c.place_of-place.result c.request-old.result e.0 c.request-old.ensures e.1 in
     e.2 ∙ (ap (λ (r : PendingRequest). set store c.place_of-place.result (record (e.0) { entry = requeued_entry r })) (sym same)
     ∙ (changed_at store c.place_of-place.result e.0 c.args.id requeued_entry c.self.invariant.0.ordered e.1 named
-    ∙ ap (λ (es : List Held). map (at_entry c.args.id requeued_entry) es) c.self.view_is))
+    ∙ ap (λ (es : List BookEntry). map (update_if_id c.args.id requeued_entry) es) c.self.view_is))

@@ -1,6 +1,6 @@
 use Rattle.std.proofs.Common.{ℕ, ◌≡◌, ◌≢◌, List, length, get_or, sym, ap, subst, arith}
 use Rattle.std.specs.List.{All}
-use Rattle.request_queue.specs.declared.ranges.Item.{Item}
+use Rattle.request_queue.specs.declared.ranges.BookRange.{BookRange}
 use Rattle.request_queue.specs.declared.ranges.IndexEntry.{IndexEntry}
 use Rattle.request_queue.specs.Items.{StandsBefore}
 use Rattle.request_queue.specs.Index.{items_of}
@@ -37,7 +37,7 @@ invariant_of-self c =
           (λ k d lt. subst (λ (f : ℕ). StandsBefore (get_or (items_of old) k d) f c.args.item.id.0) from (subst (λ (es : List IndexEntry). StandsBefore (get_or (items_of es) k d) c.from-first.result c.args.item.id.0) value (p.before k d lt)))
           (λ k d ge lt is. p.behind k d ge (omega (arith, len, lt))
           (subst (λ (es : List IndexEntry). StandsBefore (get_or (items_of es) k d) c.from-first.result c.args.item.id.0) (sym value) (subst (λ (f : ℕ). StandsBefore (get_or (items_of old) k d) f c.args.item.id.0) (sym from) is)))
-          (subst (λ (xs : List Item). All (λ (y : Item). y.id ≢ c.args.item.id) xs) (sym c.self.view_is) c.requires.fresh),
+          (subst (λ (xs : List BookRange). All (λ (y : BookRange). y.id ≢ c.args.item.id) xs) (sym c.self.view_is) c.requires.fresh),
       omega (arith, room, more, had),
     )
 
@@ -47,7 +47,7 @@ returns c =
     let len = ap length c.as_slice.ensures.value in
     let n = as_many c.self.inside.entries.items in
     let now = ap length c.self.view_is in
-    let P : List Item → Type 0 = λ (xs : List Item). items_of c.note_ends.new.entries.items ≡ Rattle.std.specs.List.insert xs c.count_before-place.result c.args.item in (
+    let P : List BookRange → Type 0 = λ (xs : List BookRange). items_of c.note_ends.new.entries.items ≡ Rattle.std.specs.List.insert xs c.count_before-place.result c.args.item in (
       c.count_before-place.result,
       omega (arith, within, len, n, now),
       subst P c.self.view_is

@@ -1,7 +1,7 @@
 use Rattle.std.proofs.Common.{ℕ, ◌≡◌, ◌<◌, ◌≤◌, List, length, get_or, Some, sym, ap, ◌∙◌, subst, arith}
 use Rattle.std.specs.List.{Contains}
 use Rattle.std.proofs.lemmas.Option.{slice_get-get_or}
-use Rattle.request_queue.specs.declared.ranges.Item.{Item}
+use Rattle.request_queue.specs.declared.ranges.BookRange.{BookRange}
 use Rattle.request_queue.specs.declared.ranges.IndexEntry.{IndexEntry}
 use Rattle.request_queue.specs.Items.{StandsBefore, item_first}
 use Rattle.request_queue.specs.Index.{IsIndex, items_of}
@@ -10,9 +10,9 @@ use Rattle.request_queue.proofs.Editing.{its_place, removed_below, removed_follo
 use Rattle.request_queue.proofs.ranges.Ranges.remove.Goals as goal
 
 -- the place that the search gives is the item's
-placed : (slice es : List IndexEntry) (x : Item) (place first : ℕ) → slice ≡ es → IsIndex es → Contains (items_of es) x → first ≡ item_first x
-    → ((k : ℕ) (d : Item) → k < place → StandsBefore (get_or (items_of slice) k d) first x.id.0)
-    → ((k : ℕ) (d : Item) → place ≤ k → k < length slice → StandsBefore (get_or (items_of slice) k d) first x.id.0 → ⊥)
+placed : (slice es : List IndexEntry) (x : BookRange) (place first : ℕ) → slice ≡ es → IsIndex es → Contains (items_of es) x → first ≡ item_first x
+    → ((k : ℕ) (d : BookRange) → k < place → StandsBefore (get_or (items_of slice) k d) first x.id.0)
+    → ((k : ℕ) (d : BookRange) → place ≤ k → k < length slice → StandsBefore (get_or (items_of slice) k d) first x.id.0 → ⊥)
     → (place < length (items_of es)) × (get_or (items_of es) place x ≡ x)
 placed slice es x place first value is there from before behind =
     let n = as_many es in
@@ -27,7 +27,7 @@ remove-requires c =
     let old = c.self.inside.entries.items in
     let p = c.count_before-own.ensures in
     let at = placed c.as_slice.result.now old c.args.item.now c.count_before-own.result c.from-first.result c.as_slice.ensures.value c.self.invariant.0
-    (subst (λ (xs : List Item). Contains xs c.args.item.now) (sym c.self.view_is) c.requires) c.from-first.ensures p.before p.behind in
+    (subst (λ (xs : List BookRange). Contains xs c.args.item.now) (sym c.self.view_is) c.requires) c.from-first.ensures p.before p.behind in
     let n = as_many old in
     let low = at.0 in
     let len = c.as_slice.ensures.len in
@@ -39,7 +39,7 @@ note_ends-requires-clause-before c =
     let old = c.self.inside.entries.items in
     let p = c.count_before-own.ensures in
     let at = placed c.as_slice.result.now old c.args.item.now c.count_before-own.result c.from-first.result c.as_slice.ensures.value c.self.invariant.0
-    (subst (λ (xs : List Item). Contains xs c.args.item.now) (sym c.self.view_is) c.requires) c.from-first.ensures p.before p.behind in
+    (subst (λ (xs : List BookRange). Contains xs c.args.item.now) (sym c.self.view_is) c.requires) c.from-first.ensures p.before p.behind in
     let n = as_many old in
     let low = at.0 in
     removed_below old c.remove.new.self.items c.remove.new.self.items c.count_before-own.result c.self.invariant.0 c.remove.ensures.items (omega (arith, low, n))
@@ -49,7 +49,7 @@ note_ends-requires-clause-follow c =
     let old = c.self.inside.entries.items in
     let p = c.count_before-own.ensures in
     let at = placed c.as_slice.result.now old c.args.item.now c.count_before-own.result c.from-first.result c.as_slice.ensures.value c.self.invariant.0
-    (subst (λ (xs : List Item). Contains xs c.args.item.now) (sym c.self.view_is) c.requires) c.from-first.ensures p.before p.behind in
+    (subst (λ (xs : List BookRange). Contains xs c.args.item.now) (sym c.self.view_is) c.requires) c.from-first.ensures p.before p.behind in
     let n = as_many old in
     let low = at.0 in
     removed_follow old c.remove.new.self.items c.remove.new.self.items c.count_before-own.result c.self.invariant.0 c.remove.ensures.items (omega (arith, low, n))
@@ -59,7 +59,7 @@ invariant_of-self c =
     let old = c.self.inside.entries.items in
     let p = c.count_before-own.ensures in
     let at = placed c.as_slice.result.now old c.args.item.now c.count_before-own.result c.from-first.result c.as_slice.ensures.value c.self.invariant.0
-    (subst (λ (xs : List Item). Contains xs c.args.item.now) (sym c.self.view_is) c.requires) c.from-first.ensures p.before p.behind in
+    (subst (λ (xs : List BookRange). Contains xs c.args.item.now) (sym c.self.view_is) c.requires) c.from-first.ensures p.before p.behind in
     let n = as_many old in
     let low = at.0 in
     let room = c.note_ends.ensures.room in
@@ -76,11 +76,11 @@ returns c =
     let place = c.count_before-own.result in
     let x = c.args.item.now in
     let at = placed c.as_slice.result.now old x place c.from-first.result c.as_slice.ensures.value c.self.invariant.0
-    (subst (λ (xs : List Item). Contains xs x) (sym c.self.view_is) c.requires) c.from-first.ensures p.before p.behind in
+    (subst (λ (xs : List BookRange). Contains xs x) (sym c.self.view_is) c.requires) c.from-first.ensures p.before p.behind in
     let n = as_many old in
     let low = at.0 in (
       place,
-      subst (λ (xs : List Item). Rattle.std.specs.List.slice_get xs place ≡ Some x) c.self.view_is (slice_get-get_or (items_of old) place x low ∙ ap Some at.1),
-      subst (λ (xs : List Item). items_of c.note_ends.new.entries.items ≡ Rattle.std.specs.List.remove xs place) c.self.view_is
+      subst (λ (xs : List BookRange). Rattle.std.specs.List.slice_get xs place ≡ Some x) c.self.view_is (slice_get-get_or (items_of old) place x low ∙ ap Some at.1),
+      subst (λ (xs : List BookRange). items_of c.note_ends.new.entries.items ≡ Rattle.std.specs.List.remove xs place) c.self.view_is
           (removed_view old c.remove.new.self.items c.note_ends.new.entries.items place c.self.invariant.0 c.remove.ensures.items (omega (arith, low, n)) c.note_ends.ensures.items c.note_ends.ensures.ends),
     )

@@ -2,13 +2,13 @@ use Rattle.std.proofs.Common.{◌∙◌, ap, sym, map, Some, List}
 use Rattle.std.specs.List.{slice_get}
 use Rattle.std.proofs.lemmas.Option.{slice_get-map}
 use Rattle.block_machine.specs.declared.due.Unanswered.{Unanswered}
-use Rattle.request_queue.specs.Entries.{Held, asks}
+use Rattle.request_queue.specs.Entries.{BookEntry, asks}
 use Rattle.request_queue.specs.declared.PendingRequest.{PendingRequest}
 use Rattle.request_queue.proofs.Keeping.{map-map}
 use Rattle.request_queue.proofs.store.RequestSlab.asks.Goals as goal
 
 pub returns : goal.returns
 returns c =
-    let rs : List PendingRequest = map (λ (e : Held). e.entry) c.args.self.now in
-    ap (λ (xs : List Unanswered). slice_get xs c.args.place) (sym (map-map asks (λ (e : Held). e.entry) c.args.self.now))
+    let rs : List PendingRequest = map (λ (e : BookEntry). e.entry) c.args.self.now in
+    ap (λ (xs : List Unanswered). slice_get xs c.args.place) (sym (map-map asks (λ (e : BookEntry). e.entry) c.args.self.now))
     ∙ (slice_get-map asks rs c.args.place ∙ (rw c.request.ensures (λ j. Some (asks c.request.result)) ∙ ap Some (sym c.asks_of.ensures)))

@@ -2,15 +2,15 @@ use Rattle.std.proofs.Common.{◌≡◌, ℕ, ◌<◌, List, length, get_or, set
 use Rattle.std.specs.List.{slice_get}
 use Rattle.std.specs.Option.{IfSome}
 use Rattle.std.proofs.lemmas.List.{length-map, get_or_default}
-use Rattle.request_queue.specs.Entries.{Held}
-use Rattle.request_queue.specs.Store.{held_at, frames_of}
+use Rattle.request_queue.specs.Entries.{BookEntry}
+use Rattle.request_queue.specs.Store.{entry_at_key, frames_of}
 use Rattle.request_queue.proofs.Keeping.{sound_replaced, entries_replaced, stands_at}
 use Rattle.request_queue.proofs.store.RequestSlab.replace.Goals as goal
 use Rattle.request_queue.proofs.store.RequestSlab.replace.Goals.{After-self-1}
 
 within : (c : After-self-1) → c.args.place < length c.self.inside.order.items
 within c =
-    let same = sym (length-map c.self.inside.order.items (held_at c.self.inside.requests c.self.inside.loans.items)) ∙ ap length c.self.view_is in
+    let same = sym (length-map c.self.inside.order.items (entry_at_key c.self.inside.requests c.self.inside.loans.items)) ∙ ap length c.self.view_is in
     omega (arith, same, c.requires.within)
 
 is_key : (c : After-self-1) (d : ℕ) → get_or c.self.inside.order.items c.args.place d ≡ c.index-key.result.now
@@ -20,7 +20,7 @@ stands : (c : After-self-1) → slice_get c.args.self.now c.args.place ≡ Some 
 stands c = rw (sym c.self.view_is) (stands_at c.self.inside.requests c.self.inside.loans.items c.self.inside.order.items c.index-key.result.now c.args.place (within c) (is_key c) ∙ rw c.index_mut.ensures.value refl)
 
 same_id : (c : After-self-1) → c.args.request.id ≡ c.index_mut.result.now.id
-same_id c = subst (λ (o : Option Held). IfSome o (λ old. c.args.request.id ≡ old.entry.id)) (stands c) c.requires.same_id
+same_id c = subst (λ (o : Option BookEntry). IfSome o (λ old. c.args.request.id ≡ old.entry.id)) (stands c) c.requires.same_id
 
 pub invariant_of-self : goal.invariant_of-self
 invariant_of-self c = (
@@ -33,5 +33,5 @@ returns c = (
   record { entry = c.index_mut.result.now; frames = frames_of (get_or c.self.inside.loans.items c.index-key.result.now None) },
   stands c,
   entries_replaced _ _ _ _ c.args.place c.index_mut.result.now c.args.request c.self.invariant.0 (within c) (is_key c) c.index_mut.ensures.value
-      ∙ ap (λ (es : List Held). set es c.args.place (record { entry = c.args.request; frames = frames_of (get_or c.self.inside.loans.items c.index-key.result.now None) })) c.self.view_is,
+      ∙ ap (λ (es : List BookEntry). set es c.args.place (record { entry = c.args.request; frames = frames_of (get_or c.self.inside.loans.items c.index-key.result.now None) })) c.self.view_is,
 )

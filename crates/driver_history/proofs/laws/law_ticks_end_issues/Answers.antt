@@ -1,8 +1,0 @@
-use Rattle.block_machine.specs.Events.{abstract_after}
-use Rattle.block_machine.specs.Histories.{now}
-use Rattle.driver_history.proofs.Calm.{restarts_of}
-use Rattle.driver_history.proofs.laws.law_ticks_end_issues.Goals as goal
-
-pub returns : goal.returns
-returns c = λ wanted first past h port history asks hung.
-    (restarts_of h.event.ask h.event.said (now first past).abstract h.event.evidence h.event.steps (abstract_after (now first past).abstract h.event) history.1.answered asks).anew port hung

@@ -1,0 +1,75 @@
+-- The small histories of the plain program as histories of the machine. The newest stands first.
+use Rattle.std.specs.Prelude.{◌≡◌, ◌⊎◌, ℕ, ◌+◌, ◌%◌, ◌<◌, ◌≤◌, true, List, [], map, Option, Some, None, IfSome, IfNone}
+use Rattle.ata_types.specs.declared.Port.{Port}
+use Rattle.machine_rules.specs.declared.history.HistoryRequest.{HistoryRequest}
+use Rattle.machine_rules.specs.declared.history.DiskEvent.{DiskEvent}
+use Rattle.machine_rules.specs.declared.history.DiskEvent.TheVariants.{Touched, Plugged}
+use Rattle.block_machine.specs.Due.{changes_sectors}
+use Rattle.block_machine.specs.State.{Accepted, Machine}
+use Rattle.block_machine.specs.Steps.{Step, Touch, Replace, newly_accepted}
+use Rattle.block_machine.specs.Left.{IsTouch, Wrote}
+
+-- the byte in all places of sector number n of what has this fill
+abbrev pub fill_byte : ℕ → ℕ → ℕ
+fill_byte fill n = (fill + n) % 256
+
+-- a request of this fill: its i-th sector has the byte of i
+abbrev pub accepted_of : HistoryRequest → Accepted
+accepted_of r = record {
+  id = r.id;
+  port = r.port;
+  asked = record {
+    client = record { 0 = 0 };
+    grant = 0;
+    op = r.op;
+    first = r.range.first;
+    count = r.range.count;
+    frames = record { items = [] };
+  };
+  held = λ i b. fill_byte r.fill i;
+}
+
+-- a happening as a step
+abbrev pub step_of : DiskEvent → Step
+step_of (Touched r i) = Touch (newly_accepted (accepted_of r)) i (λ b. fill_byte r.fill i)
+step_of (Plugged port fill) = Replace port 0 0 (λ k b. fill_byte fill k)
+
+-- happenings as steps
+abbrev pub history_of : List DiskEvent → List Step
+history_of happened = map step_of happened
+
+-- a machine whose disks have this fill: sector k has the byte of k
+abbrev pub start_filled : ℕ → Machine
+start_filled fill = record {
+  present = λ p. true;
+  disk_ids = λ p. 0;
+  sizes = λ p. 0;
+  disks = λ p k b. fill_byte fill k;
+  aside = λ p k. [];
+  book = [];
+  kept = [];
+  lent = λ f. None;
+  memory = λ f b. 0;
+  rows = [];
+  owner = λ f. None;
+  next = 1;
+}
+
+-- the step is a touch of sector k by this write or trim, of the read's port and accepted before it
+pub record IsWriterNow (read : HistoryRequest) (k : ℕ) (step : Step) (w : HistoryRequest) : Type 0 where
+  pub writes : changes_sectors w.op ≡ true
+  pub here : w.port ≡ read.port
+  pub earlier : w.id.0 < read.id.0
+  pub touched : IsTouch step (accepted_of w) k
+
+-- the one accepted later, if there are two
+abbrev pub IsLaterOf : Option HistoryRequest → HistoryRequest → HistoryRequest → Type 0
+IsLaterOf None new found = found ≡ new
+IsLaterOf (Some old) new found = (new.id.0 ≤ found.id.0) × (old.id.0 ≤ found.id.0) × ((found ≡ new) ⊎ (found ≡ old))
+
+-- the last in order of acceptance of those that wrote the sector, or none did
+pub record IsLastWriter (port : Port) (k n before : ℕ) (history : List Step)
+    (found : Option HistoryRequest) : Type 0 where
+  pub wrote : IfSome found (λ w. Wrote port k n before history (accepted_of w))
+  pub last : IfSome found (λ w. (other : Accepted) → Wrote port k n before history other → other.id.0 ≤ w.id.0)
+  pub none : IfNone found ((other : Accepted) → Wrote port k n before history other → ⊥)

@@ -1,5 +1,0 @@
-use Rattle.machine_runs.proofs.WorkedRun.{finds_the_flushed}
-use Rattle.machine_runs.proofs.laws.law_a_worked_run_exists.Goals as goal
-
-pub returns : goal.returns
-returns c = finds_the_flushed

@@ -1,8 +1,0 @@
-use Rattle.machine_runs.proofs.Issuing.{law_issued_four_times, aborted_after_four}
-use Rattle.machine_runs.proofs.laws.law_issued_four_times.Goals as goal
-
-pub returns-clause-most : goal.returns-clause-most
-returns-clause-most g c = law_issued_four_times
-
-pub returns-clause-aborted : goal.returns-clause-aborted
-returns-clause-aborted g c = aborted_after_four

@@ -1,5 +1,0 @@
-use Rattle.std.proofs.Common.{rules}
-use Rattle.port_driver.proofs.modes.mode_found.Goals as goal
-
-pub returns-in-Ready-clause-found : goal.returns-in-Ready-clause-found
-returns-in-Ready-clause-found c = search rules

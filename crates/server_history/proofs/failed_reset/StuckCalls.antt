@@ -1,0 +1,211 @@
+-- Calls of a server since a reset that got stuck, but for its service.
+use Rattle.std.proofs.Common.{ℕ, suc, ◌∙◌, Bool, true, false, ◌≡◌, ◌≢◌, ◌+◌, ◌*◌, ◌&&◌, if◌then◌else◌, List, [], ◌∷◌, None, Ok, Err, length, map, inl, inr, refl, sym, ap, ap₂, subst, arith, ⊎_elim}
+use Rattle.std.specs.List.{Contains}
+use Rattle.std.proofs.lemmas.Bool.{false≢true}
+use Rattle.std.proofs.lemmas.List.Elements.{All-nil}
+use Rattle.std.proofs.lemmas.List.Sorted.{IsPermutation-refl}
+use Rattle.ata_types.specs.declared.Port.{Port}
+use Rattle.ata_types.specs.declared.PortState.TheVariants.{Ready as ReadyState}
+use Rattle.ata_types.specs.declared.refusal.MemFault.{MemFault}
+use Rattle.ata_types.specs.declared.refusal.Refusal.{Refusal}
+use Rattle.ata_types.specs.declared.refusal.Refusal.TheVariants as refused
+use Rattle.ata_types.specs.declared.refusal.Rule.TheVariants.{NoGrant}
+use Rattle.ata_types.specs.declared.request.ClientId.{ClientId}
+use Rattle.ata_types.specs.declared.request.Frame.{Frame}
+use Rattle.ata_types.specs.declared.request.Outcome.{Outcome}
+use Rattle.ata_types.specs.declared.request.Request.{Request}
+use Rattle.adapter.specs.Access.{Loads, Stores}
+use Rattle.adapter.specs.Access.Access.{Storing}
+use Rattle.adapter.specs.Asked.{Asked}
+use Rattle.adapter.specs.Device.{Device}
+use Rattle.adapter.specs.Idle.{IsIdlePort}
+use Rattle.adapter.specs.Rules.{IsOn}
+use Rattle.adapter.specs.Steps.{Steps}
+use Rattle.adapter.specs.declared.access.DeviceStep.{DeviceStep}
+use Rattle.refinement.specs.Driven.{known}
+use Rattle.refinement.specs.Links.{SameAdapter}
+use Rattle.block_machine.specs.Events.{AllMay, AnswersTick, Device as Told, HasTimedOut, LoadAt, AbstractState, RevokeOf, Served, Shown, State, Stepped, StoreAt, Submit, Submitted, Tick, WasRevoked}
+use Rattle.block_machine.specs.Histories.{Happening, JointState, now}
+use Rattle.block_machine.specs.Left.{after}
+use Rattle.block_machine.specs.Ports.{Ports}
+use Rattle.block_machine.specs.Refusals.{IsAcceptable, IsFirstMemFault, IsFirstRefusal, MayAccessFrame}
+use Rattle.block_machine.specs.Rules.{HasRow}
+use Rattle.block_machine.specs.State.{Pending}
+use Rattle.block_machine.specs.Steps.{Step, Age, Again, Answer, Load, Store, older}
+use Rattle.server_history.proofs.state.ListMembers.{contains_cases}
+use Rattle.dma_frames.specs.Table.{lent_to, owner_of}
+use Rattle.driver_history.specs.Trace.{IsAccessForPorts, LeavesEngine}
+use Rattle.server_history.specs.Below.{LawsBelow}
+use Rattle.server_history.specs.Histories.{ExtendsHistory, ExtendsStuck, LeadsToServer, load_said, store_said}
+use Rattle.server_history.specs.Server.{ServerState, MachineRelation, ports_of, admission_context}
+use Rattle.server_history.specs.StuckServer.{ServerInvariant, StuckInvariant}
+use Rattle.server_history.proofs.plain_calls.RefusalsAndBytes.{GoesTo, device_event, load_ends, load_event, load_refused_event, revoke_refused_event, state_event, store_ends, store_event, store_refused_event, submit_refused_event, undone_event}
+use Rattle.server_history.proofs.state.HistorySteps.{lead_by, machine_on, ports_same}
+use Rattle.server_history.proofs.state.FirstMembers.{nowhere}
+use Rattle.server_history.proofs.failed_reset.StuckInstant.{access_idle, booked_on, holds_off, never_ready, never_troubled, steps_idle, steps_same}
+use Rattle.server_history.proofs.state.CallEvidence.{told_by, uninterrupted}
+
+-- where none gets older, the book stays what it is
+none_older : (book : List Pending) → map (older (λ port. false)) book ≡ book
+none_older [] = refl
+none_older (e ∷ book) = ap₂ (λ (x : Pending) (xs : List Pending). x ∷ xs) (by e.issued) (none_older book)
+  where
+    by : (b : Bool) → (if b && false then record e { age = suc e.age } else e) ≡ e
+    by true = refl
+    by false = refl
+
+-- a tick alone decides nothing
+never_here : (step : Step) (ready : Port → Bool) → (step ≡ Age ready → ⊥) → Contains (Age ready ∷ []) step → ⊥
+never_here step ready other here = ⊎_elim other (nowhere step) (contains_cases (Age ready) [] step here)
+
+module _ (laws : LawsBelow) (s : ServerState) (t : StuckInvariant s) where
+  abbrev b : ServerInvariant s
+  b = t.booked
+
+  -- ---- the server with another device
+
+  pub goes : (new : Device) → StuckInvariant (record s { device = new }) → GoesTo s new
+  goes new then_is = record {
+    holds = holds_off (record s { device = new }) then_is.booked then_is.dead then_is.off;
+    port_error = λ m are port. never_troubled s t.dead (told_by s.device m.ports) (record { device = s.device; abstract = m }) (ports_of s) new port are (never_ready s t.dead port.0);
+  }
+
+  then_stalled : (new : Device) → SameAdapter s.device new → ((port : ℕ) → IsIdlePort (s.device.port port) → IsIdlePort (new.port port)) → (IsOn new → ⊥)
+      → (steps : List Step) → AllMay b.machine steps → MachineRelation (record s { device = new }) (after b.machine steps) → StuckInvariant (record s { device = new })
+  then_stalled new same idle off steps may is = record {
+    booked = booked_on s new b same idle (after b.machine steps) (laws.basic.reached b.machine steps b.reached may) is;
+    off = off;
+    dead = t.dead;
+  }
+
+  -- ---- the device's steps
+
+  never_on : (new : Device) → Steps s.device new → IsOn new → ⊥
+  never_on new moves on = t.off (laws.basic.was_on s.device new moves on)
+
+  moved : (new : Device) → Steps s.device new → StuckInvariant (record s { device = new })
+  moved new moves =
+      let x = (laws.basic.device_adds (known b.stands.uses b.stands.parked s.device) new moves).adds b.machine b.reached b.stands.knows in
+      then_stalled new (steps_same laws s.device new moves) (steps_idle laws s.device new moves) (never_on new moves) x.0 x.1 (machine_on laws s new b.machine x.0 b.stands x.3.only x.2)
+
+  pub stalled_device : (new : Device) (step : DeviceStep) → Asked step s.device new → Steps s.device new → ExtendsStuck s (record s { device = new }) (Told step) (Stepped true)
+  stalled_device new step asked moves = record { stalled = moved new moves; adds = device_event laws s new (goes new (moved new moves)) step asked moves }
+
+  -- ---- calls that do nothing
+
+  pub stalled_undone : (step : DeviceStep) → ExtendsHistory s s (Told step) (Stepped false)
+  stalled_undone step = undone_event laws s (goes s.device t) step
+
+  pub stalled_state : (port : Port) → ExtendsHistory s s (State port) (Shown ((ports_of s).state port))
+  stalled_state port = state_event laws s (goes s.device t) port
+
+  pub stalled_store_refused : (client : ClientId) (frame : Frame) (offset : ℕ) (bytes : List ℕ) (fault : MemFault)
+      → IsFirstMemFault (owner_of s.table) (lent_to s.table) client frame offset (length bytes) fault → ExtendsHistory s s (StoreAt client frame offset bytes) (store_said (Err fault))
+  stalled_store_refused = store_refused_event laws s (goes s.device t)
+
+  pub stalled_load_refused : (client : ClientId) (frame : Frame) (offset count : ℕ) (bytes : List ℕ) (fault : MemFault)
+      → IsFirstMemFault (owner_of s.table) (lent_to s.table) client frame offset count fault → ExtendsHistory s s (LoadAt client frame offset count) (load_said (Err fault) bytes)
+  stalled_load_refused = load_refused_event laws s (goes s.device t)
+
+  pub stalled_revoke_refused : (client : ClientId) (number : ℕ) → (HasRow client number s.grants → ⊥) → ExtendsHistory s s (RevokeOf client number) (WasRevoked None)
+  stalled_revoke_refused client number none = revoke_refused_event laws s (goes s.device t) client number none (λ m at port ready. absurd (never_ready s t.dead port.0 ready))
+
+  pub stalled_submit : (r : Request) (refusal : Refusal) → IsFirstRefusal (admission_context s) r refusal → ExtendsHistory s s (Submit r) (Submitted (Err refusal))
+  stalled_submit r refusal is = submit_refused_event laws s (goes s.device t) r refusal is (λ m at port ready. absurd (never_ready s t.dead port.0 ready))
+
+  -- a request that has a grant is of a port that isn't ready
+  pub none_acceptable : (r : Request) → IsAcceptable (admission_context s) r → ⊥
+  none_acceptable r fine = fine (refused.Rule NoGrant) (λ row named. fine (refused.PortNotReady ((ports_of s).state row.port)) (never_ready s t.dead row.port.0, (row, named, refl)))
+
+  -- ---- clients' bytes
+
+  module _ (new : Device) (client : ClientId) (frame : Frame) (offset : ℕ) (bytes : List ℕ) (opens : MayAccessFrame (owner_of s.table) (lent_to s.table) client frame offset (length bytes)) where
+    loaded : Loads (4096 * frame.0 + offset) bytes s.device new → StuckInvariant (record s { device = new })
+    loaded loads =
+        let x = load_ends laws s new client frame offset bytes opens loads b.machine b.reached b.stands in
+        then_stalled new (steps_same laws s.device new loads.steps) (steps_idle laws s.device new loads.steps) (never_on new loads.steps) (Load client frame offset bytes ∷ x.0.steps) x.0.may x.1
+
+    load_adds : Loads (4096 * frame.0 + offset) bytes s.device new → ExtendsStuck s (record s { device = new }) (LoadAt client frame offset (length bytes)) (load_said (Ok tt) bytes)
+    load_adds loads = record { stalled = loaded loads; adds = load_event laws s new (goes new (loaded loads)) client frame offset bytes opens loads }
+
+    stored : Stores (4096 * frame.0 + offset) bytes s.device new → StuckInvariant (record s { device = new })
+    stored stores =
+        let x = store_ends laws s new client frame offset bytes opens stores b.machine b.reached b.stands in
+        then_stalled new same (access_idle laws (Storing (4096 * frame.0 + offset) bytes) tt s.device new stores) off (Store client frame offset bytes ∷ x.0.steps) x.0.may x.1
+      where
+        same : SameAdapter s.device new
+        same = subst (SameAdapter s.device) (sym stores.effect) (let was = steps_same laws s.device stores.mid stores.steps in record { telling = was.telling; size = was.size; cap = was.cap; pi = was.pi })
+
+        off : IsOn new → ⊥
+        off on = let then_on = subst IsOn stores.effect on in never_on stores.mid stores.steps (record { ae = then_on.ae; no_reset = then_on.no_reset })
+
+    pub stalled_store : Stores (4096 * frame.0 + offset) bytes s.device new → ExtendsStuck s (record s { device = new }) (StoreAt client frame offset bytes) (store_said (Ok tt))
+    stalled_store stores = record { stalled = stored stores; adds = store_event laws s new (goes new (stored stores)) client frame offset bytes opens stores }
+
+  -- of so many bytes
+  pub stalled_load : (new : Device) (client : ClientId) (frame : Frame) (offset count : ℕ) (bytes : List ℕ) → length bytes ≡ count
+      → MayAccessFrame (owner_of s.table) (lent_to s.table) client frame offset count → Loads (4096 * frame.0 + offset) bytes s.device new
+      → ExtendsStuck s (record s { device = new }) (LoadAt client frame offset count) (load_said (Ok tt) bytes)
+  stalled_load new client frame offset count bytes long opens loads =
+      let here : MayAccessFrame (owner_of s.table) (lent_to s.table) client frame offset (length bytes) = subst (λ (n : ℕ). MayAccessFrame (owner_of s.table) (lent_to s.table) client frame offset n) (sym long) opens in
+      subst (λ (n : ℕ). ExtendsStuck s (record s { device = new }) (LoadAt client frame offset n) (load_said (Ok tt) bytes)) long (load_adds new client frame offset bytes here loads)
+
+  -- ---- a tick
+
+  module _ (first : JointState Device) (past : List (Happening Device DeviceStep)) (leads : LeadsToServer first past s) where
+    abbrev old : AbstractState
+    old = (now first past).abstract
+
+    abbrev ages : List Step
+    ages = Age (λ port. false) ∷ []
+
+    was_never : (port : Port) → old.ports.state port ≢ ReadyState
+    was_never port ready = never_ready s t.dead port.0 (ap (λ (p : Ports). p.state port) (sym leads.stands.ports_are) ∙ ready)
+
+    not_hung : (port : Port) → HasTimedOut old port → ⊥
+    not_hung port hung = was_never port hung.ready
+
+    none_answered : (e : Pending) (o : Outcome) → Contains ages (Answer e o) → ⊥
+    none_answered e o here = never_here (Answer e o) (λ port. false) (λ is. let z : Answer e o ≡ Age (λ port. false) = is in cc) here
+
+    answers : AnswersTick old (told_by s.device old.ports) ages [] (record { machine = after old.machine ages; ports = ports_of s })
+    answers = record {
+      tells = record { answers = []; same = IsPermutation-refl []; ordered = λ i j d lt below. absurd (omega (arith, lt, below)); told = refl };
+      ages = record { ready = λ port. false; is_ready = λ port. ((λ yes. absurd (false≢true yes)), (λ ready. absurd (was_never port ready))); later = []; first = refl; once = refl };
+      restarts = record {
+        ports = λ port. inl (not_hung port, ports_same old.ports (ports_of s) leads.stands.ports_are port);
+        again = λ e here. absurd (never_here (Again e) (λ port. false) (λ is. let z : Again e ≡ Age (λ port. false) = is in cc) here);
+        answer = λ e o here. absurd (none_answered e o here);
+        ended = λ port hung. absurd (not_hung port hung);
+        anew = λ port hung. absurd (not_hung port hung);
+        interrupts = λ port. (λ hung. absurd (not_hung port hung), λ i. absurd (uninterrupted s.device old.ports port i));
+        finds = λ e here. absurd (none_answered e _ here);
+        disk = λ port hung. absurd (not_hung port hung);
+      };
+      unplugs = record { emptied = λ e other here. absurd (none_answered e _ here); alike = λ e other here. absurd (none_answered e _ here) };
+      issues = λ port ready. absurd (never_ready s t.dead port.0 ready);
+      emptied = λ port ready. absurd (was_never port ready);
+    }
+
+    ticked : (h : Happening Device DeviceStep) × (h.event.ask ≡ Tick) × (h.event.said ≡ Served []) × LeadsToServer first (h ∷ past) s
+    ticked = lead_by laws first past s s Tick (Served []) ages refl refl leads (holds_off s b t.dead t.off) (tt, tt) (tt, inr tt) (tt, λ id h i. false≢true h) tt
+        answers
+        tt
+        []
+        (refl, All-nil (IsAccessForPorts (HasTimedOut old)))
+        (λ port. All-nil (LeavesEngine port))
+        (λ port ready. absurd (never_ready s t.dead port.0 ready))
+        (λ port. record {
+          finds = λ hung. absurd (not_hung port hung);
+          faults = tt;
+          probes = tt;
+          boots = λ hung. absurd (not_hung port hung);
+          port_error = never_troubled s t.dead (told_by s.device old.ports) (record { device = s.device; abstract = old }) (ports_of s) s.device port leads.stands.ports_are (never_ready s t.dead port.0);
+          well = λ i. absurd (uninterrupted s.device old.ports port i);
+          heeds = tt;
+        })
+        (laws.backed_own s.device old.machine (Age (λ port. false)) (λ none. none))
+        (subst (λ (book : List Pending). MachineRelation s (record (old.machine) { book = book })) (sym (none_older old.machine.book)) leads.stands.machine)
+
+  pub stalled_tick : ExtendsStuck s s Tick (Served [])
+  stalled_tick = record { stalled = t; adds = ticked }

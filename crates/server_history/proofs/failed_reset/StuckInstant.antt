@@ -1,0 +1,225 @@
+-- What holds at the instant of a server each of whose served ports is dead, and whose adapter isn't on.
+use Rattle.std.proofs.Common.{ℕ, true, ◌≡◌, ◌≢◌, ◌⊎◌, ◌<◌, ◌≤◌, ◌+◌, ◌*◌, List, [], ◌∷◌, length, get_or, Option, None, inl, inr, refl, sym, ap, ◌∙◌, subst, ⊎_elim}
+use Rattle.std.specs.Prelude.{count_by}
+use Rattle.std.specs.List.{All}
+use Rattle.std.proofs.lemmas.Bool.{false≢true}
+use Rattle.std.proofs.lemmas.List.Elements.{All-contains, All-head, All-tail}
+use Rattle.ata_types.specs.declared.Port.{Port}
+use Rattle.ata_types.specs.declared.PortState.TheVariants.{Absent, Ready as ReadyState, Unfit, Dead}
+use Rattle.ata_types.specs.declared.grant.GrantRow.{GrantRow}
+use Rattle.ata_types.specs.declared.memory.TheConstants.{DRIVER_BYTES}
+use Rattle.ata_types.specs.declared.request.ClientId.{ClientId}
+use Rattle.hba_regs.specs.Bits.{bit}
+use Rattle.hba_regs.specs.declared.reg.Reg.TheVariants.{Ghc}
+use Rattle.adapter.specs.Access.{Access, Does, DoesAll}
+use Rattle.adapter.specs.Access.Access.{Loading, Reading, Storing, Writing}
+use Rattle.adapter.specs.Device.{Device}
+use Rattle.adapter.specs.Idle.{IsIdlePort}
+use Rattle.adapter.specs.Rules.{IsOn}
+use Rattle.adapter.specs.Steps.{Steps}
+use Rattle.refinement.specs.Links.{SameAdapter}
+use Rattle.block_machine.specs.Histories.{JointState, IsReachable}
+use Rattle.block_machine.specs.Left.{IsValidRow}
+use Rattle.block_machine.specs.Ports.{PortsWellFormed, Evidence, Ports}
+use Rattle.block_machine.specs.State.{Machine}
+use Rattle.driver_history.specs.Histories.{LosesNoPortError, IsPortAlive}
+use Rattle.refinement.specs.Acts.{DriverSlots}
+use Rattle.driver_history.specs.Holds.{PortStateInvariant, DriverInvariantWith, HasNoUnanswered}
+use Rattle.dma_frames.specs.Loan.{Lending}
+use Rattle.dma_frames.specs.Table.{Table}
+use Rattle.host_boot.specs.Taken.{probe_result_of, wanted_of}
+use Rattle.host_boot.specs.declared.ProbeResult.{ProbeResult}
+use Rattle.host_boot.specs.declared.ProbeResult.TheVariants.{Ready, Unready, Unserved}
+use Rattle.request_queue.specs.Entries.{BookEntry, IsAccepted, BookIsInOrder}
+use Rattle.request_queue.specs.Machine.{EntryRelation}
+use Rattle.server_history.specs.Below.{LawsBelow}
+use Rattle.server_history.specs.ErrorHandling.{requests_of}
+use Rattle.server_history.specs.Server.{RevokedMarkInvariant, ServerState, MachineRelation, is_served, quarantined_at, ports_of, state_of, slot_state_of}
+use Rattle.server_history.specs.StuckServer.{AreDead, ServerInvariant}
+use Rattle.server_history.proofs.state.HistorySteps.{IsHolding}
+use Rattle.server_history.proofs.state.PortSlots.{none_kept}
+use Rattle.server_history.proofs.state.PairedLists.{at_right}
+
+-- ---- ports
+
+-- a port that is dead if it is served
+pub dead_if_served : (found : ProbeResult) → (is_served found ≡ true → found ≡ Unready Dead) → (found ≡ Unserved) ⊎ (found ≡ Unready Dead)
+dead_if_served Unserved dead = inl refl
+dead_if_served (Ready info) dead = inr (dead refl)
+dead_if_served (Unready state) dead = inr (dead refl)
+
+module _ (s : ServerState) (dead : AreDead s.ports) where
+  pub either : (port : ℕ) → (probe_result_of s.ports port ≡ Unserved) ⊎ (probe_result_of s.ports port ≡ Unready Dead)
+  either port = dead_if_served (probe_result_of s.ports port) (dead port)
+
+  pub never_ready : (port : ℕ) → state_of (probe_result_of s.ports port) ≢ ReadyState
+  never_ready port ready = ⊎_elim
+      (λ unserved. let z : Absent ≡ ReadyState = sym (ap state_of unserved) ∙ ready in cc)
+      (λ is. let z : Dead ≡ ReadyState = sym (ap state_of is) ∙ ready in cc)
+      (either port)
+
+  never_tended : (port : Port) → IsPortAlive (ports_of s) port → ⊥
+  never_tended port tends = tends.1 (ap state_of (dead port.0 tends.0))
+
+  -- so no trouble of it can be lost
+  pub never_troubled : (evidence : Evidence) (old : JointState Device) (ports : Ports) (new : Device) (port : Port) → old.abstract.ports ≡ ports_of s → ports.state port ≢ ReadyState
+      → LosesNoPortError evidence old ports new port
+  never_troubled evidence old ports new port were now = record {
+    errors = λ ready. absurd (never_ready port.0 (ap (λ (p : Ports). p.state port) (sym were) ∙ ready));
+    changes = λ tends. absurd (never_tended port (subst (λ (p : Ports). IsPortAlive p port) were tends));
+    fault = λ ready. absurd (now ready);
+    fatal = λ ready. absurd (now ready);
+    disk = λ ready. absurd (now ready);
+  }
+
+  pub dead_fit : ((port : ℕ) → is_served (probe_result_of s.ports port) ≡ true → port < 4) → PortsWellFormed (ports_of s)
+  dead_fit few = record {
+    few = λ port its. few port.0 its;
+    absent = λ port other. ⊎_elim (λ unserved. ap state_of unserved) (λ is. absurd (false≢true (sym other ∙ ap is_served is))) (either port.0);
+    slots = λ port ready. absurd (never_ready port.0 ready);
+    causes = λ port cause unfit. ⊎_elim
+        (λ unserved. absurd (let z : Absent ≡ Unfit cause = sym (ap state_of unserved) ∙ unfit in cc))
+        (λ is. absurd (let z : Dead ≡ Unfit cause = sym (ap state_of is) ∙ unfit in cc))
+        (either port.0);
+  }
+
+-- ---- an instant
+
+module _ (s : ServerState) (b : ServerInvariant s) (dead : AreDead s.ports) (off : IsOn s.device → ⊥) (m : Machine) (is : MachineRelation s m) where
+  abbrev slots : DriverSlots
+  slots = record { uses = is.uses; parked = is.parked }
+
+  abbrev instant : JointState Device
+  instant = record { device = s.device; abstract = record { machine = m; ports = ports_of s } }
+
+  abbrev HoldsAs : Port → ProbeResult → Type 0
+  HoldsAs port f = PortStateInvariant (wanted_of s.wanted port.0) slots instant port (is_served f) (state_of f)
+
+  nobody_waits : (port : Port) → probe_result_of s.ports port.0 ≡ Unserved → HasNoUnanswered m port
+  nobody_waits port unserved e here own =
+      let a = at_right EntryRelation s.book m.book is.book e here in
+      let its = All-contains (λ (x : BookEntry). is_served (probe_result_of s.ports x.entry.port.0) ≡ true) s.book a.0 b.asked a.1 in
+      false≢true (sym (ap is_served unserved) ∙ ap (λ (q : Port). is_served (probe_result_of s.ports q.0)) (sym own ∙ a.2.port) ∙ its)
+
+  of_unserved : (port : Port) → port.0 < 4 → probe_result_of s.ports port.0 ≡ Unserved → HoldsAs port (probe_result_of s.ports port.0)
+  of_unserved port low unserved =
+      let alive : probe_result_of s.ports port.0 ≢ Unready Dead = λ is_dead. let z : Unserved ≡ Unready Dead = sym unserved ∙ is_dead in cc in
+      subst (HoldsAs port) (sym unserved) (record {
+        absent = ap state_of unserved;
+        idle = b.idle port.0 low unserved;
+        slots = record { free = λ slot. is.used port.0 slot alive ∙ ap slot_state_of (b.unused port.0 slot unserved); unparked = is.unparked port.0 alive };
+        waits = nobody_waits port unserved;
+        kept = none_kept s m port is alive;
+      })
+
+  of_dead : (port : Port) → probe_result_of s.ports port.0 ≡ Unready Dead → HoldsAs port (probe_result_of s.ports port.0)
+  of_dead port is_dead = subst (HoldsAs port) (sym is_dead) (record { why = inr off; waits = λ on. absurd (off on) })
+
+  holds_with_off : DriverInvariantWith s.wanted slots instant
+  holds_with_off = record {
+    knows = is.knows;
+    served = λ port low. b.served port.0 low;
+    on = inr (λ port its. ap state_of (dead port.0 its));
+    port = λ port low. ⊎_elim (of_unserved port low) (of_dead port) (either s dead port.0);
+  }
+
+pub holds_off : (s : ServerState) → ServerInvariant s → AreDead s.ports → (IsOn s.device → ⊥) → IsHolding s
+holds_off s b dead off m reached is = (slots s b dead off m is, holds_with_off s b dead off m is)
+
+-- ---- what accesses leave
+
+-- an access that touches no register of a port: GHC is read or written, or bytes are loaded or stored
+abbrev pub LeavesPorts : Access → Type 0
+LeavesPorts (Reading Ghc v) = Unit {0}
+LeavesPorts (Writing Ghc v) = Unit {0}
+LeavesPorts (Loading at bytes) = Unit {0}
+LeavesPorts (Storing at bytes) = Unit {0}
+LeavesPorts access = ⊥
+
+module _ (laws : LawsBelow) where
+  pub steps_idle : (old new : Device) → Steps old new → (port : ℕ) → IsIdlePort (old.port port) → IsIdlePort (new.port port)
+  steps_idle old new steps port idle =
+      let keeps = (laws.basic.keeps old new steps).port port in
+      record {
+        st = keeps.st idle.st;
+        cr = keeps.cr idle.cr;
+        fre = keeps.fre idle.fre;
+        fr = keeps.fr idle.fr;
+        ci = λ slot. keeps.ci slot (idle.ci slot);
+        sact = λ slot. keeps.sact slot (idle.sact slot);
+        taken = keeps.idle idle.cr idle.taken;
+      }
+
+  pub access_idle : (access : Access) → LeavesPorts access → (old new : Device) → Does access old new → (port : ℕ) → IsIdlePort (old.port port) → IsIdlePort (new.port port)
+  access_idle (Reading Ghc v) its old new does port idle = subst (λ (d : Device). IsIdlePort (d.port port)) (sym does.effect) (steps_idle old does.mid does.steps port idle)
+  access_idle (Writing Ghc v) its old new does port idle = subst (λ (d : Device). IsIdlePort (d.port port)) (sym does.effect) (steps_idle old does.mid does.steps port idle)
+  access_idle (Loading at bytes) its old new does port idle = steps_idle old new does.steps port idle
+  access_idle (Storing at bytes) its old new does port idle = subst (λ (d : Device). IsIdlePort (d.port port)) (sym does.effect) (steps_idle old does.mid does.steps port idle)
+  access_idle (Reading r v) its old new does port idle = absurd its
+  access_idle (Writing r v) its old new does port idle = absurd its
+
+  pub accesses_idle : (accesses : List Access) → All LeavesPorts accesses → (old new : Device) → DoesAll accesses old new → (port : ℕ) → IsIdlePort (old.port port) → IsIdlePort (new.port port)
+  accesses_idle [] its old new same port idle = subst (λ (d : Device). IsIdlePort (d.port port)) (sym same) idle
+  accesses_idle (access ∷ accesses) its old new (mid, does, more) port idle =
+      accesses_idle accesses (All-tail LeavesPorts access accesses its) mid new more port (access_idle access (All-head LeavesPorts access accesses its) old mid does port idle)
+
+  pub steps_same : (old new : Device) → Steps old new → SameAdapter old new
+  steps_same old new steps = let keeps = laws.basic.keeps old new steps in record { telling = keeps.telling; size = keeps.size; cap = keeps.cap; pi = keeps.pi }
+
+-- ---- the server with another device
+
+pub booked_on : (s : ServerState) (new : Device) → ServerInvariant s → SameAdapter s.device new → ((port : ℕ) → IsIdlePort (s.device.port port) → IsIdlePort (new.port port))
+    → (m : Machine) → IsReachable m → MachineRelation (record s { device = new }) m → ServerInvariant (record s { device = new })
+booked_on s new b same idle m reached is = record {
+  room = subst (λ (n : ℕ). DRIVER_BYTES ≤ n) (sym same.size) b.room;
+  served = λ port low.
+      let was = b.served port low in
+      ((λ its. let w = was.0 its in (w.0, ap (λ (pi : ℕ). bit pi port) same.pi ∙ w.1)), (λ w. was.1 (w.0, ap (λ (pi : ℕ). bit pi port) (sym same.pi) ∙ w.1)));
+  few = b.few;
+  idle = λ port low unserved. idle port (b.idle port low unserved);
+  unused = b.unused;
+  four = b.four;
+  four_modes = b.four_modes;
+  four_remembered = b.four_remembered;
+  four_kept = b.four_kept;
+  places = b.places;
+  rows = b.rows;
+  owners = λ frame client own. let o = b.owners frame client own in (o.0, subst (λ (n : ℕ). 4096 * frame.0 + 4096 ≤ n) (sym same.size) o.1);
+  accepted = b.accepted;
+  ordered = b.ordered;
+  marked = b.marked;
+  handed_out = b.handed_out;
+  asked = b.asked;
+  machine = m;
+  reached = reached;
+  stands = is;
+}
+
+-- ---- the server with other requests
+
+pub booked_then : (s : ServerState) (grants : List GrantRow) (table : Table) (kept : List (List Lending)) (book : List BookEntry) → ServerInvariant s → All IsValidRow grants → table.owners ≡ s.table.owners → length kept ≡ 4
+    → ((port : Port) → length (quarantined_at kept port.0) + count_by (λ (e : BookEntry). e.entry.issued) (requests_of port book) ≤ 32) → All (IsAccepted table) book → BookIsInOrder book → All (RevokedMarkInvariant grants) book
+    → All (λ e. e.entry.id.0 ≤ s.last) book → All (λ e. is_served (probe_result_of s.ports e.entry.port.0) ≡ true) book → (m : Machine) → IsReachable m → MachineRelation (record s { grants = grants; table = table; kept = kept; book = book }) m
+    → ServerInvariant (record s { grants = grants; table = table; kept = kept; book = book })
+booked_then s grants table kept book b rows owners four places accepted ordered marked handed_out asked m reached is = record {
+  room = b.room;
+  served = b.served;
+  few = b.few;
+  idle = b.idle;
+  unused = b.unused;
+  four = b.four;
+  four_modes = b.four_modes;
+  four_remembered = b.four_remembered;
+  four_kept = four;
+  places = places;
+  rows = rows;
+  owners = λ frame client own. b.owners frame client (ap (λ (list : List (Option ClientId)). get_or list frame.0 None) (sym owners) ∙ own);
+  accepted = accepted;
+  ordered = ordered;
+  marked = marked;
+  handed_out = handed_out;
+  asked = asked;
+  machine = m;
+  reached = reached;
+  stands = is;
+}

@@ -1,0 +1,16 @@
+use Rattle.std.proofs.Common.{refl}
+use Rattle.server_history.proofs.plain_calls.Looks.{looking_kept, finding_kept, found_over}
+use Rattle.server_history.proofs.recovery_turn.CallPart.{unlooked}
+use Rattle.server_history.proofs.laws.law_looks_preserve_invariant.Goals as goal
+
+pub returns-clause-looking : goal.returns-clause-looking
+returns-clause-looking c s new port k ready followed = looking_kept s new port k ready c.law_below.ensures followed
+
+pub returns-clause-finding : goal.returns-clause-finding
+returns-clause-finding c s new port mask done k ready finds = finding_kept s new port k ready c.law_below.ensures mask done finds
+
+pub returns-clause-found : goal.returns-clause-found
+returns-clause-found c s new port mask done slot k ready its small finds found = found_over s new port k ready c.law_below.ensures mask done finds its slot small found
+
+pub returns-clause-none : goal.returns-clause-none
+returns-clause-none c port device = unlooked port device device refl

@@ -1,5 +1,0 @@
-use Rattle.server_history.proofs.plain_calls.RefusalsAndBytes.{open_free}
-use Rattle.server_history.proofs.laws.law_open_bytes_are_free.Goals as goal
-
-pub returns : goal.returns
-returns c s client frame offset count b opens = open_free c.law_below.ensures s client frame offset count b.owners b.machine b.reached b.stands opens

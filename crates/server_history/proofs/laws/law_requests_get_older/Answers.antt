@@ -1,5 +1,0 @@
-use Rattle.server_history.proofs.plain_calls.OlderRequests.{older_settled}
-use Rattle.server_history.proofs.laws.law_requests_get_older.Goals as goal
-
-pub returns : goal.returns
-returns c = older_settled c.law_below.ensures

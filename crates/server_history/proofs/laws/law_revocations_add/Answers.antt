@@ -1,5 +1,0 @@
-use Rattle.server_history.proofs.revoke_call.Revocation.{revocation}
-use Rattle.server_history.proofs.laws.law_revocations_add.Goals as goal
-
-pub returns : goal.returns
-returns c = revocation c.law_below.ensures

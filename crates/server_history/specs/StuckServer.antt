@@ -1,0 +1,87 @@
+-- A server whose adapter didn't end its reset, and what holds of a server whether or not its adapter is on (this
+-- project's own).
+use Rattle.std.specs.Prelude.{ℕ, true, ◌≡◌, ◌↔◌, ◌+◌, ◌<◌, ◌≤◌, List, None, All, count_by, length}
+use Rattle.ata_types.specs.declared.Port.{Port}
+use Rattle.ata_types.specs.declared.PortState.TheVariants.{Dead}
+use Rattle.ata_types.specs.declared.memory.TheConstants.{DRIVER_BYTES}
+use Rattle.adapter.specs.Idle.{IsIdlePort}
+use Rattle.adapter.specs.Rules.{IsOn}
+use Rattle.refinement.specs.Relation.{port_at}
+use Rattle.block_machine.specs.Histories.{IsReachable}
+use Rattle.block_machine.specs.Left.{IsValidRow}
+use Rattle.block_machine.specs.State.{Machine}
+use Rattle.host_boot.specs.Resets.{ResetStaysPending}
+use Rattle.host_boot.specs.Taken.{IsServed, probe_result_of, wanted_of}
+use Rattle.host_boot.specs.declared.ProbeResult.{ProbeResult}
+use Rattle.host_boot.specs.declared.ProbeResult.TheVariants.{Unserved, Unready}
+use Rattle.request_queue.specs.Entries.{BookEntry, IsAccepted, BookIsInOrder}
+use Rattle.server_history.specs.ErrorHandling.{requests_of}
+use Rattle.server_history.specs.Server.{ServerState, MachineRelation, RevokedMarkInvariant, OwnedFramesAreClients, last_disk_in, is_served, quarantined_at, mode_at, plain_mode, remembered_at, slots_at, used_for}
+
+-- What holds of a server whether or not its adapter is on. The adapter has the memory of the driver and of the clients.
+-- Ports are served in which a disk is wanted, and which the adapter has; another one is idle, has no slot that is used,
+-- and nobody waits for it. Of each of the four ports a disk may be remembered, and there is a place for the loan of
+-- each of its requests that is issued beside those that are kept. Grants are as a configuration may give them; requests
+-- are as they were accepted, in order, with marks that tell of their grants, of served ports, and by ids that were
+-- handed out; and some machine that a history leads to stands for the server.
+pub record ServerInvariant (s : ServerState) : Type 0 where
+  pub room : DRIVER_BYTES ≤ s.device.size
+  pub served : (port : ℕ) → port < 4 → (is_served (probe_result_of s.ports port) ≡ true)
+      ↔ IsServed (wanted_of s.wanted port) port s.device
+  pub few : (port : ℕ) → is_served (probe_result_of s.ports port) ≡ true → port < 4
+  pub idle : (port : ℕ) → port < 4 → probe_result_of s.ports port ≡ Unserved → IsIdlePort (s.device.port port)
+  pub unused : (port slot : ℕ) → probe_result_of s.ports port ≡ Unserved → used_for s.slots port slot ≡ None
+  pub four : length s.slots ≡ 4
+  pub four_modes : length s.modes ≡ 4
+  pub four_remembered : length s.remembered ≡ 4
+  pub four_kept : length s.kept ≡ 4
+  pub places : (port : Port) → length (quarantined_at s.kept port.0) + count_by (λ (e : BookEntry). e.entry.issued)
+      (requests_of port s.book) ≤ 32
+  pub rows : All IsValidRow s.grants
+  pub owners : OwnedFramesAreClients s.table s.device.size
+  pub accepted : All (IsAccepted s.table) s.book
+  pub ordered : BookIsInOrder s.book
+  pub marked : All (RevokedMarkInvariant s.grants) s.book
+  pub handed_out : All (λ e. e.entry.id.0 ≤ s.last) s.book
+  pub asked : All (λ e. is_served (probe_result_of s.ports e.entry.port.0) ≡ true) s.book
+  pub machine : Machine
+  pub reached : IsReachable machine
+  pub stands : MachineRelation s machine
+
+-- each port that is served is dead
+abbrev pub AreDead : List ProbeResult → Type 0
+AreDead found = (port : ℕ) → is_served (probe_result_of found port) ≡ true → probe_result_of found port ≡ Unready Dead
+
+-- What holds of a server between calls since a reset that got stuck: the adapter isn't on (HR is still one, or AE fell
+-- when the reset ended unseen), and each port that is served is dead. Requests from before that reset may wait for the
+-- service that tells them.
+pub record StuckInvariant (s : ServerState) : Type 0 where
+  pub booked : ServerInvariant s
+  pub off : IsOn s.device → ⊥
+  pub dead : AreDead s.ports
+
+-- the port as it is after that: dead, if it is served
+abbrev pub stuck_found : ProbeResult → ProbeResult
+stuck_found Unserved = Unserved
+stuck_found _ = Unready Dead
+
+-- A reset got stuck: each served port is dead, its last disk is remembered, it takes plain commands and uses no slot.
+-- No request is answered and no frame given back.
+pub record ResetGetsStuck (old new : ServerState) : Type 0 where
+  pub stays : ResetStaysPending old.device new.device
+  pub found : (port : ℕ) → probe_result_of new.ports port ≡ stuck_found (probe_result_of old.ports port)
+  pub remembered : (port : ℕ) → remembered_at new.remembered port ≡ last_disk_in old (port_at port)
+  pub four : length new.remembered ≡ 4
+  pub four_modes : length new.modes ≡ 4
+  pub modes : (port : ℕ) → port < 4 → mode_at new.modes port ≡ plain_mode
+  pub four_slots : length new.slots ≡ 4
+  pub places : (port : ℕ) → port < 4 → length (slots_at new.slots port).places ≡ 32
+  pub usable : (port : ℕ) → port < 4 → (slots_at new.slots port).usable ≡ (mode_at new.modes port).usable
+  pub unused : (port slot : ℕ) → used_for new.slots port slot ≡ None
+  pub server : new ≡ record old {
+    device = new.device;
+    ports = new.ports;
+    remembered = new.remembered;
+    modes = new.modes;
+    slots = new.slots;
+  }
