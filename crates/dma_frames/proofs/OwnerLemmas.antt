@@ -7,7 +7,9 @@ use Rattle.std.proofs.lemmas.List.{get_or_default, get_or_past}
 use Rattle.ata_types.specs.declared.request.ClientId.{ClientId}
 use Rattle.ata_types.specs.declared.request.Frame.{Frame}
 use Rattle.ata_types.specs.declared.request.RequestId.{RequestId}
-use Rattle.block_machine.specs.Rules.{IsForeignAt}
+use Rattle.ata_types.specs.declared.memory.TheConstants.{MOST_FRAMES}
+use Rattle.ata_types.specs.declared.refusal.FrameFault.TheVariants.{FrameForeign}
+use Rattle.block_machine.specs.Rules.{HasNoFault, IsForeignAt}
 use Rattle.dma_frames.specs.Table.{FrameExtent, ExtentHasFrame, ExtentsApart, owner_of, lent_to, Table}
 
 -- the frames of the first i runs are their owners'
@@ -86,3 +88,8 @@ nobody_yet runs owners i z within apart only f has = by (get_or owners f.0 None)
     by : (o : Option ClientId) → get_or owners f.0 None ≡ o → get_or owners f.0 None ≡ None
     by None e = e
     by (Some client) e = let w = only f client e in absurd (apart w.0 i z w.1 within f (w.2 z).0 has)
+
+-- frames with no fault are in the memory
+pub faultless_within : (table : Table) (client : ClientId) (frames : List Frame) → HasNoFault (owner_of table) (lent_to table) client frames → length table.owners ≡ MOST_FRAMES
+    → All (λ f. f.0 < MOST_FRAMES) frames
+faultless_within table client frames clear many k d less = let owned = owned_within table client frames (λ j _. clear (FrameForeign j)) k d less in omega (arith, owned, many)
