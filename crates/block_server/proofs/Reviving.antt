@@ -4,7 +4,6 @@ use Rattle.std.proofs.lemmas.List.{drop_all, drop_more}
 use Rattle.std.specs.List.{All, AllPairs, Contains}
 use Rattle.ata_types.specs.declared.Port.{Port}
 use Rattle.ata_types.specs.declared.request.Reply.{Reply}
-use Rattle.ata_types.specs.declared.request.RequestId.{RequestId}
 use Rattle.adapter.specs.Device.{Device}
 use Rattle.refinement.specs.Relation.{port_at}
 use Rattle.dma_frames.specs.Loan.{Lending}
@@ -14,7 +13,7 @@ use Rattle.host_boot.specs.declared.ProbeResult.TheVariants.{Ready, Unready, Uns
 use Rattle.identify.specs.declared.DiskInfo.{DiskInfo}
 use Rattle.server_history.specs.Kept.{MayGiveBack}
 use Rattle.server_history.specs.Resets.{IssuePorts, ResolvePorts, ResolvesPort}
-use Rattle.server_history.specs.Served.{IssuesAll, IssuesEach, IssuesOne}
+use Rattle.server_history.specs.Served.{IssuesAll}
 use Rattle.server_history.specs.Server.{DifferInRequest, ServerState, InCallInvariant, IsLentOut, quarantined_at}
 use Rattle.server_history.specs.StuckServer.{ServerInvariant}
 use Rattle.port_driver.specs.Parts.{HasPortAndShared}
@@ -55,11 +54,6 @@ module _ (found : List ProbeResult) (number : ℕ) (low : number < length found)
 
 pub none_to_issue : (found : List ProbeResult) (number : ℕ) → length found ≤ number → (s : ServerState) → IssuePorts number (drop number found) s s
 none_to_issue found number all s = subst (λ (left : List ProbeResult). IssuePorts number left s s) (sym (drop_all number found all)) refl
-
--- a server goes on while requests are issued
-pub issues_keep : ((s new : ServerState) (port : Port) (id : RequestId) → InCallInvariant s → IssuesOne port id s new → InCallInvariant new) → (port : Port) (ids : List RequestId) (s new : ServerState) → InCallInvariant s → IssuesEach port ids s new → InCallInvariant new
-issues_keep law port [] s new kept same = subst InCallInvariant (sym same) kept
-issues_keep law port (id ∷ ids) s new kept (mid, one, rest) = issues_keep law port ids mid new (law s mid port id kept one) rest
 
 -- what the server has of one port
 pub found_one : (s : ServerState) (device : Device) (shared : Shared) (port : Port) (p : ServedPort) → InCallInvariant s → HasPortAndShared s device shared port p → HasFoundPort s device shared.book p.slots port p.mode p.found

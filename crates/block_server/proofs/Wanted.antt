@@ -15,7 +15,8 @@ use Rattle.host_boot.specs.declared.ProbeResult.TheVariants.{Unserved, Ready, Un
 use Rattle.ata_types.specs.declared.call.AdapterStuck.{AdapterStuck}
 use Rattle.request_queue.specs.Entries.{BookEntry}
 use Rattle.server_history.specs.Resets.{IssuePorts, ResolvePorts}
-use Rattle.server_history.specs.Served.{IssuesEach}
+use Rattle.commands.specs.Batches.{SlotTask}
+use Rattle.server_history.specs.Served.{IssuesBatchOf, PutsInSlots}
 use Rattle.server_history.specs.Server.{ServerState}
 use Rattle.server_history.specs.Turns.{ServesPort, EachPortTakesTurn, TicksPort, ProbesUnready, a_tick_older}
 use Rattle.block_server.specs.Calls.{ServicesBy, Services, Submits, TicksBy, TicksServer}
@@ -45,13 +46,19 @@ settles port [] replies old new s = ap (λ (s : ServerState). s.wanted) s.1
 settles port (found ∷ rest) replies old new (mid, its, later, are, does, more) =
     settles (port + 1) rest later mid new more ∙ ap (λ (s : ServerState). s.wanted) does.server
 
-issues_each : (port : Port) (ids : List RequestId) (old new : ServerState) → IssuesEach port ids old new → SameWanted old new
-issues_each port [] old new same = ap (λ (s : ServerState). s.wanted) same
-issues_each port (id ∷ ids) old new (mid, one, more) = issues_each port ids mid new more ∙ ap (λ (s : ServerState). s.wanted) one.server
+puts : (port : Port) (ids : List RequestId) (tasks : List SlotTask) (old new : ServerState) → PutsInSlots port ids tasks old new → SameWanted old new
+puts port [] [] old new same = ap (λ (s : ServerState). s.wanted) same
+puts port [] (t ∷ tasks) old new none = absurd none
+puts port (id ∷ ids) [] old new none = absurd none
+puts port (id ∷ ids) (t ∷ tasks) old new (mid, one, more) = puts port ids tasks mid new more ∙ ap (λ (s : ServerState). s.wanted) one.server
+
+issues_batch : (port : Port) (ids : List RequestId) (old new : ServerState) → IssuesBatchOf port ids old new → SameWanted old new
+issues_batch port [] old new same = ap (λ (s : ServerState). s.wanted) same
+issues_batch port (id ∷ ids) old new issues = ap (λ (s : ServerState). s.wanted) issues.server ∙ puts port (id ∷ ids) issues.tasks old issues.taken issues.puts
 
 issues : (port : ℕ) (found : List ProbeResult) (old new : ServerState) → IssuePorts port found old new → SameWanted old new
 issues port [] old new same = ap (λ (s : ServerState). s.wanted) same
-issues port (Ready info ∷ rest) old new (mid, one, more) = issues (port + 1) rest mid new more ∙ issues_each (port_at port) _ old mid one
+issues port (Ready info ∷ rest) old new (mid, one, more) = issues (port + 1) rest mid new more ∙ issues_batch (port_at port) _ old mid one
 issues port (Unready state ∷ rest) old new more = issues (port + 1) rest old new more
 issues port (Unserved ∷ rest) old new more = issues (port + 1) rest old new more
 
@@ -72,7 +79,7 @@ ticks_by true replies old new t = ap (λ (s : ServerState). s.wanted) t.1
 
 module _ {A : Type 0} (device : A → Device) (old new : ServerView A) where
   pub submit_wants : (r : Request) (result : Result RequestId Refusal) → Submits device old new r result → new.wanted ≡ old.wanted
-  submit_wants r (Ok id) accepts = issues_each accepts.port _ _ (server_of device new) accepts.accepts.issued
+  submit_wants r (Ok id) accepts = issues_batch accepts.port _ _ (server_of device new) accepts.accepts.issued
   submit_wants r (Err refusal) refused = ap (λ (s : ServerView A). s.wanted) refused.1
 
   pub service_wants : (replies : List Reply) → Services device old new replies → new.wanted ≡ old.wanted
@@ -95,6 +102,6 @@ module _ {A : Type 0} (device : A → Device) (old new : ServerView A) where
       r = revokes.0
 
       by : (stuck : Bool) → old.stuck ≡ stuck → new.wanted ≡ old.wanted
-      by false on = issues_each r.revokes.has.0.port _ r.mid (server_of device new) (r.issues on) ∙ ap (λ (s : ServerState). s.wanted) r.revokes.server
+      by false on = issues_batch r.revokes.has.0.port _ r.mid (server_of device new) (r.issues on) ∙ ap (λ (s : ServerState). s.wanted) r.revokes.server
       by true off = ap (λ (s : ServerState). s.wanted) (r.stalled off ∙ r.revokes.server)
   revoke_wants client number replies (Err none) refused = ap (λ (s : ServerView A). s.wanted) refused.2

@@ -5,7 +5,7 @@ ghost use Rattle.block_server.specs.FourPorts.{by_port, port_in};
 ghost use Rattle.host_boot.specs.declared.ProbeResult.TheVariants.{Unserved};
 ghost use Rattle.refinement.specs.Relation.{port_at};
 ghost use Rattle.request_queue.specs.Entries.{IsAnyOverdue, IsOverdue, is_among};
-ghost use Rattle.server_history.specs.ErrorHandling.{AreUnused};
+ghost use Rattle.server_history.specs.ErrorHandling.{AreEmptySlots};
 ghost use Rattle.server_history.specs.Server.{quarantined_at, plain_mode};
 ghost use Rattle.server_history.specs.Turns.{is_ready};
 
@@ -66,7 +66,7 @@ pub(crate) fn unserved_ports(
     ensures found { by_port (λ p. p.found) result ≡ replicate 4 Unserved }
     ensures forgotten { by_port (λ p. p.remembered) result ≡ replicate 4 None }
     ensures modes { by_port (λ p. p.mode) result ≡ replicate 4 plain_mode }
-    ensures unused { (number : ℕ) → number < 4 → AreUnused plain_mode (port_in result number).slots }
+    ensures unused { (number : ℕ) → number < 4 → AreEmptySlots plain_mode (port_in result number).slots }
 {
     let [first, second, third, fourth] = kept;
     [

@@ -67,8 +67,8 @@ pub fn law_new_servers_run_well<A: Stepped>()
 pub fn law_most_accesses_in_numbers()
     ensures new { MOST_NEW_ACCESSES ≡ 1632 }
     ensures submit { MOST_SUBMIT_ACCESSES ≡ 4 }
-    ensures service { MOST_SERVICE_ACCESSES ≡ 2728 }
-    ensures tick { MOST_TICK_ACCESSES ≡ 2152 }
-    ensures reset { MOST_RESET_ACCESSES ≡ 2209 }
-    ensures revoke { MOST_REVOKE_ACCESSES ≡ 128 }
+    ensures service { MOST_SERVICE_ACCESSES ≡ 2480 }
+    ensures tick { MOST_TICK_ACCESSES ≡ 1904 }
+    ensures reset { MOST_RESET_ACCESSES ≡ 1961 }
+    ensures revoke { MOST_REVOKE_ACCESSES ≡ 66 }
 {}

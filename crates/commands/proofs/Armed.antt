@@ -1,10 +1,14 @@
--- What stands before the write of PxCI that issues a plain command.
-use Rattle.std.proofs.Common.{ℕ, ◌≡◌, List, [], ◌∷◌, refl, arith}
-use Rattle.std.proofs.lemmas.List.Elements.{All-nil}
+-- What stands before the write of PxCI that issues commands.
+use Rattle.std.proofs.Common.{ℕ, ◌≡◌, ◌<◌, ◌≤◌, ◌/◌, ◌%◌, true, false, List, [], ◌∷◌, refl, arith}
+use Rattle.std.proofs.lemmas.List.Elements.{All-head, All-nil}
 use Rattle.ata_types.specs.declared.Port.{Port}
 use Rattle.ata_types.specs.declared.range.Range.{Range}
 use Rattle.ata_types.specs.declared.request.Frame.{Frame}
-use Rattle.adapter.specs.Commands.{Meaning, IsMeaning, command_of}
+use Rattle.ata_types.specs.declared.request.Op.TheVariants.{Trim}
+use Rattle.hba_regs.specs.declared.reg.Reg.TheVariants.{Px}
+use Rattle.hba_regs.specs.declared.reg.PortReg.TheVariants.{Sact}
+use Rattle.adapter.specs.Access.{Writes}
+use Rattle.adapter.specs.Commands.{Meaning, IsMeaning, command_of, is_queued}
 use Rattle.adapter.specs.Device.{Device}
 use Rattle.adapter.specs.Memory.{bytes_at}
 use Rattle.adapter.specs.Rules.{IsOn, HasPort}
@@ -14,11 +18,15 @@ use Rattle.adapter.specs.declared.command.Command.{Command}
 use Rattle.adapter.specs.declared.command.Operation.TheVariants as operation
 use Rattle.refinement.specs.Driven.{RelatesWith, IsSoleBit, IsSimulated}
 use Rattle.refinement.specs.Places.{list_of, scratch_of}
-use Rattle.refinement.specs.Slots.{SlotDecodesTo}
+use Rattle.refinement.specs.Slots.{Free, SlotDecodesTo}
 use Rattle.command_table.specs.Written.{IsStoreWithBlock, IsTableFor, IsTableStore, IsUnused}
-use Rattle.commands.specs.Issuing.{IsArmedFor}
-use Rattle.commands.specs.Tasks.{RunsItsList}
+use Rattle.commands.specs.Batches.{AreUnused, HasBitsOf, IsBatchStored, IsStoreForBatch, SaysTask, SlotTask, StoresTransfer, only_task}
+use Rattle.commands.specs.Issuing.{IsArmedFor, MayIssueTransfer}
+use Rattle.commands.specs.Tasks.{Arms, IsFitTransfer, IsStoreFor, RunsItsList, meaning_of}
 use Rattle.commands.specs.PlainTasks.{flush_task, trim_task}
+use Rattle.commands.proofs.Batch.{all_as, all_one, contains_here, one_apart, one_has_bits}
+use Rattle.commands.proofs.Stores.{simulated_as}
+use Rattle.commands.proofs.Telling.{kind_of, never_trim, stored_for}
 
 abbrev pub flush : Meaning
 flush = record { operation = operation.Flush; first = 0; count = 0 }
@@ -38,43 +46,63 @@ flush_table command is = record {
 pub is_trim : IsMeaning trim
 is_trim = record { ranged = λ e. absurd cc; not_ranged = λ _. (refl, refl) }
 
+-- a task alone is armed
+pub armed_one : (port : Port) (t : SlotTask) (own : ℕ) (old mid armed : Device) → IsOn old → HasPort old port.0 → t.slot < 32 → t.slot ≤ old.cap / 256 % 32 → RunsItsList port.0 old → RelatesWith (IsUnused port.0 t.slot) old →
+    is_queued (meaning_of t.task).operation ≡ t.task.queued → (t.task.op ≡ Trim → t.slot ≡ 0) → IsSimulated (IsStoreFor t.task.op port.0 t.slot) (IsUnused port.0 t.slot) old mid → SaysTask port.0 t mid.memory →
+    IsSoleBit t.slot own → Arms t.task.queued port own mid armed → IsArmedFor port t.task.queued (t ∷ []) own old armed
+armed_one port t own old mid armed on there small usable may agreed kind head stores say sole arms = record {
+  on = on;
+  there = there;
+  may = may;
+  agreed = (agreed.0, all_one (λ x. agreed.0 port.0 x.slot ≡ Free) t agreed.1, agreed.2);
+  apart = one_apart t;
+  small = all_one (λ x. x.slot < 32) t small;
+  usable = all_one (λ x. x.slot ≤ old.cap / 256 % 32) t usable;
+  kinds = all_one (λ x. x.task.queued ≡ t.task.queued) t refl;
+  kind = all_one (λ x. is_queued (meaning_of x.task).operation ≡ x.task.queued) t kind;
+  head = all_one (λ x. x.task.op ≡ Trim → x.slot ≡ 0) t head;
+  mid = mid;
+  stores = simulated_as (IsStoreFor t.task.op port.0 t.slot) (IsStoreForBatch port.0 (t ∷ [])) (IsUnused port.0 t.slot) (AreUnused port.0 (t ∷ [])) old mid (λ access is. (t, contains_here t [], is))
+      (λ uses free. All-head (λ x. uses port.0 x.slot ≡ Free) t [] free) stores;
+  say = all_one (λ x. SaysTask port.0 x mid.memory) t say;
+  bits = one_has_bits t own sole;
+  arms = arms;
+}
+
 module _ (port : Port) (range : Range) (frames : List Frame) (own : ℕ) (old mid : Device) (on : IsOn old) (there : HasPort old port.0) (agreed : RelatesWith (IsUnused port.0 0) old)
-    (may : RunsItsList port.0 old) (mid_on : IsOn mid) (alone : IsSoleBit 0 own) where
-  pub armed_flush : IsSimulated (IsTableStore port.0 0) (IsUnused port.0 0) old mid → SlotDecodesTo mid.memory (list_of port.0) port.0 0 flush [] → IsArmedFor port 0 (flush_task range) frames own old mid
-  armed_flush stores told = record {
-    on = on;
-    there = there;
-    small = omega arith;
-    usable = omega arith;
-    agreed = agreed;
-    may = may;
-    kind = refl;
-    head = λ trim. refl;
-    mid = mid;
-    mid_on = mid_on;
-    stores = stores;
-    told = told;
-    block = tt;
-    alone = alone;
-    arms = refl;
-  }
+    (may : RunsItsList port.0 old) (alone : IsSoleBit 0 own) where
+  pub armed_flush : IsSimulated (IsTableStore port.0 0) (IsUnused port.0 0) old mid → SlotDecodesTo mid.memory (list_of port.0) port.0 0 flush [] → IsArmedFor port false (only_task 0 (flush_task range) frames) own old mid
+  armed_flush stores told =
+      armed_one port (record { slot = 0; task = flush_task range; frames = frames }) own old mid mid on there (omega arith) (omega arith) may agreed refl (λ trim. refl) stores (record { told = told; block = tt }) alone refl
 
   pub armed_trim : IsSimulated (IsStoreWithBlock port.0 0) (IsUnused port.0 0) old mid → SlotDecodesTo mid.memory (list_of port.0) port.0 0 trim (scratch_of port.0 ∷ []) →
-      trim_sectors (bytes_at mid.memory (scratch_of port.0) 512) ≡ consecutive range.first.0 range.count → IsArmedFor port 0 (trim_task range) frames own old mid
-  armed_trim stores told block = record {
-    on = on;
-    there = there;
-    small = omega arith;
-    usable = omega arith;
-    agreed = agreed;
-    may = may;
-    kind = refl;
-    head = λ trim. refl;
-    mid = mid;
-    mid_on = mid_on;
-    stores = stores;
-    told = told;
-    block = block;
-    alone = alone;
-    arms = refl;
-  }
+      trim_sectors (bytes_at mid.memory (scratch_of port.0) 512) ≡ consecutive range.first.0 range.count → IsArmedFor port false (only_task 0 (trim_task range) frames) own old mid
+  armed_trim stores told block =
+      armed_one port (record { slot = 0; task = trim_task range; frames = frames }) own old mid mid on there (omega arith) (omega arith) may agreed refl (λ trim. refl) stores (record { told = told; block = block }) alone refl
+
+-- a transfer that was stored
+pub armed_transfer : (port : Port) (t : SlotTask) (own : ℕ) (old mid armed : Device) → MayIssueTransfer port t.slot t.task t.frames old → StoresTransfer port t old mid → IsSoleBit t.slot own → Arms t.task.queued port own mid armed →
+    IsArmedFor port t.task.queued (t ∷ []) own old armed
+armed_transfer port t own old mid armed may x sole arms =
+    armed_one port t own old mid armed may.may.on may.may.there may.small may.usable may.may.may may.may.agreed (kind_of t.task.queued t.task.op may.fits.transfers) (never_trim t.slot t.task.op may.fits.transfers)
+    (stored_for port.0 t.slot old mid t.task.op may.fits.transfers x.stores) x.says sole arms
+
+-- a batch that was stored, whose bits of PxSACT are written
+pub armed_batch : (port : Port) (tasks : List SlotTask) (mask : ℕ) (old mid armed : Device) → IsBatchStored port tasks old mid → HasBitsOf tasks mask → Writes (Px port Sact) mask mid armed → IsArmedFor port true tasks mask old armed
+armed_batch port tasks mask old mid armed x bits call = record {
+  on = x.on;
+  there = x.there;
+  may = x.may;
+  agreed = x.agreed;
+  apart = x.apart;
+  small = x.small;
+  usable = x.usable;
+  kinds = x.queued;
+  kind = all_as (λ t. IsFitTransfer t.task t.frames) (λ t. is_queued (meaning_of t.task).operation ≡ t.task.queued) (λ t fit. kind_of t.task.queued t.task.op fit.transfers) tasks x.fit;
+  head = all_as (λ t. IsFitTransfer t.task t.frames) (λ t. t.task.op ≡ Trim → t.slot ≡ 0) (λ t fit. never_trim t.slot t.task.op fit.transfers) tasks x.fit;
+  mid = mid;
+  stores = x.stores;
+  say = x.say;
+  bits = bits;
+  arms = call;
+}

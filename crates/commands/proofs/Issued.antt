@@ -1,10 +1,10 @@
--- A transfer's table is stored, its slot armed if it is queued, and its bit of PxCI written.
-use Rattle.std.proofs.Common.{ℕ, ◌≡◌, ◌≢◌, ◌+◌, ◌<◌, ◌≤◌, ◌⊎◌, ◌/◌, ◌%◌, ◌++◌, ◌||◌, Bool, true, false, not, List, [], ◌∷◌, length, Some, inl, inr, refl, sym, ◌∙◌, ap, subst, ⊎_elim, append_assoc, arith}
-use Rattle.std.proofs.lemmas.Bool.{cases_eq, cond-true, eq-eqb}
-use Rattle.std.proofs.lemmas.List.Elements.{All-append, All-cons, All-nil, All-head, All-tail}
-use Rattle.std.specs.List.{All}
+-- What the tasks' commands need is stored, their slots armed if they are queued, and their bits of PxCI written.
+use Rattle.std.proofs.Common.{ℕ, ◌≡◌, ◌≢◌, ◌<◌, ◌≤◌, ◌⊎◌, ◌/◌, ◌%◌, ◌++◌, ◌||◌, Bool, true, false, not, List, [], ◌∷◌, length, Some, inl, inr, refl, sym, ◌∙◌, ap, subst, ⊎_elim, append_assoc}
+use Rattle.std.specs.Prelude.{if◌then◌else◌}
+use Rattle.std.proofs.lemmas.Bool.{cond-true, cond-false, or_right}
+use Rattle.std.proofs.lemmas.List.Elements.{All-append, All-contains, All-nil}
+use Rattle.std.specs.List.{All, AllZip, Contains}
 use Rattle.ata_types.specs.declared.Port.{Port}
-use Rattle.ata_types.specs.declared.request.Frame.{Frame}
 use Rattle.ata_types.specs.declared.range.Range.{Range}
 use Rattle.ata_types.specs.declared.request.Op.{Op}
 use Rattle.ata_types.specs.declared.request.Op.TheVariants.{Read, Write, Trim, Flush}
@@ -13,11 +13,10 @@ use Rattle.hba_regs.specs.Bits.{bit}
 use Rattle.hba_regs.specs.declared.reg.Reg.{Reg}
 use Rattle.hba_regs.specs.declared.reg.Reg.TheVariants.{Ghc, Px}
 use Rattle.hba_regs.specs.declared.reg.PortReg.TheVariants.{Clb, Ci, Sact}
-use Rattle.adapter.specs.Access.{Access, Does, DoesAll, Writes}
+use Rattle.adapter.specs.Access.{Access, Does, DoesAll, Writes, written}
 use Rattle.adapter.specs.Access.Access.{Reading, Writing, Loading, Storing}
 use Rattle.adapter.specs.Commands.{Meaning, is_queued}
-use Rattle.adapter.specs.Device.{Bases, DevicePort, Device}
-use Rattle.adapter.specs.Memory.{changed}
+use Rattle.adapter.specs.Device.{DevicePort, Device}
 use Rattle.adapter.specs.Rules.{IsOn, HasPort, MayWrite, IsStable}
 use Rattle.adapter.specs.Steps.{Steps}
 use Rattle.adapter.specs.declared.command.Operation.{Operation}
@@ -26,160 +25,97 @@ use Rattle.block_machine.specs.Events.{AllByDevice, AllMay}
 use Rattle.block_machine.specs.Histories.{IsReachable, IsSimulatedBySteps}
 use Rattle.block_machine.specs.Left.{after}
 use Rattle.block_machine.specs.State.{Accepted, Pending, Machine}
-use Rattle.block_machine.specs.Steps.{Step, Issue, May}
+use Rattle.block_machine.specs.Steps.{Step, Issue, May, after_step}
 use Rattle.block_machine.specs.declared.due.QueueMode.{QueueMode}
-use Rattle.refinement.specs.Acts.{Act, DriverSlots, IsActDone, AreActsDone, ActsReach, driver_state, accesses_of, act_steps}
+use Rattle.refinement.specs.Acts.{Act, ActsReach, AreActsDone, DriverSlots, IsActDone, IsIssueOn, IsIssueStep, IsOneDecision, accesses_of, act_steps, driver_state}
 use Rattle.refinement.specs.Relation.{StateRelation, port_at}
-use Rattle.refinement.specs.Driven.{AnyAccess, OnlyDeviceActs, IsSoleBit, IsDrivenBy, IsSimulated, SparesOtherPorts, LeavesPort, NoneWrites}
-use Rattle.refinement.specs.Driver.{DriverState, DriverRelation, ByDevice, DriverAdvances, EndsInStep, IsPrepared, KeepsTables, MissesTable, serving}
+use Rattle.refinement.specs.Driven.{IsSoleBit, OnlyDeviceActs, known}
+use Rattle.refinement.specs.Driver.{ByDevice, DriverAdvances, DriverRelation, DriverState, EndsInSteps, IsPrepared, KeepsTables, MissesTable, serving}
 use Rattle.refinement.specs.Follows.{SimulatesSteps}
-use Rattle.refinement.specs.Links.{SameAdapter, DoesNotWrite}
-use Rattle.refinement.specs.Places.{list_of}
-use Rattle.refinement.specs.Readying.{IsStored, IsReadied}
-use Rattle.refinement.specs.Slots.{SlotState, Free, Armed, Own, Serves, SlotStates, put, Means, HasTrimBlock, SlotDecodesTo, IsArmed, RelatesSlot}
+use Rattle.refinement.specs.Links.{DoesNotWrite, LeavesControls, SameAdapter}
+use Rattle.refinement.specs.Readying.{IsReadied, IsReadyToIssue, IsStored}
+use Rattle.refinement.specs.Slots.{SlotState, Free, Armed, Own, Serves, SlotStates, put, Means, HasTrimBlock, IsArmed, IsPlaced, RelatesSlot, SlotDecodesTo}
 use Rattle.refinement.specs.Started.{ClearsNoStart}
-use Rattle.command_table.specs.Written.{IsStoreWithBlock, IsUnused}
-use Rattle.commands.specs.Issuing.{IsArmedFor, IsIssued}
-use Rattle.commands.specs.Tasks.{Arms, HasBlockOf, IsStoreFor, StoresThenWrites, IsIssuing, IsBeingIssued, IsTaskOf, MayServe, IssuesAtEnd, RunsItsList, addresses_of, meaning_of, task_operation, with_serving, writes_of}
-use Rattle.commands.specs.declared.ncq.Task.{Task}
+use Rattle.commands.specs.Batches.{AreUnused, HaveOwnSlots, IsBatchIssued, IsIssuingOn, IsSlotOf, IsStoreForBatch, IssuesBatchAtEnd, MayServeBatch, SaysTask, SlotTask, StoresThenWritesAll, issues_of, with_serving_batch}
+use Rattle.commands.specs.Issuing.{IsArmedFor}
+use Rattle.commands.specs.Tasks.{Arms, HasBlockOf, IsBeingIssued, IsTaskOf, RunsItsList, addresses_of, meaning_of, task_operation, writes_of}
+use Rattle.commands.proofs.Batch.{all_as, all_in, all_one, armed_here, armed_others, uses_armed, bits_begin, bits_more, bits_on, bits_written, changed_here, ci_bits, contains_here, contains_there, first_apart, own_bit, own_bit_is, rest_apart, sact_bits, served_armed, served_here, served_others, uses_served, serving_batch_is, with_bits, zip_as}
+use Rattle.commands.proofs.Stores.{ActLaws, IsStoring, Leaving, batch_stores, does_then, store_for, stored_in, stores_may, stores_on, stores_same, stores_there, storing_writes_none}
 use Rattle.commands.proofs.Telling.{task_block, task_means}
-
--- ---- lists
-
-pub all_as : {X : Type 0} (P Q : X → Type 0) → ((x : X) → P x → Q x) → (xs : List X) → All P xs → All Q xs
-all_as P Q more [] all = All-nil Q
-all_as P Q more (x ∷ xs) all = All-cons Q x xs (more x (All-head P x xs all)) (all_as P Q more xs (All-tail P x xs all))
-
--- a function that is changed has the new value at the place
-pub changed_here : {A : Type 0} (f : ℕ → A) (place : ℕ) (x : A) → changed f place x place ≡ x
-unfolding changed
-changed_here f place x = rw (eq-eqb place place refl) refl
-
-does_then : (first then : List Access) (old mid new : Device) → DoesAll first old mid → DoesAll then mid new → DoesAll (first ++ then) old new
-does_then [] then old mid new e rest = let P : Device → Type 0 = λ d. DoesAll then d new in subst P e rest
-does_then (access ∷ accesses) then old mid new (one, does, more) rest = (one, does, does_then accesses then one mid new more rest)
-
--- ---- the stores
-
--- accesses of another port leave the port to the device
-abbrev LeavesOthers : Type 0
-LeavesOthers = (port : Port) (q : ℕ) (old new : Device) → q ≢ port.0 → IsOn old → IsDrivenBy (SparesOtherPorts port) old new → LeavesPort (old.port q) (new.port q)
-
--- any accesses leave the adapter what it is
-abbrev LeavesAdapter : Type 0
-LeavesAdapter = (old new : Device) → IsDrivenBy AnyAccess old new → SameAdapter old new
-
--- no store is of a register
-with_block_is_of : (driver_state : Port) (port slot : ℕ) (access : Access) → IsStoreWithBlock port slot access → SparesOtherPorts driver_state access
-with_block_is_of driver_state port slot (Storing place bytes) here = tt
-with_block_is_of driver_state port slot (Loading place bytes) here = tt
-with_block_is_of driver_state port slot (Reading q v) here = absurd (elim here [ inl x ↦ x | inr x ↦ x ])
-with_block_is_of driver_state port slot (Writing q v) here = absurd (elim here [ inl x ↦ x | inr x ↦ x ])
-
--- what is stored for a task is header and table, or a block
-pub store_for : (op : Op) (port slot : ℕ) (access : Access) → IsStoreFor op port slot access → IsStoreWithBlock port slot access
-store_for Trim port slot access here = here
-store_for Read port slot access here = inl here
-store_for Write port slot access here = inl here
-store_for Flush port slot access here = inl here
-
-pub store_is_of : (op : Op) (driver_state : Port) (port slot : ℕ) (access : Access) → IsStoreFor op port slot access → SparesOtherPorts driver_state access
-store_is_of op driver_state port slot access here = with_block_is_of driver_state port slot access (store_for op port slot access here)
-
-with_block_spares : (port slot : ℕ) (r : Reg) (access : Access) → IsStoreWithBlock port slot access → DoesNotWrite r access
-with_block_spares port slot r (Storing place bytes) here = tt
-with_block_spares port slot r (Loading place bytes) here = tt
-with_block_spares port slot r (Reading q v) here = tt
-with_block_spares port slot r (Writing q v) here = absurd (elim here [ inl x ↦ x | inr x ↦ x ])
-
-store_spares : (op : Op) (port slot : ℕ) (r : Reg) → NoneWrites (IsStoreFor op port slot) r
-store_spares op port slot r access here = with_block_spares port slot r access (store_for op port slot access here)
-
-module _ (port : Port) (slot : ℕ) (op : Op) (old mid : Device) (stores : IsSimulated (IsStoreFor op port.0 slot) (IsUnused port.0 slot) old mid) where
-  -- no store is of a register, so the port is left as by accesses of another one
-  stores_left : LeavesOthers → IsOn old → LeavesPort (old.port port.0) (mid.port port.0)
-  stores_left left on = left (record { 0 = port.0 + 1 }) port.0 old mid (λ (e : port.0 ≡ port.0 + 1). omega (arith, e)) on (record {
-    accesses = stores.driven.accesses;
-    all = stores.driven.all;
-    only = all_as (IsStoreFor op port.0 slot) (SparesOtherPorts (record { 0 = port.0 + 1 })) (store_is_of op (record { 0 = port.0 + 1 }) port.0 slot) stores.driven.accesses stores.driven.only;
-  })
-
-  pub stores_same : LeavesAdapter → SameAdapter old mid
-  stores_same adapter = adapter old mid (record {
-    accesses = stores.driven.accesses;
-    all = stores.driven.all;
-    only = all_as (IsStoreFor op port.0 slot) AnyAccess (λ access is. tt) stores.driven.accesses stores.driven.only;
-  })
-
-  pub stores_there : LeavesAdapter → HasPort old port.0 → HasPort mid port.0
-  stores_there adapter there = (there.0, ap (λ (pi : ℕ). bit pi port.0) (stores_same adapter).pi ∙ there.1)
-
-  pub stores_may : LeavesOthers → IsOn old → RunsItsList port.0 old → RunsItsList port.0 mid
-  stores_may left on may = record {
-    started = (stores_left left on).controls.st ∙ may.started;
-    list = ap (λ (x : Bases). x.clb) (stores_left left on).keeps.bases ∙ may.list;
-  }
-
-  pub stores_stored : LeavesOthers → IsOn old → HasPort old port.0 → slot < 32 → RunsItsList port.0 old → (c : Meaning) (places : List ℕ) → SlotDecodesTo mid.memory (list_of port.0) port.0 slot c places → IsStored mid port.0 slot c places
-  stores_stored left on there small may c places told = record {
-    started = (stores_may left on may).started;
-    placed = record { port_below = there.0; slot_below = small; list = (stores_may left on may).list };
-    told = subst (λ (list : ℕ). SlotDecodesTo mid.memory list port.0 slot c places) (sym (stores_may left on may).list) told;
-  }
 
 -- ---- what laws of the crates below say
 
 pub record Laws : Type 0 where
-  pub left : LeavesOthers
-  pub adapter : LeavesAdapter
+  pub leaving : Leaving
+  pub acts : ActLaws
   pub same : (access : Access) (old new : Device) → Does access old new → SameAdapter old new
   pub on : (access : Access) (old new : Device) → IsOn old → ((v : ℕ) → access ≡ Writing Ghc v → (bit v 31 ≡ true) × (bit v 0 ≡ false)) → Does access old new → IsOn new
-  pub access : (k later : DriverState) (m : Machine) (access : Access) → IsSimulatedBySteps DriverRelation k later (ByDevice k.device later.device) → IsReachable m → DriverRelation m k
-      → Does access k.device later.device → (steps : List Step) × AllByDevice steps × IsActDone k m (record { access = Some access; steps = steps; later = later })
-  pub ends : (k later : DriverState) (m : Machine) (access : Access) (step : Step) → (e : EndsInStep k m step later) → Does access k.device later.device
-      → IsActDone k m (record { access = Some access; steps = step ∷ e.steps; later = later })
-  pub more : (early late : List Act) (a b c : DriverState) (m : Machine) → AreActsDone early a m b → AreActsDone late b (after m (act_steps early)) c → AreActsDone (early ++ late) a m c
-  pub accesses : (early late : List Act) → accesses_of (early ++ late) ≡ accesses_of early ++ accesses_of late
-  pub steps : (early late : List Act) → act_steps (early ++ late) ≡ act_steps late ++ act_steps early
-  pub goes : (acts : List Act) (k later : DriverState) (m : Machine) → DriverRelation m k → AreActsDone acts k m later → DriverAdvances k m (act_steps acts) later
-  pub reached : (k later : DriverState) (m : Machine) (steps : List Step) → IsReachable m → DriverAdvances k m steps later → IsReachable (after m steps)
-  pub device : (late early : List Step) → AllByDevice late → AllByDevice early → AllByDevice (late ++ early)
-  pub due : (m : Machine) (steps : List Step) → IsReachable m → AllByDevice steps → AllMay m steps → (mode : QueueMode) (e : Pending) → May m (Issue mode e)
-      → May (after m steps) (Issue mode e)
-  pub arming : (k : DriverState) (port : Port) (slot v : ℕ) (new : Device) → k.device.hr ≡ false → k.uses port.0 slot ≡ Free → (k.device.port port.0).st ≡ true → bit v slot ≡ true
-      → ((other : ℕ) → other ≢ slot → bit v other ≡ false) → Writes (Px port Sact) v k.device new
-      → IsSimulatedBySteps DriverRelation k (record k { uses = put k.uses port.0 slot Armed; device = new }) (ByDevice k.device new)
-  pub issuing : (k : DriverState) (m : Machine) (port : Port) (slot : ℕ) (mode : QueueMode) (e : Pending) (v : ℕ) (new : Device) → IsReachable m → DriverRelation m k → k.device.hr ≡ false
-      → IsPrepared k.uses m k.device port.0 slot mode e v → Writes (Px port Ci) v k.device new → EndsInStep k m (Issue mode e) (serving k port.0 slot e.request.id new)
-  pub arms : (uses : SlotStates) (m : Machine) (port : Port) (slot : ℕ) (c : Meaning) (places : List ℕ) (v : ℕ) (old new : Device) → IsReachable m → StateRelation uses m old → old.hr ≡ false
-      → is_queued c.operation ≡ true → uses port.0 slot ≡ Free → bit v slot ≡ true → Writes (Px port Sact) v old new → IsStored old port.0 slot c places
-      → IsReadied (put uses port.0 slot Armed) new port.0 slot c places
-  pub plain : (uses : SlotStates) (d : Device) (port slot : ℕ) (c : Meaning) (places : List ℕ) → is_queued c.operation ≡ false → uses port slot ≡ Free → IsStored d port slot c places
-      → IsReadied uses d port slot c places
+  pub controls : (port : Port) (access : Access) (old new : Device) → old.hr ≡ false → Does access old new → LeavesControls access port (old.port port.0) (new.port port.0)
+  pub ends : (k later : DriverState) (m : Machine) (access : Access) (own : List Step) → (e : EndsInSteps k m own later) → IsOneDecision access own → Does access k.device later.device
+      → IsActDone k m (record { access = Some access; steps = own ++ e.steps; later = later })
+  pub part : (k : DriverState) (new : Device) → Steps k.device new → IsSimulatedBySteps DriverRelation k (record k { device = new }) (ByDevice k.device new)
+  pub access : (k later : DriverState) (m : Machine) → IsSimulatedBySteps DriverRelation k later (ByDevice k.device later.device) → IsReachable m → DriverRelation m k
+      → (steps : List Step) × AllByDevice steps × DriverAdvances k m steps later
+  pub none : (k : DriverState) (m : Machine) → DriverRelation m k → DriverAdvances k m [] k
+  pub compose : (a b c : DriverState) (m : Machine) (early late : List Step) → DriverAdvances a m early b → DriverAdvances b (after m early) late c → DriverAdvances a m (late ++ early) c
+  pub due : (m : Machine) (steps : List Step) → IsReachable m → AllByDevice steps → AllMay m steps → (own : List Step) → All IsIssueStep own → AllMay m own → AllMay (after m steps) own
+  pub after : (m : Machine) (late early : List Step) → after m (late ++ early) ≡ after (after m early) late
+  pub arms : (k : DriverState) (m : Machine) (port : Port) (slot v : ℕ) → DriverRelation m k → k.uses port.0 slot ≡ Free → (k.device.port port.0).st ≡ true → IsSoleBit slot v
+      → DriverAdvances k m [] (record k { uses = put k.uses port.0 slot Armed; device = written (Px port Sact) v k.device })
+  pub issues : (k : DriverState) (m : Machine) (port : Port) (slot : ℕ) (mode : QueueMode) (e : Pending) (v : ℕ) → IsReachable m → DriverRelation m k
+      → IsPrepared k.uses m k.device port.0 slot mode e v → DriverAdvances k m (Issue mode e ∷ []) (serving k port.0 slot e.request.id (written (Px port Ci) v k.device))
   pub stays : (uses : SlotStates) (m : Machine) (port : Port) (slot : ℕ) (c : Meaning) (places : List ℕ) (access : Access) (old new : Device) → IsReachable m → StateRelation uses m old
       → old.hr ≡ false → ClearsNoStart port access → DoesNotWrite (Px port Clb) access
-      → ((driver_state : ℕ) (bytes : List ℕ) → access ≡ Storing driver_state bytes → MissesTable port.0 slot driver_state (length bytes)) → Does access old new → IsStored old port.0 slot c places
+      → ((at : ℕ) (bytes : List ℕ) → access ≡ Storing at bytes → MissesTable port.0 slot at (length bytes)) → Does access old new → IsStored old port.0 slot c places
       → IsStored new port.0 slot c places
-  pub permitted : (uses : SlotStates) (m : Machine) (d : Device) (port : Port) (slot : ℕ) (c : Meaning) (places : List ℕ) (v : ℕ) → IsReachable m → StateRelation uses m d → IsOn d
-      → HasPort d port.0 → slot ≤ d.cap / 256 % 32 → IsReadied uses d port.0 slot c places → bit v slot ≡ true → ((k : ℕ) → k ≢ slot → bit v k ≡ false)
-      → IsStable (MayWrite (Px port Ci) v) d
+  pub stands : (uses : SlotStates) (m : Machine) (port slot : ℕ) (c : Meaning) (places : List ℕ) (old new : Device) → IsReachable m → StateRelation uses m old → old.hr ≡ false
+      → Steps old new → IsStored old port slot c places → IsStored new port slot c places
+  pub permitted : (uses : SlotStates) (m : Machine) (d : Device) (port : Port) (v : ℕ) → IsReachable m → StateRelation uses m d → IsOn d → HasPort d port.0
+      → (d.port port.0).st ≡ true → ((slot : ℕ) → bit v slot ≡ true → IsReadyToIssue uses d port.0 slot) → IsStable (MayWrite (Px port Ci) v) d
   pub prepared : (uses : SlotStates) (m : Machine) (d : Device) (port slot : ℕ) (c : Meaning) (places : List ℕ) (mode : QueueMode) (e : Pending) (v : ℕ)
       → IsReadied uses d port slot c places → May m (Issue mode e) → e.request.port.0 ≡ port → slot < mode.usable → (is_plain mode e.request.asked.op ≡ true → slot ≡ 0)
       → Means port slot e.request c places → is_queued c.operation ≡ not (is_plain mode e.request.asked.op)
       → HasTrimBlock e.request.asked.op d.memory port e.request → bit v slot ≡ true → ((k : ℕ) → k ≢ slot → bit v k ≡ false) → IsPrepared uses m d port slot mode e v
   pub follows : (uses : SlotStates) (m : Machine) (old new : Device) → IsReachable m → StateRelation uses m old → Steps old new → SimulatesSteps uses m old new
   pub leaves : (uses : SlotStates) (m : Machine) (old new : Device) → IsReachable m → StateRelation uses m old → old.hr ≡ false → (r : Reg) (v : ℕ) → Writes r v old new → KeepsTables uses old new
+  pub leaves_steps : (uses : SlotStates) (m : Machine) (old new : Device) → IsReachable m → StateRelation uses m old → old.hr ≡ false → Steps old new → KeepsTables uses old new
   pub block : (uses : SlotStates) (old new : Device) → KeepsTables uses old new → (port : ℕ) (r : Accepted) → port < 4 → ((o : Operation) → uses port 0 ≡ Own o → ⊥) → HasTrimBlock r.asked.op old.memory port r
       → HasTrimBlock r.asked.op new.memory port r
   pub put_here : (uses : SlotStates) (port slot : ℕ) (u : SlotState) → put uses port slot u port slot ≡ u
   pub put_others : (uses : SlotStates) (port slot : ℕ) (u : SlotState) (other_port other_slot : ℕ) → (other_port ≡ port → other_slot ≡ slot → ⊥)
       → put uses port slot u other_port other_slot ≡ uses other_port other_slot
 
--- ---- a slot is armed, or left alone
+-- ---- issues
 
-abbrev with_armed : Bool → Port → ℕ → DriverSlots → DriverSlots
-with_armed true port slot s = record s { uses = put s.uses port.0 slot Armed }
-with_armed false port slot s = s
+pub only_issues : (mode : QueueMode) (es : List Pending) → All IsIssueStep (issues_of mode es)
+only_issues mode [] = All-nil IsIssueStep
+only_issues mode (e ∷ es) = All-append IsIssueStep (issues_of mode es) (Issue mode e ∷ []) (only_issues mode es) (all_one IsIssueStep (Issue mode e) tt)
+
+issues_decide : (port : Port) (v : ℕ) (own : List Step) → All (IsIssueOn port) own → IsOneDecision (Writing (Px port Ci) v) own
+issues_decide port v [] all = tt
+issues_decide port v (step ∷ []) all = tt
+issues_decide port v (step ∷ other ∷ own) all = all
+
+-- they are of the tasks' port
+issues_on : (port : Port) (mode : QueueMode) (tasks : List SlotTask) (es : List Pending) → AllZip (λ t e. IsTaskOf port t.slot t.task t.frames mode e) tasks es → All (IsIssueOn port) (issues_of mode es)
+issues_on port mode [] [] zip = All-nil (IsIssueOn port)
+issues_on port mode [] (e ∷ es) zip = absurd zip
+issues_on port mode (t ∷ tasks) [] zip = absurd zip
+issues_on port mode (t ∷ tasks) (e ∷ es) zip =
+    All-append (IsIssueOn port) (issues_of mode es) (Issue mode e ∷ []) (issues_on port mode tasks es zip.1) (all_one (IsIssueOn port) (Issue mode e) zip.0.port_is)
+
+-- what may come one after another, in two parts
+may_split : Laws → (m : Machine) (late early : List Step) → AllMay m (late ++ early) → AllMay m early × AllMay (after m early) late
+may_split laws m [] early all = (all, tt)
+may_split laws m (step ∷ late) early all =
+    let rest = may_split laws m late early all.0 in
+    (rest.0, (rest.1, subst (λ (n : Machine). May n step) (laws.after m late early) all.1))
+
+-- ---- slots are armed, or left alone
+
+abbrev with_armed : Bool → Port → List SlotTask → DriverSlots → DriverSlots
+with_armed true port tasks s = record s { uses = uses_armed port.0 tasks s.uses }
+with_armed false port tasks s = s
 
 abbrev arming_of : Port → Bool → ℕ → List Access
 arming_of port true v = Writing (Px port Sact) v ∷ []
@@ -189,138 +125,283 @@ arming_of port false v = []
 abbrev IsUnissued : SlotState → Type 0
 IsUnissued u = (u ≡ Free) ⊎ (u ≡ Armed)
 
--- Acts with these accesses lead to an armed slot, or to one that is free still. The device alone makes steps, and other slots go on as they are used.
-record Reaches (port : Port) (slot : ℕ) (queued : Bool) (accesses : List Access) (s : DriverSlots) (m : Machine) (from armed : Device) : Type 0 where
+-- how a slot is used before its command is issued
+abbrev unused_use : Bool → SlotState
+unused_use true = Armed
+unused_use false = Free
+
+use_of : (kind queued : Bool) → queued ≡ kind → (if queued then Armed else Free) ≡ unused_use kind
+use_of true queued e = cond-true queued Armed Free e
+use_of false queued e = cond-false queued Armed Free e
+
+-- Acts with these accesses lead to armed slots, or to ones that are free still. The device alone makes steps, and other slots go on as they are used.
+record Reaches (port : Port) (tasks : List SlotTask) (queued : Bool) (accesses : List Access) (s : DriverSlots) (m : Machine) (from armed : Device) : Type 0 where
   acts : List Act
-  done : AreActsDone acts (driver_state s from) m (driver_state (with_armed queued port slot s) armed)
+  done : AreActsDone acts (driver_state s from) m (driver_state (with_armed queued port tasks s) armed)
   accesses_are : accesses_of acts ≡ accesses
   device : AllByDevice (act_steps acts)
-  own : All (λ act. IsUnissued (act.later.uses port.0 slot)) acts
-  others : (q k : ℕ) → (q ≡ port.0 → k ≡ slot → ⊥) → All (λ act. act.later.uses q k ≡ s.uses q k) acts
+  own : (t : SlotTask) → Contains tasks t → All (λ act. IsUnissued (act.later.uses port.0 t.slot)) acts
+  others : (q k : ℕ) → (q ≡ port.0 → IsSlotOf tasks k → ⊥) → All (λ act. act.later.uses q k ≡ s.uses q k) acts
 
-module _ (laws : Laws) where
-  module _ (port : Port) (slot own : ℕ) (alone : IsSoleBit slot own) (mid armed : Device) (on : IsOn mid) (started : (mid.port port.0).st ≡ true) where
-    armed_from : (queued : Bool) → Arms queued port own mid armed → (s : DriverSlots) (m : Machine) → IsReachable m → DriverRelation m (driver_state s mid) → s.uses port.0 slot ≡ Free →
-        Reaches port slot queued (arming_of port queued own) s m mid armed
-    armed_from true arms s m reached knows free =
-        let later : DriverState = driver_state (with_armed true port slot s) armed in
-        let x = laws.access (driver_state s mid) later m (Writing (Px port Sact) own) (laws.arming (driver_state s mid) port slot own armed on.no_reset free started alone.here alone.alone arms) reached knows arms in
-        let act : Act = record { access = Some (Writing (Px port Sact) own); steps = x.0; later = later } in
-        record {
-          acts = act ∷ [];
-          done = (x.2, refl);
-          accesses_are = refl;
-          device = x.1;
-          own = let P : Act → Type 0 = λ a. IsUnissued (a.later.uses port.0 slot) in All-cons P act [] (inr (laws.put_here s.uses port.0 slot Armed)) (All-nil P);
-          others = λ q k other. let P : Act → Type 0 = λ a. a.later.uses q k ≡ s.uses q k in All-cons P act [] (laws.put_others s.uses port.0 slot Armed q k other) (All-nil P);
-        }
-    armed_from false arms s m reached knows free = record {
-      acts = [];
-      done = ap (λ (d : Device). driver_state s d) arms;
-      accesses_are = refl;
-      device = tt;
-      own = All-nil (λ a. IsUnissued (a.later.uses port.0 slot));
-      others = λ q k other. All-nil (λ a. a.later.uses q k ≡ s.uses q k);
-    }
+abbrev places_for : Port → SlotTask → List ℕ
+places_for port t = addresses_of port.0 t.task.op t.task.range.count t.frames
 
-    armed_on : (queued : Bool) → Arms queued port own mid armed → IsOn armed
-    armed_on true arms = laws.on (Writing (Px port Sact) own) mid armed on (λ v e. absurd cc) arms
-    armed_on false arms = subst IsOn (sym arms) on
+module _ (laws : Laws) (port : Port) where
+  -- bit by bit
+  all_armed : (ts : List SlotTask) (uses : SlotStates) (parked : ℕ → List RequestId) (bits : ℕ → Bool) (d : Device) (m : Machine) → HaveOwnSlots ts → AreUnused port.0 ts uses →
+      ((t : SlotTask) → Contains ts t → (d.port port.0).st ≡ true) → DriverRelation m (known uses parked (bits_on sact_bits port d bits)) →
+      DriverAdvances (known uses parked (bits_on sact_bits port d bits)) m [] (known (uses_armed port.0 ts uses) parked (bits_on sact_bits port d (with_bits ts bits)))
+  all_armed [] uses parked bits d m apart free runs knows = laws.none (known uses parked (bits_on sact_bits port d bits)) m knows
+  all_armed (t ∷ ts) uses parked bits d m apart free runs knows =
+      let k : DriverState = known uses parked (bits_on sact_bits port d bits) in
+      let put_uses : SlotStates = put uses port.0 t.slot Armed in
+      let more : ℕ → Bool = λ j. bits j || bit (own_bit t.slot) j in
+      let next : DriverState = known put_uses parked (bits_on sact_bits port d more) in
+      let first : DriverAdvances k m [] next =
+      subst (λ (new : Device). DriverAdvances k m [] (known put_uses parked new)) (bits_more sact_bits port d bits (own_bit t.slot))
+      (laws.arms k m port t.slot (own_bit t.slot) knows (All-contains (λ x. uses port.0 x.slot ≡ Free) (t ∷ ts) t free (contains_here t ts))
+      (ap (λ (p : DevicePort). p.st) (changed_here d.port port.0 (record (d.port port.0) { sact = bits })) ∙ runs t (contains_here t ts)) (own_bit_is t.slot)) in
+      let rest : DriverAdvances next m [] (known (uses_armed port.0 ts put_uses) parked (bits_on sact_bits port d (with_bits ts more))) =
+      all_armed ts put_uses parked more d m (rest_apart t ts apart)
+      (all_in (λ x. put_uses port.0 x.slot ≡ Free) ts (λ x is.
+      laws.put_others uses port.0 t.slot Armed port.0 x.slot (λ _ e. first_apart t ts apart (x, is, e)) ∙ All-contains (λ y. uses port.0 y.slot ≡ Free) (t ∷ ts) x free (contains_there t ts x is)))
+      (λ x is. runs x (contains_there t ts x is)) first.knows in
+      laws.compose k next (known (uses_armed port.0 ts put_uses) parked (bits_on sact_bits port d (with_bits ts more))) m [] [] first rest
 
-    armed_same : (queued : Bool) → Arms queued port own mid armed → (armed.pi ≡ mid.pi) × (armed.cap ≡ mid.cap)
-    armed_same true arms = let z = laws.same (Writing (Px port Sact) own) mid armed arms in (z.pi, z.cap)
-    armed_same false arms = (ap (λ (d : Device). d.pi) arms, ap (λ (d : Device). d.cap) arms)
+  -- a slot's bytes say what they did, whatever bits of PxCI are set
+  stored_on_bits : (d : Device) (bits : ℕ → Bool) (slot : ℕ) (c : Meaning) (places : List ℕ) → IsStored d port.0 slot c places → IsStored (bits_on ci_bits port d bits) port.0 slot c places
+  stored_on_bits d bits slot c places x =
+      let same : (bits_on ci_bits port d bits).port port.0 ≡ record (d.port port.0) { ci = bits } = changed_here d.port port.0 (record (d.port port.0) { ci = bits }) in
+      record {
+        started = ap (λ (p : DevicePort). p.st) same ∙ x.started;
+        placed = subst (λ (p : DevicePort). IsPlaced p port.0 slot) (sym same) (record { port_below = x.placed.port_below; slot_below = x.placed.slot_below; list = x.placed.list });
+        told = subst (λ (p : DevicePort). SlotDecodesTo d.memory p.bases.clb port.0 slot c places) (sym same) x.told;
+      }
 
-    armed_readied : (c : Meaning) (places : List ℕ) (queued : Bool) → is_queued c.operation ≡ queued → Arms queued port own mid armed → (s : DriverSlots) (m : Machine) → IsReachable m →
-        DriverRelation m (driver_state s mid) → s.uses port.0 slot ≡ Free → IsStored mid port.0 slot c places → IsReadied (with_armed queued port slot s).uses armed port.0 slot c places
-    armed_readied c places true is arms s m reached knows free stored =
-        laws.arms s.uses m port slot c places own mid armed reached knows.agrees on.no_reset is free alone.here arms stored
-    armed_readied c places false is arms s m reached knows free stored =
-        laws.plain s.uses armed port.0 slot c places is free (subst (λ (d : Device). IsStored d port.0 slot c places) (sym arms) stored)
+  -- request by request
+  module _ (mode : QueueMode) where
+    abbrev ItsTask : SlotTask → Pending → Type 0
+    ItsTask t e = IsTaskOf port t.slot t.task t.frames mode e
 
-    -- a trim isn't queued, so its block is as it was
-    block_then : (op : Op) (range : Range) (driver_state : ℕ) (queued : Bool) → is_queued (task_operation queued op) ≡ queued → Arms queued port own mid armed → HasBlockOf op range driver_state mid.memory →
-        HasBlockOf op range driver_state armed.memory
-    block_then Trim range driver_state true kind arms block = absurd cc
-    block_then Trim range driver_state false kind arms block = subst (λ (d : Device). HasBlockOf Trim range driver_state d.memory) (sym arms) block
-    block_then Read range driver_state queued kind arms block = tt
-    block_then Write range driver_state queued kind arms block = tt
-    block_then Flush range driver_state queued kind arms block = tt
-
-  -- ---- a slot that was armed serves
-
-  module _ (uses : SlotStates) (p k : ℕ) (id : RequestId) where
-    put_twice_at : (q j : ℕ) → put (put uses p k Armed) p k (Serves id) q j ≡ put uses p k (Serves id) q j
-    put_twice_at q j =
-        ⊎_elim (λ (at_port : q ≡ p).
-        ⊎_elim (λ (at_slot : j ≡ k).
-        let P : ℕ → ℕ → Type 0 = λ a b. put (put uses p k Armed) p k (Serves id) a b ≡ put uses p k (Serves id) a b in
-        subst (λ (a : ℕ). P a j) (sym at_port) (subst (λ (b : ℕ). P p b) (sym at_slot) (laws.put_here (put uses p k Armed) p k (Serves id) ∙ sym (laws.put_here uses p k (Serves id)))))
-        (λ (other : j ≢ k). beside q j (λ a b. other b)) (cases_eq j k))
-        (λ (other : q ≢ p). beside q j (λ a b. other a)) (cases_eq q p)
+    all_issued : (ts : List SlotTask) (es : List Pending) (uses : SlotStates) (parked : ℕ → List RequestId) (bits : ℕ → Bool) (d : Device) (m : Machine) → AllZip ItsTask ts es → HaveOwnSlots ts →
+        IsReachable m → DriverRelation m (known uses parked (bits_on ci_bits port d bits)) → AllMay m (issues_of mode es) →
+        ((t : SlotTask) → Contains ts t → is_queued (meaning_of t.task).operation ≡ t.task.queued) →
+        ((t : SlotTask) → Contains ts t → IsReadied uses d port.0 t.slot (meaning_of t.task) (places_for port t)) → ((t : SlotTask) → Contains ts t → HasBlockOf t.task.op t.task.range port.0 d.memory) →
+        DriverAdvances (known uses parked (bits_on ci_bits port d bits)) m (issues_of mode es) (known (uses_served port.0 ts es uses) parked (bits_on ci_bits port d (with_bits ts bits)))
+    all_issued [] [] uses parked bits d m zip apart reached knows may kinds readied blocks = laws.none (known uses parked (bits_on ci_bits port d bits)) m knows
+    all_issued [] (e ∷ es) uses parked bits d m zip apart reached knows may kinds readied blocks = absurd zip
+    all_issued (t ∷ ts) [] uses parked bits d m zip apart reached knows may kinds readied blocks = absurd zip
+    all_issued (t ∷ ts) (e ∷ es) uses parked bits d m zip apart reached knows may kinds readied blocks =
+        let k : DriverState = known uses parked (bits_on ci_bits port d bits) in
+        let put_uses : SlotStates = put uses port.0 t.slot (Serves e.request.id) in
+        let more : ℕ → Bool = λ j. bits j || bit (own_bit t.slot) j in
+        let next : DriverState = known put_uses parked (bits_on ci_bits port d more) in
+        let last : DriverState = known (uses_served port.0 ts es put_uses) parked (bits_on ci_bits port d (with_bits ts more)) in
+        let x : IsReadied uses d port.0 t.slot (meaning_of t.task) (places_for port t) = readied t (contains_here t ts) in
+        let z : AllMay m (Issue mode e ∷ []) × AllMay (after_step m (Issue mode e)) (issues_of mode es) = may_split laws m (issues_of mode es) (Issue mode e ∷ []) may in
+        let first : DriverAdvances k m (Issue mode e ∷ []) next =
+        subst (λ (new : Device). DriverAdvances k m (Issue mode e ∷ []) (known put_uses parked new)) (bits_more ci_bits port d bits (own_bit t.slot))
+        (laws.issues k m port t.slot mode e (own_bit t.slot) reached knows
+        (laws.prepared uses m (bits_on ci_bits port d bits) port.0 t.slot (meaning_of t.task) (places_for port t) mode e (own_bit t.slot)
+        (record { used = x.used; stored = stored_on_bits d bits t.slot (meaning_of t.task) (places_for port t) x.stored }) z.0.1 (ap (λ (q : Port). q.0) zip.0.port_is) zip.0.usable (head t e zip.0)
+        (task_means port t.slot t.task t.frames mode e zip.0) (kind t e zip.0 (kinds t (contains_here t ts)))
+        (task_block port t.slot t.task t.frames mode e zip.0 d.memory (blocks t (contains_here t ts))) (own_bit_is t.slot).here (own_bit_is t.slot).alone)) in
+        let rest : DriverAdvances next (after_step m (Issue mode e)) (issues_of mode es) last =
+        all_issued ts es put_uses parked more d (after_step m (Issue mode e)) zip.1 (rest_apart t ts apart) (laws.acts.reached k next m (Issue mode e ∷ []) reached first) first.knows z.1
+        (λ y is. kinds y (contains_there t ts y is))
+        (λ y is. let old : IsReadied uses d port.0 y.slot (meaning_of y.task) (places_for port y) = readied y (contains_there t ts y is) in
+        record { used = laws.put_others uses port.0 t.slot (Serves e.request.id) port.0 y.slot (λ _ s. first_apart t ts apart (y, is, s)) ∙ old.used; stored = old.stored })
+        (λ y is. blocks y (contains_there t ts y is)) in
+        laws.compose k next last m (Issue mode e ∷ []) (issues_of mode es) first rest
       where
-        beside : (q j : ℕ) → (q ≡ p → j ≡ k → ⊥) → put (put uses p k Armed) p k (Serves id) q j ≡ put uses p k (Serves id) q j
-        beside q j other =
-            laws.put_others (put uses p k Armed) p k (Serves id) q j other ∙ (laws.put_others uses p k Armed q j other ∙ sym (laws.put_others uses p k (Serves id) q j other))
+        kind : (t : SlotTask) (e : Pending) → ItsTask t e → is_queued (meaning_of t.task).operation ≡ t.task.queued → is_queued (meaning_of t.task).operation ≡ not (is_plain mode e.request.asked.op)
+        kind t e is its = its ∙ (is.kind ∙ sym (ap (λ (o : Op). not (is_plain mode o)) is.operation))
 
-    put_twice : put (put uses p k Armed) p k (Serves id) ≡ put uses p k (Serves id)
-    put_twice = λ i q j. put_twice_at q j i
+        head : (t : SlotTask) (e : Pending) → ItsTask t e → is_plain mode e.request.asked.op ≡ true → t.slot ≡ 0
+        head t e is plain = is.head (is.kind ∙ ap not (sym (ap (is_plain mode) is.operation) ∙ plain))
 
-  served : (queued : Bool) (port : Port) (slot : ℕ) (s : DriverSlots) (id : RequestId) (armed new : Device) →
-      serving (driver_state (with_armed queued port slot s) armed) port.0 slot id new ≡ driver_state (with_serving port slot id s) new
-  served true port slot s id armed new = ap (λ (uses : SlotStates). driver_state (record s { uses = uses }) new) (put_twice s.uses port.0 slot id)
-  served false port slot s id armed new = refl
+  -- a trim's block stands still, where no command of the driver's own is in slot 0
+  module _ (uses : SlotStates) (old new : Device) (low : port.0 < 4) (leaves : KeepsTables uses old new) where
+    block_stays : (op : Op) (range : Range) → (op ≡ Trim → uses port.0 0 ≡ Free) → HasBlockOf op range port.0 old.memory → HasBlockOf op range port.0 new.memory
+    block_stays Read range free block = tt
+    block_stays Write range free block = tt
+    block_stays Flush range free block = tt
+    block_stays Trim range free block = laws.block uses old new leaves port.0 its low (λ o own. let z : Free ≡ Own o = sym (free refl) ∙ own in cc) block
+      where
+        its : Accepted
+        its = record {
+          id = record { 0 = 0 };
+          port = port;
+          asked = record { client = record { 0 = 0 }; grant = 0; op = Trim; first = range.first; count = range.count; frames = record { items = [] } };
+          held = λ k place. 0;
+        }
 
   -- ---- the whole
 
-  module _ (port : Port) (slot : ℕ) (r : Task) (frames : List Frame) (own : ℕ) (old armed : Device) (b : IsArmedFor port slot r frames own old armed) where
-    stored : IsStored b.mid port.0 slot (meaning_of r) (addresses_of port.0 r.op r.range.count frames)
-    stored = stores_stored port slot r.op old b.mid b.stores laws.left b.on b.there b.small b.may (meaning_of r) (addresses_of port.0 r.op r.range.count frames) b.told
+  module _ (queued : Bool) (tasks : List SlotTask) (own : ℕ) (old armed : Device) (b : IsArmedFor port queued tasks own old armed) where
+    abbrev stores_only : (access : Access) → IsStoreForBatch port.0 tasks access → IsStoring access
+    stores_only = batch_stores port.0 tasks
+
+    mid_on : IsOn b.mid
+    mid_on = stores_on laws.leaving port (IsStoreForBatch port.0 tasks) stores_only old b.mid b.stores.driven b.on
+
+    mid_may : RunsItsList port.0 b.mid
+    mid_may = stores_may laws.leaving port (IsStoreForBatch port.0 tasks) stores_only old b.mid b.stores.driven b.on b.may
+
+    mid_there : HasPort b.mid port.0
+    mid_there = stores_there laws.leaving port (IsStoreForBatch port.0 tasks) stores_only old b.mid b.stores.driven b.there
+
+    stored : (t : SlotTask) → Contains tasks t → IsStored b.mid port.0 t.slot (meaning_of t.task) (places_for port t)
+    stored t is =
+        let says = All-contains (λ x. SaysTask port.0 x b.mid.memory) tasks t b.say is in
+        stored_in port t.slot (meaning_of t.task) (places_for port t) b.mid mid_there (All-contains (λ x. x.slot < 32) tasks t b.small is) mid_may says.told
+
+    kind : (t : SlotTask) → Contains tasks t → is_queued (meaning_of t.task).operation ≡ t.task.queued
+    kind = λ t is. All-contains (λ x. is_queued (meaning_of x.task).operation ≡ x.task.queued) tasks t b.kind is
+
+    its_kind : (t : SlotTask) → Contains tasks t → t.task.queued ≡ queued
+    its_kind = λ t is. All-contains (λ x. x.task.queued ≡ queued) tasks t b.kinds is
+
+    unused : (s : DriverSlots) → AreUnused port.0 tasks s.uses → (t : SlotTask) → Contains tasks t → s.uses port.0 t.slot ≡ Free
+    unused s free t is = All-contains (λ x. s.uses port.0 x.slot ≡ Free) tasks t free is
+
+    -- ---- arming
+
+    -- the write of PxSACT
+    module _ (call : Writes (Px port Sact) own b.mid armed) (s : DriverSlots) (m : Machine) (reached : IsReachable m) (knows : DriverRelation m (driver_state s b.mid)) (free : AreUnused port.0 tasks s.uses) where
+      abbrev later_armed : DriverState
+      later_armed = driver_state (with_armed true port tasks s) armed
+
+      arm_ends : EndsInSteps (driver_state s b.mid) m [] later_armed
+      arm_ends =
+          let k : DriverState = driver_state s b.mid in
+          let between : DriverState = driver_state s call.mid in
+          let x : (steps : List Step) × AllByDevice steps × DriverAdvances k m steps between = laws.access k between m (laws.part k call.mid call.steps) reached knows in
+          let bits : ℕ → Bool = (call.mid.port port.0).sact in
+          let y : DriverAdvances (known s.uses s.parked (bits_on sact_bits port call.mid bits)) (after m x.0) []
+          (known (uses_armed port.0 tasks s.uses) s.parked (bits_on sact_bits port call.mid (with_bits tasks bits))) =
+          all_armed tasks s.uses s.parked bits call.mid (after m x.0) b.apart free
+          (λ t is. (laws.stands s.uses m port.0 t.slot (meaning_of t.task) (places_for port t) b.mid call.mid reached knows.agrees mid_on.no_reset call.steps (stored t is)).started)
+          (subst (λ (d : Device). DriverRelation (after m x.0) (known s.uses s.parked d)) (sym (bits_begin sact_bits port call.mid)) x.2.knows) in
+          let z : DriverAdvances between (after m x.0) [] later_armed =
+          subst (λ (d : Device). DriverAdvances between (after m x.0) [] (known (uses_armed port.0 tasks s.uses) s.parked d)) (sym (bits_written sact_bits port call.mid tasks own b.bits) ∙ sym call.effect)
+          (subst (λ (d : Device). DriverAdvances (known s.uses s.parked d) (after m x.0) [] (known (uses_armed port.0 tasks s.uses) s.parked (bits_on sact_bits port call.mid (with_bits tasks bits))))
+          (bits_begin sact_bits port call.mid) y) in
+          let g : DriverAdvances k m x.0 later_armed = laws.compose k between later_armed m x.0 [] x.2 z in
+          record { steps = x.0; only = x.1; may = g.may; backed = g.backed; knows = g.knows }
+
+    armed_from : (kind : Bool) → Arms kind port own b.mid armed → (s : DriverSlots) (m : Machine) → IsReachable m → DriverRelation m (driver_state s b.mid) → AreUnused port.0 tasks s.uses →
+        Reaches port tasks kind (arming_of port kind own) s m b.mid armed
+    armed_from true call s m reached knows free =
+        let e : EndsInSteps (driver_state s b.mid) m [] (driver_state (with_armed true port tasks s) armed) = arm_ends call s m reached knows free in
+        let act : Act = record { access = Some (Writing (Px port Sact) own); steps = e.steps; later = driver_state (with_armed true port tasks s) armed } in
+        record {
+          acts = act ∷ [];
+          done = (laws.ends (driver_state s b.mid) (driver_state (with_armed true port tasks s) armed) m (Writing (Px port Sact) own) [] e tt call, refl);
+          accesses_are = refl;
+          device = e.only;
+          own = λ t is. all_one (λ (a : Act). IsUnissued (a.later.uses port.0 t.slot)) act (inr (armed_here laws.put_here laws.put_others port.0 tasks s.uses b.apart t.slot (t, is, refl)));
+          others = λ q k other. all_one (λ (a : Act). a.later.uses q k ≡ s.uses q k) act (armed_others laws.put_here laws.put_others port.0 tasks s.uses q k other);
+        }
+    armed_from false same s m reached knows free = record {
+      acts = [];
+      done = ap (λ (d : Device). driver_state s d) same;
+      accesses_are = refl;
+      device = tt;
+      own = λ t is. All-nil (λ (a : Act). IsUnissued (a.later.uses port.0 t.slot));
+      others = λ q k other. All-nil (λ (a : Act). a.later.uses q k ≡ s.uses q k);
+    }
+
+    armed_on : (kind : Bool) → Arms kind port own b.mid armed → IsOn armed
+    armed_on true call = laws.on (Writing (Px port Sact) own) b.mid armed mid_on (λ v e. absurd cc) call
+    armed_on false same = subst IsOn (sym same) mid_on
 
     on_armed : IsOn armed
-    on_armed = armed_on port slot own b.alone b.mid armed b.mid_on stored.started r.queued b.arms
+    on_armed = armed_on queued b.arms
 
-    block_armed : HasBlockOf r.op r.range port.0 armed.memory
-    block_armed = block_then port slot own b.alone b.mid armed b.mid_on stored.started r.op r.range port.0 r.queued b.kind b.arms b.block
+    armed_same : (kind : Bool) → Arms kind port own b.mid armed → (armed.pi ≡ b.mid.pi) × (armed.cap ≡ b.mid.cap)
+    armed_same true call = let z = laws.same (Writing (Px port Sact) own) b.mid armed call in (z.pi, z.cap)
+    armed_same false same = (ap (λ (d : Device). d.pi) same, ap (λ (d : Device). d.cap) same)
 
-    -- from a machine that agrees, acts lead to the armed slot, which is ready for PxCI
+    armed_runs : (kind : Bool) → Arms kind port own b.mid armed → (armed.port port.0).st ≡ true
+    armed_runs true call = ((laws.controls port (Writing (Px port Sact) own) b.mid armed mid_on.no_reset call).command (λ e. absurd cc)).0 ∙ mid_may.started
+    armed_runs false same = ap (λ (d : Device). (d.port port.0).st) same ∙ mid_may.started
+
+    armed_stored : (kind : Bool) → Arms kind port own b.mid armed → (uses : SlotStates) (m : Machine) → IsReachable m → StateRelation uses m b.mid → (t : SlotTask) → Contains tasks t →
+        IsStored armed port.0 t.slot (meaning_of t.task) (places_for port t)
+    armed_stored true call uses m reached agrees t is =
+        laws.stays uses m port t.slot (meaning_of t.task) (places_for port t) (Writing (Px port Sact) own) b.mid armed reached agrees mid_on.no_reset (λ v e. absurd cc) (λ e. absurd cc) (λ at bytes e. absurd cc) call (stored t is)
+    armed_stored false same uses m reached agrees t is = subst (λ (d : Device). IsStored d port.0 t.slot (meaning_of t.task) (places_for port t)) (sym same) (stored t is)
+
+    armed_used : (kind : Bool) (s : DriverSlots) → AreUnused port.0 tasks s.uses → (t : SlotTask) → Contains tasks t → (with_armed kind port tasks s).uses port.0 t.slot ≡ unused_use kind
+    armed_used true s free t is = armed_here laws.put_here laws.put_others port.0 tasks s.uses b.apart t.slot (t, is, refl)
+    armed_used false s free t is = unused s free t is
+
+    -- a trim isn't queued, so its slot 0 is free
+    trim_free : (s : DriverSlots) → AreUnused port.0 tasks s.uses → (t : SlotTask) → Contains tasks t → t.task.op ≡ Trim → (with_armed queued port tasks s).uses port.0 0 ≡ Free
+    trim_free s free t is trim =
+        let plain : t.task.queued ≡ false = sym (kind t is) ∙ ap (λ (o : Op). is_queued (task_operation t.task.queued o)) trim ∙ never t.task.queued in
+        ap (λ (q : Bool). (with_armed q port tasks s).uses port.0 0) (sym (its_kind t is) ∙ plain)
+        ∙ (ap (s.uses port.0) (sym (All-contains (λ x. x.task.op ≡ Trim → x.slot ≡ 0) tasks t b.head is trim)) ∙ unused s free t is)
+      where
+        never : (q : Bool) → is_queued (task_operation q Trim) ≡ false
+        never true = refl
+        never false = refl
+
+    -- a queued task has no block, and a plain one's is as it was
+    armed_block : (kind : Bool) → Arms kind port own b.mid armed → kind ≡ queued → (t : SlotTask) → Contains tasks t → (op : Op) → t.task.op ≡ op → HasBlockOf op t.task.range port.0 b.mid.memory → HasBlockOf op t.task.range port.0 armed.memory
+    armed_block true call is_kind t is Trim trim block =
+        absurd (let z : true ≡ false = is_kind ∙ sym (its_kind t is) ∙ sym (kind t is) ∙ ap (λ (o : Op). is_queued (task_operation t.task.queued o)) trim ∙ never t.task.queued in cc)
+      where
+        never : (q : Bool) → is_queued (task_operation q Trim) ≡ false
+        never true = refl
+        never false = refl
+    armed_block false same is_kind t is Trim trim block = subst (λ (d : Device). HasBlockOf Trim t.task.range port.0 d.memory) (sym same) block
+    armed_block kind call is_kind t is Read e block = tt
+    armed_block kind call is_kind t is Write e block = tt
+    armed_block kind call is_kind t is Flush e block = tt
+
+    block_then : (t : SlotTask) → Contains tasks t → HasBlockOf t.task.op t.task.range port.0 armed.memory
+    block_then t is = let says = All-contains (λ x. SaysTask port.0 x b.mid.memory) tasks t b.say is in armed_block queued b.arms refl t is t.task.op refl says.block
+
+    -- from a machine that agrees, acts lead to the armed slots, which are ready for PxCI
     record Stage (s : DriverSlots) (m : Machine) : Type 0 where
-      reaches : Reaches port slot r.queued (b.stores.driven.accesses ++ arming_of port r.queued own) s m old armed
-      goes : DriverAdvances (driver_state s old) m (act_steps reaches.acts) (driver_state (with_armed r.queued port slot s) armed)
+      reaches : Reaches port tasks queued (b.stores.driven.accesses ++ arming_of port queued own) s m old armed
+      goes : DriverAdvances (driver_state s old) m (act_steps reaches.acts) (driver_state (with_armed queued port tasks s) armed)
       reached : IsReachable (after m (act_steps reaches.acts))
-      readied : IsReadied (with_armed r.queued port slot s).uses armed port.0 slot (meaning_of r) (addresses_of port.0 r.op r.range.count frames)
+      readied : (t : SlotTask) → Contains tasks t → IsReadied (with_armed queued port tasks s).uses armed port.0 t.slot (meaning_of t.task) (places_for port t)
 
-    stage : (s : DriverSlots) (m : Machine) → IsReachable m → DriverRelation m (driver_state s old) → s.uses port.0 slot ≡ Free → Stage s m
-    stage s m reached knows free = record { reaches = reaches; goes = goes; reached = laws.reached (driver_state s old) later m (act_steps reaches.acts) reached goes; readied = readied }
+    stage : (s : DriverSlots) (m : Machine) → IsReachable m → DriverRelation m (driver_state s old) → AreUnused port.0 tasks s.uses → Stage s m
+    stage s m reached knows free = record { reaches = reaches; goes = goes; reached = laws.acts.reached (driver_state s old) later m (act_steps reaches.acts) reached goes; readied = readied }
       where
         later : DriverState
-        later = driver_state (with_armed r.queued port slot s) armed
+        later = driver_state (with_armed queued port tasks s) armed
 
-        x : ActsReach b.stores.driven.accesses (driver_state s old) m (driver_state s b.mid) (OnlyDeviceActs (IsStoreFor r.op port.0 slot) s.uses)
+        x : ActsReach b.stores.driven.accesses (driver_state s old) m (driver_state s b.mid) (OnlyDeviceActs (IsStoreForBatch port.0 tasks) s.uses)
         x = b.stores.comes s m reached knows free
 
         g : DriverAdvances (driver_state s old) m (act_steps x.acts) (driver_state s b.mid)
-        g = laws.goes x.acts (driver_state s old) (driver_state s b.mid) m knows x.done
+        g = laws.acts.goes x.acts (driver_state s old) (driver_state s b.mid) m knows x.done
 
         mid_reached : IsReachable (after m (act_steps x.acts))
-        mid_reached = laws.reached (driver_state s old) (driver_state s b.mid) m (act_steps x.acts) reached g
+        mid_reached = laws.acts.reached (driver_state s old) (driver_state s b.mid) m (act_steps x.acts) reached g
 
-        y : Reaches port slot r.queued (arming_of port r.queued own) s (after m (act_steps x.acts)) b.mid armed
-        y = armed_from port slot own b.alone b.mid armed b.mid_on stored.started r.queued b.arms s (after m (act_steps x.acts)) mid_reached g.knows free
+        y : Reaches port tasks queued (arming_of port queued own) s (after m (act_steps x.acts)) b.mid armed
+        y = armed_from queued b.arms s (after m (act_steps x.acts)) mid_reached g.knows free
 
         kept : (q : Port) → All (λ act. act.later.uses q.0 ≡ s.uses q.0) x.acts
-        kept q = x.tells.kept q (store_spares r.op port.0 slot (Px q Ci)) (store_spares r.op port.0 slot (Px q Sact))
+        kept q = x.tells.kept q (λ access is. storing_writes_none (Px q Ci) access (stores_only access is)) (λ access is. storing_writes_none (Px q Sact) access (stores_only access is))
 
-        reaches : Reaches port slot r.queued (b.stores.driven.accesses ++ arming_of port r.queued own) s m old armed
+        reaches : Reaches port tasks queued (b.stores.driven.accesses ++ arming_of port queued own) s m old armed
         reaches = record {
           acts = x.acts ++ y.acts;
-          done = laws.more x.acts y.acts (driver_state s old) (driver_state s b.mid) later m x.done y.done;
-          accesses_are = laws.accesses x.acts y.acts
+          done = laws.acts.more x.acts y.acts (driver_state s old) (driver_state s b.mid) later m x.done y.done;
+          accesses_are = laws.acts.accesses x.acts y.acts
               ∙ (ap (λ (early : List Access). early ++ accesses_of y.acts) x.accesses_are ∙ ap (λ (late : List Access). b.stores.driven.accesses ++ late) y.accesses_are);
-          device = subst AllByDevice (sym (laws.steps x.acts y.acts)) (laws.device (act_steps y.acts) (act_steps x.acts) y.device x.tells.only);
-          own = let P : Act → Type 0 = λ act. IsUnissued (act.later.uses port.0 slot) in
+          device = subst AllByDevice (sym (laws.acts.steps x.acts y.acts)) (laws.acts.device (act_steps y.acts) (act_steps x.acts) y.device x.tells.only);
+          own = λ t is. let P : Act → Type 0 = λ act. IsUnissued (act.later.uses port.0 t.slot) in
               All-append P x.acts y.acts
-              (all_as (λ act. act.later.uses port.0 ≡ s.uses port.0) P (λ act same. inl (ap (λ (f : ℕ → SlotState). f slot) same ∙ free)) x.acts (kept port)) y.own;
+              (all_as (λ act. act.later.uses port.0 ≡ s.uses port.0) P (λ act same. inl (ap (λ (f : ℕ → SlotState). f t.slot) same ∙ unused s free t is)) x.acts (kept port)) (y.own t is);
           others = λ q k other.
               let P : Act → Type 0 = λ act. act.later.uses q k ≡ s.uses q k in
               All-append P x.acts y.acts
@@ -328,12 +409,13 @@ module _ (laws : Laws) where
         }
 
         goes : DriverAdvances (driver_state s old) m (act_steps reaches.acts) later
-        goes = laws.goes reaches.acts (driver_state s old) later m knows reaches.done
+        goes = laws.acts.goes reaches.acts (driver_state s old) later m knows reaches.done
 
-        readied : IsReadied (with_armed r.queued port slot s).uses armed port.0 slot (meaning_of r) (addresses_of port.0 r.op r.range.count frames)
-        readied =
-            armed_readied port slot own b.alone b.mid armed b.mid_on stored.started (meaning_of r) (addresses_of port.0 r.op r.range.count frames) r.queued b.kind b.arms
-            s (after m (act_steps x.acts)) mid_reached g.knows free stored
+        readied : (t : SlotTask) → Contains tasks t → IsReadied (with_armed queued port tasks s).uses armed port.0 t.slot (meaning_of t.task) (places_for port t)
+        readied t is = record {
+          used = armed_used queued s free t is ∙ sym (use_of queued (is_queued (meaning_of t.task).operation) (kind t is ∙ its_kind t is));
+          stored = armed_stored queued b.arms s.uses (after m (act_steps x.acts)) mid_reached g.knows.agrees t is;
+        }
 
     -- the machine that the caller knows of
     abbrev s0 : DriverSlots
@@ -345,193 +427,206 @@ module _ (laws : Laws) where
     permitted : IsStable (MayWrite (Px port Ci) own) armed
     permitted =
         let x = known_stage in
-        let same = armed_same port slot own b.alone b.mid armed b.mid_on stored.started r.queued b.arms in
-        let whole = stores_same port slot r.op old b.mid b.stores laws.adapter in
-        laws.permitted (with_armed r.queued port slot s0).uses (after b.agreed.2.machine (act_steps x.reaches.acts)) armed port slot (meaning_of r) (addresses_of port.0 r.op r.range.count frames) own
-        x.reached x.goes.knows.agrees on_armed (b.there.0, ap (λ (pi : ℕ). bit pi port.0) (same.0 ∙ whole.pi) ∙ b.there.1)
-        (subst (λ (cap : ℕ). slot ≤ cap / 256 % 32) (sym (same.1 ∙ whole.cap)) b.usable) x.readied b.alone.here b.alone.alone
+        let same = armed_same queued b.arms in
+        let whole = stores_same laws.leaving port (IsStoreForBatch port.0 tasks) stores_only old b.mid b.stores.driven in
+        laws.permitted (with_armed queued port tasks s0).uses (after b.agreed.2.machine (act_steps x.reaches.acts)) armed port own x.reached x.goes.knows.agrees on_armed
+        (b.there.0, ap (λ (pi : ℕ). bit pi port.0) (same.0 ∙ whole.pi) ∙ b.there.1) (armed_runs queued b.arms)
+        (λ slot set.
+        let t : IsSlotOf tasks slot = b.bits.alone slot set in
+        subst (IsReadyToIssue (with_armed queued port tasks s0).uses armed port.0) t.2 (record {
+          usable = subst (λ (cap : ℕ). t.0.slot ≤ cap / 256 % 32) (sym (same.1 ∙ whole.cap)) (All-contains (λ z. z.slot ≤ old.cap / 256 % 32) tasks t.0 b.usable t.1);
+          command = meaning_of t.0.task;
+          places = places_for port t.0;
+          readied = x.readied t.0 t.1;
+        }))
 
     -- ---- PxCI is written
 
     module _ (new : Device) (call : Writes (Px port Ci) own armed new) where
-      arming_does : (queued : Bool) → Arms queued port own b.mid armed → DoesAll (arming_of port queued own) b.mid armed
+      arming_does : (kind : Bool) → Arms kind port own b.mid armed → DoesAll (arming_of port kind own) b.mid armed
       arming_does true arms = (armed, arms, refl)
       arming_does false arms = arms
 
-      arming_only : (queued : Bool) → All (IsIssuing port slot) (arming_of port queued own)
-      arming_only true = All-cons (IsIssuing port slot) (Writing (Px port Sact) own) [] (inl refl, b.alone) (All-nil (IsIssuing port slot))
-      arming_only false = All-nil (IsIssuing port slot)
+      arming_only : (kind : Bool) → All (IsIssuingOn port) (arming_of port kind own)
+      arming_only true = all_one (IsIssuingOn port) (Writing (Px port Sact) own) (inl refl)
+      arming_only false = All-nil (IsIssuingOn port)
 
-      is_issuing : (access : Access) → IsStoreWithBlock port.0 slot access → IsIssuing port slot access
-      is_issuing (Storing driver_state bytes) here = here
-      is_issuing (Reading q v) here = absurd (elim here [ inl x ↦ x | inr x ↦ x ])
-      is_issuing (Writing q v) here = absurd (elim here [ inl x ↦ x | inr x ↦ x ])
-      is_issuing (Loading driver_state bytes) here = absurd (elim here [ inl x ↦ x | inr x ↦ x ])
+      is_issuing : (access : Access) → IsStoreForBatch port.0 tasks access → IsIssuingOn port access
+      is_issuing (Storing at bytes) here = (here.0.slot, All-contains (λ x. x.slot < 32) tasks here.0 b.small here.1, store_for here.0.task.op port.0 here.0.slot (Storing at bytes) here.2)
+      is_issuing (Reading q v) here = absurd (stores_only (Reading q v) here)
+      is_issuing (Writing q v) here = absurd (stores_only (Writing q v) here)
+      is_issuing (Loading at bytes) here = absurd (stores_only (Loading at bytes) here)
 
       abbrev accesses : List Access
-      accesses = (b.stores.driven.accesses ++ arming_of port r.queued own) ++ Writing (Px port Ci) own ∷ []
+      accesses = (b.stores.driven.accesses ++ arming_of port queued own) ++ Writing (Px port Ci) own ∷ []
 
-      driven_only : All (IsIssuing port slot) accesses
+      driven_only : All (IsIssuingOn port) accesses
       driven_only =
-          let P : Access → Type 0 = IsIssuing port slot in
-          All-append P (b.stores.driven.accesses ++ arming_of port r.queued own) (Writing (Px port Ci) own ∷ [])
-          (All-append P b.stores.driven.accesses (arming_of port r.queued own)
-          (all_as (IsStoreFor r.op port.0 slot) P (λ access here. is_issuing access (store_for r.op port.0 slot access here)) b.stores.driven.accesses b.stores.driven.only) (arming_only r.queued))
-          (All-cons P (Writing (Px port Ci) own) [] (inr refl, b.alone) (All-nil P))
+          let P : Access → Type 0 = IsIssuingOn port in
+          All-append P (b.stores.driven.accesses ++ arming_of port queued own) (Writing (Px port Ci) own ∷ [])
+          (All-append P b.stores.driven.accesses (arming_of port queued own) (all_as (IsStoreForBatch port.0 tasks) P is_issuing b.stores.driven.accesses b.stores.driven.only) (arming_only queued))
+          (all_one P (Writing (Px port Ci) own) (inr refl))
 
       driven_all : DoesAll accesses old new
       driven_all =
-          does_then (b.stores.driven.accesses ++ arming_of port r.queued own) (Writing (Px port Ci) own ∷ []) old armed new
-          (does_then b.stores.driven.accesses (arming_of port r.queued own) old b.mid armed b.stores.driven.all (arming_does r.queued b.arms)) (new, call, refl)
+          does_then (b.stores.driven.accesses ++ arming_of port queued own) (Writing (Px port Ci) own ∷ []) old armed new
+          (does_then b.stores.driven.accesses (arming_of port queued own) old b.mid armed b.stores.driven.all (arming_does queued b.arms)) (new, call, refl)
 
-      writes_are : (queued : Bool) → arming_of port queued own ++ Writing (Px port Ci) own ∷ [] ≡ writes_of port queued own
+      writes_are : (kind : Bool) → arming_of port kind own ++ Writing (Px port Ci) own ∷ [] ≡ writes_of port kind own
       writes_are true = refl
       writes_are false = refl
 
-      in_order : StoresThenWrites port slot r accesses
+      in_order : StoresThenWritesAll port queued tasks accesses
       in_order = record {
         stores = b.stores.driven.accesses;
         only = b.stores.driven.only;
-        own = own;
-        alone = b.alone;
-        order = append_assoc b.stores.driven.accesses (arming_of port r.queued own) (Writing (Px port Ci) own ∷ [])
-            ∙ ap (λ (late : List Access). b.stores.driven.accesses ++ late) (writes_are r.queued);
+        mask = own;
+        bits = b.bits;
+        order = append_assoc b.stores.driven.accesses (arming_of port queued own) (Writing (Px port Ci) own ∷ [])
+            ∙ ap (λ (late : List Access). b.stores.driven.accesses ++ late) (writes_are queued);
       }
 
-      -- ---- from a machine on which the request is due
+      -- ---- from a machine on which the requests may be issued
 
-      module _ (mode : QueueMode) (e : Pending) (is : IsTaskOf port slot r frames mode e) where
-        kind : is_queued (meaning_of r).operation ≡ not (is_plain mode e.request.asked.op)
-        kind = b.kind ∙ (is.kind ∙ sym (ap (λ (o : Op). not (is_plain mode o)) is.operation))
+      module _ (mode : QueueMode) (es : List Pending) (zip : AllZip (ItsTask mode) tasks es) where
+        serves_as : (kind : Bool) (s : DriverSlots) → record (with_armed kind port tasks s) { uses = uses_served port.0 tasks es (with_armed kind port tasks s).uses } ≡ with_serving_batch port tasks es s
+        serves_as true s =
+            ap (λ (uses : SlotStates). record s { uses = uses }) (served_armed laws.put_here laws.put_others port.0 (ItsTask mode) tasks es s.uses zip) ∙ serving_batch_is port tasks es s
+        serves_as false s = serving_batch_is port tasks es s
 
-        head : is_plain mode e.request.asked.op ≡ true → slot ≡ 0
-        head plain = is.head (is.kind ∙ ap not (sym (ap (is_plain mode) is.operation) ∙ plain))
+        -- the write of PxCI
+        module _ (s : DriverSlots) (m : Machine) (reached : IsReachable m) (knows : DriverRelation m (driver_state s armed)) (may : AllMay m (issues_of mode es))
+            (readied : (t : SlotTask) → Contains tasks t → IsReadied s.uses armed port.0 t.slot (meaning_of t.task) (places_for port t)) (trims : (t : SlotTask) → Contains tasks t → t.task.op ≡ Trim → s.uses port.0 0 ≡ Free) where
+          abbrev k : DriverState
+          k = driver_state s armed
 
-        comes : (s : DriverSlots) (m : Machine) → IsReachable m → DriverRelation m (driver_state s old) → MayServe port slot mode e s m →
-            ActsReach accesses (driver_state s old) m (driver_state (with_serving port slot e.request.id s) new) (IssuesAtEnd port slot mode e s.uses)
+          abbrev between : DriverState
+          between = driver_state s call.mid
+
+          abbrev served : DriverState
+          served = known (uses_served port.0 tasks es s.uses) s.parked new
+
+          issue_ends : EndsInSteps k m (issues_of mode es) served
+          issue_ends =
+              let x : (steps : List Step) × AllByDevice steps × DriverAdvances k m steps between = laws.access k between m (laws.part k call.mid call.steps) reached knows in
+              let bits : ℕ → Bool = (call.mid.port port.0).ci in
+              let leaves : KeepsTables s.uses armed call.mid = laws.leaves_steps s.uses m armed call.mid reached knows.agrees on_armed.no_reset call.steps in
+              let y : DriverAdvances (known s.uses s.parked (bits_on ci_bits port call.mid bits)) (after m x.0) (issues_of mode es)
+              (known (uses_served port.0 tasks es s.uses) s.parked (bits_on ci_bits port call.mid (with_bits tasks bits))) =
+              all_issued mode tasks es s.uses s.parked bits call.mid (after m x.0) zip b.apart (laws.acts.reached k between m x.0 reached x.2)
+              (subst (λ (d : Device). DriverRelation (after m x.0) (known s.uses s.parked d)) (sym (bits_begin ci_bits port call.mid)) x.2.knows)
+              (laws.due m x.0 reached x.1 x.2.may (issues_of mode es) (only_issues mode es) may) kind
+              (λ t is. record {
+                used = (readied t is).used;
+                stored = laws.stands s.uses m port.0 t.slot (meaning_of t.task) (places_for port t) armed call.mid reached knows.agrees on_armed.no_reset call.steps (readied t is).stored;
+              })
+              (λ t is. block_stays s.uses armed call.mid b.there.0 leaves t.task.op t.task.range (trims t is) (block_then t is)) in
+              let z : DriverAdvances between (after m x.0) (issues_of mode es) served =
+              subst (λ (d : Device). DriverAdvances between (after m x.0) (issues_of mode es) (known (uses_served port.0 tasks es s.uses) s.parked d)) (sym (bits_written ci_bits port call.mid tasks own b.bits) ∙ sym call.effect)
+              (subst (λ (d : Device). DriverAdvances (known s.uses s.parked d) (after m x.0) (issues_of mode es) (known (uses_served port.0 tasks es s.uses) s.parked (bits_on ci_bits port call.mid (with_bits tasks bits))))
+              (bits_begin ci_bits port call.mid) y) in
+              let g : DriverAdvances k m (issues_of mode es ++ x.0) served = laws.compose k between served m x.0 (issues_of mode es) x.2 z in
+              record { steps = x.0; only = x.1; may = g.may; backed = g.backed; knows = g.knows }
+
+        comes : (s : DriverSlots) (m : Machine) → IsReachable m → DriverRelation m (driver_state s old) → MayServeBatch port tasks mode es s m →
+            ActsReach accesses (driver_state s old) m (driver_state (with_serving_batch port tasks es s) new) (IssuesBatchAtEnd port tasks mode es s.uses)
         comes s m reached knows fits = record {
           acts = x.reaches.acts ++ act ∷ [];
-          done = laws.more x.reaches.acts (act ∷ []) (driver_state s old) before later m x.reaches.done (last, refl);
-          accesses_are = laws.accesses x.reaches.acts (act ∷ []) ∙ ap (λ (early : List Access). early ++ Writing (Px port Ci) own ∷ []) x.reaches.accesses_are;
+          done = laws.acts.more x.reaches.acts (act ∷ []) (driver_state s old) before later m x.reaches.done (last, refl);
+          accesses_are = laws.acts.accesses x.reaches.acts (act ∷ []) ∙ ap (λ (early : List Access). early ++ Writing (Px port Ci) own ∷ []) x.reaches.accesses_are;
           tells = record {
             before = ends.steps ++ act_steps x.reaches.acts;
-            device = laws.device ends.steps (act_steps x.reaches.acts) ends.only x.reaches.device;
-            last = laws.steps x.reaches.acts (act ∷ []);
-            own = let P : Act → Type 0 = λ a. IsBeingIssued e.request.id (a.later.uses port.0 slot) in
+            once = (x.reaches.acts, act, refl, x.reaches.device);
+            device = laws.acts.device ends.steps (act_steps x.reaches.acts) ends.only x.reaches.device;
+            last = laws.acts.steps x.reaches.acts (act ∷ []) ∙ append_assoc (issues_of mode es) ends.steps (act_steps x.reaches.acts);
+            own = zip_as (λ t e. uses_served port.0 tasks es s.uses port.0 t.slot ≡ Serves e.request.id) (λ t e. All (λ a. IsBeingIssued e.request.id (a.later.uses port.0 t.slot)) (x.reaches.acts ++ act ∷ [])) tasks es
+                (λ t e is serves. let P : Act → Type 0 = λ a. IsBeingIssued e.request.id (a.later.uses port.0 t.slot) in
                 All-append P x.reaches.acts (act ∷ [])
-                (all_as (λ a. IsUnissued (a.later.uses port.0 slot)) P (λ a u. ⊎_elim (λ free. inl free) (λ is_armed. inr (inl is_armed)) u) x.reaches.acts x.reaches.own)
-                (All-cons P act [] (inr (inr (laws.put_here s.uses port.0 slot (Serves e.request.id)))) (All-nil P));
+                (all_as (λ a. IsUnissued (a.later.uses port.0 t.slot)) P (λ a u. ⊎_elim (λ free. inl free) (λ is_armed. inr (inl is_armed)) u) x.reaches.acts (x.reaches.own t is))
+                (all_one P act (inr (inr (ap (λ (z : DriverSlots). z.uses port.0 t.slot) (sym (serving_batch_is port tasks es s)) ∙ serves)))))
+                (served_here laws.put_here laws.put_others port.0 (ItsTask mode) tasks es s.uses b.apart zip);
             others = λ q k other. let P : Act → Type 0 = λ a. a.later.uses q k ≡ s.uses q k in
                 All-append P x.reaches.acts (act ∷ []) (x.reaches.others q k other)
-                (All-cons P act [] (laws.put_others s.uses port.0 slot (Serves e.request.id) q k other) (All-nil P));
+                (all_one P act (ap (λ (z : DriverSlots). z.uses q k) (sym (serving_batch_is port tasks es s)) ∙ served_others laws.put_here laws.put_others port.0 tasks es s.uses q k other));
           };
         }
           where
             before : DriverState
-            before = driver_state (with_armed r.queued port slot s) armed
+            before = driver_state (with_armed queued port tasks s) armed
 
             later : DriverState
-            later = driver_state (with_serving port slot e.request.id s) new
+            later = driver_state (with_serving_batch port tasks es s) new
 
             x : Stage s m
-            x = stage s m reached knows fits.0
+            x = stage s m reached knows fits.free
 
             m2 : Machine
             m2 = after m (act_steps x.reaches.acts)
 
-            prepared : IsPrepared (with_armed r.queued port slot s).uses m2 armed port.0 slot mode e own
-            prepared =
-                laws.prepared (with_armed r.queued port slot s).uses m2 armed port.0 slot (meaning_of r) (addresses_of port.0 r.op r.range.count frames) mode e own x.readied
-                (laws.due m (act_steps x.reaches.acts) reached x.reaches.device x.goes.may mode e fits.1) (ap (λ (p : Port). p.0) is.port_is) is.usable head (task_means port slot r frames mode e is) kind
-                (task_block port slot r frames mode e is armed.memory block_armed)
-                b.alone.here b.alone.alone
+            may2 : AllMay m2 (issues_of mode es)
+            may2 = laws.due m (act_steps x.reaches.acts) reached x.reaches.device x.goes.may (issues_of mode es) (only_issues mode es) fits.may
 
-            ends : EndsInStep before m2 (Issue mode e) later
-            ends = subst (λ (k : DriverState). EndsInStep before m2 (Issue mode e) k) (served r.queued port slot s e.request.id armed new)
-                (laws.issuing before m2 port slot mode e own new x.reached x.goes.knows on_armed.no_reset prepared call)
+            ends : EndsInSteps before m2 (issues_of mode es) later
+            ends = subst (λ (z : DriverSlots). EndsInSteps before m2 (issues_of mode es) (driver_state z new)) (serves_as queued s)
+                (issue_ends (with_armed queued port tasks s) m2 x.reached x.goes.knows may2 x.readied (trim_free s fits.free))
 
             act : Act
-            act = record { access = Some (Writing (Px port Ci) own); steps = Issue mode e ∷ ends.steps; later = later }
+            act = record { access = Some (Writing (Px port Ci) own); steps = issues_of mode es ++ ends.steps; later = later }
 
             last : IsActDone before m2 act
-            last = laws.ends before later m2 (Writing (Px port Ci) own) (Issue mode e) ends call
+            last = laws.ends before later m2 (Writing (Px port Ci) own) (issues_of mode es) ends (issues_decide port own (issues_of mode es) (issues_on port mode tasks es zip)) call
 
-      -- ---- what it comes to
+      -- ---- what it leaves
 
-      or_true : (x : Bool) → x || true ≡ true
-      or_true true = refl
-      or_true false = refl
+      abbrev uses0 : SlotStates
+      uses0 = (with_armed queued port tasks s0).uses
 
-      set : (new.port port.0).ci slot ≡ true
-      set =
-          ap (λ (d : Device). (d.port port.0).ci slot) call.effect
-          ∙ (ap (λ (p : DevicePort). p.ci slot) (changed_here call.mid.port port.0 _)
-          ∙ (ap (λ (x : Bool). (call.mid.port port.0).ci slot || x) b.alone.here ∙ or_true ((call.mid.port port.0).ci slot)))
+      abbrev m0 : Machine
+      m0 = after b.agreed.2.machine (act_steps known_stage.reaches.acts)
 
-      stored_then : IsStored new port.0 slot (meaning_of r) (addresses_of port.0 r.op r.range.count frames)
-      stored_then =
-          let x = known_stage in
-          laws.stays (with_armed r.queued port slot s0).uses (after b.agreed.2.machine (act_steps x.reaches.acts)) port slot (meaning_of r) (addresses_of port.0 r.op r.range.count frames)
-          (Writing (Px port Ci) own) armed new x.reached x.goes.knows.agrees on_armed.no_reset (λ v e. absurd cc) (λ e. absurd cc) (λ driver_state bytes e. absurd cc) call x.readied.stored
+      set : (t : SlotTask) → Contains tasks t → (new.port port.0).ci t.slot ≡ true
+      set t is = ap (λ (d : Device). (d.port port.0).ci t.slot) call.effect
+          ∙ (ap (λ (p : DevicePort). p.ci t.slot) (changed_here call.mid.port port.0 _)
+          ∙ or_right ((call.mid.port port.0).ci t.slot) (bit own t.slot) (All-contains (λ x. bit own x.slot ≡ true) tasks t b.bits.here is))
 
-      -- a trim's block stands still: no command of the driver's own is in slot 0
-      block_by : (op : Op) → r.op ≡ op → HasBlockOf op r.range port.0 armed.memory → HasBlockOf op r.range port.0 new.memory
-      block_by Read is block = tt
-      block_by Write is block = tt
-      block_by Flush is block = tt
-      block_by Trim is block = laws.block uses armed new leaves port.0 its b.there.0 not_own block
-        where
-          uses : SlotStates
-          uses = (with_armed r.queued port slot s0).uses
+      stored_then : (t : SlotTask) → Contains tasks t → IsStored new port.0 t.slot (meaning_of t.task) (places_for port t)
+      stored_then t is =
+          laws.stays uses0 m0 port t.slot (meaning_of t.task) (places_for port t) (Writing (Px port Ci) own) armed new known_stage.reached known_stage.goes.knows.agrees on_armed.no_reset
+          (λ v e. absurd cc) (λ e. absurd cc) (λ at bytes e. absurd cc) call (known_stage.readied t is).stored
 
-          leaves : KeepsTables uses armed new
-          leaves =
-              laws.leaves uses (after b.agreed.2.machine (act_steps known_stage.reaches.acts)) armed new known_stage.reached known_stage.goes.knows.agrees on_armed.no_reset (Px port Ci) own call
+      block_new : (t : SlotTask) → Contains tasks t → HasBlockOf t.task.op t.task.range port.0 new.memory
+      block_new t is =
+          block_stays uses0 armed new b.there.0 (laws.leaves uses0 m0 armed new known_stage.reached known_stage.goes.knows.agrees on_armed.no_reset (Px port Ci) own call) t.task.op t.task.range
+          (trim_free s0 b.agreed.1 t is) (block_then t is)
 
-          its : Accepted
-          its = record {
-            id = record { 0 = 0 };
-            port = port;
-            asked = record { client = record { 0 = 0 }; grant = 0; op = Trim; first = r.range.first; count = r.range.count; frames = record { items = [] } };
-            held = λ k place. 0;
-          }
-
-          plain : r.queued ≡ false
-          plain = sym b.kind ∙ ap (λ (o : Op). is_queued (task_operation r.queued o)) is
-
-          free : uses port.0 0 ≡ Free
-          free = ap (λ (q : Bool). (with_armed q port slot s0).uses port.0 0) plain ∙ (ap (s0.uses port.0) (sym (b.head is)) ∙ b.agreed.1)
-
-          not_own : (o : Operation) → uses port.0 0 ≡ Own o → ⊥
-          not_own o own_is = let z : Free ≡ Own o = sym free ∙ own_is in cc
-
-      -- the armed slot's bit of PxSACT goes as ST does
-      active : r.queued ≡ true → (new.port port.0).sact slot ≡ true
-      active queued =
-          let x = known_stage in
-          let uses : SlotStates = (with_armed r.queued port slot s0).uses in
-          let m2 : Machine = after b.agreed.2.machine (act_steps x.reaches.acts) in
-          let f : SimulatesSteps uses m2 armed call.mid = laws.follows uses m2 armed call.mid x.reached x.goes.knows.agrees call.steps in
-          let used : uses port.0 slot ≡ Armed = x.readied.used ∙ cond-true (is_queued (meaning_of r).operation) Armed Free (b.kind ∙ queued) in
-          let h : IsArmed (call.mid.port port.0) slot = subst (λ (u : SlotState). RelatesSlot (after m2 f.steps) call.mid.memory call.mid.tape (call.mid.port port.0) port.0 slot u) used (f.agrees.slot port.0 slot) in
-          ap (λ (d : Device). (d.port port.0).sact slot) call.effect
-          ∙ (ap (λ (p : DevicePort). p.sact slot) (changed_here call.mid.port port.0 _)
+      -- an armed slot's bit of PxSACT goes as ST does
+      active : (t : SlotTask) → Contains tasks t → t.task.queued ≡ true → (new.port port.0).sact t.slot ≡ true
+      active t is its_queued =
+          let f : SimulatesSteps uses0 m0 armed call.mid = laws.follows uses0 m0 armed call.mid known_stage.reached known_stage.goes.knows.agrees call.steps in
+          let used : uses0 port.0 t.slot ≡ Armed = (known_stage.readied t is).used ∙ cond-true (is_queued (meaning_of t.task).operation) Armed Free (kind t is ∙ its_queued) in
+          let h : IsArmed (call.mid.port port.0) t.slot = subst (λ (u : SlotState). RelatesSlot (after m0 f.steps) call.mid.memory call.mid.tape (call.mid.port port.0) port.0 t.slot u) used (f.agrees.slot port.0 t.slot) in
+          ap (λ (d : Device). (d.port port.0).sact t.slot) call.effect
+          ∙ (ap (λ (p : DevicePort). p.sact t.slot) (changed_here call.mid.port port.0 _)
           ∙ (h.armed
-          ∙ (sym (ap (λ (d : Device). (d.port port.0).st) call.effect ∙ ap (λ (p : DevicePort). p.st) (changed_here call.mid.port port.0 _)) ∙ stored_then.started)))
+          ∙ (sym (ap (λ (d : Device). (d.port port.0).st) call.effect ∙ ap (λ (p : DevicePort). p.st) (changed_here call.mid.port port.0 _)) ∙ (stored_then t is).started)))
 
-      issued : IsIssued port slot r frames old new
+      issued : IsBatchIssued port tasks old new
       issued = record {
         on = laws.on (Writing (Px port Ci) own) armed new on_armed (λ v e. absurd cc) call;
         issues = record {
+          queued = queued;
+          kinds = b.kinds;
+          small = b.small;
+          apart = b.apart;
           driven = record { accesses = accesses; all = driven_all; only = driven_only };
           order = in_order;
-          comes = λ mode e is. comes mode e is;
+          comes = λ mode es zip. comes mode es zip;
         };
-        stored = stored_then;
-        block = block_by r.op refl block_armed;
-        set = set;
-        active = active;
+        stored = all_in (λ t. IsStored new port.0 t.slot (meaning_of t.task) (places_for port t)) tasks stored_then;
+        block = all_in (λ t. HasBlockOf t.task.op t.task.range port.0 new.memory) tasks block_new;
+        set = all_in (λ t. (new.port port.0).ci t.slot ≡ true) tasks set;
+        active = all_in (λ t. t.task.queued ≡ true → (new.port port.0).sact t.slot ≡ true) tasks active;
       }
 
-    pub leads : IsStable (MayWrite (Px port Ci) own) armed × ((new : Device) → Writes (Px port Ci) own armed new → IsIssued port slot r frames old new)
+    pub leads : IsStable (MayWrite (Px port Ci) own) armed × ((new : Device) → Writes (Px port Ci) own armed new → IsBatchIssued port tasks old new)
     leads = (permitted, issued)

@@ -1,7 +1,11 @@
+pub mod Batch
+pub mod Stores
 pub mod ProbeResult
 pub mod Issued
+pub mod Growing
 pub mod Performed
 pub mod Telling
 pub mod Witness
+pub mod StoredReads
 pub mod Armed
 pub mod Cut

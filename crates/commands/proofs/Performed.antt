@@ -1,9 +1,8 @@
--- What issuing a transfer, and finding it done, are to callers.
+-- What issuing commands, and finding them done, are to callers.
 use Rattle.std.proofs.Common.{ℕ, ◌≡◌, ◌⊎◌, List, None, inl, inr, refl, sym, ◌∙◌, ap, subst, ⊎_elim}
 use Rattle.std.proofs.lemmas.Bool.{cases_eq}
-use Rattle.std.specs.List.{All}
+use Rattle.std.specs.List.{All, AllZip}
 use Rattle.ata_types.specs.declared.Port.{Port}
-use Rattle.ata_types.specs.declared.request.Frame.{Frame}
 use Rattle.ata_types.specs.declared.request.RequestId.{RequestId}
 use Rattle.hba_regs.specs.declared.reg.Reg.{Reg}
 use Rattle.hba_regs.specs.declared.reg.Reg.TheVariants.{Px}
@@ -16,16 +15,16 @@ use Rattle.block_machine.specs.Events.{AllMay}
 use Rattle.block_machine.specs.Histories.{IsReachable}
 use Rattle.block_machine.specs.Left.{after}
 use Rattle.block_machine.specs.State.{Machine, Pending}
-use Rattle.block_machine.specs.Steps.{Step, Issue}
+use Rattle.block_machine.specs.Steps.{Step}
 use Rattle.block_machine.specs.declared.due.QueueMode.{QueueMode}
-use Rattle.refinement.specs.Acts.{Act, AreActsDone, ActsReach, DriverSlots, Performs, driver_state, act_steps}
-use Rattle.refinement.specs.Driven.{AnyUse, IsRelated, IsSimulated, SparesOtherPorts, GainsNoMove}
-use Rattle.refinement.specs.Driver.{EndsInStep, DriverAdvances, IsBacked, DriverState, DriverRelation}
+use Rattle.refinement.specs.Acts.{Act, AreActsDone, ActsReach, DriverSlots, driver_state, act_steps}
+use Rattle.refinement.specs.Driven.{AnyUse, IsSimulated, SparesOtherPorts, GainsNoMove}
+use Rattle.refinement.specs.Driver.{EndsInSteps, DriverAdvances, IsBacked, DriverState, DriverRelation}
 use Rattle.refinement.specs.Slots.{Own, SlotState, op_of}
 use Rattle.commands.specs.Masks.{ReadsDone, ReadsCiOrSact}
-use Rattle.commands.specs.Tasks.{IsIssuing, IsBeingIssued, IssuesAtEnd, IssuesTask, IsTaskOf, MayServe, with_serving}
-use Rattle.commands.specs.declared.ncq.Task.{Task}
-use Rattle.commands.proofs.Issued.{all_as}
+use Rattle.commands.specs.Batches.{IsIssuingOn, IsSlotOf, IssuesBatch, IssuesBatchAtEnd, MayServeBatch, SlotTask, issues_of, with_serving_batch}
+use Rattle.commands.specs.Tasks.{IsBeingIssued, IsTaskOf}
+use Rattle.commands.proofs.Batch.{all_as, slot_cases, zip_at}
 
 -- ---- of one port
 
@@ -35,11 +34,11 @@ reading_own port r place v e = subst (λ (w : Reg). SparesOtherPorts port (Readi
 writing_own : (port : Port) (r : PortReg) (place : Reg) (v : ℕ) → place ≡ Px port r → SparesOtherPorts port (Writing place v)
 writing_own port r place v e = subst (λ (w : Reg). SparesOtherPorts port (Writing w v)) (sym e) refl
 
-pub issuing_of : (port : Port) (slot : ℕ) (access : Access) → IsIssuing port slot access → SparesOtherPorts port access
-issuing_of port slot (Writing r v) here = ⊎_elim (λ e. writing_own port _ r v e) (λ e. writing_own port _ r v e) here.0
-issuing_of port slot (Storing place bytes) here = tt
-issuing_of port slot (Reading r v) here = absurd here
-issuing_of port slot (Loading place bytes) here = absurd here
+pub issuing_of : (port : Port) (access : Access) → IsIssuingOn port access → SparesOtherPorts port access
+issuing_of port (Writing r v) here = ⊎_elim (λ e. writing_own port _ r v e) (λ e. writing_own port _ r v e) here
+issuing_of port (Storing place bytes) here = tt
+issuing_of port (Reading r v) here = absurd here
+issuing_of port (Loading place bytes) here = absurd here
 
 pub finding_of : (port : Port) (access : Access) → ReadsCiOrSact port access → SparesOtherPorts port access
 finding_of port (Reading r v) here = ⊎_elim (λ e. reading_own port _ r v e) (λ e. reading_own port _ r v e) here
@@ -52,14 +51,8 @@ finding_of port (Loading place bytes) here = absurd here
 -- what laws of acts say
 pub record Laws : Type 0 where
   pub goes : (acts : List Act) (k later : DriverState) (m : Machine) → DriverRelation m k → AreActsDone acts k m later → DriverAdvances k m (act_steps acts) later
-  pub reached : (k later : DriverState) (m : Machine) (steps : List Step) → IsReachable m → DriverAdvances k m steps later → IsReachable (after m steps)
   pub silent : (acts : List Act) (k later : DriverState) (m : Machine) (port : ℕ) (o : Operation) → op_of o ≡ None → IsReachable m → DriverRelation m k → (k.uses port 0 ≡ Own o → ⊥)
       → All (λ act. act.later.uses port 0 ≡ Own o → ⊥) acts → AreActsDone acts k m later → GainsNoMove port o k.device later.device
-
-pub performs : (port : Port) (slot : ℕ) (r : Task) (frames : List Frame) (mode : QueueMode) (e : Pending) (old new : Device) → (i : IssuesTask port slot r frames old new)
-    → IsTaskOf port slot r frames mode e
-    → Performs i.driven.accesses (MayServe port slot mode e) (with_serving port slot e.request.id) (λ s m. IssuesAtEnd port slot mode e s.uses) old new
-performs port slot r frames mode e old new i is = record { does = i.driven.all; comes = i.comes mode e is }
 
 -- a slot on its way has no command of the driver's own
 not_own : (id : RequestId) (o : Operation) (u : SlotState) → IsBeingIssued id u → u ≡ Own o → ⊥
@@ -67,19 +60,19 @@ not_own id o u (inl e) own = absurd cc
 not_own id o u (inr (inl e)) own = absurd cc
 not_own id o u (inr (inr e)) own = absurd cc
 
-module _ (laws : Laws) (port : Port) (slot : ℕ) (r : Task) (frames : List Frame) (mode : QueueMode) (e : Pending) (old new : Device) (s : DriverSlots) (m : Machine)
-    (i : IssuesTask port slot r frames old new) (is : IsTaskOf port slot r frames mode e) (reached : IsReachable m) (knows : DriverRelation m (driver_state s old)) (fits : MayServe port slot mode e s m) where
+module _ (laws : Laws) (port : Port) (tasks : List SlotTask) (mode : QueueMode) (es : List Pending) (old new : Device) (s : DriverSlots) (m : Machine) (i : IssuesBatch port tasks old new)
+    (is : AllZip (λ t e. IsTaskOf port t.slot t.task t.frames mode e) tasks es) (reached : IsReachable m) (knows : DriverRelation m (driver_state s old)) (fits : MayServeBatch port tasks mode es s m) where
   later : DriverState
-  later = driver_state (with_serving port slot e.request.id s) new
+  later = driver_state (with_serving_batch port tasks es s) new
 
-  x : ActsReach i.driven.accesses (driver_state s old) m later (IssuesAtEnd port slot mode e s.uses)
+  x : ActsReach i.driven.accesses (driver_state s old) m later (IssuesBatchAtEnd port tasks mode es s.uses)
   unfolding later
-  x = i.comes mode e is s m reached knows fits
+  x = i.comes mode es is s m reached knows fits
 
   g : DriverAdvances (driver_state s old) m (act_steps x.acts) later
   g = laws.goes x.acts (driver_state s old) later m knows x.done
 
-  pub ends : EndsInStep (driver_state s old) m (Issue mode e) (driver_state (with_serving port slot e.request.id s) new)
+  pub ends : EndsInSteps (driver_state s old) m (issues_of mode es) (driver_state (with_serving_batch port tasks es s) new)
   unfolding later
   ends = record {
     steps = x.tells.before;
@@ -89,24 +82,21 @@ module _ (laws : Laws) (port : Port) (slot : ℕ) (r : Task) (frames : List Fram
     knows = subst (λ (steps : List Step). DriverRelation (after m steps) later) x.tells.last g.knows;
   }
 
-  pub agrees : IsRelated (with_serving port slot e.request.id s).uses new
-  unfolding later
-  agrees = record { machine = after m (act_steps x.acts); parked = s.parked; reached = laws.reached (driver_state s old) later m (act_steps x.acts) reached g; knows = g.knows }
-
   pub silent : (q : ℕ) (o : Operation) → op_of o ≡ None → (s.uses q 0 ≡ Own o → ⊥) → GainsNoMove q o old new
   unfolding later
-  silent q o own not = laws.silent x.acts (driver_state s old) later m q o own reached knows not (never (cases_eq q port.0) (cases_eq 0 slot)) x.done
+  silent q o own not = laws.silent x.acts (driver_state s old) later m q o own reached knows not (never (cases_eq q port.0) (slot_cases tasks 0)) x.done
     where
       P : Act → Type 0
       P act = act.later.uses q 0 ≡ Own o → ⊥
 
-      beside : (q ≡ port.0 → 0 ≡ slot → ⊥) → All P x.acts
+      beside : (q ≡ port.0 → IsSlotOf tasks 0 → ⊥) → All P x.acts
       beside other = all_as (λ act. act.later.uses q 0 ≡ s.uses q 0) P (λ act same is_own. not (sym same ∙ is_own)) x.acts (x.tells.others q 0 other)
 
-      never : (q ≡ port.0) ⊎ (q ≡ port.0 → ⊥) → (0 ≡ slot) ⊎ (0 ≡ slot → ⊥) → All P x.acts
-      never (inl at_port) (inl at_slot) =
-          all_as (λ act. IsBeingIssued e.request.id (act.later.uses port.0 slot)) P
-          (λ act way is_own. not_own e.request.id o (act.later.uses port.0 slot) way (sym (ap (λ (n : ℕ). act.later.uses n slot) at_port) ∙ (sym (ap (act.later.uses q) at_slot) ∙ is_own))) x.acts x.tells.own
+      never : (q ≡ port.0) ⊎ (q ≡ port.0 → ⊥) → IsSlotOf tasks 0 ⊎ (IsSlotOf tasks 0 → ⊥) → All P x.acts
+      never (inl at_port) (inl t) =
+          let z = zip_at (λ t e. All (λ act. IsBeingIssued e.request.id (act.later.uses port.0 t.slot)) x.acts) tasks es x.tells.own t.0 t.1 in
+          all_as (λ act. IsBeingIssued z.0.request.id (act.later.uses port.0 t.0.slot)) P
+          (λ act way is_own. not_own z.0.request.id o (act.later.uses port.0 t.0.slot) way (ap (act.later.uses port.0) t.2 ∙ (sym (ap (λ (n : ℕ). act.later.uses n 0) at_port) ∙ is_own))) x.acts z.1
       never (inr other) slots = beside (λ a b. other a)
       never (inl at_port) (inr other) = beside (λ a b. other b)
 

@@ -25,7 +25,7 @@ use Rattle.refinement.specs.Facts.{EndedIn, IsSlotClear}
 use Rattle.refinement.specs.Links.{LeavesControls}
 use Rattle.refinement.specs.Slots.{Serves, SlotStates}
 use Rattle.commands.specs.Masks.{IsDoneMask, ReadsDone, FindsEnds, ReadsCiOrSact, SeesClear}
-use Rattle.commands.proofs.Issued.{changed_here}
+use Rattle.commands.proofs.Batch.{changed_here}
 
 -- what laws of the crates below say
 pub record Laws : Type 0 where

@@ -2,13 +2,13 @@
 use Rattle.std.specs.Prelude.{ℕ, ◌+◌}
 use Rattle.command_table.specs.Costs.{TABLE_ACCESSES}
 
--- table and header are stored, and PxSACT is written
-abbrev pub ARM_ACCESSES : ℕ
-ARM_ACCESSES = TABLE_ACCESSES + 1
+-- PxSACT is written, and then PxCI
+abbrev pub BATCH_ACCESSES : ℕ
+BATCH_ACCESSES = 2
 
--- and then PxCI
+-- table and header are stored, and these are written
 abbrev pub ISSUE_ACCESSES : ℕ
-ISSUE_ACCESSES = ARM_ACCESSES + 1
+ISSUE_ACCESSES = TABLE_ACCESSES + BATCH_ACCESSES
 
 -- PxCI is read, and PxSACT
 abbrev pub DONE_ACCESSES : ℕ

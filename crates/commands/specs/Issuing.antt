@@ -1,6 +1,6 @@
 -- When a task's command may be issued in a slot, what was done before PxCI is written, and what that makes of it
 -- (AHCI 1.3.1, 5.5.1; the order is this project's own).
-use Rattle.std.specs.Prelude.{ℕ, true, ◌≡◌, ◌<◌, ◌≤◌, ◌/◌, ◌%◌, List}
+use Rattle.std.specs.Prelude.{ℕ, Bool, ◌≡◌, ◌<◌, ◌≤◌, ◌/◌, ◌%◌, List, All}
 use Rattle.ata_types.specs.declared.Port.{Port}
 use Rattle.ata_types.specs.declared.memory.TheConstants.{DRIVER_BYTES}
 use Rattle.ata_types.specs.declared.request.Frame.{Frame}
@@ -8,12 +8,10 @@ use Rattle.ata_types.specs.declared.request.Op.TheVariants.{Trim}
 use Rattle.adapter.specs.Commands.{is_queued}
 use Rattle.adapter.specs.Device.{Device}
 use Rattle.adapter.specs.Rules.{IsOn, HasPort}
-use Rattle.refinement.specs.Driven.{RelatesWith, IsSoleBit, IsSimulated}
-use Rattle.refinement.specs.Places.{list_of}
-use Rattle.refinement.specs.Readying.{IsStored}
-use Rattle.refinement.specs.Slots.{SlotDecodesTo}
+use Rattle.refinement.specs.Driven.{RelatesWith, IsSimulated}
 use Rattle.command_table.specs.Written.{IsUnused}
-use Rattle.commands.specs.Tasks.{Arms, HasBlockOf, IsFitTransfer, IsStoreFor, IssuesTask, RunsItsList, addresses_of, meaning_of}
+use Rattle.commands.specs.Batches.{AreUnused, HasBitsOf, HaveOwnSlots, IsBatchIssued, IsStoreForBatch, SaysTask, SlotTask, only_task}
+use Rattle.commands.specs.Tasks.{Arms, IsFitTransfer, RunsItsList, meaning_of}
 use Rattle.commands.specs.declared.ncq.Task.{Task}
 
 -- A command may be issued in the port's slot: the slot is unused, memory has the driver's areas, and the port runs,
@@ -33,33 +31,26 @@ pub record MayIssueTransfer (port : Port) (slot : ℕ) (r : Task) (frames : List
   pub usable : slot ≤ d.cap / 256 % 32
   pub fits : IsFitTransfer r frames
 
--- A task's command might be issued in the slot, queued if the task is, and a trim's in slot 0; what it needs was
--- stored: header and table, which say it, and a trim's block, which names its sectors; and the slot's bit of PxSACT was
--- set for a queued command.
-pub record IsArmedFor (port : Port) (slot : ℕ) (r : Task) (frames : List Frame) (own : ℕ)
-    (old armed : Device) : Type 0 where
-  pub on : IsOn old
-  pub there : HasPort old port.0
-  pub small : slot < 32
-  pub usable : slot ≤ old.cap / 256 % 32
-  pub agreed : RelatesWith (IsUnused port.0 slot) old
-  pub may : RunsItsList port.0 old
-  pub kind : is_queued (meaning_of r).operation ≡ r.queued
-  pub head : r.op ≡ Trim → slot ≡ 0
-  pub mid : Device
-  pub mid_on : IsOn mid
-  pub stores : IsSimulated (IsStoreFor r.op port.0 slot) (IsUnused port.0 slot) old mid
-  pub told : SlotDecodesTo mid.memory (list_of port.0) port.0 slot (meaning_of r)
-      (addresses_of port.0 r.op r.range.count frames)
-  pub block : HasBlockOf r.op r.range port.0 mid.memory
-  pub alone : IsSoleBit slot own
-  pub arms : Arms r.queued port own mid armed
+-- The commands of these tasks might be issued in their slots, all queued or none, and a trim's in slot 0. What they
+-- need was stored, and says them; and the slots' bits of PxSACT were set for queued commands.
+pub record IsArmedFor (port : Port) (queued : Bool) (tasks : List SlotTask) (own : ℕ) (old armed : Device) : Type 0
+  where
+    pub on : IsOn old
+    pub there : HasPort old port.0
+    pub may : RunsItsList port.0 old
+    pub agreed : RelatesWith (AreUnused port.0 tasks) old
+    pub apart : HaveOwnSlots tasks
+    pub small : All (λ t. t.slot < 32) tasks
+    pub usable : All (λ t. t.slot ≤ old.cap / 256 % 32) tasks
+    pub kinds : All (λ t. t.task.queued ≡ queued) tasks
+    pub kind : All (λ t. is_queued (meaning_of t.task).operation ≡ t.task.queued) tasks
+    pub head : All (λ t. t.task.op ≡ Trim → t.slot ≡ 0) tasks
+    pub mid : Device
+    pub stores : IsSimulated (IsStoreForBatch port.0 tasks) (AreUnused port.0 tasks) old mid
+    pub say : All (λ t. SaysTask port.0 t mid.memory) tasks
+    pub bits : HasBitsOf tasks own
+    pub arms : Arms queued port own mid armed
 
--- What the write of PxCI makes of it.
-pub record IsIssued (port : Port) (slot : ℕ) (r : Task) (frames : List Frame) (old new : Device) : Type 0 where
-  pub on : IsOn new
-  pub issues : IssuesTask port slot r frames old new
-  pub stored : IsStored new port.0 slot (meaning_of r) (addresses_of port.0 r.op r.range.count frames)
-  pub block : HasBlockOf r.op r.range port.0 new.memory
-  pub set : (new.port port.0).ci slot ≡ true
-  pub active : r.queued ≡ true → (new.port port.0).sact slot ≡ true
+-- What the write of PxCI makes of one task.
+abbrev pub IsIssued : Port → ℕ → Task → List Frame → Device → Device → Type 0
+IsIssued port slot r frames old new = IsBatchIssued port (only_task slot r frames) old new

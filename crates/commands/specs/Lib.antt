@@ -1,4 +1,5 @@
 pub mod Issuing
+pub mod Batches
 pub mod Masks
 pub mod Tasks
 pub mod Witness

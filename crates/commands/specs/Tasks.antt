@@ -1,6 +1,6 @@
 -- What the command of a slot is to do for a request, and how it is issued (AHCI 1.3.1, 3.3.13, 3.3.14 and 5.5; ACS-3:
 -- READ DMA EXT, WRITE DMA EXT, READ FPDMA QUEUED, WRITE FPDMA QUEUED, DATA SET MANAGEMENT with TRIM, FLUSH CACHE EXT).
-use Rattle.std.specs.Prelude.{ℕ, Bool, true, false, not, ◌≡◌, ◌⊎◌, ◌<◌, ◌≤◌, ◌+◌, ◌/◌, ◌^◌, ◌++◌, List, [], ◌∷◌, length, All}
+use Rattle.std.specs.Prelude.{ℕ, Bool, true, false, not, ◌≡◌, ◌⊎◌, ◌<◌, ◌≤◌, ◌+◌, ◌/◌, ◌^◌, List, [], ◌∷◌, length}
 use Rattle.ata_types.specs.declared.Port.{Port}
 use Rattle.ata_types.specs.declared.range.Range.{Range}
 use Rattle.ata_types.specs.declared.request.Frame.{Frame}
@@ -11,7 +11,7 @@ use Rattle.ata_types.specs.declared.limits.TheConstants.{MOST_REQUEST_SECTORS}
 use Rattle.hba_regs.specs.declared.reg.Reg.TheVariants.{Px}
 use Rattle.hba_regs.specs.declared.reg.PortReg.TheVariants.{Ci, Sact}
 use Rattle.adapter.specs.Access.{Access, Writes}
-use Rattle.adapter.specs.Access.Access.{Writing, Storing}
+use Rattle.adapter.specs.Access.Access.{Writing}
 use Rattle.adapter.specs.Commands.{Meaning}
 use Rattle.adapter.specs.Device.{Device}
 use Rattle.adapter.specs.Memory.{bytes_at}
@@ -19,14 +19,11 @@ use Rattle.adapter.specs.Trim.{consecutive, trim_sectors}
 use Rattle.adapter.specs.declared.command.Operation.{Operation}
 use Rattle.adapter.specs.declared.command.Operation.TheVariants as operation
 use Rattle.block_machine.specs.Due.{is_plain}
-use Rattle.block_machine.specs.Events.{AllByDevice}
-use Rattle.block_machine.specs.State.{Pending, Machine}
-use Rattle.block_machine.specs.Steps.{Step, Issue, May}
+use Rattle.block_machine.specs.State.{Pending}
 use Rattle.block_machine.specs.declared.due.QueueMode.{QueueMode}
-use Rattle.refinement.specs.Acts.{Act, DriverSlots, ActsReachWith, act_steps}
-use Rattle.refinement.specs.Driven.{IsSoleBit, IsDrivenBy}
+use Rattle.refinement.specs.Acts.{DriverSlots}
 use Rattle.refinement.specs.Places.{list_of, scratch_of}
-use Rattle.refinement.specs.Slots.{SlotState, Free, Armed, Serves, SlotStates, put}
+use Rattle.refinement.specs.Slots.{SlotState, Free, Armed, Serves, put}
 use Rattle.command_table.specs.Written.{IsStoreWithBlock, IsTableStore}
 use Rattle.command_table.specs.Places.{places_of}
 use Rattle.commands.specs.declared.ncq.Task.{Task}
@@ -110,12 +107,6 @@ abbrev pub IsStoreFor : Op → ℕ → ℕ → Access → Type 0
 IsStoreFor Trim port slot access = IsStoreWithBlock port slot access
 IsStoreFor _ port slot access = IsTableStore port slot access
 
--- It stores the slot's header or table, or a block, or writes PxSACT or PxCI with the slot's bit alone.
-abbrev pub IsIssuing : Port → ℕ → Access → Type 0
-IsIssuing port slot (Writing r v) = ((r ≡ Px port Sact) ⊎ (r ≡ Px port Ci)) × IsSoleBit slot v
-IsIssuing port slot (Storing at bytes) = IsStoreWithBlock port.0 slot (Storing at bytes)
-IsIssuing port slot access = ⊥
-
 -- What stands behind the stores: for a queued command PxSACT is written before PxCI (AHCI 1.3.1, 5.5.1).
 abbrev pub writes_of : Port → Bool → ℕ → List Access
 writes_of port true v = Writing (Px port Sact) v ∷ Writing (Px port Ci) v ∷ []
@@ -126,18 +117,6 @@ abbrev pub Arms : Bool → Port → ℕ → Device → Device → Type 0
 Arms true port v old new = Writes (Px port Sact) v old new
 Arms false port v old new = new ≡ old
 
--- Stores of what the slot's command needs come first, and then the writes of the slot's bit.
-pub record StoresThenWrites (port : Port) (slot : ℕ) (r : Task) (accesses : List Access) : Type 0 where
-  pub stores : List Access
-  pub only : All (IsStoreFor r.op port.0 slot) stores
-  pub own : ℕ
-  pub alone : IsSoleBit slot own
-  pub order : accesses ≡ stores ++ writes_of port r.queued own
-
--- the slot is free, and the request is due
-abbrev pub MayServe : Port → ℕ → QueueMode → Pending → DriverSlots → Machine → Type 0
-MayServe port slot mode e s m = (s.uses port.0 slot ≡ Free) × May m (Issue mode e)
-
 -- the slot serves the request
 abbrev pub with_serving : Port → ℕ → RequestId → DriverSlots → DriverSlots
 with_serving port slot id s = record s { uses = put s.uses port.0 slot (Serves id) }
@@ -145,22 +124,3 @@ with_serving port slot id s = record s { uses = put s.uses port.0 slot (Serves i
 -- on its way from being free to serving this request
 abbrev pub IsBeingIssued : RequestId → SlotState → Type 0
 IsBeingIssued id u = (u ≡ Free) ⊎ ((u ≡ Armed) ⊎ (u ≡ Serves id))
-
--- The device makes steps, and last of all the request is issued. The slot is put to no other use meanwhile, and each
--- other one is used after each act as before the first.
-pub record IssuesAtEnd (port : Port) (slot : ℕ) (mode : QueueMode) (e : Pending) (uses : SlotStates)
-    (acts : List Act) : Type 0 where
-  pub before : List Step
-  pub device : AllByDevice before
-  pub last : act_steps acts ≡ Issue mode e ∷ before
-  pub own : All (λ act. IsBeingIssued e.request.id (act.later.uses port.0 slot)) acts
-  pub others : (q k : ℕ) → (q ≡ port.0 → k ≡ slot → ⊥) → All (λ act. act.later.uses q k ≡ uses q k) acts
-
--- Such accesses led there, in this order. And from each machine that agrees with the slot free, and on which a request
--- that is this task is due, acts with these accesses lead to one that agrees with a driver whose slot serves it.
-pub record IssuesTask (port : Port) (slot : ℕ) (r : Task) (frames : List Frame) (old new : Device) : Type 0 where
-  pub driven : IsDrivenBy (IsIssuing port slot) old new
-  pub order : StoresThenWrites port slot r driven.accesses
-  pub comes : (mode : QueueMode) (e : Pending) → IsTaskOf port slot r frames mode e
-      → ActsReachWith driven.accesses (MayServe port slot mode e) (with_serving port slot e.request.id)
-      (λ s m. IssuesAtEnd port slot mode e s.uses) old new

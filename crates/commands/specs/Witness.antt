@@ -1,5 +1,6 @@
--- An adapter on which a transfer may be issued (this project's own).
-use Rattle.std.specs.Prelude.{false, ◌≡◌, ◌≤◌, List}
+-- Adapters on which a transfer, and a batch of two, may be issued (this project's own).
+use Rattle.std.specs.Prelude.{ℕ, false, ◌≡◌, ◌≤◌, List, length}
+use Rattle.std.specs.List.{AllZip}
 use Rattle.ata_types.specs.declared.memory.TheConstants.{DRIVER_BYTES}
 use Rattle.ata_types.specs.declared.request.Frame.{Frame}
 use Rattle.adapter.specs.Rules.{IsOn, HasPort}
@@ -9,7 +10,9 @@ use Rattle.block_machine.specs.declared.due.QueueMode.{QueueMode}
 use Rattle.refinement.specs.Relation.{port_at}
 use Rattle.refinement.specs.Driven.{IsRelated}
 use Rattle.refinement.specs.Slots.{Free}
-use Rattle.refinement.specs.Witness.{prepared_read}
+use Rattle.refinement.specs.Served.{two_memory}
+use Rattle.refinement.specs.Witness.{prepared_read, ready_with}
+use Rattle.commands.specs.Batches.{HasBitsOf, IsBatchStored, MayServeBatch, SlotTask}
 use Rattle.commands.specs.Tasks.{IsFitTransfer, IsTaskOf, RunsItsList}
 use Rattle.commands.specs.declared.ncq.Task.{Task}
 
@@ -30,3 +33,18 @@ pub record FirstMayBeIssued : Type 0 where
   pub fits : IsFitTransfer transfer frames
   pub plain : transfer.queued ≡ false
   pub is : IsTaskOf (port_at 0) 0 transfer frames mode request
+
+-- Two queued transfers are stored in slots of port 0, with a machine that agrees, on which both requests may be
+-- issued; and a value has the slots' bits. So what is asked before a batch is issued can be met, and what is said of
+-- issuing it speaks of something.
+pub record BatchMayBeIssued : Type 0 where
+  pub tasks : List SlotTask
+  pub two : length tasks ≡ 2
+  pub stored : IsBatchStored (port_at 0) tasks (ready_with two_memory) (ready_with two_memory)
+  pub mask : ℕ
+  pub bits : HasBitsOf tasks mask
+  pub mode : QueueMode
+  pub requests : List Pending
+  pub are : AllZip (λ t e. IsTaskOf (port_at 0) t.slot t.task t.frames mode e) tasks requests
+  pub may : MayServeBatch (port_at 0) tasks mode requests
+      (record { uses = stored.agreed.0; parked = stored.agreed.2.parked }) stored.agreed.2.machine

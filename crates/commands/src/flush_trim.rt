@@ -1,6 +1,6 @@
 //! Issues the commands that a port has alone, in slot 0: a flush, or a trim.
 //!
-//! (AHCI 1.3.1, 5.5; ACS-3.) They meet the contract on issuing of `ncq` (`IssuesTask`). A trim's
+//! (AHCI 1.3.1, 5.5; ACS-3.) They meet the contract on issuing of `ncq` (`IsIssued`). A trim's
 //! block names exactly the sectors of its range, in order, and stands at the head of the port's
 //! scratch frame.
 ghost use Rattle.std.specs.Prelude.{◌≡◌, ◌+◌, ◌^◌, ◌<◌, ◌≤◌, List};

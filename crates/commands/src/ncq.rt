@@ -1,24 +1,27 @@
 //! Issues reads and writes in any slot of a port, and finds out which are done.
 //!
 //! (Native command queuing, or plain commands; AHCI 1.3.1, 5.5; ACS-3.) Each call is of one port,
-//! whatever the others do. The contract on issuing is of a `Task`, which may be a trim or a flush
-//! as well. Clear bits tell that a request has ended only while ST is one, since clearing ST clears
-//! them, too. What issuing leaves of the port beside its slot follows from the kinds of its
+//! whatever the others do. Queued transfers may be prepared one after another (`prepare`) and
+//! issued together (`issue_all`). The contract on issuing is of a `Task`, which may be a trim or a
+//! flush as well. Clear bits tell that a request has ended only while ST is one, since clearing ST
+//! clears them, too. What issuing leaves of the port beside its slot follows from the kinds of its
 //! accesses, by laws of `refinement`. It knows no client and no book.
-ghost use Rattle.std.specs.Prelude.{◌≡◌, ◌≤◌, ◌<◌, ◌*◌, ◌/◌, ◌%◌, length, true, false};
+ghost use Rattle.std.specs.Prelude.{◌≡◌, ◌≤◌, ◌<◌, ◌*◌, ◌/◌, ◌%◌, List, length, true, false};
 ghost use Rattle.adapter.specs.Commands.{command_of};
+ghost use Rattle.adapter.specs.Device.{Device};
 ghost use Rattle.adapter.specs.Rules.{IsOn, HasPort};
 ghost use Rattle.refinement.specs.Driven.{IsSoleBit};
 ghost use Rattle.hba_regs.specs.declared.reg.PortReg.TheVariants.{Ci, Sact};
 ghost use Rattle.hba_regs.specs.declared.reg.Reg.TheVariants.{Px};
-ghost use Rattle.commands.specs.Issuing.{IsArmedFor, IsIssued, MayIssueTask, MayIssueTransfer};
+ghost use Rattle.commands.specs.Batches.{HasBitsOf, IsBatchIssued, IsBatchStored, SlotTask, StoresTransfer};
+ghost use Rattle.commands.specs.Issuing.{IsIssued, MayIssueTask, MayIssueTransfer};
 ghost use Rattle.commands.specs.Masks.{IsDoneMask, ReadsDone, SeesClear};
 ghost use Rattle.commands.specs.Tasks.{Arms, IsFitTransfer, IsTransfer, task_operation};
 ghost use Rattle.adapter.specs.Counted.{MakesAtMost};
-ghost use Rattle.commands.specs.Costs.{ARM_ACCESSES, DONE_ACCESSES, ISSUE_ACCESSES};
+ghost use Rattle.command_table.specs.Costs.{TABLE_ACCESSES};
+ghost use Rattle.commands.specs.Costs.{BATCH_ACCESSES, DONE_ACCESSES, ISSUE_ACCESSES};
 
 use crate::finding::law_reading_finds_done;
-use crate::issuing::law_stores_leave_the_port;
 use crate::laws::law_writing_issues;
 use adapter::{Adapter, Command};
 use ata_types::{
@@ -28,6 +31,7 @@ use ata_types::{
 use command_table::{prds_in, write_table};
 use hba_regs::{PortReg, Reg, with_bit};
 use refinement::facts::law_adapter_stays;
+use refinement::fragments::law_other_ports_are_left;
 use refinement::laws::law_writing_is_permitted;
 
 /// Where a queued command has its tag, which is its slot: bits 7:3 of the count field (ACS-3).
@@ -104,24 +108,24 @@ fn arm<A: Adapter>(adapter: &mut A, port: Port, own: u32, queued: bool)
     }
 }
 
-/// Stores header and table of the slot, so that they say the transfer, and arms the slot. The slot's bit, alone, is the
-/// result.
-fn prepare<A: Adapter>(
+/// Stores header and table of an unused slot, so that they say the transfer, eight sectors to a frame. No register is
+/// written: so the device knows nothing of it yet.
+pub fn prepare<A: Adapter>(
     adapter: &mut A,
     port: Port,
     slot: Slot,
     transfer: &Task,
     frames: &[Frame],
-) -> u32
+)
     requires may { MayIssueTransfer port slot.0 transfer.now frames.now (A.device adapter.old) }
-    ensures armed { IsArmedFor port slot.0 transfer.now frames.now result (A.device adapter.old)
-        (A.device adapter.new) }
-    ensures cost { MakesAtMost ARM_ACCESSES (A.access_count adapter.old) (A.access_count adapter.new) }
+    ensures stores { StoresTransfer port (record { slot = slot.0; task = transfer.now; frames = frames.now })
+        (A.device adapter.old) (A.device adapter.new) }
+    ensures cost { MakesAtMost TABLE_ACCESSES (A.access_count adapter.old) (A.access_count adapter.new) }
 {
     if frames.len() <= FEW_FRAMES {
-        prepare_in::<A, FEW_FRAMES>(adapter, port, slot, transfer, frames)
+        prepare_in::<A, FEW_FRAMES>(adapter, port, slot, transfer, frames);
     } else {
-        prepare_in::<A, MOST_REQUEST_FRAMES>(adapter, port, slot, transfer, frames)
+        prepare_in::<A, MOST_REQUEST_FRAMES>(adapter, port, slot, transfer, frames);
     }
 }
 
@@ -132,13 +136,13 @@ fn prepare_in<A: Adapter, const ROOM: usize>(
     slot: Slot,
     transfer: &Task,
     frames: &[Frame],
-) -> u32
+)
     requires may { MayIssueTransfer port slot.0 transfer.now frames.now (A.device adapter.old) }
     requires room { length frames.now ≤ ROOM }
     requires small { ROOM ≤ MOST_REQUEST_FRAMES }
-    ensures armed { IsArmedFor port slot.0 transfer.now frames.now result (A.device adapter.old)
-        (A.device adapter.new) }
-    ensures cost { MakesAtMost ARM_ACCESSES (A.access_count adapter.old) (A.access_count adapter.new) }
+    ensures stores { StoresTransfer port (record { slot = slot.0; task = transfer.now; frames = frames.now })
+        (A.device adapter.old) (A.device adapter.new) }
+    ensures cost { MakesAtMost TABLE_ACCESSES (A.access_count adapter.old) (A.access_count adapter.new) }
 {
     let prds = prds_in::<ROOM>(frames, SECTOR_BYTES * transfer.range.count);
     write_table(
@@ -148,10 +152,6 @@ fn prepare_in<A: Adapter, const ROOM: usize>(
         &command(transfer, slot),
         prds.as_slice(),
     );
-    let own = bit_of(slot);
-    law_stores_leave_the_port();
-    arm(adapter, port, own, transfer.queued);
-    own
 }
 
 /// Issues a transfer, eight sectors to a frame, in an unused slot of a port that runs: a queued one as READ or WRITE
@@ -164,9 +164,29 @@ pub fn issue<A: Adapter>(adapter: &mut A, port: Port, slot: Slot, transfer: &Tas
     ensures issued { IsIssued port slot.0 transfer.now frames.now (A.device adapter.old) (A.device adapter.new) }
     ensures cost { MakesAtMost ISSUE_ACCESSES (A.access_count adapter.old) (A.access_count adapter.new) }
 {
-    let own = prepare(adapter, port, slot, transfer, frames);
+    law_other_ports_are_left();
+    prepare(adapter, port, slot, transfer, frames);
+    let own = bit_of(slot);
+    arm(adapter, port, own, transfer.queued);
     law_writing_issues();
     adapter.write(Reg::Px(port, PortReg::Ci), own);
+}
+
+/// Issues the queued transfers whose headers and tables were stored: all bits of PxSACT are written at once, and then
+/// all of PxCI.
+pub fn issue_all<A: Adapter>(adapter: &mut A, port: Port, mask: u32)
+    requires stored { (start : Device) × (tasks : List SlotTask)
+        × IsBatchStored port tasks start (A.device adapter.old) × HasBitsOf tasks mask }
+    ensures issued { (start : Device) (tasks : List SlotTask)
+        → IsBatchStored port tasks start (A.device adapter.old) → HasBitsOf tasks mask
+        → IsBatchIssued port tasks start (A.device adapter.new) }
+    ensures cost { MakesAtMost BATCH_ACCESSES (A.access_count adapter.old) (A.access_count adapter.new) }
+{
+    law_other_ports_are_left();
+    law_writing_is_permitted();
+    adapter.write(Reg::Px(port, PortReg::Sact), mask);
+    law_writing_issues();
+    adapter.write(Reg::Px(port, PortReg::Ci), mask);
 }
 
 /// The bits of the mask that are clear in both of the others.

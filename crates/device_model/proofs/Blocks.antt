@@ -33,7 +33,7 @@ block_gone taken block none = record {
 module _ (taken : ℕ → Option TakenCommand) (block : List ℕ) (slot : ℕ) (has : HasBlock taken block) where
   -- a command is taken beside those that are
   pub block_put : (command : TakenCommand) → command.block ≡ None → command.first < 2 ^ 48 →
-      ((other : ℕ) (u : TakenCommand) → other ≢ slot → taken other ≡ Some u → (command.transfer ≡ Trim → ⊥) × (u.transfer ≡ Trim → ⊥)) →
+      ((other : ℕ) (u : TakenCommand) → other ≢ slot → taken other ≡ Some u → (command.command_kind ≡ Trim → ⊥) × (u.command_kind ≡ Trim → ⊥)) →
       HasBlock (changed taken slot (Some command)) block
   block_put command new low beside = record {
     alone = λ a b t u here there trim.
@@ -42,7 +42,7 @@ module _ (taken : ℕ → Option TakenCommand) (block : List ℕ) (slot : ℕ) (
               elim (at_set taken slot (Some command) b u there) [
                 | inl second ↦ second.0 ∙ sym first.0
                 | inr second ↦
-                    let kind = ap (λ (x : TakenCommand). x.transfer) (some_one first.1) ∙ trim in
+                    let kind = ap (λ (x : TakenCommand). x.command_kind) (some_one first.1) ∙ trim in
                     absurd ((beside b u second.0 second.1).0 kind)
               ]
           | inr first ↦
@@ -80,7 +80,7 @@ module _ (taken : ℕ → Option TakenCommand) (block : List ℕ) (slot : ℕ) (
     low = λ a t here. elim (at_set taken slot None a t here) [ inl first ↦ absurd (cc first.1) | inr first ↦ has.low a t first.1 ];
   }
 
-  module _ (old new : TakenCommand) (held : taken slot ≡ Some old) (kind : new.transfer ≡ old.transfer) (number : new.first ≡ old.first) where
+  module _ (old new : TakenCommand) (held : taken slot ≡ Some old) (kind : new.command_kind ≡ old.command_kind) (number : new.first ≡ old.first) where
     goes_low : (a : ℕ) (t : TakenCommand) → changed taken slot (Some new) a ≡ Some t → t.first < 2 ^ 48
     goes_low a t here =
         elim (at_set taken slot (Some new) a t here) [
@@ -92,11 +92,11 @@ module _ (taken : ℕ → Option TakenCommand) (block : List ℕ) (slot : ℕ) (
         ]
 
     goes_alone : (a b : ℕ) (t u : TakenCommand) → changed taken slot (Some new) a ≡ Some t →
-        changed taken slot (Some new) b ≡ Some u → t.transfer ≡ Trim → b ≡ a
+        changed taken slot (Some new) b ≡ Some u → t.command_kind ≡ Trim → b ≡ a
     goes_alone a b t u here there trim =
         elim (at_set taken slot (Some new) a t here) [
           | inl first ↦
-              let was : old.transfer ≡ Trim = sym kind ∙ (ap (λ (x : TakenCommand). x.transfer) (some_one first.1) ∙ trim) in
+              let was : old.command_kind ≡ Trim = sym kind ∙ (ap (λ (x : TakenCommand). x.command_kind) (some_one first.1) ∙ trim) in
               elim (at_set taken slot (Some new) b u there) [
                 | inl second ↦ second.0 ∙ sym first.0
                 | inr second ↦ has.alone slot b old u held second.1 was ∙ sym first.0
@@ -118,13 +118,13 @@ module _ (taken : ℕ → Option TakenCommand) (block : List ℕ) (slot : ℕ) (
             | inl first ↦
                 let one : new ≡ t = some_one first.1 in
                 let had = has.is slot old b held (sym same ∙ (ap (λ (x : TakenCommand). x.block) one ∙ brought)) in
-                (ap (λ (x : TakenCommand). x.transfer) (sym one) ∙ (kind ∙ had.0), had.1)
+                (ap (λ (x : TakenCommand). x.command_kind) (sym one) ∙ (kind ∙ had.0), had.1)
             | inr first ↦ has.is a t b first.1 brought
           ];
     }
 
     -- a trim has brought a block
-    pub block_moved : (bytes : List ℕ) → old.transfer ≡ Trim → new.block ≡ Some (noted_bytes bytes) → HasBlock (changed taken slot (Some new)) bytes
+    pub block_moved : (bytes : List ℕ) → old.command_kind ≡ Trim → new.block ≡ Some (noted_bytes bytes) → HasBlock (changed taken slot (Some new)) bytes
     block_moved bytes trim is_new = record {
       alone = goes_alone;
       low = goes_low;
@@ -133,7 +133,7 @@ module _ (taken : ℕ → Option TakenCommand) (block : List ℕ) (slot : ℕ) (
             | inl first ↦
                 let one : new ≡ t = some_one first.1 in
                 let same : noted_bytes bytes ≡ b = some_one (sym is_new ∙ (ap (λ (x : TakenCommand). x.block) one ∙ brought)) in
-                (ap (λ (x : TakenCommand). x.transfer) (sym one) ∙ (kind ∙ trim), ap (λ (x : Snapshot (List ℕ)). x.value) (sym same))
+                (ap (λ (x : TakenCommand). x.command_kind) (sym one) ∙ (kind ∙ trim), ap (λ (x : Snapshot (List ℕ)). x.value) (sym same))
             | inr first ↦ let ne = first.0 in absurd (ne (has.alone slot a old t held first.1 trim))
           ];
     }

@@ -20,7 +20,7 @@ use Rattle.device_model.specs.Exchanged.{IsTransferred, piece_of}
 use Rattle.device_model.specs.Fetched.{bytes_of}
 use Rattle.device_model.specs.Finishing.{TapeHasRoom}
 use Rattle.device_model.specs.Slots.{WorksOnIn, IsNext}
-use Rattle.device_model.specs.View.{blank_port, taken_in, media_after, transfer_operation, port_of, taken_of}
+use Rattle.device_model.specs.View.{blank_port, taken_in, media_after, operation_of_kind, port_of, taken_of}
 use Rattle.device_model.specs.Whole.{Outside, device_of, outside_after}
 use Rattle.device_model.specs.declared.hardware.Hardware.{Hardware}
 use Rattle.device_model.specs.declared.port.PortModel.{PortModel}
@@ -86,13 +86,13 @@ piece_is h next k d b is whole small size =
 
 pub exchanged : (h : Hardware) (next : NextMove) (k : ℕ) (d b : List ℕ) → d ≡ h.memory.items → k ≡ 512 →
     next.address + 512 ≤ length h.memory.items → length b ≡ 512 →
-    (reads_memory (transfer_operation next.transfer) ≡ true → b ≡ take k (drop next.address d)) →
+    (reads_memory (operation_of_kind next.command_kind) ≡ true → b ≡ take k (drop next.address d)) →
     IsTransferred h (with_piece h next.address k d b) next
 exchanged h next k d b is whole small size takes =
     record {
       rest = λ _. with_piece h next.address k d b;
       size = ap length items ∙ (long ∙ all);
-      put = by (reads_memory (transfer_operation next.transfer)) takes;
+      put = by (reads_memory (operation_of_kind next.command_kind)) takes;
     }
   where
     all : length d ≡ length h.memory.items
@@ -141,7 +141,7 @@ pub port_moves_over : (old h : Hardware) (o : Outside) (p port slot : ℕ) (next
     IsTransferred old h next → p ≡ port → p < length h.ports → IsNext old port slot next t →
     port_of new (media_after (o.media p) (taken_of t) (piece_of h next))
     ≡ with_move (port_of (slice_index_or h.ports p blank_port) (o.media p)) slot (taken_of t) (piece_of h next) →
-    operation ≡ transfer_operation next.transfer → direction ≡ direction_of (transfer_operation next.transfer) →
+    operation ≡ operation_of_kind next.command_kind → direction ≡ direction_of (operation_of_kind next.command_kind) →
     tape.items
     ≡ h.tape.items
     ++ entry.Move (moved_by port slot operation next.sector next.address direction (piece_of h next)) ∷ [] →
@@ -170,7 +170,7 @@ next_over {old} {h} {next} {t} port slot is at = record {
   holds = subst (λ (x : Hardware). WorksOnIn (slice_index_or x.ports port blank_port) slot t) (sym is.rest) at.holds;
   left = at.left;
   room = at.room;
-  transfer_is = at.transfer_is;
+  kind_is = at.kind_is;
   sector_is = at.sector_is;
   address_is = at.address_is;
   inside = let size = is.size in let inside = at.inside in omega (arith, size, inside);
@@ -193,7 +193,7 @@ next_grown {old} {h} {next} {t} port slot is at =
       holds = subst (λ (x : Hardware). WorksOnIn (slice_index_or x.ports port blank_port) slot t) (sym is) at.holds;
       left = at.left;
       room = at.room;
-      transfer_is = at.transfer_is;
+      kind_is = at.kind_is;
       sector_is = at.sector_is;
       address_is = at.address_is;
       inside = let inside = at.inside in omega (arith, size, inside);
@@ -208,7 +208,7 @@ next_grown {old} {h} {next} {t} port slot is at =
     }
 
 -- the sector that a command names next, once one more piece is moved
-one_further : (t : TakenCommand) (sector : ℕ) → is_ranged (transfer_operation t.transfer) ≡ true → sector ≡ next_sector (taken_of t) →
+one_further : (t : TakenCommand) (sector : ℕ) → is_ranged (operation_of_kind t.command_kind) ≡ true → sector ≡ next_sector (taken_of t) →
     sector + 1 ≡ next_sector (taken_of (record t { moved = t.moved + 1 }))
 one_further t sector ranged is =
     let was : next_sector (taken_of t) ≡ t.first + t.moved = ap (λ (b : Bool). if b then t.first + t.moved else 0) ranged in
@@ -236,7 +236,7 @@ next_after old p port slot next t new tape starved at some e small same held =
             held = held;
             works = λ m.
                 let was = (at.holds.works m).working in
-                let P : PortModel → Type 0 = λ x. IsWorking (port_of x m) (transfer_operation t.transfer) in
+                let P : PortModel → Type 0 = λ x. IsWorking (port_of x m) (operation_of_kind t.command_kind) in
                 let here : PortModel = slice_index_or old.ports port blank_port in
                 let is : new ≡ record here { taken = new.taken } =
                 same ∙ ap (λ k. record (slice_index_or old.ports k blank_port) { taken = new.taken }) e in
@@ -248,7 +248,7 @@ next_after old p port slot next t new tape starved at some e small same held =
           });
       left = one.0;
       room = let room = at.behind.room in omega (arith, room, some);
-      transfer_is = at.transfer_is;
+      kind_is = at.kind_is;
       sector_is = one_further t next.sector (at.behind.ranged some) at.sector_is;
       address_is = sym one.1;
       inside = omega (arith, inside, some);

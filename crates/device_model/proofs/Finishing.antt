@@ -19,18 +19,18 @@ use Rattle.device_model.specs.Finishing.{HasDisk, HasMove, IsCovered, IsGoing, M
 use Rattle.device_model.specs.Sent.{SendsEnd}
 use Rattle.device_model.specs.Slots.{CanClear, WorksOnIn, IsNext}
 use Rattle.device_model.specs.Trims.{HasClear, WillClear, span, uncleared}
-use Rattle.device_model.specs.View.{halt_of, taken_in, transfer_operation, taken_of, blank_port}
+use Rattle.device_model.specs.View.{halt_of, taken_in, operation_of_kind, taken_of, blank_port}
 use Rattle.device_model.specs.Whole.{HasDisks, Outside, device_of}
 use Rattle.device_model.specs.declared.port.PortModel.{PortModel}
 use Rattle.device_model.specs.declared.hardware.Hardware.{Hardware}
 use Rattle.device_model.specs.declared.port.TakenCommand.{TakenCommand}
 use Rattle.device_model.specs.declared.port.CommandKind.{CommandKind}
-use Rattle.device_model.specs.declared.port.CommandKind.TheVariants as transfer
+use Rattle.device_model.specs.declared.port.CommandKind.TheVariants as command_kind
 use Rattle.device_model.specs.declared.steps.NextMove.{NextMove}
 use Rattle.device_model.proofs.Posting.{end_rest}
 use Rattle.device_model.proofs.Trimming.{is_a_trim, moved_clears, none_left, some_uncleared, span_less}
 use Rattle.device_model.proofs.SlotLemmas.{slot_taken, taken_slot}
-use Rattle.device_model.proofs.Transfers.{is_trim, transfer_of}
+use Rattle.device_model.proofs.Transfers.{is_trim, kind_of_operation}
 
 cleared : (queued : Bool) (p : DevicePort) (slot : ℕ) →
     (if queued then (if queued then changed p.sact slot false else p.sact) slot else (if queued then p.ci else changed p.ci slot false) slot) ≡ false
@@ -310,16 +310,16 @@ next_has_move h o d port slot next r has same is =
     subst P same (record { works = is.holds.works (o.media port); left = is.left; inside = omega (arith, place, there); has_disks = subst Q (sym same) has })
 
 -- a move of a device is of a sector on its disk, if it is of one
-brings_on_disk : (disk : Disk) (memory : ℕ → ℕ) (t : FetchedCommand) (k : CommandKind) (bytes : List ℕ) → is_ranged (transfer_operation k) ≡ true →
-    Brings disk memory t (transfer_operation k) bytes → next_sector t < disk.size
-brings_on_disk disk memory t transfer.Read bytes ranged brings = brings.0
-brings_on_disk disk memory t transfer.Write bytes ranged brings = brings.0
-brings_on_disk disk memory t transfer.ReadQueued bytes ranged brings = brings.0
-brings_on_disk disk memory t transfer.WriteQueued bytes ranged brings = brings.0
-brings_on_disk disk memory t transfer.Identify bytes ranged brings = absurd (cc ranged)
-brings_on_disk disk memory t transfer.Flush bytes ranged brings = absurd (cc ranged)
-brings_on_disk disk memory t transfer.Trim bytes ranged brings = absurd (cc ranged)
-brings_on_disk disk memory t transfer.ReadLog bytes ranged brings = absurd (cc ranged)
+brings_on_disk : (disk : Disk) (memory : ℕ → ℕ) (t : FetchedCommand) (k : CommandKind) (bytes : List ℕ) → is_ranged (operation_of_kind k) ≡ true →
+    Brings disk memory t (operation_of_kind k) bytes → next_sector t < disk.size
+brings_on_disk disk memory t command_kind.Read bytes ranged brings = brings.0
+brings_on_disk disk memory t command_kind.Write bytes ranged brings = brings.0
+brings_on_disk disk memory t command_kind.ReadQueued bytes ranged brings = brings.0
+brings_on_disk disk memory t command_kind.WriteQueued bytes ranged brings = brings.0
+brings_on_disk disk memory t command_kind.Identify bytes ranged brings = absurd (cc ranged)
+brings_on_disk disk memory t command_kind.Flush bytes ranged brings = absurd (cc ranged)
+brings_on_disk disk memory t command_kind.Trim bytes ranged brings = absurd (cc ranged)
+brings_on_disk disk memory t command_kind.ReadLog bytes ranged brings = absurd (cc ranged)
 
 -- where a move may be made on a port that has disks, and its piece is in the memory, it is possible
 pub has_move : (d : Device) (port slot : ℕ) (t : FetchedCommand) (bytes : List ℕ) → ((sector : ℕ) → sector < (d.port port).disk.size → HasDisks d port) →
@@ -329,7 +329,7 @@ has_move d port slot t bytes sized has inside can =
   where
     on : is_ranged t.meaning.operation ≡ true → HasDisks d port
     on ranged =
-        let kind = transfer_of t.meaning.operation in
+        let kind = kind_of_operation t.meaning.operation in
         let P : Operation → Type 0 = λ o. Brings (d.port port).disk d.memory t o bytes in
         sized (next_sector t) (brings_on_disk (d.port port).disk d.memory t kind.0 bytes (ap is_ranged (sym kind.1) ∙ ranged) (subst P kind.1 can.brings))
 
@@ -369,14 +369,14 @@ clear_fits h o d port slot most t same clear =
     let w = holds h o port slot t (subst (λ (x : Operation). WorksOn ((device_of h o).port port) slot t x) (sym on_port.trim) on_port.works) in
     let Q : FetchedCommand → Type 0 = λ x. HasClear (device_of h o) port slot most x in
     let here : HasClear (device_of h o) port slot most (taken_of w.0) = subst Q w.2 on_port in
-    (w.0, w.1, record { trim = is_trim w.0.transfer here.trim; moved = here.moved; some = here.some; enough = here.enough }, w.2)
+    (w.0, w.1, record { trim = is_trim w.0.command_kind here.trim; moved = here.moved; some = here.some; enough = here.enough }, w.2)
 
 -- and where the hardware finds one, it is possible on a port that has disks
 pub next_has_clear : (h : Hardware) (o : Outside) (d : Device) (port slot most : ℕ) (r : TakenCommand) → HasDisks d port → device_of h o ≡ d →
     WorksOnIn (slice_index_or h.ports port blank_port) slot r → CanClear r most → HasClear d port slot most (taken_of r)
 next_has_clear h o d port slot most r has same holds can =
     let P : Device → Type 0 = λ x. HasClear x port slot most (taken_of r) in
-    let trim : transfer_operation r.transfer ≡ Trim = ap transfer_operation can.trim in
+    let trim : operation_of_kind r.command_kind ≡ Trim = ap operation_of_kind can.trim in
     subst P same (record {
       has_disks = subst (λ (x : Device). HasDisks x port) (sym same) has;
       works = subst (λ (x : Operation). WorksOn ((device_of h o).port port) slot (taken_of r) x) trim (holds.works (o.media port));

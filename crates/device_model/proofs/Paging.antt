@@ -26,7 +26,7 @@ use Rattle.device_model.specs.Finishing.{AreInside, HasPageCommand, LooksForPage
 use Rattle.device_model.specs.Modelled.{device_at}
 use Rattle.device_model.specs.Sent.{SendsEnd}
 use Rattle.device_model.specs.Slots.{IsNext}
-use Rattle.device_model.specs.View.{transfer_operation, taken_of}
+use Rattle.device_model.specs.View.{operation_of_kind, taken_of}
 use Rattle.device_model.specs.Disks.{disk_in_bay, numbered_disk}
 use Rattle.device_model.specs.Whole.{HasDisks, Outside, device_of}
 use Rattle.device_model.specs.declared.bay.Bay.{Bay}
@@ -163,20 +163,20 @@ finish_clears p s old left clears here small some ready = (here, small, left, cl
 
 -- what the hardware moves next is a sector only where a Move moves one
 pub next_moves : (h : Hardware) (o : Outside) (d : Device) (p : Port) (s : Slot) (next : NextMove) (r : TakenCommand) → HasDisks d p.0 → s.0 < 32 →
-    device_of h o ≡ d → IsNext h p.0 s.0 next r → is_ranged (transfer_operation next.transfer) ≡ true → AsksStore (asked.Move p s) d
+    device_of h o ≡ d → IsNext h p.0 s.0 next r → is_ranged (operation_of_kind next.command_kind) ≡ true → AsksStore (asked.Move p s) d
 next_moves h o d p s next r here small same is ranged = (
   small,
   taken_of r,
   next_has_move h o d p.0 s.0 next r here same is,
-  ap (λ (k : CommandKind). is_ranged (transfer_operation k)) (sym is.transfer_is) ∙ ranged,
+  ap (λ (k : CommandKind). is_ranged (operation_of_kind k)) (sym is.kind_is) ∙ ranged,
 )
 
 -- and else it is none
 pub next_unranged : (h : Hardware) (o : Outside) (d : Device) (p : Port) (s : Slot) (next : NextMove) (r : TakenCommand) → HasDisks d p.0 → s.0 < 32 →
-    device_of h o ≡ d → IsNext h p.0 s.0 next r → (AsksStore (asked.Move p s) d → ⊥) → is_ranged (transfer_operation next.transfer) ≡ false
-next_unranged h o d p s next r here small same is none = by (is_ranged (transfer_operation next.transfer)) refl
+    device_of h o ≡ d → IsNext h p.0 s.0 next r → (AsksStore (asked.Move p s) d → ⊥) → is_ranged (operation_of_kind next.command_kind) ≡ false
+next_unranged h o d p s next r here small same is none = by (is_ranged (operation_of_kind next.command_kind)) refl
   where
-    by : (b : Bool) → is_ranged (transfer_operation next.transfer) ≡ b → is_ranged (transfer_operation next.transfer) ≡ false
+    by : (b : Bool) → is_ranged (operation_of_kind next.command_kind) ≡ b → is_ranged (operation_of_kind next.command_kind) ≡ false
     by true e = absurd (none (next_moves h o d p s next r here small same is e))
     by false e = e
 

@@ -21,7 +21,7 @@ use Rattle.device_model.specs.Cached.{HasOldRoom}
 use Rattle.device_model.specs.Trims.{WillClear, changes_ahead}
 use Rattle.device_model.specs.Slots.{IsOpenTo, MayTake, HasUntaken, WorksOnIn}
 use Rattle.device_model.specs.Bits.{word_bits}
-use Rattle.device_model.specs.View.{Media, halt_of, taken_in, transfer_operation, port_of, taken_of, blank_port}
+use Rattle.device_model.specs.View.{Media, halt_of, taken_in, operation_of_kind, port_of, taken_of, blank_port}
 use Rattle.device_model.specs.Whole.{Outside, device_of}
 use Rattle.device_model.specs.declared.port.PortModel.{PortModel}
 use Rattle.device_model.specs.declared.port.TakenCommand.{TakenCommand}
@@ -108,12 +108,12 @@ MayTakeNone p slot = (m : Media) (operation : Operation) → MayTake (port_of p 
 
 -- this command may be taken beside those that are
 abbrev pub IsBeside : PortModel → TakenCommand → Type 0
-IsBeside p r = IsOpenTo p (transfer_operation r.transfer)
+IsBeside p r = IsOpenTo p (operation_of_kind r.command_kind)
 
 pub may_be_taken : (p : PortModel) (slot : ℕ) (r : TakenCommand) → HasUntaken p slot → IsBeside p r → (m : Media) →
-    MayTake (port_of p m) slot (transfer_operation r.transfer)
+    MayTake (port_of p m) slot (operation_of_kind r.command_kind)
 may_be_taken p slot r may beside m =
-    let w = may m (transfer_operation r.transfer) beside.0 in record { fetchable = w.0; working = w.1; alone = beside.1 m }
+    let w = may m (operation_of_kind r.command_kind) beside.0 in record { fetchable = w.0; working = w.1; alone = beside.1 m }
 
 module _ (h : Hardware) (o : Outside) (p port slot left clears : ℕ) (e : p ≡ port) (ready : MayFinish (device_of h o) port slot left clears) where
   abbrev state : PortModel
@@ -151,7 +151,7 @@ module _ (h : Hardware) (p port slot : ℕ) (r : TakenCommand) (e : p ≡ port) 
       (o : Outside) → MayFinish (device_of h o) port slot left clears
   ready_to_take left clears rest new may beside says o =
       let P : ℕ → Type 0 = λ q. MayFinish (device_of h o) q slot left clears in
-      let m = may (o.media p) (transfer_operation r.transfer) beside.0 in
+      let m = may (o.media p) (operation_of_kind r.command_kind) beside.0 in
       subst P e
       (record {
         t = taken_of r;
@@ -198,8 +198,8 @@ module _ (h : Hardware) (p port slot : ℕ) (r : TakenCommand) (e : p ≡ port) 
   pub ready_beside : HasUntaken (slice_index_or h.ports p blank_port) slot → IsUntouched r →
       DecodesTo (bytes_of h.memory.items) (slice_index_or h.ports p blank_port).addresses.clb slot (taken_of r).meaning (taken_of r).places →
       (o : Outside) (left clears : ℕ) → MayFinish (device_of h o) port slot left clears →
-      (admits (halt_of (slice_index_or h.ports p blank_port).halting) (transfer_operation r.transfer) ≡ true)
-      × IsUnmixed (port_of (slice_index_or h.ports p blank_port) (o.media p)) (transfer_operation r.transfer)
+      (admits (halt_of (slice_index_or h.ports p blank_port).halting) (operation_of_kind r.command_kind) ≡ true)
+      × IsUnmixed (port_of (slice_index_or h.ports p blank_port) (o.media p)) (operation_of_kind r.command_kind)
   ready_beside may new says o left clears ready =
       let same = ready_is_one may new says o left clears ready in
       let P : ℕ → Type 0 = λ q. (admits ((device_of h o).port q).halt ready.t.meaning.operation ≡ true) × IsUnmixed ((device_of h o).port q) ready.t.meaning.operation in
@@ -218,7 +218,7 @@ module _ (h : Hardware) (p port slot : ℕ) (r : TakenCommand) (e : p ≡ port) 
 
 -- what a command is going to change is what is left of the one that is ready
 pub ahead_is : (h : Hardware) (o : Outside) (cache : Cache) (port slot left changes n m : ℕ) (r : TakenCommand) (may : MayFinish (device_of h o) port slot n m) → may.t ≡ taken_of r →
-    left ≡ n → changes ≡ changes_ahead (transfer_operation r.transfer) (bytes_of h.memory.items) (taken_of r) left →
+    left ≡ n → changes ≡ changes_ahead (operation_of_kind r.command_kind) (bytes_of h.memory.items) (taken_of r) left →
     HasOldRoom cache (changes_ahead may.t.meaning.operation (bytes_of h.memory.items) may.t n) → HasOldRoom cache changes
 ahead_is h o cache port slot left changes n m r may same number is =
     let memory = bytes_of h.memory.items in
@@ -227,7 +227,7 @@ ahead_is h o cache port slot left changes n m r may same number is =
 
 -- and of the one that is taken
 pub ahead_of : (cache : Cache) (memory : ℕ → ℕ) (left changes : ℕ) (r : TakenCommand) (t : FetchedCommand) → taken_of r ≡ t →
-    changes ≡ changes_ahead (transfer_operation r.transfer) memory (taken_of r) left → HasOldRoom cache changes → HasOldRoom cache (changes_ahead t.meaning.operation memory t left)
+    changes ≡ changes_ahead (operation_of_kind r.command_kind) memory (taken_of r) left → HasOldRoom cache changes → HasOldRoom cache (changes_ahead t.meaning.operation memory t left)
 ahead_of cache memory left changes r t same is =
     let there : changes ≡ changes_ahead t.meaning.operation memory t left = is ∙ (λ i. changes_ahead (same i).meaning.operation memory (same i) left) in
     subst (HasOldRoom cache) there
@@ -261,8 +261,8 @@ module _ (h : Hardware) (port slot size : ℕ) (sized : size ≡ vec_len h.memor
   covers_back r left covered = let P : ℕ → Type 0 = λ n. IsCovered (taken_of r) n left in subst P (sym memory_size) covered
 
   -- it clears nothing
-  clears : (r : TakenCommand) → sends_page (transfer_operation r.transfer) ≡ true → WillClear (transfer_operation r.transfer) (bytes_of h.memory.items) (taken_of r) 0
-  clears r kind = page_clears (transfer_operation r.transfer) (bytes_of h.memory.items) (taken_of r) kind
+  clears : (r : TakenCommand) → sends_page (operation_of_kind r.command_kind) ≡ true → WillClear (operation_of_kind r.command_kind) (bytes_of h.memory.items) (taken_of r) 0
+  clears r kind = page_clears (operation_of_kind r.command_kind) (bytes_of h.memory.items) (taken_of r) kind
 
   -- a command that can be done to its end
   abbrev pub Ends : TakenCommand → Type 0
@@ -270,9 +270,9 @@ module _ (h : Hardware) (port slot size : ℕ) (sized : size ≡ vec_len h.memor
 
   -- one that may be taken
   pub page_said : (r : TakenCommand) → IsUntouched r → DecodesTo (bytes_of h.memory.items) here.addresses.clb slot (taken_of r).meaning (taken_of r).places →
-      sends_page (transfer_operation r.transfer) ≡ true → HasUntaken here slot → IsBeside here r → Ends r → (o : Outside) → HasPageCommand (device_of h o) port slot
+      sends_page (operation_of_kind r.command_kind) ≡ true → HasUntaken here slot → IsBeside here r → Ends r → (o : Outside) → HasPageCommand (device_of h o) port slot
   page_said r new says kind may beside ends o =
-      let m = may (o.media port) (transfer_operation r.transfer) beside.0 in
+      let m = may (o.media port) (operation_of_kind r.command_kind) beside.0 in
       record {
         left = ends.0;
         ready = record {
@@ -301,7 +301,7 @@ module _ (h : Hardware) (port slot size : ℕ) (sized : size ≡ vec_len h.memor
       (subst (λ (t : FetchedCommand). AreInside (2 ^ 32) t.places) same has.low)
 
   -- one that is taken
-  pub page_held : (r : TakenCommand) → WorksOnIn here slot r → sends_page (transfer_operation r.transfer) ≡ true → Ends r → (o : Outside) → HasPageCommand (device_of h o) port slot
+  pub page_held : (r : TakenCommand) → WorksOnIn here slot r → sends_page (operation_of_kind r.command_kind) ≡ true → Ends r → (o : Outside) → HasPageCommand (device_of h o) port slot
   page_held r held kind ends o = record {
     left = ends.0;
     ready = record {
@@ -314,7 +314,7 @@ module _ (h : Hardware) (port slot size : ℕ) (sized : size ≡ vec_len h.memor
     low = ends.2;
   }
 
-  pub page_unheld : ((r : TakenCommand) → WorksOnIn here slot r → sends_page (transfer_operation r.transfer) ≡ true → Ends r → ⊥) → MayTakeNone here slot → (o : Outside) →
+  pub page_unheld : ((r : TakenCommand) → WorksOnIn here slot r → sends_page (operation_of_kind r.command_kind) ≡ true → Ends r → ⊥) → MayTakeNone here slot → (o : Outside) →
       HasPageCommand (device_of h o) port slot → ⊥
   page_unheld none never o has =
       let w = ready_held h o port port slot has.left 0 refl has.ready never in
@@ -333,9 +333,9 @@ module _ (h : Hardware) (port slot : ℕ) where
 
   -- one that its slot's bytes say may be taken
   pub may_page : (r : TakenCommand) → DecodesTo (bytes_of h.memory.items) first.addresses.clb slot (taken_of r).meaning (taken_of r).places →
-      sends_page (transfer_operation r.transfer) ≡ true → HasUntaken first slot → IsBeside first r → (o : Outside) → MayTakePage (device_of h o) port slot
+      sends_page (operation_of_kind r.command_kind) ≡ true → HasUntaken first slot → IsBeside first r → (o : Outside) → MayTakePage (device_of h o) port slot
   may_page r says kind may beside o =
-      let m = may (o.media port) (transfer_operation r.transfer) beside.0 in
+      let m = may (o.media port) (operation_of_kind r.command_kind) beside.0 in
       record {
         meaning = (taken_of r).meaning;
         places = (taken_of r).places;
@@ -354,13 +354,13 @@ module _ (h : Hardware) (port slot : ℕ) where
 
   -- none may be beside others that are taken
   pub page_crowded : (r : TakenCommand) → DecodesTo (bytes_of h.memory.items) first.addresses.clb slot (taken_of r).meaning (taken_of r).places →
-      ((m : Media) → admits (halt_of first.halting) (transfer_operation r.transfer) ≡ true → IsUnmixed (port_of first m) (transfer_operation r.transfer) → ⊥) → (o : Outside) →
+      ((m : Media) → admits (halt_of first.halting) (operation_of_kind r.command_kind) ≡ true → IsUnmixed (port_of first m) (operation_of_kind r.command_kind) → ⊥) → (o : Outside) →
       MayTakePage (device_of h o) port slot → ⊥
   page_crowded r says crowded o may =
       let memory = bytes_of h.memory.items in
       let there = fetch_says h o port port slot may.meaning may.places refl may.can in
       let meaning = says_meaning memory first.addresses.clb slot may.meaning (taken_of r).meaning may.places (taken_of r).places there says in
-      let same : may.meaning.operation ≡ transfer_operation r.transfer = ap (λ (x : Meaning). x.operation) meaning in
+      let same : may.meaning.operation ≡ operation_of_kind r.command_kind = ap (λ (x : Meaning). x.operation) meaning in
       crowded (o.media port) (subst (λ (x : Operation). admits (halt_of first.halting) x ≡ true) same may.can.working.admitted)
       (subst (λ (x : Operation). IsUnmixed (port_of first (o.media port)) x) same may.can.alone)
 

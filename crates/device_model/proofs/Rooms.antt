@@ -61,15 +61,15 @@ module _ {filled : ℕ} {rooms : List TakenCommand} {taken : List (Option TakenC
       ∙ (held_on filled rooms room new is.small is.set ∙ (λ i. changed (is.was i) (is.at i) (Some new)))
 
   -- the port has the block that it had
-  pub room_keeps : (block : List ℕ) → HasBlock (taken_by filled rooms) block → (new : TakenCommand) → new.transfer ≡ now.transfer → new.first ≡ now.first →
+  pub room_keeps : (block : List ℕ) → HasBlock (taken_by filled rooms) block → (new : TakenCommand) → new.command_kind ≡ now.command_kind → new.first ≡ now.first →
       new.block ≡ now.block → HasBlock (taken_by filled (slice_set rooms room new)) block
   room_keeps block has new kind number same =
       subst (λ f. HasBlock f block) (sym (held_on filled rooms room new is.small is.set))
       (block_on (taken_by filled rooms) block room has now new is.there kind number same)
 
   -- or the one that its trim has brought
-  pub room_brings : (block bytes : List ℕ) → HasBlock (taken_by filled rooms) block → (new : TakenCommand) → new.transfer ≡ now.transfer → new.first ≡ now.first →
-      now.transfer ≡ Trim → new.block ≡ Some (noted_bytes bytes) → HasBlock (taken_by filled (slice_set rooms room new)) bytes
+  pub room_brings : (block bytes : List ℕ) → HasBlock (taken_by filled rooms) block → (new : TakenCommand) → new.command_kind ≡ now.command_kind → new.first ≡ now.first →
+      now.command_kind ≡ Trim → new.block ≡ Some (noted_bytes bytes) → HasBlock (taken_by filled (slice_set rooms room new)) bytes
   room_brings block bytes has new kind number trim brought =
       subst (λ f. HasBlock f bytes) (sym (held_on filled rooms room new is.small is.set))
       (block_moved (taken_by filled rooms) block room has now new is.there kind number bytes trim brought)

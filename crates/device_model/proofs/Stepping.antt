@@ -20,11 +20,11 @@ use Rattle.adapter.specs.Asked.{DoesFatal, DoesFault, DoesFetch, EndsAndPosts, f
 use Rattle.device_model.specs.Fetched.{bytes_of}
 use Rattle.device_model.specs.Sent.{SendsEnd}
 use Rattle.device_model.specs.Slots.{HasUntaken, MayTake, WorksOnIn, IsNext}
-use Rattle.device_model.specs.View.{Media, cause_of, halt_of, taken_in, busy_if_left, media_after, media_cleared, media_ended, transfer_operation, port_of, taken_of, blank_port}
+use Rattle.device_model.specs.View.{Media, cause_of, halt_of, taken_in, busy_if_left, media_after, media_cleared, media_ended, operation_of_kind, port_of, taken_of, blank_port}
 use Rattle.device_model.specs.Whole.{Outside, device_of, media_plugged, outside_after, outside_cleared, outside_ended, outside_plugged}
 use Rattle.device_model.specs.declared.port.TakenCommand.{TakenCommand}
 use Rattle.device_model.specs.declared.port.CommandKind.{CommandKind}
-use Rattle.device_model.specs.declared.port.CommandKind.TheVariants as transfer
+use Rattle.device_model.specs.declared.port.CommandKind.TheVariants as command_kind
 use Rattle.device_model.specs.declared.port.PortModel.{PortModel}
 use Rattle.device_model.specs.declared.hardware.Hardware.{Hardware}
 use Rattle.device_model.specs.declared.steps.NextMove.{NextMove}
@@ -45,7 +45,7 @@ moved_by port slot operation sector address direction bytes = record {
 
 -- a command is taken
 pub port_takes : (h : Hardware) (o : Outside) (p port slot : ℕ) (new : PortModel) (t : TakenCommand) → p ≡ port → p < length h.ports →
-    MayTake (port_of (slice_index_or h.ports p blank_port) (o.media p)) slot (transfer_operation t.transfer) →
+    MayTake (port_of (slice_index_or h.ports p blank_port) (o.media p)) slot (operation_of_kind t.command_kind) →
     DecodesTo (device_of h o).memory ((device_of h o).port p).bases.clb slot (taken_of t).meaning (taken_of t).places →
     port_of new (o.media p) ≡ with_fetch (port_of (slice_index_or h.ports p blank_port) (o.media p)) slot (taken_of t).meaning (taken_of t).places →
     DoesFetch port slot (device_of h o) (device_of (record h { ports = slice_set h.ports p new }) o)
@@ -102,40 +102,40 @@ plugged_in h o p port new tape disk number since name e some lasts is more =
     (rw (← e) at more ∙ ap (λ (x : Entry). h.tape.items ++ x ∷ []) named))
 
 is_cause : (k : CommandKind) → (cause_of k ≡ 0) ⊎ (cause_of k ≡ 1) ⊎ (cause_of k ≡ 3)
-is_cause transfer.Identify = inr (inl refl)
-is_cause transfer.Flush = inl refl
-is_cause transfer.Trim = inl refl
-is_cause transfer.ReadLog = inr (inl refl)
-is_cause transfer.Read = inl refl
-is_cause transfer.Write = inl refl
-is_cause transfer.ReadQueued = inr (inr refl)
-is_cause transfer.WriteQueued = inr (inr refl)
+is_cause command_kind.Identify = inr (inl refl)
+is_cause command_kind.Flush = inl refl
+is_cause command_kind.Trim = inl refl
+is_cause command_kind.ReadLog = inr (inl refl)
+is_cause command_kind.Read = inl refl
+is_cause command_kind.Write = inl refl
+is_cause command_kind.ReadQueued = inr (inr refl)
+is_cause command_kind.WriteQueued = inr (inr refl)
 
 -- a command of which nothing is left may end
 pub may_end : (h : Hardware) (o : Outside) (port slot : ℕ) (t : TakenCommand) → WorksOnIn (slice_index_or h.ports port blank_port) slot t →
-    IsFinished (taken_of t) → MayBeDone (device_of h o) port slot (cause_of t.transfer) (taken_of t)
+    IsFinished (taken_of t) → MayBeDone (device_of h o) port slot (cause_of t.command_kind) (taken_of t)
 may_end h o port slot t holds all = record {
   works = holds.works (o.media port);
   finished = all;
-  shown = is_cause t.transfer;
+  shown = is_cause t.command_kind;
 }
 
 -- a command is at its end, and its FIS is sent
 pub port_ends : (h : Hardware) (o : Outside) (p port slot : ℕ) (new : PortModel) (t : TakenCommand) (tape : Vec Entry) (last : Device) → p ≡ port →
     p < length h.ports → WorksOnIn (slice_index_or h.ports p blank_port) slot t → IsFinished (taken_of t) →
-    port_of new (media_ended (o.media p) (transfer_operation t.transfer)) ≡ with_flush (with_done (port_of (slice_index_or h.ports p blank_port) (o.media p)) slot (cause_of t.transfer) (transfer_operation t.transfer)) (transfer_operation t.transfer) (length h.tape.items) →
-    tape.items ≡ h.tape.items ++ done_entry port slot (transfer_operation t.transfer) ∷ [] →
-    SendsEnd slot p (cause_of t.transfer) (transfer_operation t.transfer) (device_of (record h { ports = slice_set h.ports p new; tape = tape }) (outside_ended o p (transfer_operation t.transfer))) last →
+    port_of new (media_ended (o.media p) (operation_of_kind t.command_kind)) ≡ with_flush (with_done (port_of (slice_index_or h.ports p blank_port) (o.media p)) slot (cause_of t.command_kind) (operation_of_kind t.command_kind)) (operation_of_kind t.command_kind) (length h.tape.items) →
+    tape.items ≡ h.tape.items ++ done_entry port slot (operation_of_kind t.command_kind) ∷ [] →
+    SendsEnd slot p (cause_of t.command_kind) (operation_of_kind t.command_kind) (device_of (record h { ports = slice_set h.ports p new; tape = tape }) (outside_ended o p (operation_of_kind t.command_kind))) last →
     EndsAndPosts (SendsEnd slot) port slot (device_of h o) last
 port_ends h o p port slot new t tape last e small holds all is more sends =
     subst (λ q. EndsAndPosts (SendsEnd slot) q slot (device_of h o) last) e
     (record {
-      mid = device_of (record h { ports = slice_set h.ports p new; tape = tape }) (outside_ended o p (transfer_operation t.transfer));
+      mid = device_of (record h { ports = slice_set h.ports p new; tape = tape }) (outside_ended o p (operation_of_kind t.command_kind));
       done = record {
-        flag = cause_of t.transfer;
+        flag = cause_of t.command_kind;
         t = taken_of t;
         can = may_end h o p slot t holds all;
-        effect = set_port_plugged h o p new (media_ended (o.media p) (transfer_operation t.transfer)) _ tape (done_entry p slot (transfer_operation t.transfer)) small is (rw e more);
+        effect = set_port_plugged h o p new (media_ended (o.media p) (operation_of_kind t.command_kind)) _ tape (done_entry p slot (operation_of_kind t.command_kind)) small is (rw e more);
       };
       posts = sends;
     })
@@ -177,7 +177,7 @@ may_fail h o port slot error busy t byte held cr = record {
 -- and it does
 pub port_fails : (h : Hardware) (o : Outside) (p port slot error : ℕ) (busy : Bool) (new : PortModel) (t : TakenCommand) (queued : Bool) (tape : Vec Entry) → p ≡ port →
     p < length h.ports → error < 256 → taken_in (slice_index_or h.ports port blank_port).taken slot ≡ Some t → (slice_index_or h.ports port blank_port).cr ≡ true →
-    queued ≡ is_queued (transfer_operation t.transfer) → port_of new (o.media p) ≡ with_fault (port_of (slice_index_or h.ports p blank_port) (o.media p)) queued error (busy_if_left busy) →
+    queued ≡ is_queued (operation_of_kind t.command_kind) → port_of new (o.media p) ≡ with_fault (port_of (slice_index_or h.ports p blank_port) (o.media p)) queued error (busy_if_left busy) →
     tape.items ≡ h.tape.items ++ fault_entry port slot error (busy_if_left busy) ∷ [] →
     (f : DoesFault port slot error (busy_if_left busy) (device_of h o) (device_of (record h { ports = slice_set h.ports p new; tape = tape }) o)) × (queued ≡ is_queued f.t.meaning.operation)
 port_fails h o p port slot error busy new t queued tape e small byte held cr kind is more = (
@@ -186,7 +186,7 @@ port_fails h o p port slot error busy new t queued tape e small byte held cr kin
     can = may_fail h o port slot error busy t byte held cr;
     effect =
         let P : ℕ → Type 0 = λ q. device_of (record h { ports = slice_set h.ports p new; tape = tape }) o
-        ≡ recorded (device_of h o) q (with_fault ((device_of h o).port q) (is_queued (transfer_operation t.transfer)) error (busy_if_left busy)) (fault_entry q slot error (busy_if_left busy)) in
+        ≡ recorded (device_of h o) q (with_fault ((device_of h o).port q) (is_queued (operation_of_kind t.command_kind)) error (busy_if_left busy)) (fault_entry q slot error (busy_if_left busy)) in
         subst P e
         (set_port_recorded h o p new _ tape (fault_entry p slot error (busy_if_left busy)) small
         (is ∙ ap (λ (b : Bool). with_fault (port_of (slice_index_or h.ports p blank_port) (o.media p)) b error (busy_if_left busy)) kind) (rw (← e) at more));
@@ -217,24 +217,24 @@ port_breaks h o p port error new tape e small runs is more =
 pub port_moves : (h : Hardware) (o : Outside) (p port slot : ℕ) (next : NextMove) (new : PortModel) (t : TakenCommand) (tape : Vec Entry) (memory : Vec ℕ)
     (bytes : List ℕ) (operation : Operation) (direction : Direction) → p ≡ port → p < length h.ports → IsNext h port slot next t →
     port_of new (media_after (o.media p) (taken_of t) bytes) ≡ with_move (port_of (slice_index_or h.ports p blank_port) (o.media p)) slot (taken_of t) bytes →
-    operation ≡ transfer_operation next.transfer → direction ≡ direction_of (transfer_operation next.transfer) →
+    operation ≡ operation_of_kind next.command_kind → direction ≡ direction_of (operation_of_kind next.command_kind) →
     tape.items ≡ h.tape.items ++ entry.Move (moved_by port slot operation next.sector next.address direction bytes) ∷ [] →
     length memory.items ≡ length h.memory.items →
     bytes_of memory.items
-    ≡ (if reads_memory (transfer_operation next.transfer) then bytes_of h.memory.items else patched (bytes_of h.memory.items) next.address bytes) →
+    ≡ (if reads_memory (operation_of_kind next.command_kind) then bytes_of h.memory.items else patched (bytes_of h.memory.items) next.address bytes) →
     device_of (record h { memory = memory; ports = slice_set h.ports p new; tape = tape }) (outside_after o port (taken_of t) bytes)
     ≡ device_after (Move port slot (taken_of t) bytes) (device_of h o)
 port_moves h o p port slot next new t tape memory bytes operation direction e small is moves named way more size put =
-    let kind : next.transfer ≡ t.transfer = is.transfer_is in
+    let kind : next.command_kind ≡ t.command_kind = is.kind_is in
     let sector : next.sector ≡ next_sector (taken_of t) = is.sector_is in
     let place : next.address ≡ next_place (taken_of t) = is.address_is in
-    let asks : operation ≡ transfer_operation t.transfer = named ∙ ap transfer_operation kind in
-    let goes : direction ≡ direction_of (transfer_operation t.transfer) = way ∙ ap (λ (k : CommandKind). direction_of (transfer_operation k)) kind in
+    let asks : operation ≡ operation_of_kind t.command_kind = named ∙ ap operation_of_kind kind in
+    let goes : direction ≡ direction_of (operation_of_kind t.command_kind) = way ∙ ap (λ (k : CommandKind). direction_of (operation_of_kind k)) kind in
     let back : port ≡ p = sym e in
     let entries : tape.items ≡ h.tape.items ++ entry.Move (move_of p slot (taken_of t) bytes) ∷ [] =
     more ∙ (λ i. h.tape.items ++ entry.Move (moved_by (back i) slot (asks i) (sector i) (place i) (goes i) bytes) ∷ []) in
     let kept : bytes_of memory.items ≡ device_memory_after (bytes_of h.memory.items) (taken_of t) bytes =
-    put ∙ (λ i. if reads_memory (transfer_operation (kind i)) then bytes_of h.memory.items else patched (bytes_of h.memory.items) (place i) bytes) in
+    put ∙ (λ i. if reads_memory (operation_of_kind (kind i)) then bytes_of h.memory.items else patched (bytes_of h.memory.items) (place i) bytes) in
     let new_memory : Vec ℕ = memory in
     subst (λ q. device_of (record h { memory = new_memory; ports = slice_set h.ports p new; tape = tape }) (outside_after o q (taken_of t) bytes)
     ≡ device_after (Move q slot (taken_of t) bytes) (device_of h o)) e
@@ -243,41 +243,41 @@ port_moves h o p port slot next new t tape memory bytes operation direction e sm
 
 -- what the disk gave or took may be moved
 pub may_move : (h : Hardware) (o : Outside) (port slot : ℕ) (next : NextMove) (t : TakenCommand) (bytes : List ℕ) → IsNext h port slot next t →
-    IsSector bytes → (is_ranged (transfer_operation next.transfer) ≡ true → next.sector < (o.media port).disk.size) →
-    (is_ranged (transfer_operation next.transfer) ≡ true → reads_memory (transfer_operation next.transfer) ≡ false → IfSome (o.media port).disk.sectors (λ f. bytes ≡ f next.sector)) →
-    (reads_memory (transfer_operation next.transfer) ≡ true → bytes ≡ bytes_at (bytes_of h.memory.items) next.address 512) → MayMove (device_of h o) port slot (taken_of t) bytes
+    IsSector bytes → (is_ranged (operation_of_kind next.command_kind) ≡ true → next.sector < (o.media port).disk.size) →
+    (is_ranged (operation_of_kind next.command_kind) ≡ true → reads_memory (operation_of_kind next.command_kind) ≡ false → IfSome (o.media port).disk.sectors (λ f. bytes ≡ f next.sector)) →
+    (reads_memory (operation_of_kind next.command_kind) ≡ true → bytes ≡ bytes_at (bytes_of h.memory.items) next.address 512) → MayMove (device_of h o) port slot (taken_of t) bytes
 may_move h o port slot next t bytes is sized small gives takes =
     record {
       works = is.holds.works (o.media port);
       left = is.left;
       sector = sized;
-      brings = subst (λ (k : CommandKind). Brings (o.media port).disk (bytes_of h.memory.items) (taken_of t) (transfer_operation k) bytes) is.transfer_is
-          (by next.transfer refl);
+      brings = subst (λ (k : CommandKind). Brings (o.media port).disk (bytes_of h.memory.items) (taken_of t) (operation_of_kind k) bytes) is.kind_is
+          (by next.command_kind refl);
     }
   where
-    given : is_ranged (transfer_operation next.transfer) ≡ true → reads_memory (transfer_operation next.transfer) ≡ false →
+    given : is_ranged (operation_of_kind next.command_kind) ≡ true → reads_memory (operation_of_kind next.command_kind) ≡ false →
         (next_sector (taken_of t) < (o.media port).disk.size) × IfSome (o.media port).disk.sectors (λ f. bytes ≡ f (next_sector (taken_of t)))
     given ranged reads =
         let sector : next.sector ≡ next_sector (taken_of t) = is.sector_is in
         (rw sector at (small ranged), rw sector at (gives ranged reads))
 
-    taken : is_ranged (transfer_operation next.transfer) ≡ true → reads_memory (transfer_operation next.transfer) ≡ true →
+    taken : is_ranged (operation_of_kind next.command_kind) ≡ true → reads_memory (operation_of_kind next.command_kind) ≡ true →
         (next_sector (taken_of t) < (o.media port).disk.size) × (bytes ≡ bytes_at (bytes_of h.memory.items) (next_place (taken_of t)) 512)
     taken ranged reads =
         let sector : next.sector ≡ next_sector (taken_of t) = is.sector_is in
         let place : next.address ≡ next_place (taken_of t) = is.address_is in
         (rw sector at (small ranged), rw place at (takes reads))
 
-    by : (k : CommandKind) → next.transfer ≡ k → Brings (o.media port).disk (bytes_of h.memory.items) (taken_of t) (transfer_operation k) bytes
-    by transfer.Read e = given (ap (λ (k : CommandKind). is_ranged (transfer_operation k)) e) (ap (λ (k : CommandKind). reads_memory (transfer_operation k)) e)
-    by transfer.Write e = taken (ap (λ (k : CommandKind). is_ranged (transfer_operation k)) e) (ap (λ (k : CommandKind). reads_memory (transfer_operation k)) e)
-    by transfer.ReadQueued e = given (ap (λ (k : CommandKind). is_ranged (transfer_operation k)) e) (ap (λ (k : CommandKind). reads_memory (transfer_operation k)) e)
-    by transfer.WriteQueued e = taken (ap (λ (k : CommandKind). is_ranged (transfer_operation k)) e) (ap (λ (k : CommandKind). reads_memory (transfer_operation k)) e)
-    by transfer.Identify e = tt
-    by transfer.Flush e = tt
-    by transfer.ReadLog e = tt
-    by transfer.Trim e =
-        let place : next.address ≡ next_place (taken_of t) = is.address_is in rw place at (takes (ap (λ (k : CommandKind). reads_memory (transfer_operation k)) e))
+    by : (k : CommandKind) → next.command_kind ≡ k → Brings (o.media port).disk (bytes_of h.memory.items) (taken_of t) (operation_of_kind k) bytes
+    by command_kind.Read e = given (ap (λ (k : CommandKind). is_ranged (operation_of_kind k)) e) (ap (λ (k : CommandKind). reads_memory (operation_of_kind k)) e)
+    by command_kind.Write e = taken (ap (λ (k : CommandKind). is_ranged (operation_of_kind k)) e) (ap (λ (k : CommandKind). reads_memory (operation_of_kind k)) e)
+    by command_kind.ReadQueued e = given (ap (λ (k : CommandKind). is_ranged (operation_of_kind k)) e) (ap (λ (k : CommandKind). reads_memory (operation_of_kind k)) e)
+    by command_kind.WriteQueued e = taken (ap (λ (k : CommandKind). is_ranged (operation_of_kind k)) e) (ap (λ (k : CommandKind). reads_memory (operation_of_kind k)) e)
+    by command_kind.Identify e = tt
+    by command_kind.Flush e = tt
+    by command_kind.ReadLog e = tt
+    by command_kind.Trim e =
+        let place : next.address ≡ next_place (taken_of t) = is.address_is in rw place at (takes (ap (λ (k : CommandKind). reads_memory (operation_of_kind k)) e))
 
 -- sectors of a trim are cleared
 pub port_clears : (h : Hardware) (o : Outside) (p port slot first count : ℕ) (new : PortModel) (t : TakenCommand) (tape : Vec Entry) → p ≡ port →

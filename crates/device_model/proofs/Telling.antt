@@ -14,14 +14,14 @@ use Rattle.hba_regs.specs.declared.reg.Reg.TheVariants.{Cap, Ghc, Is, Pi, Vs, Ca
 use Rattle.device_model.specs.Disks.{bay_of, identity, identity_of, says_of}
 use Rattle.device_model.specs.Paged.{BringsOf, GainsPages, IsSentLog, IsSentIdentify}
 use Rattle.device_model.specs.Sent.{SendsEnd}
-use Rattle.device_model.specs.View.{transfer_operation}
+use Rattle.device_model.specs.View.{operation_of_kind}
 use Rattle.device_model.specs.Whole.{Outside, device_of}
 use Rattle.device_model.specs.declared.bay.Bay.{Bay}
 use Rattle.device_model.specs.declared.model.Model.{Model}
 use Rattle.device_model.specs.declared.port.CommandKind.{CommandKind}
 use Rattle.device_model.proofs.Posting.{end_rest}
 use Rattle.device_model.proofs.Transfers.{is_identify, is_log}
-use Rattle.device_model.specs.declared.port.CommandKind.TheVariants as transfer
+use Rattle.device_model.specs.declared.port.CommandKind.TheVariants as command_kind
 
 -- a reading and a write leave the tape
 pub noted_tape : (r : Reg) (v : ℕ) (d : Device) → (noted r v d).tape ≡ d.tape
@@ -72,8 +72,8 @@ module _ {S : Type 0} (size : S → ℕ) where
 
   -- a move was noted, of a port that has these disks
   pub gains_moved : (old new : Model S) (bay : Bay S) (k : CommandKind) (m : Move) → bay_of old m.port.0 ≡ Some bay →
-      new.hardware.tape.items ≡ old.hardware.tape.items ++ entry.Move m ∷ [] → m.operation ≡ transfer_operation k →
-      (k ≡ transfer.Identify → IsSentIdentify (identity size bay.disk) bay.says m.bytes.value) → (k ≡ transfer.ReadLog → IsSentLog bay.says m.bytes.value) →
+      new.hardware.tape.items ≡ old.hardware.tape.items ++ entry.Move m ∷ [] → m.operation ≡ operation_of_kind k →
+      (k ≡ command_kind.Identify → IsSentIdentify (identity size bay.disk) bay.says m.bytes.value) → (k ≡ command_kind.ReadLog → IsSentLog bay.says m.bytes.value) →
       GainsPages size old new
   gains_moved old new bay k m was more named page log =
       gains_one old new (entry.Move m) more

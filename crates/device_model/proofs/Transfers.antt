@@ -12,46 +12,46 @@ use Rattle.adapter.specs.declared.command.Operation.TheVariants.{Identify, Read,
 use Rattle.device_model.proofs.Absurd.{true-false}
 use Rattle.device_model.specs.Finishing.{sends_page}
 use Rattle.device_model.specs.Trims.{changes_ahead, written_ahead}
-use Rattle.device_model.specs.View.{transfer_operation}
+use Rattle.device_model.specs.View.{operation_of_kind}
 use Rattle.device_model.specs.declared.port.CommandKind.{CommandKind}
-use Rattle.device_model.specs.declared.port.CommandKind.TheVariants as transfer
+use Rattle.device_model.specs.declared.port.CommandKind.TheVariants as command_kind
 
 -- so many bytes are a sector
 pub fits_sector : (bytes : List ℕ) → length bytes ≡ 512 → ((k : ℕ) → slice_index bytes k < 256) → IsSector bytes
 fits_sector bytes long small = (long, λ k d less. rw (get_or_default_zero bytes k d less) (small k))
 
 -- no command but a trim keeps what it moves
-pub no_block : (k : CommandKind) (bytes old : List ℕ) → (k ≡ transfer.Trim → ⊥) → block_after (transfer_operation k) bytes old ≡ old
-no_block transfer.Read bytes old other = refl
-no_block transfer.Write bytes old other = refl
-no_block transfer.ReadQueued bytes old other = refl
-no_block transfer.WriteQueued bytes old other = refl
-no_block transfer.Identify bytes old other = refl
-no_block transfer.Flush bytes old other = refl
-no_block transfer.Trim bytes old other = absurd (other refl)
-no_block transfer.ReadLog bytes old other = refl
+pub no_block : (k : CommandKind) (bytes old : List ℕ) → (k ≡ command_kind.Trim → ⊥) → block_after (operation_of_kind k) bytes old ≡ old
+no_block command_kind.Read bytes old other = refl
+no_block command_kind.Write bytes old other = refl
+no_block command_kind.ReadQueued bytes old other = refl
+no_block command_kind.WriteQueued bytes old other = refl
+no_block command_kind.Identify bytes old other = refl
+no_block command_kind.Flush bytes old other = refl
+no_block command_kind.Trim bytes old other = absurd (other refl)
+no_block command_kind.ReadLog bytes old other = refl
 
 -- the command whose operation is a trim
-pub is_trim : (k : CommandKind) → transfer_operation k ≡ Trim → k ≡ transfer.Trim
-is_trim transfer.Read e = cc
-is_trim transfer.Write e = cc
-is_trim transfer.ReadQueued e = cc
-is_trim transfer.WriteQueued e = cc
-is_trim transfer.Identify e = cc
-is_trim transfer.Flush e = cc
-is_trim transfer.Trim e = refl
-is_trim transfer.ReadLog e = cc
+pub is_trim : (k : CommandKind) → operation_of_kind k ≡ Trim → k ≡ command_kind.Trim
+is_trim command_kind.Read e = cc
+is_trim command_kind.Write e = cc
+is_trim command_kind.ReadQueued e = cc
+is_trim command_kind.WriteQueued e = cc
+is_trim command_kind.Identify e = cc
+is_trim command_kind.Flush e = cc
+is_trim command_kind.Trim e = refl
+is_trim command_kind.ReadLog e = cc
 
 -- each operation is that of a command that the model takes
-pub transfer_of : (o : Operation) → (k : CommandKind) × (o ≡ transfer_operation k)
-transfer_of Read = (transfer.Read, refl)
-transfer_of Write = (transfer.Write, refl)
-transfer_of ReadQueued = (transfer.ReadQueued, refl)
-transfer_of WriteQueued = (transfer.WriteQueued, refl)
-transfer_of Identify = (transfer.Identify, refl)
-transfer_of Flush = (transfer.Flush, refl)
-transfer_of Trim = (transfer.Trim, refl)
-transfer_of ReadLog = (transfer.ReadLog, refl)
+pub kind_of_operation : (o : Operation) → (k : CommandKind) × (o ≡ operation_of_kind k)
+kind_of_operation Read = (command_kind.Read, refl)
+kind_of_operation Write = (command_kind.Write, refl)
+kind_of_operation ReadQueued = (command_kind.ReadQueued, refl)
+kind_of_operation WriteQueued = (command_kind.WriteQueued, refl)
+kind_of_operation Identify = (command_kind.Identify, refl)
+kind_of_operation Flush = (command_kind.Flush, refl)
+kind_of_operation Trim = (command_kind.Trim, refl)
+kind_of_operation ReadLog = (command_kind.ReadLog, refl)
 
 -- a command that names no sectors is plain
 pub unranged_plain : (o : Operation) → is_ranged o ≡ false → is_queued o ≡ false
@@ -78,15 +78,15 @@ mapped_tells sector bytes (Some f) = refl
 
 -- a disk tells its sectors after a move as it did
 pub still_tells : (k : CommandKind) (disk : Disk) (sector : ℕ) (bytes : List ℕ) →
-    is_some (disk_after (transfer_operation k) disk sector bytes).sectors ≡ is_some disk.sectors
-still_tells transfer.Read disk sector bytes = refl
-still_tells transfer.ReadQueued disk sector bytes = refl
-still_tells transfer.Identify disk sector bytes = refl
-still_tells transfer.Flush disk sector bytes = refl
-still_tells transfer.Trim disk sector bytes = refl
-still_tells transfer.ReadLog disk sector bytes = refl
-still_tells transfer.Write disk sector bytes = mapped_tells sector bytes disk.sectors
-still_tells transfer.WriteQueued disk sector bytes = mapped_tells sector bytes disk.sectors
+    is_some (disk_after (operation_of_kind k) disk sector bytes).sectors ≡ is_some disk.sectors
+still_tells command_kind.Read disk sector bytes = refl
+still_tells command_kind.ReadQueued disk sector bytes = refl
+still_tells command_kind.Identify disk sector bytes = refl
+still_tells command_kind.Flush disk sector bytes = refl
+still_tells command_kind.Trim disk sector bytes = refl
+still_tells command_kind.ReadLog disk sector bytes = refl
+still_tells command_kind.Write disk sector bytes = mapped_tells sector bytes disk.sectors
+still_tells command_kind.WriteQueued disk sector bytes = mapped_tells sector bytes disk.sectors
 
 one_replaced : (f : ℕ → List ℕ) (sector : ℕ) (bytes : List ℕ) → replaced f sector bytes ≡ changed f sector bytes
 unfolding changed
@@ -98,26 +98,26 @@ pub replaced_is : (told : Option (ℕ → List ℕ)) (sector : ℕ) (bytes : Lis
 replaced_is told sector bytes = ap (λ (g : (ℕ → List ℕ) → ℕ → List ℕ). option_map g told) (λ i f. one_replaced f sector bytes i)
 
 -- the command whose operation is IDENTIFY DEVICE
-pub is_identify : (k : CommandKind) → transfer_operation k ≡ Identify → k ≡ transfer.Identify
-is_identify transfer.Read e = cc
-is_identify transfer.Write e = cc
-is_identify transfer.ReadQueued e = cc
-is_identify transfer.WriteQueued e = cc
-is_identify transfer.Identify e = refl
-is_identify transfer.Flush e = cc
-is_identify transfer.Trim e = cc
-is_identify transfer.ReadLog e = cc
+pub is_identify : (k : CommandKind) → operation_of_kind k ≡ Identify → k ≡ command_kind.Identify
+is_identify command_kind.Read e = cc
+is_identify command_kind.Write e = cc
+is_identify command_kind.ReadQueued e = cc
+is_identify command_kind.WriteQueued e = cc
+is_identify command_kind.Identify e = refl
+is_identify command_kind.Flush e = cc
+is_identify command_kind.Trim e = cc
+is_identify command_kind.ReadLog e = cc
 
 -- and READ LOG EXT
-pub is_log : (k : CommandKind) → transfer_operation k ≡ ReadLog → k ≡ transfer.ReadLog
-is_log transfer.Read e = cc
-is_log transfer.Write e = cc
-is_log transfer.ReadQueued e = cc
-is_log transfer.WriteQueued e = cc
-is_log transfer.Identify e = cc
-is_log transfer.Flush e = cc
-is_log transfer.Trim e = cc
-is_log transfer.ReadLog e = refl
+pub is_log : (k : CommandKind) → operation_of_kind k ≡ ReadLog → k ≡ command_kind.ReadLog
+is_log command_kind.Read e = cc
+is_log command_kind.Write e = cc
+is_log command_kind.ReadQueued e = cc
+is_log command_kind.WriteQueued e = cc
+is_log command_kind.Identify e = cc
+is_log command_kind.Flush e = cc
+is_log command_kind.Trim e = cc
+is_log command_kind.ReadLog e = refl
 
 -- a command that sends a page names no sectors, and is plain
 pub page_unranged : (o : Operation) → sends_page o ≡ true → is_ranged o ≡ false
@@ -154,12 +154,12 @@ pub page_plain : (o : Operation) → sends_page o ≡ true → is_queued o ≡ f
 page_plain o e = unranged_plain o (page_unranged o e)
 
 -- of two that are queued neither is a trim
-pub both_queued : (k l : CommandKind) → is_queued (transfer_operation k) && is_queued (transfer_operation l) ≡ true → (k ≡ transfer.Trim → ⊥) × (l ≡ transfer.Trim → ⊥)
-both_queued k l both = (λ trim. true-false both (first trim), λ trim. true-false both (second (is_queued (transfer_operation k)) trim))
+pub both_queued : (k l : CommandKind) → is_queued (operation_of_kind k) && is_queued (operation_of_kind l) ≡ true → (k ≡ command_kind.Trim → ⊥) × (l ≡ command_kind.Trim → ⊥)
+both_queued k l both = (λ trim. true-false both (first trim), λ trim. true-false both (second (is_queued (operation_of_kind k)) trim))
   where
-    first : k ≡ transfer.Trim → is_queued (transfer_operation k) && is_queued (transfer_operation l) ≡ false
-    first trim = ap (λ (x : CommandKind). is_queued (transfer_operation x) && is_queued (transfer_operation l)) trim
+    first : k ≡ command_kind.Trim → is_queued (operation_of_kind k) && is_queued (operation_of_kind l) ≡ false
+    first trim = ap (λ (x : CommandKind). is_queued (operation_of_kind x) && is_queued (operation_of_kind l)) trim
 
-    second : (b : Bool) → l ≡ transfer.Trim → b && is_queued (transfer_operation l) ≡ false
-    second true trim = ap (λ (x : CommandKind). is_queued (transfer_operation x)) trim
+    second : (b : Bool) → l ≡ command_kind.Trim → b && is_queued (operation_of_kind l) ≡ false
+    second true trim = ap (λ (x : CommandKind). is_queued (operation_of_kind x)) trim
     second false trim = refl

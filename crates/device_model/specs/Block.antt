@@ -26,7 +26,7 @@ taken_from slot filled (room ∷ rooms) = (if bit filled slot then Some room els
 -- command has a number of 48 bits.
 pub record HasBlock (taken : ℕ → Option TakenCommand) (block : List ℕ) : Type 0 where
   pub alone : (slot other : ℕ) (t u : TakenCommand) → taken slot ≡ Some t → taken other ≡ Some u →
-      t.transfer ≡ Trim → other ≡ slot
+      t.command_kind ≡ Trim → other ≡ slot
   pub is : (slot : ℕ) (t : TakenCommand) (b : Snapshot (List ℕ)) → taken slot ≡ Some t → t.block ≡ Some b →
-      (t.transfer ≡ Trim) × (b.value ≡ block)
+      (t.command_kind ≡ Trim) × (b.value ≡ block)
   pub low : (slot : ℕ) (t : TakenCommand) → taken slot ≡ Some t → t.first < 2 ^ 48

@@ -10,7 +10,7 @@ use Rattle.device_model.specs.Disks.{disk_over, identity, lasting_of}
 use Rattle.device_model.specs.Fetched.{bytes_of}
 use Rattle.device_model.specs.Paged.{IsSentLog, IsSentIdentify}
 use Rattle.device_model.specs.Trims.{written_ahead}
-use Rattle.device_model.specs.View.{transfer_operation}
+use Rattle.device_model.specs.View.{operation_of_kind}
 use Rattle.device_model.specs.declared.bay.Bay.{Bay}
 use Rattle.device_model.specs.declared.hardware.Hardware.{Hardware}
 use Rattle.device_model.specs.declared.port.CommandKind.TheVariants.{Identify, ReadLog}
@@ -25,7 +25,7 @@ pub record IsTransferred (old new : Hardware) (next : NextMove) : Type 0 where
   pub rest : new ≡ record old { memory = new.memory }
   pub size : length new.memory.items ≡ length old.memory.items
   pub put : bytes_of new.memory.items
-      ≡ (if reads_memory (transfer_operation next.transfer) then bytes_of old.memory.items
+      ≡ (if reads_memory (operation_of_kind next.command_kind) then bytes_of old.memory.items
       else patched (bytes_of old.memory.items) next.address (piece_of new next))
 
 -- Bytes of memory, as they were and as they are now. The disk that is in has given them: the sector of a read, or its
@@ -33,28 +33,30 @@ pub record IsTransferred (old new : Hardware) (next : NextMove) : Type 0 where
 -- told, and the bytes are as they were. What is lasting of the disk stays so.
 pub record TransfersPiece {S : Type 0} (size : S → ℕ) (told : S → Option (ℕ → List ℕ)) (failures : S → Option Failures)
     (old new : Bay S) (next : NextMove) (before after : List ℕ) (done : Bool) : Type 0 where
-  pub inside : done ≡ true → is_ranged (transfer_operation next.transfer) ≡ true → next.sector < size old.disk.store
+  pub inside : done ≡ true → is_ranged (operation_of_kind next.command_kind) ≡ true → next.sector < size old.disk.store
   pub sector : IsSector after
-  pub gives : done ≡ true → is_ranged (transfer_operation next.transfer) ≡ true →
-      reads_memory (transfer_operation next.transfer) ≡ false →
+  pub gives : done ≡ true → is_ranged (operation_of_kind next.command_kind) ≡ true →
+      reads_memory (operation_of_kind next.command_kind) ≡ false →
       IfSome (told old.disk.store) (λ told. after ≡ told next.sector)
-  pub takes : reads_memory (transfer_operation next.transfer) ≡ true → after ≡ before
+  pub takes : reads_memory (operation_of_kind next.command_kind) ≡ true → after ≡ before
   pub left : done ≡ false → after ≡ before
-  pub page : done ≡ true → next.transfer ≡ Identify → IsSentIdentify (identity size old.disk) old.says after
-  pub log : done ≡ true → next.transfer ≡ ReadLog → IsSentLog old.says after
-  pub same : is_ranged (transfer_operation next.transfer) ≡ false → new ≡ old
+  pub page : done ≡ true → next.command_kind ≡ Identify → IsSentIdentify (identity size old.disk) old.says after
+  pub log : done ≡ true → next.command_kind ≡ ReadLog → IsSentLog old.says after
+  pub same : is_ranged (operation_of_kind next.command_kind) ≡ false → new ≡ old
   pub disk : done ≡ true → disk_over old.which (size new.disk.store) (told new.disk.store)
-      ≡ disk_after (transfer_operation next.transfer) (disk_over old.which (size old.disk.store) (told old.disk.store))
+      ≡ disk_after (operation_of_kind next.command_kind) (disk_over old.which (size old.disk.store) (told
+      old.disk.store))
       next.sector after
   pub kept : done ≡ false → told new.disk.store ≡ told old.disk.store
   pub sized : size new.disk.store ≡ size old.disk.store
   pub fine : done ≡ true → failures new.disk.store ≡ failures old.disk.store
-  pub ranged : done ≡ false → is_ranged (transfer_operation next.transfer) ≡ true
+  pub ranged : done ≡ false → is_ranged (operation_of_kind next.command_kind) ≡ true
   pub fails : done ≡ false → next.sector < size old.disk.store →
-      CallFails old.cache.is_on (reads_memory (transfer_operation next.transfer)) next.sector (failures old.disk.store)
+      CallFails old.cache.is_on (reads_memory (operation_of_kind next.command_kind)) next.sector (failures
+      old.disk.store)
       (failures new.disk.store)
   pub lasting : lasting_of told new ≡ lasting_of told old
   pub cached : new.cache.is_on ≡ old.cache.is_on
-  pub old_room : (n : ℕ) → HasOldRoom old.cache (written_ahead (transfer_operation next.transfer) 1 + n)
+  pub old_room : (n : ℕ) → HasOldRoom old.cache (written_ahead (operation_of_kind next.command_kind) 1 + n)
       → HasOldRoom new.cache n
   pub rest : new ≡ record old { disk = record old.disk { store = new.disk.store }; cache = new.cache }

@@ -12,7 +12,7 @@ use Rattle.adapter.specs.declared.command.Prd.{Prd}
 use Rattle.device_model.specs.Cached.{HasOldRoom}
 use Rattle.device_model.specs.Trims.{WillClear, changes_ahead}
 use Rattle.device_model.specs.Fetched.{bytes_of}
-use Rattle.device_model.specs.View.{transfer_operation, taken_of}
+use Rattle.device_model.specs.View.{operation_of_kind, taken_of}
 use Rattle.device_model.specs.Whole.{HasDisks, Outside, device_of}
 use Rattle.device_model.specs.declared.cache.Cache.{Cache}
 use Rattle.device_model.specs.declared.hardware.Hardware.{Hardware}
@@ -110,7 +110,7 @@ HasRoomAhead cache port slot left d = (t : FetchedCommand) → (d.port port).tak
 abbrev pub IsRemaining : TakenCommand → List ℕ → (left clears : ℕ) → Type 0
 IsRemaining t memory left clears =
     IsCovered (taken_of t) (length memory) left
-    × WillClear (transfer_operation t.transfer) (bytes_of memory) (taken_of t)
+    × WillClear (operation_of_kind t.command_kind) (bytes_of memory) (taken_of t)
     clears
 
 -- It is begun: so many moves and clears are left of it, each possible, and there is room for them and the end; it is

@@ -5,7 +5,7 @@ use Rattle.adapter.specs.Device.{DevicePort}
 use Rattle.adapter.specs.Decoding.{pieces}
 use Rattle.adapter.specs.Steps.{IsFetchable, IsWorking, IsUnmixed, WorksOn, admits, next_sector}
 use Rattle.adapter.specs.declared.command.Operation.{Operation}
-use Rattle.device_model.specs.View.{Media, halt_of, taken_in, port_of, transfer_operation, taken_of, blank_port}
+use Rattle.device_model.specs.View.{Media, halt_of, taken_in, port_of, operation_of_kind, taken_of, blank_port}
 use Rattle.device_model.specs.declared.port.TakenCommand.{TakenCommand}
 use Rattle.device_model.specs.declared.port.PortModel.{PortModel}
 use Rattle.device_model.specs.declared.hardware.Hardware.{Hardware}
@@ -34,12 +34,12 @@ IsOpenTo p operation = (admits (halt_of p.halting) operation ≡ true) × ((m : 
 -- the port works on this command, which it has taken in this slot
 pub record WorksOnIn (p : PortModel) (slot : ℕ) (t : TakenCommand) : Type 0 where
   pub held : taken_in p.taken slot ≡ Some t
-  pub works : (m : Media) → WorksOn (port_of p m) slot (taken_of t) (transfer_operation t.transfer)
+  pub works : (m : Media) → WorksOn (port_of p m) slot (taken_of t) (operation_of_kind t.command_kind)
 
 -- so many of the next sectors of this command can be cleared: a trim whose block was moved, and of which as many are
 -- left, one at least
 pub record CanClear (t : TakenCommand) (most : ℕ) : Type 0 where
-  pub trim : t.transfer ≡ Trim
+  pub trim : t.command_kind ≡ Trim
   pub moved : t.moved ≡ length (pieces t.prds)
   pub some : 1 ≤ most
   pub enough : most ≤ length (uncleared (taken_of t))
@@ -61,14 +61,14 @@ pub record AreBehind (size : ℕ) (next : NextMove) (t : TakenCommand) : Type 0 
   pub inside : next.address + 512 * next.behind + 512 ≤ size
   pub low : next.address + 512 * next.behind < 2 ^ 32
   pub numbered : next.sector + next.behind < 2 ^ 64
-  pub ranged : 1 ≤ next.behind → is_ranged (transfer_operation t.transfer) ≡ true
+  pub ranged : 1 ≤ next.behind → is_ranged (operation_of_kind t.command_kind) ≡ true
 
 -- the next piece of this command goes to or from this address, and is this sector, if it is one
 pub record IsNext (h : Hardware) (port slot : ℕ) (next : NextMove) (t : TakenCommand) : Type 0 where
   pub holds : WorksOnIn (slice_index_or h.ports port blank_port) slot t
   pub left : t.moved < length (pieces t.prds)
   pub room : t.moved + 1 < 2 ^ 32
-  pub transfer_is : next.transfer ≡ t.transfer
+  pub kind_is : next.command_kind ≡ t.command_kind
   pub sector_is : next.sector ≡ next_sector (taken_of t)
   pub address_is : next.address ≡ slice_index (pieces t.prds) t.moved
   pub inside : next.address + 512 ≤ length h.memory.items

@@ -17,7 +17,7 @@ use Rattle.device_model.specs.declared.port.Addresses.{Addresses}
 use Rattle.device_model.specs.declared.port.Readings.{Readings}
 use Rattle.device_model.specs.declared.port.TakenCommand.{TakenCommand}
 use Rattle.device_model.specs.declared.port.CommandKind.{CommandKind}
-use Rattle.device_model.specs.declared.port.CommandKind.TheVariants as transfer
+use Rattle.device_model.specs.declared.port.CommandKind.TheVariants as command_kind
 use Rattle.device_model.specs.declared.port.PortModel.{PortModel}
 
 abbrev pub bases_of : Addresses → Bases
@@ -49,23 +49,23 @@ notes_of r =
       acknowledged = r.acknowledged;
     }
 
-abbrev pub transfer_operation : CommandKind → Operation
-transfer_operation transfer.Read = Read
-transfer_operation transfer.Write = Write
-transfer_operation transfer.ReadQueued = ReadQueued
-transfer_operation transfer.WriteQueued = WriteQueued
-transfer_operation transfer.Identify = Identify
-transfer_operation transfer.Flush = Flush
-transfer_operation transfer.Trim = Trim
-transfer_operation transfer.ReadLog = ReadLog
+abbrev pub operation_of_kind : CommandKind → Operation
+operation_of_kind command_kind.Read = Read
+operation_of_kind command_kind.Write = Write
+operation_of_kind command_kind.ReadQueued = ReadQueued
+operation_of_kind command_kind.WriteQueued = WriteQueued
+operation_of_kind command_kind.Identify = Identify
+operation_of_kind command_kind.Flush = Flush
+operation_of_kind command_kind.Trim = Trim
+operation_of_kind command_kind.ReadLog = ReadLog
 
 -- the cause in PxIS that its end sets: PSS where its data go by PIO, SDBS where it was queued, and else DHRS (AHCI
 -- 1.3.1, 3.3.5)
 abbrev pub cause_of : CommandKind → ℕ
-cause_of transfer.Identify = 1
-cause_of transfer.ReadLog = 1
-cause_of transfer.ReadQueued = 3
-cause_of transfer.WriteQueued = 3
+cause_of command_kind.Identify = 1
+cause_of command_kind.ReadLog = 1
+cause_of command_kind.ReadQueued = 3
+cause_of command_kind.WriteQueued = 3
 cause_of _ = 0
 
 -- which of BSY and DRQ a command that failed has left set: BSY, where its disk is left busy
@@ -82,7 +82,7 @@ halt_of halting.LogOnly = LogOnly
 abbrev pub taken_of : TakenCommand → FetchedCommand
 taken_of t =
     record {
-      meaning = record { operation = transfer_operation t.transfer; first = t.first; count = t.count };
+      meaning = record { operation = operation_of_kind t.command_kind; first = t.first; count = t.count };
       places = pieces t.prds;
       moved = t.moved;
       block = brought t.block;

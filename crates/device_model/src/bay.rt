@@ -10,7 +10,7 @@ ghost use Rattle.device_model.specs.Finishing.{HasRoomAhead, IsBegun, IsUnbegun}
 ghost use Rattle.device_model.specs.Modelled.{AreNewDisks};
 ghost use Rattle.device_model.specs.Paged.{IsSentLog, IsSentIdentify, IsTurned, lying, naming, truthful};
 ghost use Rattle.device_model.specs.Trims.{written_ahead};
-ghost use Rattle.device_model.specs.View.{transfer_operation};
+ghost use Rattle.device_model.specs.View.{operation_of_kind};
 ghost use Rattle.device_model.specs.Whole.{Outside, device_of};
 ghost use Rattle.device_model.specs.Zeroed.{MakesZero};
 
@@ -151,10 +151,10 @@ impl<S: SectorStore> Bay<S> {
     /// bytes are as they were. A read is told how many pieces of its command come right behind this one.
     #[inline(always)]
     fn transfer_bytes(&mut self, next: NextMove, ahead: u32, bytes: &mut [u8; 512]) -> bool
-        requires { HasOldRoom self.old.cache (written_ahead (transfer_operation next.transfer) 1) }
+        requires { HasOldRoom self.old.cache (written_ahead (operation_of_kind next.command_kind) 1) }
         ensures { TransfersPiece S.size S.told S.failures self.old self.new next bytes.old bytes.new result }
     {
-        match next.transfer {
+        match next.command_kind {
             CommandKind::Read | CommandKind::ReadQueued => {
                 self.disk.store.read_ahead(next.sector, ahead, bytes)
             }
@@ -178,7 +178,7 @@ impl<S: SectorStore> Bay<S> {
     #[inline(always)]
     fn transfer_within(&mut self, next: NextMove, ahead: u32, piece: &mut [u8]) -> bool
         requires long { length piece.old ≡ 512 }
-        requires room { HasOldRoom self.old.cache (written_ahead (transfer_operation next.transfer) 1) }
+        requires room { HasOldRoom self.old.cache (written_ahead (operation_of_kind next.command_kind) 1) }
         ensures { TransfersPiece S.size S.told S.failures self.old self.new next piece.old piece.new result }
     {
         let Some(bytes) = piece.as_mut_array() else {
@@ -192,7 +192,7 @@ impl<S: SectorStore> Bay<S> {
     #[inline(always)]
     pub fn transfer_piece(&mut self, hardware: &mut Hardware, next: NextMove, ahead: u32) -> bool
         requires inside { next.address + 512 ≤ length hardware.old.memory.items }
-        requires room { HasOldRoom self.old.cache (written_ahead (transfer_operation next.transfer) 1) }
+        requires room { HasOldRoom self.old.cache (written_ahead (operation_of_kind next.command_kind) 1) }
         ensures exchanges { TransfersPiece S.size S.told S.failures self.old self.new next
             (piece_of hardware.old next) (piece_of hardware.new next) result }
         ensures memory { IsTransferred hardware.old hardware.new next }
@@ -278,10 +278,10 @@ impl<S: SectorStore> Bay<S> {
     }
 
     /// Such a command has ended: a flush makes lasting what the disk that is in holds.
-    pub fn end(&mut self, transfer: CommandKind)
-        ensures { EndsCommand (transfer_operation transfer) self.old self.new }
+    pub fn end(&mut self, command_kind: CommandKind)
+        ensures { EndsCommand (operation_of_kind command_kind) self.old self.new }
     {
-        match transfer {
+        match command_kind {
             CommandKind::Flush => {
                 self.lasting = Snapshot::of(&self.disk.store);
                 self.cache.forget();
@@ -355,13 +355,13 @@ impl<S: SectorStore> Bay<S> {
 pub fn note_end_of<S: SectorStore>(
     bays: &mut Vec<Option<Bay<S>>>,
     port: usize,
-    transfer: CommandKind,
+    command_kind: CommandKind,
 )
-    ensures { EndsOnly (transfer_operation transfer) port bays.old.items bays.new.items }
+    ensures { EndsOnly (operation_of_kind command_kind) port bays.old.items bays.new.items }
 {
     if port < bays.len() {
         if let Some(bay) = &mut bays[port] {
-            bay.end(transfer);
+            bay.end(command_kind);
         }
     }
 }

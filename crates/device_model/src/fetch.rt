@@ -8,7 +8,7 @@ ghost use Rattle.adapter.specs.Encoding.{AreZero, EncodesCommand, EncodesHeader,
 ghost use Rattle.byteorder.specs.Endian.{little_from};
 ghost use Rattle.device_model.specs.Fetched.{ArePrds, IsUntouched, bytes_of};
 ghost use Rattle.device_model.specs.Finishing.{sends_page};
-ghost use Rattle.device_model.specs.View.{transfer_operation, taken_of};
+ghost use Rattle.device_model.specs.View.{operation_of_kind, taken_of};
 
 use crate::port::{CommandKind, TakenCommand};
 use crate::prds::PrdTable;
@@ -219,18 +219,18 @@ fn decode_log(bytes: &[u8]) -> Option<Sectors>
 }
 
 /// The sectors that the bytes name, if they are the FIS of such a command in this slot; none where it names none.
-fn decode_sectors(bytes: &[u8], slot: u8, transfer: CommandKind) -> Option<Sectors>
+fn decode_sectors(bytes: &[u8], slot: u8, command_kind: CommandKind) -> Option<Sectors>
     requires size { length bytes.now ≡ 20 }
     requires slot { slot < 32 }
     ensures found { IfSome result
-        (λ s. EncodesCommand bytes.now (command_of (transfer_operation transfer) slot s.first s.count)) }
+        (λ s. EncodesCommand bytes.now (command_of (operation_of_kind command_kind) slot s.first s.count)) }
     ensures meant { IfSome result
-        (λ s. IsMeaning (record { operation = transfer_operation transfer; first = s.first; count = s.count })) }
+        (λ s. IsMeaning (record { operation = operation_of_kind command_kind; first = s.first; count = s.count })) }
     ensures only { (s : Sectors)
-        → IsMeaning (record { operation = transfer_operation transfer; first = s.first; count = s.count }) →
-        EncodesCommand bytes.now (command_of (transfer_operation transfer) slot s.first s.count) → result ≡ Some s }
+        → IsMeaning (record { operation = operation_of_kind command_kind; first = s.first; count = s.count }) →
+        EncodesCommand bytes.now (command_of (operation_of_kind command_kind) slot s.first s.count) → result ≡ Some s }
 {
-    match transfer {
+    match command_kind {
         CommandKind::Read => decode_range(bytes, READ_DMA_EXT),
         CommandKind::Write => decode_range(bytes, WRITE_DMA_EXT),
         CommandKind::ReadQueued => decode_queued(bytes, READ_FPDMA_QUEUED, slot),
@@ -375,13 +375,13 @@ pub fn piece_at(prds: &[Prd], number: u32) -> Option<u64>
 }
 
 /// Reads the command that a slot says by these bytes of its header and its FIS, and by its PRDs; `false` says that it
-/// is none of such a transfer. It is read into its room, so that it isn't copied.
+/// is none of such a kind. It is read into its room, so that it isn't copied.
 fn decode_command(
     memory: &[u8],
     header: &[u8; 32],
     fis: &[u8; 20],
     slot: u8,
-    transfer: CommandKind,
+    command_kind: CommandKind,
     command: &mut TakenCommand,
 ) -> bool
     requires slot { slot < 32 }
@@ -390,16 +390,16 @@ fn decode_command(
     ensures found { result ≡ true → IsUntouched command.new
         × ((list : ℕ) → header.now ≡ bytes_at (bytes_of memory.now) (list + HEADER_BYTES * slot) HEADER_BYTES →
         DecodesTo (bytes_of memory.now) list slot (taken_of command.new).meaning (taken_of command.new).places) }
-    ensures kind { result ≡ true → command.new.transfer ≡ transfer }
+    ensures kind { result ≡ true → command.new.command_kind ≡ command_kind }
     ensures only { result ≡ false → (list : ℕ)
         → header.now ≡ bytes_at (bytes_of memory.now) (list + HEADER_BYTES * slot) HEADER_BYTES →
-        (m : Meaning) (places : List ℕ) → m.operation ≡ transfer_operation transfer
+        (m : Meaning) (places : List ℕ) → m.operation ≡ operation_of_kind command_kind
         → DecodesTo (bytes_of memory.now) list slot m places → ⊥ }
 {
-    let Some(header) = decode_header(header, transfer.reads_memory()) else {
+    let Some(header) = decode_header(header, command_kind.reads_memory()) else {
         return false;
     };
-    let Some(sectors) = decode_sectors(fis, slot, transfer) else {
+    let Some(sectors) = decode_sectors(fis, slot, command_kind) else {
         return false;
     };
     let entries = usize::from(header.entries);
@@ -414,10 +414,10 @@ fn decode_command(
     {
         return false;
     }
-    if count_pieces(command.prds.as_slice()) != transfer.pieces(sectors.count) {
+    if count_pieces(command.prds.as_slice()) != command_kind.pieces(sectors.count) {
         return false;
     }
-    command.transfer = transfer;
+    command.command_kind = command_kind;
     command.first = sectors.first;
     command.count = sectors.count;
     command.moved = 0;
@@ -435,8 +435,8 @@ pub fn may_decode_page(memory: &[u8], list: u32, slot: u8) -> bool
 {
     let header = header_bytes(memory, header_place(list, slot));
     let fis = command_fis_bytes(memory, &header);
-    match transfer_coded(fis[2]) {
-        Some(transfer) => transfer.sends_page(),
+    match kind_of_code(fis[2]) {
+        Some(command_kind) => command_kind.sends_page(),
         None => false,
     }
 }
@@ -446,18 +446,18 @@ pub fn decode_page_cmd(memory: &[u8], list: u32, slot: u8) -> Option<TakenComman
     requires { slot < 32 }
     ensures found { IfSome result (λ t. IsUntouched t × DecodesTo (bytes_of memory.now) list slot (taken_of t).meaning
         (taken_of t).places) }
-    ensures kind { IfSome result (λ t. sends_page (transfer_operation t.transfer) ≡ true) }
+    ensures kind { IfSome result (λ t. sends_page (operation_of_kind t.command_kind) ≡ true) }
     ensures only { result ≡ None → (m : Meaning) (places : List ℕ) → sends_page m.operation ≡ true
         → DecodesTo (bytes_of memory.now) list slot m places → ⊥ }
 {
     let header = header_bytes(memory, header_place(list, slot));
     let fis = command_fis_bytes(memory, &header);
-    let transfer = transfer_coded(fis[2])?;
-    if !transfer.sends_page() {
+    let command_kind = kind_of_code(fis[2])?;
+    if !command_kind.sends_page() {
         return None;
     }
     let mut command = TakenCommand::room();
-    if decode_command(memory, &header, &fis, slot, transfer, &mut command) {
+    if decode_command(memory, &header, &fis, slot, command_kind, &mut command) {
         Some(command)
     } else {
         None
@@ -473,10 +473,10 @@ fn header_place(list: u32, slot: u8) -> usize
 }
 
 /// The kind of command that has this code (ACS-3, 7).
-fn transfer_coded(code: u8) -> Option<CommandKind>
-    ensures { (transfer : CommandKind) (slot first count : ℕ)
-        → (command_of (transfer_operation transfer) slot first count).code
-        ≡ code → result ≡ Some transfer }
+fn kind_of_code(code: u8) -> Option<CommandKind>
+    ensures { (command_kind : CommandKind) (slot first count : ℕ)
+        → (command_of (operation_of_kind command_kind) slot first count).code
+        ≡ code → result ≡ Some command_kind }
 {
     match code {
         READ_DMA_EXT => Some(CommandKind::Read),
@@ -503,8 +503,8 @@ pub fn decode_into(memory: &[u8], list: u32, slot: u8, command: &mut TakenComman
 {
     let header = header_bytes(memory, header_place(list, slot));
     let fis = command_fis_bytes(memory, &header);
-    match transfer_coded(fis[2]) {
-        Some(transfer) => decode_command(memory, &header, &fis, slot, transfer, command),
+    match kind_of_code(fis[2]) {
+        Some(command_kind) => decode_command(memory, &header, &fis, slot, command_kind, command),
         None => false,
     }
 }

@@ -1,7 +1,7 @@
 // Whether a fault has halted a port, and what goes on then (AHCI 1.3.1, 6.2.2; ACS-3, 4.15).
 ghost use Rattle.std.specs.Prelude.{◌≡◌};
 ghost use Rattle.adapter.specs.Steps.{admits, halted, halt_after_start};
-ghost use Rattle.device_model.specs.View.{halt_of, transfer_operation};
+ghost use Rattle.device_model.specs.View.{halt_of, operation_of_kind};
 
 use crate::port::CommandKind;
 
@@ -21,12 +21,12 @@ pub enum Halting {
 
 impl Halting {
     /// Whether such a command goes on.
-    pub fn admits(self, transfer: CommandKind) -> bool
-        ensures { result ≡ admits (halt_of self) (transfer_operation transfer) }
+    pub fn admits(self, command_kind: CommandKind) -> bool
+        ensures { result ≡ admits (halt_of self) (operation_of_kind command_kind) }
     {
         match self {
             Halting::Running => true,
-            Halting::LogOnly => matches!(transfer, CommandKind::ReadLog),
+            Halting::LogOnly => matches!(command_kind, CommandKind::ReadLog),
             Halting::Plain | Halting::Queued => false,
         }
     }

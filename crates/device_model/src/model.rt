@@ -12,7 +12,7 @@ ghost use Rattle.sector_store.specs.Stores.{FailsOn};
 ghost use Rattle.device_model.specs.Fetched.{bytes_of};
 ghost use Rattle.adapter.specs.OneCommand.{IsFreeSlot};
 ghost use Rattle.device_model.specs.Disks.{EndsOnly, HasOldRoomAt, SaysOnly, numbered_disk, given_for, port_0_alone};
-ghost use Rattle.device_model.specs.View.{transfer_operation};
+ghost use Rattle.device_model.specs.View.{operation_of_kind};
 ghost use Rattle.device_model.specs.Finishing.{LooksForPage, HasPageCommand, HasMove, TapeHasRoom, HasTakenCommand, MayTakePage, sends_page};
 ghost use Rattle.device_model.specs.Held.{IsPortLoose};
 ghost use Rattle.device_model.specs.Paged.{lying, naming, truthful};
@@ -282,10 +282,10 @@ impl<S: SectorStore> Model<S> {
         if port.0 >= 4 || slot.0 >= 32 {
             return false;
         }
-        let Some(transfer) = self.hardware.done(port.0, slot.0) else {
+        let Some(command_kind) = self.hardware.done(port.0, slot.0) else {
             return false;
         };
-        note_end_of(&mut self.bays, usize::from(port.0), transfer);
+        note_end_of(&mut self.bays, usize::from(port.0), command_kind);
         true
     }
 
@@ -410,7 +410,7 @@ impl<S: SectorStore> Model<S> {
             let _failed = self.fail(port, slot, PAST_THE_DISK, false);
             return StepOutcome::Failed;
         }
-        if !bay.reserve(next.transfer.written(1)) {
+        if !bay.reserve(next.command_kind.written(1)) {
             self.hardware.starved = true;
             return StepOutcome::Left;
         }

@@ -7,7 +7,7 @@ ghost use Rattle.adapter.specs.Steps.{lasting_after};
 ghost use Rattle.device_model.specs.Finishing.{sends_page};
 ghost use Rattle.device_model.specs.Modelled.{HasResetValues};
 ghost use Rattle.device_model.specs.Trims.{written_ahead};
-ghost use Rattle.device_model.specs.View.{Media, cause_of, transfer_operation, port_of};
+ghost use Rattle.device_model.specs.View.{Media, cause_of, operation_of_kind, port_of};
 
 use crate::halt::Halting;
 use crate::prds::PrdTable;
@@ -79,7 +79,7 @@ const SDBS: u32 = 3;
 impl CommandKind {
     /// The command that it is.
     pub fn operation(self) -> Operation
-        ensures { result ≡ transfer_operation self }
+        ensures { result ≡ operation_of_kind self }
     {
         match self {
             CommandKind::Read => Operation::Read,
@@ -95,7 +95,7 @@ impl CommandKind {
 
     /// Whether its device reads memory.
     pub fn reads_memory(self) -> bool
-        ensures { result ≡ reads_memory (transfer_operation self) }
+        ensures { result ≡ reads_memory (operation_of_kind self) }
     {
         match self {
             CommandKind::Write | CommandKind::WriteQueued | CommandKind::Trim => true,
@@ -109,7 +109,7 @@ impl CommandKind {
 
     /// How many sectors it writes to the disk, of so many pieces that are left to move.
     pub fn written(self, left: u32) -> u32
-        ensures { result ≡ written_ahead (transfer_operation self) left }
+        ensures { result ≡ written_ahead (operation_of_kind self) left }
     {
         match self {
             CommandKind::Write | CommandKind::WriteQueued => left,
@@ -124,7 +124,7 @@ impl CommandKind {
 
     /// Whether it is one of several in flight.
     pub fn is_queued(self) -> bool
-        ensures { result ≡ is_queued (transfer_operation self) }
+        ensures { result ≡ is_queued (operation_of_kind self) }
     {
         match self {
             CommandKind::ReadQueued | CommandKind::WriteQueued => true,
@@ -139,7 +139,7 @@ impl CommandKind {
 
     /// How many pieces it moves, for so many sectors.
     pub fn pieces(self, count: u32) -> u32
-        ensures { result ≡ piece_count (transfer_operation self) count }
+        ensures { result ≡ piece_count (operation_of_kind self) count }
     {
         match self {
             CommandKind::Flush => 0,
@@ -162,7 +162,7 @@ impl CommandKind {
 
     /// Whether it names sectors that it moves.
     pub fn is_ranged(self) -> bool
-        ensures { result ≡ is_ranged (transfer_operation self) }
+        ensures { result ≡ is_ranged (operation_of_kind self) }
     {
         match self {
             CommandKind::Read
@@ -176,7 +176,7 @@ impl CommandKind {
 
     /// Whether it sends a page to the driver itself.
     pub fn sends_page(self) -> bool
-        ensures { result ≡ sends_page (transfer_operation self) }
+        ensures { result ≡ sends_page (operation_of_kind self) }
     {
         matches!(self, CommandKind::Identify | CommandKind::ReadLog)
     }
@@ -185,7 +185,7 @@ impl CommandKind {
     /// before.
     pub fn lasting_at(self, was: usize, here: usize) -> usize
         ensures { (lasting : Lasting) (disk : Disk) → lasting.since ≡ was
-            → result ≡ (lasting_after (transfer_operation self) lasting disk here).since }
+            → result ≡ (lasting_after (operation_of_kind self) lasting disk here).since }
     {
         match self {
             CommandKind::Flush => here,
@@ -202,7 +202,7 @@ impl CommandKind {
 
     /// Where the bytes of its moves go.
     pub fn direction(self) -> Direction
-        ensures { result ≡ direction_of (transfer_operation self) }
+        ensures { result ≡ direction_of (operation_of_kind self) }
     {
         match self {
             CommandKind::Read
@@ -219,7 +219,7 @@ impl CommandKind {
 /// A command that the device has taken.
 #[derive(Drop)]
 pub struct TakenCommand {
-    pub transfer: CommandKind,
+    pub command_kind: CommandKind,
     pub first: u64,
     pub count: u32,
     /// The regions that its sectors go to or come from.
@@ -238,7 +238,7 @@ impl TakenCommand {
         ensures { result.prds ≡ [] }
     {
         TakenCommand {
-            transfer: CommandKind::Read,
+            command_kind: CommandKind::Read,
             first: 0,
             count: 0,
             prds: PrdTable::new(),

@@ -2,7 +2,7 @@
 ghost use Rattle.std.specs.Prelude.{◌≡◌, ◌+◌, ◌<◌, ◌≤◌, ◌/◌, ◌%◌, true, false, length};
 ghost use Rattle.ata_types.specs.declared.memory.TheConstants.{RECEIVED_FIS_BYTES};
 ghost use Rattle.device_model.specs.Sent.{IsSent, SendsEnd, SendsFault, SendsRegisters, end_fis, no_tag_fis, page_setup, signature_fis, tag_fis};
-ghost use Rattle.device_model.specs.View.{Media, cause_of, transfer_operation, port_of};
+ghost use Rattle.device_model.specs.View.{Media, cause_of, operation_of_kind, port_of};
 ghost use Rattle.device_model.specs.Whole.{Outside, device_of};
 
 use crate::hardware::{Hardware, put};
@@ -130,14 +130,14 @@ impl Hardware {
 
     /// Sends the FIS of a slot's command that has ended: of IDENTIFY DEVICE and READ LOG EXT, whose pages go by PIO, a
     /// PIO Setup FIS; of a queued one a Set Device Bits FIS; and of the others a Register FIS.
-    pub fn send_end(&mut self, port: usize, slot: u8, transfer: CommandKind)
+    pub fn send_end(&mut self, port: usize, slot: u8, command_kind: CommandKind)
         requires port { port < 4 }
         requires slot { slot < 32 }
-        ensures sent { (o : Outside) → SendsEnd slot port (cause_of transfer) (transfer_operation transfer)
+        ensures sent { (o : Outside) → SendsEnd slot port (cause_of command_kind) (operation_of_kind command_kind)
             (device_of self.old o) (device_of self.new o) }
         ensures rest { self.new ≡ record self.old { memory = self.new.memory } }
     {
-        match transfer {
+        match command_kind {
             CommandKind::Identify | CommandKind::ReadLog => {
                 let fis = encode_pio_setup(&self.ports[port].page_setup());
                 self.send(port, SETUP, &fis);

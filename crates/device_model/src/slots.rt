@@ -5,7 +5,7 @@ ghost use Rattle.adapter.specs.declared.command.Operation.{Operation};
 ghost use Rattle.device_model.specs.Bits.{word_bits};
 ghost use Rattle.device_model.specs.Fetched.{IsUntouched};
 ghost use Rattle.device_model.specs.Slots.{IsOpenTo, MayTake, HasUntaken, WorksOnIn};
-ghost use Rattle.device_model.specs.View.{Media, cause_of, halt_of, taken_in, busy_if_left, media_after, media_cleared, media_ended, transfer_operation, port_of, taken_of, blank_port};
+ghost use Rattle.device_model.specs.View.{Media, cause_of, halt_of, taken_in, busy_if_left, media_after, media_cleared, media_ended, operation_of_kind, port_of, taken_of, blank_port};
 ghost use Rattle.device_model.specs.declared.port.TakenCommand.{TakenCommand};
 
 use crate::bits::{is_clear_from, with_bit_as};
@@ -39,11 +39,11 @@ impl PortModel {
     pub fn take(&mut self, slot: u8, command: &TakenCommand)
         requires slot { slot < 32 }
         requires new { IsUntouched command.now }
-        requires alone { (m : Media) → IsUnmixed (port_of self.old m) (transfer_operation command.now.transfer) }
+        requires alone { (m : Media) → IsUnmixed (port_of self.old m) (operation_of_kind command.now.command_kind) }
         ensures { (m : Media) → port_of self.new m ≡ with_fetch (port_of self.old m) slot (taken_of command.now).meaning
             (taken_of command.now).places }
     {
-        let queued = command.transfer.is_queued();
+        let queued = command.command_kind.is_queued();
         self.taken.put(slot, command);
         if queued {
             self.ci = with_bit_as(self.ci, u32::from(slot), false);
@@ -54,18 +54,19 @@ impl PortModel {
 
     /// A piece of a slot's command was moved, these bytes.
     #[inline(always)]
-    pub fn advance(&mut self, slot: u8, transfer: CommandKind, bytes: &[u8; 512])
+    pub fn advance(&mut self, slot: u8, command_kind: CommandKind, bytes: &[u8; 512])
         requires slot { slot < 32 }
-        requires held { (t : TakenCommand) × (taken_in self.old.taken slot ≡ Some t) × (t.transfer ≡ transfer)
+        requires held { (t : TakenCommand) × (taken_in self.old.taken slot ≡ Some t) × (t.command_kind ≡ command_kind)
             × (t.moved + 1 < 2 ^ 32) }
         ensures moved { (m : Media) (t : TakenCommand) → taken_in self.old.taken slot ≡ Some t →
             port_of self.new (media_after m (taken_of t) bytes.now) ≡ with_move (port_of self.old m) slot (taken_of t)
             bytes.now }
-        ensures held { (t : TakenCommand) → taken_in self.old.taken slot ≡ Some t → (transfer ≡ CommandKind.Trim → ⊥) →
+        ensures held { (t : TakenCommand) → taken_in self.old.taken slot ≡ Some t
+            → (command_kind ≡ CommandKind.Trim → ⊥) →
             taken_in self.new.taken slot ≡ Some (record t { moved = t.moved + 1 }) }
         ensures rest { self.new ≡ record self.old { taken = self.new.taken } }
     {
-        if transfer.is_trim() {
+        if command_kind.is_trim() {
             self.taken.add_block(slot, bytes);
         } else {
             self.taken.add_moved(slot);
@@ -85,19 +86,19 @@ impl PortModel {
 
     /// The command of a slot ends without error, with the tape so long: a queued one leaves PxSACT, and a plain one
     /// PxCI.
-    pub fn end(&mut self, slot: u8, transfer: CommandKind, here: usize)
+    pub fn end(&mut self, slot: u8, command_kind: CommandKind, here: usize)
         requires { slot < 32 }
-        ensures { (m : Media) → port_of self.new (media_ended m (transfer_operation transfer)) ≡ with_flush
-            (with_done (port_of self.old m) slot (cause_of transfer) (transfer_operation transfer))
-            (transfer_operation transfer)
+        ensures { (m : Media) → port_of self.new (media_ended m (operation_of_kind command_kind)) ≡ with_flush
+            (with_done (port_of self.old m) slot (cause_of command_kind) (operation_of_kind command_kind))
+            (operation_of_kind command_kind)
             here }
     {
-        self.lasting_at = transfer.lasting_at(self.lasting_at, here);
+        self.lasting_at = command_kind.lasting_at(self.lasting_at, here);
         self.taken.remove(slot);
-        self.is = with_bit_as(self.is, transfer.cause(), true);
+        self.is = with_bit_as(self.is, command_kind.cause(), true);
         self.halting = Halting::Running;
         self.tfd = Some(self.task_file() & 0xff7f);
-        if transfer.is_queued() {
+        if command_kind.is_queued() {
             self.sact = with_bit_as(self.sact, u32::from(slot), false);
         } else {
             self.ci = with_bit_as(self.ci, u32::from(slot), false);
@@ -132,31 +133,33 @@ impl PortModel {
     }
 
     /// Whether the port works on such commands.
-    pub fn is_working_on(&self, transfer: CommandKind) -> bool
-        ensures works { result ≡ true → (m : Media) → IsWorking (port_of self.now m) (transfer_operation transfer) }
-        ensures only { result ≡ false → (m : Media) → IsWorking (port_of self.now m) (transfer_operation transfer) → ⊥ }
+    pub fn is_working_on(&self, command_kind: CommandKind) -> bool
+        ensures works { result ≡ true → (m : Media) → IsWorking (port_of self.now m) (operation_of_kind command_kind) }
+        ensures only { result ≡ false → (m : Media) → IsWorking (port_of self.now m) (operation_of_kind command_kind) →
+            ⊥ }
     {
-        self.cr && self.present && self.fresh && !self.broken && self.halting.admits(transfer)
+        self.cr && self.present && self.fresh && !self.broken && self.halting.admits(command_kind)
     }
 
     /// Whether such a command may be taken now, if the port works: no fault keeps it waiting, and it goes beside those
     /// that are taken.
-    pub fn may_take_command(&self, transfer: CommandKind) -> bool
-        ensures open { result ≡ true → IsOpenTo self.now (transfer_operation transfer) }
+    pub fn may_take_command(&self, command_kind: CommandKind) -> bool
+        ensures open { result ≡ true → IsOpenTo self.now (operation_of_kind command_kind) }
         ensures only { result ≡ false → (m : Media)
-            → admits (halt_of self.now.halting) (transfer_operation transfer) ≡ true
-            → IsUnmixed (port_of self.now m) (transfer_operation transfer) → ⊥ }
+            → admits (halt_of self.now.halting) (operation_of_kind command_kind) ≡ true
+            → IsUnmixed (port_of self.now m) (operation_of_kind command_kind) → ⊥ }
     {
-        self.halting.admits(transfer) && self.is_unmixed(transfer)
+        self.halting.admits(command_kind) && self.is_unmixed(command_kind)
     }
 
     /// Whether such a command may be taken beside those that are: a queued one beside queued ones, and a plain one
     /// alone.
-    fn is_unmixed(&self, transfer: CommandKind) -> bool
-        ensures alone { result ≡ true → (m : Media) → IsUnmixed (port_of self.now m) (transfer_operation transfer) }
-        ensures only { result ≡ false → (m : Media) → IsUnmixed (port_of self.now m) (transfer_operation transfer) → ⊥ }
+    fn is_unmixed(&self, command_kind: CommandKind) -> bool
+        ensures alone { result ≡ true → (m : Media) → IsUnmixed (port_of self.now m) (operation_of_kind command_kind) }
+        ensures only { result ≡ false → (m : Media) → IsUnmixed (port_of self.now m) (operation_of_kind command_kind) →
+            ⊥ }
     {
-        if transfer.is_queued() {
+        if command_kind.is_queued() {
             self.taken.are_queued()
         } else {
             self.taken.is_empty()
@@ -195,7 +198,7 @@ pub fn working_on(ports: &[PortModel; 4], port: usize, slot: u8) -> Option<&Take
         → ⊥ }
 {
     let command = ports[port].taken.get(slot)?;
-    if ports[port].is_working_on(command.transfer) {
+    if ports[port].is_working_on(command.command_kind) {
         Some(command)
     } else {
         None

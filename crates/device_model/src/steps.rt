@@ -16,7 +16,7 @@ ghost use Rattle.device_model.specs.Finishing.{TapeHasRoom, HasRoomAhead, LooksF
 ghost use Rattle.device_model.specs.Sent.{SendsEnd};
 ghost use Rattle.device_model.specs.Slots.{WorksOnIn, IsNext, HasUntaken};
 ghost use Rattle.device_model.specs.Trims.{changes_ahead};
-ghost use Rattle.device_model.specs.View.{taken_in, busy_if_left, transfer_operation, taken_of, blank_port};
+ghost use Rattle.device_model.specs.View.{taken_in, busy_if_left, operation_of_kind, taken_of, blank_port};
 ghost use Rattle.device_model.specs.Whole.{Outside, device_of, outside_after, outside_ended, outside_plugged};
 ghost use Rattle.device_model.specs.declared.port.TakenCommand.{TakenCommand};
 
@@ -45,7 +45,7 @@ pub struct NextMove {
     /// How many pieces behind it can be moved without a look for their places: those of its region, if the command
     /// names sectors. (A region has 8,192 pieces at most; AHCI 1.3.1, 4.2.3.3.)
     pub behind: u16,
-    pub transfer: CommandKind,
+    pub command_kind: CommandKind,
 }
 
 /// What is left of a command, but for its end: so many moves, and then so many clears.
@@ -77,17 +77,17 @@ pub struct PendingPage {
 impl NextMove {
     /// Whether it names no sector, or one of so many.
     pub fn is_on(self, sectors: u64) -> bool
-        ensures { IsTrue result ↔ (is_ranged (transfer_operation self.transfer) ≡ true → self.sector < sectors) }
+        ensures { IsTrue result ↔ (is_ranged (operation_of_kind self.command_kind) ≡ true → self.sector < sectors) }
     {
         // A sector that is named is on the disk, but for faults, and 0 is where none is named: so one look is enough.
-        self.sector < sectors || !self.transfer.is_ranged()
+        self.sector < sectors || !self.command_kind.is_ranged()
     }
 
     /// The move of the piece behind it, if that needs no look.
     fn after(self) -> Option<NextMove>
         requires { (self.sector + self.behind < 2 ^ 64) × (self.address + 512 * self.behind < 2 ^ 32) }
         ensures { IfSome result (λ n. (1 ≤ self.behind) × (n ≡ record {
-          transfer = self.transfer;
+          command_kind = self.command_kind;
           sector = self.sector + 1;
           address = self.address + 512;
           behind = self.behind - 1;
@@ -97,7 +97,7 @@ impl NextMove {
             return None;
         }
         Some(NextMove {
-            transfer: self.transfer,
+            command_kind: self.command_kind,
             sector: self.sector + 1,
             address: self.address + 512,
             behind: self.behind - 1,
@@ -107,16 +107,16 @@ impl NextMove {
 
 /// How many pieces behind one can be moved without a look for their places: all of its region (65,535 at most), if such
 /// a command names sectors, and each has its place in a memory of this size, and an address of 32 bits; and else none.
-fn behind(transfer: CommandKind, place: PiecePlace, size: usize) -> u16
+fn behind(command_kind: CommandKind, place: PiecePlace, size: usize) -> u16
     requires { place.address < 2 ^ 32 }
     ensures few { result ≤ place.behind }
     ensures inside { place.address + 512 ≤ size → place.address + 512 * result + 512 ≤ size }
     ensures low { place.address + 512 * result < 2 ^ 32 }
-    ensures ranged { 1 ≤ result → is_ranged (transfer_operation transfer) ≡ true }
+    ensures ranged { 1 ≤ result → is_ranged (operation_of_kind command_kind) ≡ true }
 {
     let pieces = u64::from(place.behind).min(u64::from(u16::MAX));
     let end = place.address + 512 * pieces + 512;
-    if transfer.is_ranged() && end <= (size as u64).min(1 << 32) {
+    if command_kind.is_ranged() && end <= (size as u64).min(1 << 32) {
         pieces as u16
     } else {
         0
@@ -181,7 +181,7 @@ fn rest_of(command: &TakenCommand, block: &[u8], memory: &[u8]) -> Option<Remain
     requires few { length block.now ≤ 512 }
     ensures rest { IfSome result (λ rest. IsRemaining command.now memory.now rest.left rest.clears) }
     ensures changes { IfSome result (λ rest. rest.changes
-        ≡ changes_ahead (transfer_operation command.now.transfer) (bytes_of memory.now)
+        ≡ changes_ahead (operation_of_kind command.now.command_kind) (bytes_of memory.now)
         (taken_of command.now) rest.left) }
     ensures only { (left clears : ℕ) → IsRemaining command.now memory.now left clears
         → IsSomeAnd result (λ rest. (rest.left ≡ left) × (rest.clears ≡ clears)) }
@@ -191,7 +191,7 @@ fn rest_of(command: &TakenCommand, block: &[u8], memory: &[u8]) -> Option<Remain
     Some(Remaining {
         left,
         clears: clears.runs,
-        changes: command.transfer.written(left) as usize + clears.sectors as usize,
+        changes: command.command_kind.written(left) as usize + clears.sectors as usize,
     })
 }
 
@@ -256,7 +256,7 @@ fn sector_of(command: &TakenCommand) -> u64
     requires { command.now.first < 2 ^ 48 }
     ensures { result ≡ next_sector (taken_of command.now) }
 {
-    if command.transfer.is_ranged() {
+    if command.command_kind.is_ranged() {
         command.first + u64::from(command.moved)
     } else {
         0
@@ -319,7 +319,7 @@ impl Hardware {
         let Some(command) = read_command(&self.memory, list, slot) else {
             return false;
         };
-        if !self.ports[place].may_take_command(command.transfer) {
+        if !self.ports[place].may_take_command(command.command_kind) {
             return false;
         }
         self.ports[place].take(slot, &command);
@@ -337,7 +337,7 @@ impl Hardware {
     {
         let list = self.ports[port].addresses.clb;
         let command = decode_page_cmd(&self.memory, list, slot)?;
-        if self.ports[port].may_take_command(command.transfer) {
+        if self.ports[port].may_take_command(command.command_kind) {
             Some(can_end(&command, self.memory.len()))
         } else {
             None
@@ -361,7 +361,7 @@ impl Hardware {
             return self.decodes_page(port, slot);
         }
         let command = working_on(&self.ports, port, slot)?;
-        if !command.transfer.sends_page() {
+        if !command.command_kind.sends_page() {
             return None;
         }
         if can_end(command, self.memory.len()) {
@@ -435,10 +435,10 @@ impl Hardware {
             return None;
         }
         Some(NextMove {
-            transfer: command.transfer,
+            command_kind: command.command_kind,
             sector: sector_of(command),
             address: place.address as u32,
-            behind: behind(command.transfer, place, self.memory.len()),
+            behind: behind(command.command_kind, place, self.memory.len()),
         })
     }
 
@@ -460,15 +460,15 @@ impl Hardware {
         let entry = Entry::Move(Move {
             port: Port(port),
             slot: Slot(slot),
-            operation: next.transfer.operation(),
+            operation: next.command_kind.operation(),
             sector: next.sector,
             address: next.address,
-            direction: next.transfer.direction(),
+            direction: next.command_kind.direction(),
             bytes: Snapshot::of(piece_in(&self.memory, next)),
         });
         self.tape.push_reserved(entry);
         let model = &mut self.ports[usize::from(port)];
-        model.advance(slot, next.transfer, piece_in(&self.memory, next));
+        model.advance(slot, next.command_kind, piece_in(&self.memory, next));
         next.after()
     }
 
@@ -476,16 +476,16 @@ impl Hardware {
     fn kind_if_finished(&self, port: u8, slot: u8) -> Option<CommandKind>
         requires port { port < 4 }
         requires slot { slot < 32 }
-        ensures found { IfSome result (λ transfer. (t : TakenCommand)
+        ensures found { IfSome result (λ command_kind. (t : TakenCommand)
             × WorksOnIn (slice_index_or self.now.ports port blank_port) slot t × IsFinished (taken_of t)
-            × (transfer ≡ t.transfer)) }
+            × (command_kind ≡ t.command_kind)) }
         ensures none { result ≡ None → (t : TakenCommand)
             → WorksOnIn (slice_index_or self.now.ports port blank_port) slot t
             → IsFinished (taken_of t) → ⊥ }
     {
         let command = working_on(&self.ports, usize::from(port), slot)?;
         if is_finished(command, self.ports[usize::from(port)].taken.block(slot)) {
-            Some(command.transfer)
+            Some(command.command_kind)
         } else {
             None
         }
@@ -501,7 +501,7 @@ impl Hardware {
             × IsRemaining t self.now.memory.items rest.left rest.clears) }
         ensures changes { IfSome result (λ rest. (t : TakenCommand)
             → WorksOnIn (slice_index_or self.now.ports port blank_port) slot t → rest.changes ≡ changes_ahead
-            (transfer_operation t.transfer) (bytes_of self.now.memory.items) (taken_of t) rest.left) }
+            (operation_of_kind t.command_kind) (bytes_of self.now.memory.items) (taken_of t) rest.left) }
         ensures only { (t : TakenCommand) (left clears : ℕ)
             → WorksOnIn (slice_index_or self.now.ports port blank_port) slot t
             → IsRemaining t self.now.memory.items left clears
@@ -518,30 +518,30 @@ impl Hardware {
         requires port { port < 4 }
         requires slot { slot < 32 }
         ensures did { IfSome result
-            (λ transfer. (o : Outside) → EndsAndPosts (SendsEnd slot) port slot (device_of self.old o)
-            (device_of self.new (outside_ended o port (transfer_operation transfer)))) }
+            (λ command_kind. (o : Outside) → EndsAndPosts (SendsEnd slot) port slot (device_of self.old o)
+            (device_of self.new (outside_ended o port (operation_of_kind command_kind)))) }
         ensures refused { result ≡ None → (o : Outside) → device_of self.new o ≡ device_of self.old o }
         ensures left { result ≡ None → (o : Outside)
             → IsStepSkipped self.old self.new ((flag : ℕ) × (t : FetchedCommand)
             × Can (DoneStep port slot flag t) (device_of self.old o)) }
-        ensures fed { IfSome result (λ transfer. self.new.starved ≡ self.old.starved) }
+        ensures fed { IfSome result (λ command_kind. self.new.starved ≡ self.old.starved) }
     {
-        let Some(transfer) = self.kind_if_finished(port, slot) else {
+        let Some(command_kind) = self.kind_if_finished(port, slot) else {
             return None;
         };
         let here = self.tape.len();
         let entry = Entry::Done(Done {
             port: Port(port),
             slot: Slot(slot),
-            operation: transfer.operation(),
+            operation: command_kind.operation(),
         });
         if !record(&mut self.tape, &mut self.starved, entry) {
             return None;
         }
         let place = usize::from(port);
-        self.ports[place].end(slot, transfer, here);
-        self.send_end(place, slot, transfer);
-        Some(transfer)
+        self.ports[place].end(slot, command_kind, here);
+        self.send_end(place, slot, command_kind);
+        Some(command_kind)
     }
 
     /// Whether a slot has a queued command that is taken, or a plain one, on an engine that hasn't fallen.
@@ -551,7 +551,7 @@ impl Hardware {
         ensures found { IfSome result (λ queued. (t : TakenCommand)
             × (taken_in (slice_index_or self.now.ports port blank_port).taken slot ≡ Some t)
             × ((slice_index_or self.now.ports port blank_port).cr ≡ true)
-            × (queued ≡ is_queued (transfer_operation t.transfer))) }
+            × (queued ≡ is_queued (operation_of_kind t.command_kind))) }
         ensures none { result ≡ None → (t : TakenCommand)
             → taken_in (slice_index_or self.now.ports port blank_port).taken
             slot ≡ Some t →
@@ -559,7 +559,7 @@ impl Hardware {
     {
         let command = self.ports[usize::from(port)].taken.get(slot)?;
         if self.ports[usize::from(port)].cr {
-            Some(command.transfer.is_queued())
+            Some(command.command_kind.is_queued())
         } else {
             None
         }
@@ -650,7 +650,7 @@ impl Hardware {
         let Some(command) = self.room.read(&self.memory, list, slot) else {
             return None;
         };
-        if !model.may_take_command(command.transfer) {
+        if !model.may_take_command(command.command_kind) {
             return None;
         }
         let rest = rest_of(command, &[], &self.memory)?;

@@ -4,7 +4,7 @@ ghost use Rattle.adapter.specs.Commands.{is_queued};
 ghost use Rattle.adapter.specs.Memory.{changed};
 ghost use Rattle.adapter.specs.Steps.{noted_bytes};
 ghost use Rattle.device_model.specs.Block.{brought, taken_by};
-ghost use Rattle.device_model.specs.View.{taken_in, transfer_operation};
+ghost use Rattle.device_model.specs.View.{taken_in, operation_of_kind};
 ghost use Rattle.device_model.specs.declared.port.TakenCommand.{TakenCommand};
 
 use crate::bits::{is_clear_from, with_bit_as};
@@ -92,11 +92,11 @@ impl TakenCommands {
         requires new { command.now.block ≡ None }
         requires low { command.now.first < 2 ^ 48 }
         requires alone { (other : ℕ) (u : TakenCommand) → other ≢ slot → taken_in self.old other ≡ Some u →
-            (command.now.transfer ≡ CommandKind.Trim → ⊥) × (u.transfer ≡ CommandKind.Trim → ⊥) }
+            (command.now.command_kind ≡ CommandKind.Trim → ⊥) × (u.command_kind ≡ CommandKind.Trim → ⊥) }
         ensures { taken_in self.new ≡ changed (taken_in self.old) slot (Some command.now) }
     {
         let room = &mut self.slots[usize::from(slot)];
-        room.transfer = command.transfer;
+        room.command_kind = command.command_kind;
         room.first = command.first;
         room.count = command.count;
         room.prds.copy_from(&command.prds);
@@ -121,7 +121,7 @@ impl TakenCommands {
     /// The block of a slot's trim was moved.
     pub fn add_block(&mut self, slot: u8, bytes: &[u8; 512])
         requires slot { slot < 32 }
-        requires trim { (t : TakenCommand) × (taken_in self.old slot ≡ Some t) × (t.transfer ≡ CommandKind.Trim)
+        requires trim { (t : TakenCommand) × (taken_in self.old slot ≡ Some t) × (t.command_kind ≡ CommandKind.Trim)
             × (t.moved + 1 < 2 ^ 32) }
         ensures { (t : TakenCommand) → taken_in self.old slot ≡ Some t →
             taken_in self.new ≡ changed (taken_in self.old) slot
@@ -182,7 +182,7 @@ impl TakenCommands {
     /// Whether each that is taken is queued.
     pub fn are_queued(&self) -> bool
         ensures { IsTrue result ↔ ((slot : ℕ) (t : TakenCommand) → taken_in self.now slot ≡ Some t
-            → is_queued (transfer_operation t.transfer) ≡ true) }
+            → is_queued (operation_of_kind t.command_kind) ≡ true) }
     {
         self.is_empty() || hold_queued(&self.slots, self.filled)
     }
@@ -192,10 +192,10 @@ impl TakenCommands {
 fn hold_queued(rooms: &[TakenCommand], filled: u32) -> bool
     requires { length rooms.now ≡ 32 }
     ensures { IsTrue result ↔ ((slot : ℕ) (t : TakenCommand) → taken_by filled rooms.now slot ≡ Some t
-        → is_queued (transfer_operation t.transfer) ≡ true) }
+        → is_queued (operation_of_kind t.command_kind) ≡ true) }
 {
     for slot in 0..SLOTS {
-        if is_set(filled, slot as u32) && !rooms[slot].transfer.is_queued() {
+        if is_set(filled, slot as u32) && !rooms[slot].command_kind.is_queued() {
             return false;
         }
     }

@@ -9,7 +9,7 @@ ghost use Rattle.device_model.specs.Fetched.{bytes_of};
 ghost use Rattle.device_model.specs.Finishing.{TapeHasRoom};
 ghost use Rattle.device_model.specs.Slots.{CanClear, WorksOnIn, IsNextRun};
 ghost use Rattle.device_model.specs.Trims.{HasRuns, WillClear, block_ahead, cleared_ahead, next_uncleared, span, uncleared};
-ghost use Rattle.device_model.specs.View.{blank_port, transfer_operation, taken_of};
+ghost use Rattle.device_model.specs.View.{blank_port, operation_of_kind, taken_of};
 ghost use Rattle.device_model.specs.Whole.{Outside, device_of, outside_cleared};
 ghost use Rattle.device_model.specs.declared.port.TakenCommand.{TakenCommand};
 
@@ -29,7 +29,7 @@ pub fn is_finished(command: &TakenCommand, block: &[u8]) -> bool
     ensures { IsTrue result ↔ IsFinished (taken_of command.now) }
 {
     command.moved == count_pieces(command.prds.as_slice())
-        && (!command.transfer.is_trim() || command.cleared == count_sectors(block))
+        && (!command.command_kind.is_trim() || command.cleared == count_sectors(block))
 }
 
 /// How many sectors of a trim are left to clear.
@@ -90,14 +90,16 @@ fn clears_of_trim(command: &TakenCommand, block: &[u8], memory: &[u8]) -> Option
 pub fn clears_of(command: &TakenCommand, block: &[u8], memory: &[u8]) -> Option<Clears>
     requires block { block.now ≡ brought command.now.block }
     requires few { length block.now ≤ 512 }
-    ensures found { IfSome result (λ clears. WillClear (transfer_operation command.now.transfer) (bytes_of memory.now)
+    ensures found { IfSome result (λ clears. WillClear (operation_of_kind command.now.command_kind) (bytes_of
+        memory.now)
         (taken_of command.now) clears.runs) }
-    ensures sectors { IfSome result (λ clears. clears.sectors ≡ cleared_ahead (transfer_operation command.now.transfer)
+    ensures sectors { IfSome result (λ clears. clears.sectors ≡ cleared_ahead (operation_of_kind
+        command.now.command_kind)
         (bytes_of memory.now) (taken_of command.now)) }
-    ensures only { (runs : ℕ) → WillClear (transfer_operation command.now.transfer) (bytes_of memory.now)
+    ensures only { (runs : ℕ) → WillClear (operation_of_kind command.now.command_kind) (bytes_of memory.now)
         (taken_of command.now) runs → IsSomeAnd result (λ clears. clears.runs ≡ runs) }
 {
-    if command.transfer.is_trim() {
+    if command.command_kind.is_trim() {
         clears_of_trim(command, block, memory)
     } else {
         Some(Clears {
@@ -118,7 +120,7 @@ fn run_of_trim(command: &TakenCommand, block: &[u8], most: u32) -> Option<Sector
     ensures fits { IfSome result (λ run. command.now.cleared + run.count < 2 ^ 32) }
     ensures none { result ≡ None → CanClear command.now most → ⊥ }
 {
-    if !command.transfer.is_trim() || command.moved != count_pieces(command.prds.as_slice()) {
+    if !command.command_kind.is_trim() || command.moved != count_pieces(command.prds.as_slice()) {
         return None;
     }
     let run = next_run(block, command.cleared, most);

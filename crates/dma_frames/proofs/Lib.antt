@@ -1,7 +1,5 @@
 mod FaultLemmas
-mod FourBits
 mod FrameBits
 mod OwnerLemmas
-mod OwnerWords
 mod Seen
-mod Clear
+mod StoredLemmas

@@ -58,14 +58,7 @@ lent_within t request frames lent k d h = elim (cases_lt (get_or frames k d).0 (
   | inr past ↦ absurd (none_is (get_or_past t.lent (get_or frames k d).0 None past) (lent k d h))
 ]
 
--- a frame that a client owns is in the memory
-pub owner_within : (owners : List (Option ClientId)) (client : ClientId) (f : ℕ) → get_or owners f None ≡ Some client → f < length owners
-owner_within owners client f owned = elim (cases_lt f (length owners)) [
-  | inl low ↦ low
-  | inr past ↦ absurd (none_is (get_or_past owners f None past) owned)
-]
-
--- and so are frames that the client owns
+-- frames that the client owns are in the memory
 pub owned_within : (t : Table) (client : ClientId) (frames : List Frame)
     → ((k : ℕ) → k < length frames → IsForeignAt (owner_of t) client frames k → ⊥) → All (λ f. f.0 < length t.owners) frames
 owned_within t client frames own k d h = elim (cases_lt (get_or frames k d).0 (length t.owners)) [
@@ -79,15 +72,6 @@ pub get_or-copies : {A : Type 0} (n k : ℕ) (x : A) → get_or (replicate n x) 
 get_or-copies zero k x = refl
 get_or-copies (suc n) zero x = refl
 get_or-copies (suc n) (suc k) x = get_or-copies n k x
-
--- a frame of one more run is nobody's yet
-pub nobody_yet : (runs : List FrameExtent) (owners : List (Option ClientId)) (i : ℕ) (z : FrameExtent) → i < length runs → AllPairs ExtentsApart runs → Only runs owners i
-    → (f : Frame) → ExtentHasFrame (get_or runs i z) f → get_or owners f.0 None ≡ None
-nobody_yet runs owners i z within apart only f has = by (get_or owners f.0 None) refl
-  where
-    by : (o : Option ClientId) → get_or owners f.0 None ≡ o → get_or owners f.0 None ≡ None
-    by None e = e
-    by (Some client) e = let w = only f client e in absurd (apart w.0 i z w.1 within f (w.2 z).0 has)
 
 -- frames with no fault are in the memory
 pub faultless_within : (table : Table) (client : ClientId) (frames : List Frame) → HasNoFault (owner_of table) (lent_to table) client frames → length table.owners ≡ MOST_FRAMES

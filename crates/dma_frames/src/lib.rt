@@ -5,12 +5,12 @@
 //! What holds loans, as a book or a server, can't be dropped either.
 #![tactic(auto)]
 
-ghost use Rattle.std.specs.Prelude.{[], ◌≡◌, ℕ, ◌<◌, ◌≤◌, length, All, AllPairs, Contains, None, Some, IsSome, IsTrue, ◌↔◌, OnOk, IfOk, IfErr, slice_index_or};
+ghost use Rattle.std.specs.Prelude.{[], ◌≡◌, ◌≢◌, ℕ, ◌<◌, ◌≤◌, length, All, AllPairs, Contains, None, Some, IsSome, IsTrue, false, ◌↔◌, OnOk, IfOk, IfErr, slice_index_or};
 ghost use Rattle.block_machine.specs.Rules.{IsForeignAt, IsTwiceAt, IsLentAt, HasNoFault, IsFirstFault};
 ghost use Rattle.dma_frames.specs.Loan.{Lending};
 ghost use Rattle.dma_frames.specs.Places.{IsLeastPlace};
 ghost use Rattle.dma_frames.specs.Table.{FrameExtent, owner_of, lent_to, LendsOnly, ExtentHasFrame, IsOwnerExtent, IsTableOf, ExtentsApart};
-ghost use Rattle.dma_frames.specs.Words.{AreMarked};
+ghost use Rattle.dma_frames.specs.Stored.{client_of, borrowers_of, owners_of};
 
 mod words;
 
@@ -18,7 +18,7 @@ use ata_types::{ClientId, Frame, FrameFault, MOST_FRAMES, MOST_REQUEST_FRAMES, R
 use std::alloc::{AllocError, Global};
 use std::marker::Model;
 use std::mem;
-use words::{BIT_WORDS, OWNER_WORDS};
+use words::BIT_WORDS;
 
 /// The number of frames of the largest memory.
 pub const FRAMES: usize = MOST_FRAMES as usize;
@@ -119,26 +119,26 @@ impl LoanPlace {
     }
 }
 
-/// The owner of each frame, and the request that it is lent to. `check` reads the words alone: 640 bytes.
+/// The owner of each frame, and the request that it is lent to. `check` reads two bytes of a frame.
 #[derive(Drop)]
 pub struct FrameTable {
-    /// Four bits for each frame, sixteen frames in a word: its owner's number, or 0 where nobody owns it.
-    owners: [u64; OWNER_WORDS],
-    /// One bit for each frame: set where it is lent.
-    lent: [u64; BIT_WORDS],
-    /// The request that each frame is lent to.
-    ids: [Option<RequestId>; FRAMES],
+    /// The number of each frame's owner, or 0 where nobody owns it.
+    owners: [u8; FRAMES],
+    /// Whether each frame is lent.
+    lent: [bool; FRAMES],
+    /// The request that each frame is lent to. Where it isn't lent, what is left of an earlier loan.
+    ids: [RequestId; FRAMES],
 }
 
 impl Model for FrameTable {
     ghost use Rattle.dma_frames.specs.Table.{Table};
-    ghost use Rattle.dma_frames.specs.Words.{WordsAgree, owners_of};
+    ghost use Rattle.dma_frames.specs.Stored.{HasAllFrames, borrowers_of, owners_of};
 
     ghost Value = { Table };
 
-    ghost view = { λ t. record { owners = owners_of t.owners; lent = t.ids } };
+    ghost view = { λ t. record { owners = owners_of t.owners; lent = borrowers_of t.lent t.ids } };
 
-    ghost invariant = { λ t. WordsAgree t.owners t.lent t.ids };
+    ghost invariant = { λ t. HasAllFrames t.owners t.lent t.ids };
 }
 
 impl FrameTable {
@@ -158,7 +158,7 @@ impl FrameTable {
         table
     }
 
-    /// The table that `new` gives, on the heap. It is made there, so that its 17 KiB needn't stand on the stack.
+    /// The table that `new` gives, on the heap. It is made there, so that its 10 KiB needn't stand on the stack.
     pub fn boxed(
         alloc: Global,
         runs: &[(ClientId, Frame, u16)],
@@ -178,9 +178,9 @@ impl FrameTable {
         ensures free { (f : Frame) → lent_to result f ≡ None }
     {
         FrameTable {
-            owners: [0; OWNER_WORDS],
-            lent: [0; BIT_WORDS],
-            ids: [None; FRAMES],
+            owners: [0; FRAMES],
+            lent: [false; FRAMES],
+            ids: [RequestId(0); FRAMES],
         }
     }
 
@@ -193,7 +193,7 @@ impl FrameTable {
         ensures { IsTableOf runs.now self.new }
     {
         for run in runs {
-            words::mark(&mut self.owners, run);
+            mark(&mut self.owners, run);
         }
     }
 
@@ -211,18 +211,35 @@ impl FrameTable {
         self.first_fault(client, frames)
     }
 
-    /// Whether nothing is wrong with these frames. Each that is lent or was seen has its bit set.
+    /// Whether nothing is wrong with these frames. Each that stands before has its bit set.
     fn are_clear(&self, client: ClientId, frames: &[Frame]) -> bool
         ensures { IsTrue result → HasNoFault (owner_of self.now) (lent_to self.now) client frames.now }
     {
-        let mut taken = self.lent;
+        // Client 0 is nobody, and owns no frame.
+        if client.0 == 0 {
+            return false;
+        }
+        let mut before = [0; BIT_WORDS];
         for frame in frames {
-            if !words::is_owner(&self.owners, *frame, client) || words::is_set(&taken, *frame) {
+            if !self.is_free(client, *frame) || words::is_set(&before, *frame) {
                 return false;
             }
-            words::set_bit(&mut taken, *frame, true);
+            words::set_bit(&mut before, *frame);
         }
         true
+    }
+
+    /// Whether a frame is the client's, and isn't lent.
+    fn is_free(&self, client: ClientId, frame: Frame) -> bool
+        requires { client.0 ≢ 0 }
+        ensures free { IsTrue result → (owner_of self.now frame ≡ Some client) × (lent_to self.now frame ≡ None) }
+        ensures within { IsTrue result → frame.0 < FRAMES }
+    {
+        let frame = frame.0 as usize;
+        match self.owners.get(frame) {
+            Some(owner) => *owner == client.0 && !self.lent[frame],
+            None => false,
+        }
     }
 
     /// What is wrong with these frames first, as `check` says.
@@ -252,7 +269,7 @@ impl FrameTable {
     {
         let mut loan = no_frames();
         begin(&mut loan, frames, request);
-        set_lent(&mut self.lent, &mut self.ids, frames, Some(request));
+        note_lent(&mut self.lent, &mut self.ids, loan.frames(), request);
         loan
     }
 
@@ -272,8 +289,7 @@ impl FrameTable {
     {
         begin(&mut place.loan, frames, request);
         place.is_held = true;
-        let to = Some(request);
-        set_lent(&mut self.lent, &mut self.ids, frames, to);
+        note_lent(&mut self.lent, &mut self.ids, frames, request);
     }
 
     /// Takes the frames of a loan back: they are lent to none.
@@ -281,7 +297,7 @@ impl FrameTable {
         requires { All (λ f. lent_to self.old f ≡ Some loan.request) loan.frames }
         ensures { LendsOnly self.old self.new loan.frames None }
     {
-        set_lent(&mut self.lent, &mut self.ids, loan.frames(), None);
+        note_returned(&mut self.lent, &self.ids, loan.frames());
         destroy(loan);
     }
 
@@ -292,7 +308,7 @@ impl FrameTable {
         ensures lends { (loan : Lending) → place.old ≡ Some loan → LendsOnly self.old self.new loan.frames None }
         ensures left { place.new ≡ None }
     {
-        set_lent(&mut self.lent, &mut self.ids, place.loan.frames(), None);
+        note_returned(&mut self.lent, &self.ids, place.loan.frames());
         place.is_held = false;
     }
 
@@ -300,24 +316,19 @@ impl FrameTable {
     pub fn owner(&self, frame: Frame) -> Option<ClientId>
         ensures { result ≡ owner_of self.now frame }
     {
-        words::owner_in(&self.owners, frame)
+        owner_in(&self.owners, frame)
     }
 
     /// The request that a frame is lent to.
     pub fn lent_to(&self, frame: Frame) -> Option<RequestId>
         ensures { result ≡ lent_to self.now frame }
     {
-        match self.ids.get(frame.0 as usize) {
-            Some(request) => *request,
-            None => None,
+        let place = frame.0 as usize;
+        if place < FRAMES && self.lent[place] {
+            Some(self.ids[place])
+        } else {
+            None
         }
-    }
-
-    /// Whether a frame is lent.
-    fn is_lent(&self, frame: Frame) -> bool
-        ensures { IsTrue result ↔ IsSome (lent_to self.now frame) }
-    {
-        words::is_set(&self.lent, frame)
     }
 
     /// The first place whose frame the client doesn't own. Where there is none, all frames are in the memory.
@@ -326,7 +337,7 @@ impl FrameTable {
         ensures within { result ≡ None → All (λ f. f.0 < FRAMES) frames.now }
     {
         for (place, frame) in frames.iter().enumerate() {
-            if words::owner_in(&self.owners, *frame) != Some(client) {
+            if owner_in(&self.owners, *frame) != Some(client) {
                 return Some(place);
             }
         }
@@ -338,7 +349,7 @@ impl FrameTable {
         ensures { IsLeastPlace (IsLentAt (lent_to self.now) frames.now) result }
     {
         for (place, frame) in frames.iter().enumerate() {
-            if self.is_lent(*frame) {
+            if self.lent_to(*frame).is_some() {
                 return Some(place);
             }
         }
@@ -386,30 +397,75 @@ fn first_twice(frames: &[Frame]) -> Option<usize>
         if words::is_set(&seen, *frame) {
             return Some(place);
         }
-        words::set_bit(&mut seen, *frame, true);
+        words::set_bit(&mut seen, *frame);
     }
     None
 }
 
-/// Notes for each of the frames what it is lent to, and sets or clears its bit.
-fn set_lent(
-    lent: &mut [u64],
-    ids: &mut [Option<RequestId>],
-    frames: &[Frame],
-    to: Option<RequestId>,
-)
-    requires words { length lent.old ≡ BIT_WORDS }
-    requires memory { length ids.old ≡ FRAMES }
-    requires marked { AreMarked lent.old ids.old }
+/// Notes that the frames are lent to the request.
+fn note_lent(lent: &mut [bool], ids: &mut [RequestId], frames: &[Frame], request: RequestId)
+    requires lent { length lent.old ≡ FRAMES }
+    requires ids { length ids.old ≡ FRAMES }
     requires within { All (λ f. f.0 < FRAMES) frames.now }
-    ensures marked { AreMarked lent.new ids.new }
-    ensures these { All (λ f. slice_index_or ids.new f.0 None ≡ to) frames.now }
+    ensures these { All (λ f. slice_index_or (borrowers_of lent.new ids.new) f.0 None ≡ Some request) frames.now }
     ensures others { (f : Frame) → (Contains frames.now f → ⊥)
-        → slice_index_or ids.new f.0 None ≡ slice_index_or ids.old f.0 None }
+        → slice_index_or (borrowers_of lent.new ids.new) f.0 None
+        ≡ slice_index_or (borrowers_of lent.old ids.old) f.0 None }
 {
     for frame in frames {
-        let frame = *frame;
-        words::set_bit(lent, frame, to.is_some());
-        ids[frame.0 as usize] = to;
+        let place = frame.0 as usize;
+        lent[place] = true;
+        ids[place] = request;
+    }
+}
+
+/// Notes that the frames are lent to none.
+fn note_returned(lent: &mut [bool], ids: &[RequestId], frames: &[Frame])
+    requires lent { length lent.old ≡ FRAMES }
+    requires within { All (λ f. f.0 < FRAMES) frames.now }
+    ensures these { All (λ f. slice_index_or (borrowers_of lent.new ids.now) f.0 None ≡ None) frames.now }
+    ensures others { (f : Frame) → (Contains frames.now f → ⊥)
+        → slice_index_or (borrowers_of lent.new ids.now) f.0 None
+        ≡ slice_index_or (borrowers_of lent.old ids.now) f.0 None }
+{
+    for frame in frames {
+        lent[frame.0 as usize] = false;
+    }
+}
+
+/// The client that owns a frame; nobody owns one past the memory.
+fn owner_in(owners: &[u8], frame: Frame) -> Option<ClientId>
+    ensures { result ≡ slice_index_or (owners_of owners.now) frame.0 None }
+{
+    match owners.get(frame.0 as usize) {
+        Some(owner) => client_of(*owner),
+        None => None,
+    }
+}
+
+/// The client of a number; 0 is nobody.
+fn client_of(number: u8) -> Option<ClientId>
+    ensures { result ≡ client_of number }
+{
+    if number == 0 {
+        None
+    } else {
+        Some(ClientId(number))
+    }
+}
+
+/// Notes the owner of the run's frames.
+fn mark(owners: &mut [u8], run: &(ClientId, Frame, u16))
+    requires run { IsOwnerExtent run.now }
+    requires memory { length owners.old ≡ FRAMES }
+    ensures these { (f : Frame) → ExtentHasFrame run.now f
+        → slice_index_or (owners_of owners.new) f.0 None ≡ Some run.now.0 }
+    ensures others { (f : Frame) → (ExtentHasFrame run.now f → ⊥)
+        → slice_index_or (owners_of owners.new) f.0 None ≡ slice_index_or (owners_of owners.old) f.0 None }
+{
+    let (client, first, count) = *run;
+    let first = first.0 as usize;
+    for place in first..first + count as usize {
+        owners[place] = client.0;
     }
 }

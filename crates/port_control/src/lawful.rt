@@ -14,8 +14,8 @@ use refinement::fragments::{
 use refinement::giving_up::law_stopped_slots_tell;
 use refinement::kinds::{law_controls_are_of_a_port, law_fragments};
 use refinement::laws::{
-    law_arming_is_followed, law_clear_bits_stay, law_commanding_is_permitted,
-    law_placing_is_permitted, law_writing_is_permitted,
+    law_clear_bits_stay, law_commanding_is_permitted, law_placing_is_permitted,
+    law_slots_are_disarmed, law_writing_is_permitted,
 };
 use refinement::recovering::{law_link_is_kept, law_running_goes_on};
 use std::marker::Brand;
@@ -44,7 +44,7 @@ pub fn law_base()
     law_stopped_slots_tell();
     law_fragments::<Brand>();
     law_controls_are_of_a_port::<Brand>();
-    law_arming_is_followed();
+    law_slots_are_disarmed();
     law_clear_bits_stay();
     law_commanding_is_permitted();
     law_placing_is_permitted();

@@ -11,3 +11,4 @@ pub mod Placing
 pub mod Sending
 pub mod Counting
 pub mod Usable
+pub mod Batching

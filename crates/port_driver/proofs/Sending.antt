@@ -10,7 +10,6 @@ use Rattle.ata_types.specs.declared.request.Op.{Op}
 use Rattle.ata_types.specs.declared.request.Op.TheVariants.{Read, Write, Trim, Flush}
 use Rattle.ata_types.specs.declared.request.RequestId.{RequestId}
 use Rattle.adapter.specs.Device.{Device}
-use Rattle.refinement.specs.Readying.{IsStored}
 use Rattle.block_machine.specs.Due.{AreAllDueInOrder, IsDue, is_plain}
 use Rattle.block_machine.specs.Rules.{IsAllowedCount, frame_count_for}
 use Rattle.block_machine.specs.declared.due.QueueMode.{QueueMode}
@@ -27,11 +26,12 @@ use Rattle.identify.specs.declared.DiskInfo.{DiskInfo}
 use Rattle.request_queue.specs.Entries.{BookEntry, IsAccepted, BookIsInOrder, asks, asks_of, update_if_id, due_ids, issue}
 use Rattle.request_queue.specs.Store.{blank_entry}
 use Rattle.request_queue.specs.declared.PendingRequest.{PendingRequest}
-use Rattle.server_history.specs.Served.{IssuesAll, IssuesEach, IssuesOne, task_of, use_for}
+use Rattle.server_history.specs.Served.{IssuesAll, IssuesBatchOf, IssuesTogether, PutsInSlot, task_of, use_for}
 use Rattle.server_history.specs.Server.{ServerState, InCallInvariant, is_served, mode_in, no_slots, slots_at, state_of, with_slot}
 use Rattle.slots.specs.Uses.{PortSlots, IsLowestFree, IsTaken, with_use}
+use Rattle.commands.specs.Batches.{IsBatchIssued, only_task}
 use Rattle.commands.specs.Issuing.{MayIssueTask}
-use Rattle.commands.specs.Tasks.{HasBlockOf, IsFitTransfer, IsTransfer, IssuesTask, addresses_of, meaning_of}
+use Rattle.commands.specs.Tasks.{IsFitTransfer, IsTransfer}
 
 -- ---- what a request of the book is
 
@@ -95,6 +95,35 @@ ready_there s port k ready = k.there port.0 (served_ready (probe_result_of s.por
 -- and the server has its slots
 pub ready_listed : (s : ServerState) (port : Port) → InCallInvariant s → state_of (probe_result_of s.ports port.0) ≡ Ready → port.0 < length s.slots
 ready_listed s port k ready = let f = k.four in let p = (ready_there s port k ready).0 in omega (arith, f, p)
+
+-- the entry, with the id by which it was found
+abbrev pub with_id : RequestId → BookEntry → BookEntry
+with_id id e = record e { entry = record e.entry { id = id } }
+
+-- A due request of a server was put in a slot: its book and the port's slots are these then.
+pub put : (s : ServerState) (book : List BookEntry) (slots : PortSlots) (port : Port) (mode : QueueMode) → s.book ≡ book → slots_at s.slots port.0 ≡ slots → mode_in s port ≡ mode
+    → (id : RequestId) (turn : IsTurn book port mode id) (slot : ℕ) → slot < 32 → IsLowestFree slots slot
+    → (later : List BookEntry) → later ≡ map (update_if_id id issue) book
+    → (used : PortSlots) → used ≡ with_use slots slot (Some (use_for mode (with_id id turn.0)))
+    → PutsInSlot port id (record { slot = slot; task = task_of mode turn.0; frames = turn.0.frames }) s (record s { slots = set s.slots port.0 used; book = later })
+put s book slots port mode book_is slots_are mode_is id turn slot small lowest later later_is used used_is = record {
+  request = turn.0;
+  here = subst (λ (b : List BookEntry). Contains b turn.0) (sym book_is) turn.1;
+  id_is = turn.2;
+  port_is = turn.3;
+  due = subst (λ (m : QueueMode). IsDue m (asks_of s.book) (asks turn.0.entry)) (sym mode_is) (subst (λ (b : List BookEntry). IsDue mode (asks_of b) (asks turn.0.entry)) (sym book_is) turn.4);
+  task_is = ap (λ (m : QueueMode). task_of m turn.0) (sym mode_is);
+  frames_are = refl;
+  small = small;
+  lowest = subst (λ (u : PortSlots). IsLowestFree u slot) (sym slots_are) lowest;
+  server = λ i. record s { slots = set_to i; book = (later_is ∙ ap (map (update_if_id id issue)) (sym book_is)) i };
+}
+  where
+    use_is : with_use slots slot (Some (use_for mode (with_id id turn.0))) ≡ with_use (slots_at s.slots port.0) slot (Some (use_for (mode_in s port) turn.0))
+    use_is = λ i. with_use (sym slots_are i) slot (Some (record { id = sym turn.2 i; queued = not (is_plain (sym mode_is i) turn.0.entry.op) }))
+
+    set_to : set s.slots port.0 used ≡ with_slot s.slots port.0 slot (Some (use_for (mode_in s port) turn.0))
+    set_to = ap (set s.slots port.0) (used_is ∙ use_is)
 
 module _ (s : ServerState) (device : Device) (book : List BookEntry) (slots : PortSlots) (port : Port) (mode : QueueMode) (found : ProbeResult) (ready : state_of found ≡ Ready)
     (l : HasFoundPort s device book slots port mode found) where
@@ -190,31 +219,18 @@ module _ (s : ServerState) (device : Device) (book : List BookEntry) (slots : Po
         → ((slot : ℕ) → slot < slots.usable → IsTaken slots slot) → ⊥
     is_free full all = full s e l.kept here its_due (subst (λ (u : PortSlots). (slot : ℕ) → slot < u.usable → IsTaken u slot) its_slots all)
 
-    -- it was issued
-    pub sent : (slot : ℕ) → slot < 32 → IsLowestFree slots slot → (new : Device) → IssuesTask port slot (task_of mode e) e.frames device new
-        → IsStored new port.0 slot (meaning_of (task_of mode e)) (addresses_of port.0 e.entry.op e.entry.range.count e.frames) → HasBlockOf e.entry.op e.entry.range port.0 new.memory → (later : List BookEntry) → later ≡ map (update_if_id id issue) book
-        → (used : PortSlots) → used ≡ with_use slots slot (Some (record { id = id; queued = not (is_plain mode e.entry.op) })) → IssuesOne port id s (with_port_slots s new later used port)
-    sent slot small lowest new issues stored block later later_is used used_is = record {
-      request = e;
-      here = here;
-      id_is = turn.2;
-      port_is = turn.3;
-      due = due;
-      slot = slot;
-      small = small;
-      lowest = subst (λ (u : PortSlots). IsLowestFree u slot) (sym l.slots_are) lowest;
-      issues = subst (λ (m : QueueMode). IssuesTask port slot (task_of m e) e.frames s.device new) (sym l.mode_is)
-          (subst (λ (d : Device). IssuesTask port slot (task_of mode e) e.frames d new) (sym l.device_is) issues);
-      stored = subst (λ (m : QueueMode). IsStored new port.0 slot (meaning_of (task_of m e)) (addresses_of port.0 e.entry.op e.entry.range.count e.frames)) (sym l.mode_is) stored;
-      block = block;
-      server = λ i. record s { device = new; slots = set_to i; book = (later_is ∙ ap (map (update_if_id id issue)) (sym l.book_is)) i };
+    -- it was issued alone
+    pub sent : (slot : ℕ) → slot < 32 → IsLowestFree slots slot → (new : Device)
+        → IsBatchIssued port (only_task slot (task_of mode e) e.frames) device new
+        → (later : List BookEntry) → later ≡ map (update_if_id id issue) book
+        → (used : PortSlots) → used ≡ with_use slots slot (Some (use_for mode (with_id id e))) → IssuesTogether port (id ∷ []) s (with_port_slots s new later used port)
+    sent slot small lowest new issued later later_is used used_is = record {
+      tasks = only_task slot (task_of mode e) e.frames;
+      taken = record s { slots = set s.slots port.0 used; book = later };
+      puts = (_, put s book slots port mode l.book_is l.slots_are l.mode_is id turn slot small lowest later later_is used used_is, refl);
+      issued = subst (λ (d : Device). IsBatchIssued port (only_task slot (task_of mode e) e.frames) d new) (sym l.device_is) issued;
+      server = refl;
     }
-      where
-        use_is : with_use slots slot (Some (record { id = id; queued = not (is_plain mode e.entry.op) })) ≡ with_use (slots_at s.slots port.0) slot (Some (use_for (mode_in s port) e))
-        use_is = λ i. with_use (sym l.slots_are i) slot (Some (record { id = sym turn.2 i; queued = not (is_plain (sym l.mode_is i) e.entry.op) }))
-
-        set_to : set s.slots port.0 used ≡ with_slot s.slots port.0 slot (Some (use_for (mode_in s port) e))
-        set_to = ap (set s.slots port.0) (used_is ∙ use_is)
 
 -- ---- one after another
 
@@ -246,7 +262,7 @@ pub none_issued : ((s : ServerState) (port : Port) → InCallInvariant s → ((i
     → (s : ServerState) (device : Device) (book : List BookEntry) (slots : PortSlots) (port : Port) (mode : QueueMode) (found : ProbeResult) → HasFoundPort s device book slots port mode found → ((info : DiskInfo) → found ≡ FoundReady info → ⊥)
     → IssuesAll port s (with_port_slots s device book slots port)
 none_issued undue s device book slots port mode found l unready =
-    subst (λ (ids : List RequestId). IssuesEach port ids s (with_port_slots s device book slots port)) (sym (undue s port l.kept (λ info is. unready info (sym l.found_is ∙ is)))) same
+    subst (λ (ids : List RequestId). IssuesBatchOf port ids s (with_port_slots s device book slots port)) (sym (undue s port l.kept (λ info is. unready info (sym l.found_is ∙ is)))) same
   where
     same : with_port_slots s device book slots port ≡ s
     same =

@@ -3,15 +3,16 @@ use Rattle.ata_types.specs.declared.limits.TheConstants.{SLOTS}
 use Rattle.std.specs.Prelude.{ℕ, ◌+◌, ◌*◌}
 use Rattle.error_recovery.specs.Costs.{RECOVER_ACCESSES}
 use Rattle.host_boot.specs.Costs.{BOOT_AGAIN_ACCESSES, BOOT_IF_THERE_ACCESSES}
-use Rattle.commands.specs.Costs.{DONE_ACCESSES, ISSUE_ACCESSES}
+use Rattle.command_table.specs.Costs.{TABLE_ACCESSES}
+use Rattle.commands.specs.Costs.{BATCH_ACCESSES, DONE_ACCESSES}
 use Rattle.port_control.specs.Costs.{STOP_ACCESSES}
 use Rattle.port_control.specs.LookCosts.{LOOK_ACCESSES}
 use Rattle.port_control.specs.declared.events.PortError.{PortError}
 use Rattle.port_control.specs.declared.events.PortError.TheVariants.{TaskFileError, LinkChanged}
 
--- what is due on a port is issued: a request in each of its slots, at most
+-- what is due on a port is issued: a command is stored in each of its slots, at most, and all go by one batch
 abbrev pub ISSUES_ACCESSES : ℕ
-ISSUES_ACCESSES = SLOTS * ISSUE_ACCESSES
+ISSUES_ACCESSES = SLOTS * TABLE_ACCESSES + BATCH_ACCESSES
 
 -- a port in such trouble is recovered where a command failed, and else stopped
 abbrev pub handling_accesses : PortError → ℕ

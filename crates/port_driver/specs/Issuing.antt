@@ -1,20 +1,29 @@
 -- What it is to issue all that is due on a port (this project's own).
-use Rattle.std.specs.Prelude.{ℕ, ◌≡◌, ◌*◌, List, [], length}
+use Rattle.std.specs.Prelude.{ℕ, ◌≡◌, ◌+◌, ◌*◌, List, [], length}
 use Rattle.ata_types.specs.declared.Port.{Port}
+use Rattle.ata_types.specs.declared.PortState.TheVariants.{Ready}
 use Rattle.adapter.specs.Counted.{MakesAtMost}
 use Rattle.adapter.specs.Device.{Device}
 use Rattle.block_machine.specs.Due.{due_of}
-use Rattle.commands.specs.Costs.{ISSUE_ACCESSES}
+use Rattle.command_table.specs.Costs.{TABLE_ACCESSES}
+use Rattle.commands.specs.Costs.{BATCH_ACCESSES}
 use Rattle.request_queue.specs.Entries.{BookEntry, asks_of}
 use Rattle.server_history.specs.Served.{IssuesAll}
-use Rattle.server_history.specs.Server.{ServerState}
+use Rattle.server_history.specs.Server.{ServerState, state_of}
 use Rattle.port_driver.specs.Costs.{ISSUES_ACCESSES}
 use Rattle.port_driver.specs.Ports.{HasFoundPort, with_port_slots}
 use Rattle.port_driver.specs.declared.served_port.ServedPort.{ServedPort}
 
+-- The port is ready, and is a part of some server with this adapter and this book.
+pub record MayIssueDue {A : Type 0} (device : A → Device) (port : Port) (self : ServedPort) (adapter : A)
+    (book : List BookEntry) : Type 0 where
+  pub ready : state_of self.found ≡ Ready
+  pub lends : (s : ServerState) × HasFoundPort s (device adapter) book self.slots port self.mode self.found
+
 -- The port's due requests were issued, in order of acceptance, in slots of its own: so it is of each server that the
 -- port, the adapter and the book may be a part of. Nothing else of the port changed, and no request came or went.
--- Where none was due the adapter is as it was, and else no more accesses were made than each of them takes.
+-- Where none was due the adapter is as it was, and else no more accesses were made than it takes to store each of them
+-- and to issue them by one batch.
 pub record IssuesWhatIsDue {A : Type 0} (device : A → Device) (accesses : A → ℕ) (port : Port) (old new : ServedPort)
     (before after : A) (book left : List BookEntry) : Type 0 where
   pub issues : (s : ServerState) → HasFoundPort s (device before) book old.slots port old.mode old.found
@@ -22,6 +31,6 @@ pub record IssuesWhatIsDue {A : Type 0} (device : A → Device) (accesses : A �
   pub rest : new ≡ record old { slots = new.slots }
   pub as_many : length left ≡ length book
   pub none : due_of old.mode port (asks_of book) ≡ [] → after ≡ before
-  pub each : MakesAtMost (ISSUE_ACCESSES * length (due_of old.mode port (asks_of book))) (accesses before)
-      (accesses after)
+  pub each : MakesAtMost (TABLE_ACCESSES * length (due_of old.mode port (asks_of book)) + BATCH_ACCESSES)
+      (accesses before) (accesses after)
   pub cost : MakesAtMost ISSUES_ACCESSES (accesses before) (accesses after)

@@ -1,13 +1,12 @@
 // What is due on a port is issued.
-ghost use Rattle.std.specs.Prelude.{◌≡◌, ◌<◌, ◌≤◌, ◌/◌, ◌%◌};
-ghost use Rattle.ata_types.specs.declared.PortState.TheVariants.{Ready};
+ghost use Rattle.std.specs.Prelude.{◌≡◌, ◌<◌, ◌≤◌, ◌/◌, ◌%◌, [], ◌∷◌, length};
 ghost use Rattle.block_machine.specs.Due.{IsDue};
-ghost use Rattle.port_driver.specs.Issuing.{IssuesWhatIsDue};
+ghost use Rattle.port_driver.specs.Issuing.{IssuesWhatIsDue, MayIssueDue};
 ghost use Rattle.port_driver.specs.Ports.{HasFoundPort, MayIssueIn, with_port_slots};
 ghost use Rattle.commands.specs.Issuing.{IsIssued, MayIssueTask};
-ghost use Rattle.request_queue.specs.Entries.{BookEntry, asks, asks_of};
-ghost use Rattle.server_history.specs.Served.{IssuesOne};
-ghost use Rattle.server_history.specs.Server.{ServerState, state_of};
+ghost use Rattle.request_queue.specs.Entries.{BookEntry, asks, asks_of, due_ids};
+ghost use Rattle.server_history.specs.Served.{IssuesTogether};
+ghost use Rattle.server_history.specs.Server.{ServerState};
 ghost use Rattle.std.specs.List.{Contains};
 ghost use Rattle.adapter.specs.Counted.{MakesAtMost};
 ghost use Rattle.commands.specs.Costs.{ISSUE_ACCESSES};
@@ -17,15 +16,16 @@ use adapter::Adapter;
 use ata_types::{Frame, Op, Port, RequestId, Slot};
 use block_machine::is_plain;
 use block_machine::laws::law_due_in_turn;
-use commands::{Task, issue, issue_flush, issue_trim};
+use commands::laws::{law_batch_masks_grow, law_batches_grow};
+use commands::{Task, issue, issue_all, issue_flush, issue_trim, prepare};
+use hba_regs::with_bit;
 use host_boot::ProbeResult;
 use request_queue::laws::{
     law_an_id_is_one_request, law_operations_change_what_is_due, law_the_book_stays_in_order,
 };
 use request_queue::{Book, DueIds};
 use server_history::laws::{
-    law_a_due_request_may_issue, law_a_port_goes_on_after_its_errors,
-    law_requests_preserve_invariant,
+    law_a_due_request_may_issue, law_a_port_goes_on_after_its_errors, law_due_requests_get_slots,
 };
 
 /// Issues a task in a slot that it may go in: the slot's command then says the task.
@@ -48,14 +48,12 @@ fn issue_task<A: Adapter>(adapter: &mut A, port: Port, slot: Slot, task: &Task, 
 impl ServedPort {
     /// Issues a due request of the port, which is ready, in the lowest free slot.
     fn issue_one<A: Adapter>(&mut self, adapter: &mut A, book: &mut Book, port: Port, id: RequestId)
-        requires ready { state_of self.old.found ≡ Ready }
-        requires lends { (s : ServerState)
-            × HasFoundPort s (A.device adapter.old) book.old self.old.slots port self.old.mode self.old.found }
+        requires may { MayIssueDue A.device port self.old adapter.old book.old }
         requires due { (request : BookEntry) × Contains book.old request × (request.entry.id ≡ id)
             × (request.entry.port ≡ port) × IsDue self.old.mode (asks_of book.old) (asks request.entry) }
         ensures issues { (s : ServerState)
             → HasFoundPort s (A.device adapter.old) book.old self.old.slots port self.old.mode self.old.found
-            → IssuesOne port id s (with_port_slots s (A.device adapter.new) book.new self.new.slots port) }
+            → IssuesTogether port (id ∷ []) s (with_port_slots s (A.device adapter.new) book.new self.new.slots port) }
         ensures rest { self.new ≡ record self.old { slots = self.new.slots } }
         ensures cost { MakesAtMost ISSUE_ACCESSES (A.access_count adapter.old) (A.access_count adapter.new) }
     {
@@ -77,9 +75,7 @@ impl ServedPort {
     /// Issues the due requests of the port, which is ready, in order of acceptance. No list of them is made where the
     /// book has no request, or one alone.
     pub fn issue_due<A: Adapter>(&mut self, adapter: &mut A, book: &mut Book, port: Port)
-        requires ready { state_of self.old.found ≡ Ready }
-        requires lends { (s : ServerState)
-            × HasFoundPort s (A.device adapter.old) book.old self.old.slots port self.old.mode self.old.found }
+        requires { MayIssueDue A.device port self.old adapter.old book.old }
         ensures { IssuesWhatIsDue A.device A.access_count port self.old self.new adapter.old adapter.new
             book.old book.new }
     {
@@ -97,21 +93,60 @@ impl ServedPort {
     /// The same, by a list of what is due. Room for it is cleared on entry, so that it stands in a function of its own.
     #[inline(never)]
     fn issue_listed<A: Adapter>(&mut self, adapter: &mut A, book: &mut Book, port: Port)
-        requires ready { state_of self.old.found ≡ Ready }
-        requires lends { (s : ServerState)
-            × HasFoundPort s (A.device adapter.old) book.old self.old.slots port self.old.mode self.old.found }
+        requires { MayIssueDue A.device port self.old adapter.old book.old }
         ensures { IssuesWhatIsDue A.device A.access_count port self.old self.new adapter.old adapter.new
             book.old book.new }
     {
         law_due_in_turn();
-        law_operations_change_what_is_due();
         law_the_book_stays_in_order();
-        law_requests_preserve_invariant();
         let mut due = DueIds::new();
         book.issuable(self.mode, port, &mut due);
-        for place in 0..due.len() {
-            self.issue_one(adapter, book, port, due[place]);
+        match due.len() {
+            0 => {}
+            1 => self.issue_one(adapter, book, port, due[0]),
+            _ => self.issue_batch(adapter, book, port, &due),
         }
+    }
+
+    /// Issues several due requests of the port together, which are all queued: each is put in the lowest free slot and
+    /// stored there, and then one write each of PxSACT and PxCI has the bits of all.
+    fn issue_batch<A: Adapter>(
+        &mut self,
+        adapter: &mut A,
+        book: &mut Book,
+        port: Port,
+        due: &DueIds,
+    )
+        requires may { MayIssueDue A.device port self.old adapter.old book.old }
+        requires due { due.now.items ≡ due_ids self.old.mode port (asks_of book.old) }
+        requires several { 1 < length due.now.items }
+        ensures { IssuesWhatIsDue A.device A.access_count port self.old self.new adapter.old adapter.new
+            book.old book.new }
+    {
+        law_an_id_is_one_request();
+        law_batch_masks_grow();
+        law_batches_grow();
+        law_due_in_turn();
+        law_due_requests_get_slots();
+        law_operations_change_what_is_due();
+        law_the_book_stays_in_order();
+        let mut mask = 0;
+        for place in 0..due.len() {
+            let id = due[place];
+            let (entry, loan) = book.entry(id);
+            let task = Task {
+                op: entry.op,
+                range: entry.range,
+                queued: true,
+            };
+            let Some(slot) = self.slots.take(id, true) else {
+                unreachable!()
+            };
+            prepare(adapter, port, slot, &task, loan.frames());
+            book.issue(id);
+            mask = with_bit(mask, u32::from(slot.0));
+        }
+        issue_all(adapter, port, mask);
     }
 
     /// Issues the due requests of the port, in order of acceptance, if it is ready. On one that isn't none is due.

@@ -1,7 +1,7 @@
 // A port that a server drives, and what all its ports share.
 ghost use Rattle.std.specs.Prelude.{◌≡◌, ◌≤◌};
 ghost use Rattle.port_driver.specs.Parts.{NotesProbeResult, no_port};
-ghost use Rattle.server_history.specs.ErrorHandling.{AreUnused};
+ghost use Rattle.server_history.specs.ErrorHandling.{AreEmptySlots};
 ghost use Rattle.server_history.specs.Server.{last_disk_of, plain_mode};
 ghost use Rattle.server_history.specs.StuckServer.{stuck_found};
 ghost use Rattle.server_history.specs.Turns.{is_ready};
@@ -45,7 +45,7 @@ impl ServedPort {
     /// A port that isn't served yet, of which this disk is wanted. No slot of it is used, and no disk remembered.
     pub fn new(wanted: Wanted, kept: Quarantine) -> Self
         ensures fields { result ≡ record no_port { wanted = wanted; slots = result.slots; kept = kept } }
-        ensures unused { AreUnused plain_mode result.slots }
+        ensures unused { AreEmptySlots plain_mode result.slots }
     {
         ServedPort {
             wanted,

@@ -1,17 +1,31 @@
 -- A part of a call, told act by act (this project's own).
-use Rattle.std.specs.Prelude.{ℕ, ◌≡◌, ◌⊎◌, ◌++◌, List, [], ◌∷◌, Option, None, Some}
+use Rattle.std.specs.Prelude.{ℕ, ◌≡◌, ◌⊎◌, ◌++◌, List, [], ◌∷◌, All, Option, None, Some}
+use Rattle.ata_types.specs.declared.Port.{Port}
 use Rattle.ata_types.specs.declared.request.RequestId.{RequestId}
+use Rattle.hba_regs.specs.declared.reg.PortReg.TheVariants.{Ci}
+use Rattle.hba_regs.specs.declared.reg.Reg.TheVariants.{Px}
 use Rattle.adapter.specs.Access.{Access, Does, DoesAll}
+use Rattle.adapter.specs.Access.Access.{Writing}
 use Rattle.adapter.specs.Device.{Device}
 use Rattle.block_machine.specs.Events.{AllByDevice, IsByDevice}
 use Rattle.block_machine.specs.Histories.{IsReachable}
 use Rattle.block_machine.specs.Left.{after}
 use Rattle.block_machine.specs.State.{Machine}
-use Rattle.block_machine.specs.Steps.{Step}
+use Rattle.block_machine.specs.Steps.{Step, Issue}
 use Rattle.refinement.specs.Driver.{DriverState, DriverRelation, DriverAdvances}
 use Rattle.refinement.specs.Slots.{SlotStates}
 
 -- ---- acts
+
+-- the step issues a request
+abbrev pub IsIssueStep : Step → Type 0
+IsIssueStep (Issue mode e) = Unit {0}
+IsIssueStep step = ⊥
+
+-- it issues a request of the port
+abbrev pub IsIssueOn : Port → Step → Type 0
+IsIssueOn port (Issue mode e) = e.request.port ≡ port
+IsIssueOn port step = ⊥
 
 -- One act of the driver: an access, over which the device makes steps; or none, where the driver decides on a request
 -- or a slot. With it, the machine's steps meanwhile, the last one first, and what the driver knows then.
@@ -25,11 +39,20 @@ abbrev pub AccessLeads : Option Access → Device → Device → Type 0
 AccessLeads None old new = new ≡ old
 AccessLeads (Some access) old new = Does access old new
 
--- Over an access these are the device's steps, and after them one of the driver's own at most; without one, that alone.
+-- What the driver decides by an access is one step at most; or, by a write of PxCI, issues of requests of its port:
+-- each bit that is written as one issues a command (AHCI 1.3.1, 3.3.14).
+abbrev pub IsOneDecision : Access → List Step → Type 0
+IsOneDecision access [] = Unit {0}
+IsOneDecision access (step ∷ []) = Unit {0}
+IsOneDecision (Writing (Px port Ci) v) own = All (IsIssueOn port) own
+IsOneDecision access own = ⊥
+
+-- Over an access these are the device's steps, and after them what the driver decides by it; without one, a step of
+-- the driver's own, or none.
 abbrev pub IsOneAct : Option Access → List Step → Type 0
 IsOneAct None steps = (steps ≡ []) ⊎ ((step : Step) × (IsByDevice step → ⊥) × (steps ≡ step ∷ []))
-IsOneAct (Some access) steps = AllByDevice steps ⊎ ((step : Step) × (before : List Step) × (steps ≡ step ∷ before)
-    × AllByDevice before)
+IsOneAct (Some access) steps = AllByDevice steps ⊎ ((own before : List Step) × (steps ≡ own ++ before)
+    × IsOneDecision access own × AllByDevice before)
 
 -- The act is done, from a machine that agrees with what the driver knew: its steps lead to one that agrees with what it
 -- knows then.

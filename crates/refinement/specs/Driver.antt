@@ -162,14 +162,18 @@ pub record IsOwnPrepared (uses : SlotStates) (d : Device) (port : ℕ) (o : Oper
   pub here : bit v 0 ≡ true
   pub alone : (k : ℕ) → k ≢ 0 → bit v k ≡ false
 
--- What an access adds that ends with a step of the driver's own: steps of the device first, and then this one, after
--- which the machine agrees with what the driver knows then.
-pub record EndsInStep (k : DriverState) (m : Machine) (step : Step) (later : DriverState) : Type 0 where
+-- What an access adds that ends with steps of the driver's own: steps of the device first, and then these, the last one
+-- first, after which the machine agrees with what the driver knows then.
+pub record EndsInSteps (k : DriverState) (m : Machine) (own : List Step) (later : DriverState) : Type 0 where
   pub steps : List Step
   pub only : AllByDevice steps
-  pub may : AllMay m (step ∷ steps)
-  pub backed : IsBacked k.device later.device m (step ∷ steps)
-  pub knows : DriverRelation (after m (step ∷ steps)) later
+  pub may : AllMay m (own ++ steps)
+  pub backed : IsBacked k.device later.device m (own ++ steps)
+  pub knows : DriverRelation (after m (own ++ steps)) later
+
+-- the same, where it ends with one step
+abbrev pub EndsInStep : DriverState → Machine → Step → DriverState → Type 0
+EndsInStep k m step later = EndsInSteps k m (step ∷ []) later
 
 -- the driver knows that the slot serves the request
 abbrev pub serving : DriverState → ℕ → ℕ → RequestId → Device → DriverState

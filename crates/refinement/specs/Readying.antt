@@ -1,5 +1,5 @@
 -- A slot that is made ready for the write of PxCI (this project's own).
-use Rattle.std.specs.Prelude.{ℕ, true, ◌≡◌, if◌then◌else◌, List, length}
+use Rattle.std.specs.Prelude.{ℕ, true, ◌≡◌, ◌≤◌, ◌/◌, ◌%◌, if◌then◌else◌, List, length}
 use Rattle.ata_types.specs.declared.Port.{Port}
 use Rattle.hba_regs.specs.declared.reg.PortReg.TheVariants.{Clb}
 use Rattle.hba_regs.specs.declared.reg.Reg.TheVariants.{Ghc, Px}
@@ -22,6 +22,13 @@ pub record IsStored (d : Device) (port slot : ℕ) (c : Meaning) (places : List 
 pub record IsReadied (uses : SlotStates) (d : Device) (port slot : ℕ) (c : Meaning) (places : List ℕ) : Type 0 where
   pub used : uses port slot ≡ (if is_queued c.operation then Armed else Free)
   pub stored : IsStored d port slot c places
+
+-- The slot is one that the adapter has (AHCI 1.3.1, 3.1.1, CAP.NCS), and it is readied for some command.
+pub record IsReadyToIssue (uses : SlotStates) (d : Device) (port slot : ℕ) : Type 0 where
+  pub usable : slot ≤ d.cap / 256 % 32
+  pub command : Meaning
+  pub places : List ℕ
+  pub readied : IsReadied uses d port slot command places
 
 -- The access leaves what is stored for the slot: it writes neither GHC nor PxCLB, doesn't clear ST, and stores nothing
 -- in header or table.

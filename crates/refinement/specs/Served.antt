@@ -1,8 +1,9 @@
 -- What the driver of two queued reads knows, that are served at once (this project's own).
-use Rattle.std.specs.Prelude.{ℕ, true, ◌≡◌, ◌+◌, ◌*◌, List, [], ◌∷◌, ◌++◌, Some, Contains, replicate}
+use Rattle.std.specs.Prelude.{ℕ, true, ◌≡◌, ◌<◌, ◌+◌, ◌*◌, List, [], ◌∷◌, ◌++◌, Some, Contains, replicate}
 use Rattle.std.specs.Int.{to_le_bytes, w32}
 use Rattle.ata_types.specs.declared.memory.TheConstants.{TABLE_HEAD}
 use Rattle.ata_types.specs.declared.request.Frame.{Frame}
+use Rattle.ata_types.specs.declared.request.Op.TheVariants.{Read}
 use Rattle.ata_types.specs.declared.request.RequestId.{RequestId}
 use Rattle.hba_regs.specs.declared.reg.Reg.TheVariants.{Px}
 use Rattle.hba_regs.specs.declared.reg.PortReg.TheVariants.{Sact, Ci}
@@ -16,13 +17,15 @@ use Rattle.adapter.specs.Decoding.{piece_addresses}
 use Rattle.adapter.specs.Steps.{Steps, device_after}
 use Rattle.adapter.specs.Steps.DeviceTransition.{Fetch}
 use Rattle.adapter.specs.declared.command.Operation.TheVariants.{ReadQueued}
+use Rattle.block_machine.specs.declared.due.QueueMode.{QueueMode}
+use Rattle.block_machine.specs.Events.{AllMay}
 use Rattle.block_machine.specs.Histories.{IsReachable}
 use Rattle.block_machine.specs.State.{Pending, Machine}
-use Rattle.block_machine.specs.Steps.{MayStillMove}
+use Rattle.block_machine.specs.Steps.{Issue, MayStillMove}
 use Rattle.refinement.specs.Relation.{port_at}
-use Rattle.refinement.specs.Driver.{DriverState, DriverRelation}
+use Rattle.refinement.specs.Driver.{DriverState, DriverRelation, idle}
 use Rattle.refinement.specs.Places.{table_of}
-use Rattle.refinement.specs.Slots.{Free, Serves, put, Armed, SlotStates}
+use Rattle.refinement.specs.Slots.{Free, Serves, put, Armed, SlotDecodesTo, SlotStates}
 use Rattle.refinement.specs.Witness.{first_id, ready_with}
 
 -- request 2
@@ -97,3 +100,28 @@ pub record TwoReadsWitness : Type 0 where
   pub taken : (one_taken.port 0).taken 0 ≡ Some command
   pub queued : is_queued command.meaning.operation ≡ true
   pub waits : (one_taken.port 0).ci 1 ≡ true
+
+-- it asks for eight sectors from this one on, into this frame, on port 0
+pub record ReadsIntoFrame (first frame : ℕ) (e : Pending) : Type 0 where
+  pub port_is : e.request.port ≡ port_at 0
+  pub operation : e.request.asked.op ≡ Read
+  pub first_is : e.request.asked.first.0 ≡ first
+  pub count : e.request.asked.count ≡ 8
+  pub frames : e.request.asked.frames.items ≡ record { 0 = frame } ∷ []
+
+-- A machine is reached in which both reads wait, and which agrees with a driver that uses no slot: they may be issued,
+-- one after the other, and slots 0 and 1 of port 0 say their commands.
+pub record TwoStoredReads : Type 0 where
+  pub machine : Machine
+  pub reached : IsReachable machine
+  pub knows : DriverRelation machine (idle (ready_with two_memory))
+  pub mode : QueueMode
+  pub queued : mode.queued ≡ true
+  pub usable : 1 < mode.usable
+  pub first : Pending
+  pub second : Pending
+  pub first_asks : ReadsIntoFrame 100 100 first
+  pub second_asks : ReadsIntoFrame 108 101 second
+  pub may : AllMay machine (Issue mode second ∷ Issue mode first ∷ [])
+  pub first_says : SlotDecodesTo two_memory 0 0 0 (queued_read 100) (piece_addresses 0x64000 8)
+  pub second_says : SlotDecodesTo two_memory 0 0 1 (queued_read 108) (piece_addresses 0x65000 8)

@@ -10,27 +10,28 @@ ghost use Rattle.block_machine.specs.Histories.{IsReachable, IsSimulatedBySteps}
 ghost use Rattle.block_machine.specs.Left.{after};
 ghost use Rattle.block_machine.specs.State.{Machine};
 ghost use Rattle.block_machine.specs.Steps.{Step, May, after_step};
-ghost use Rattle.refinement.specs.Acts.{Act, IsActDone, AreActsDone, accesses_of, act_steps};
+ghost use Rattle.refinement.specs.Acts.{Act, IsActDone, AreActsDone, IsOneDecision, accesses_of, act_steps};
 ghost use Rattle.refinement.specs.Driven.{GainsNoMove};
-ghost use Rattle.refinement.specs.Driver.{DriverState, DriverRelation, ByDevice, DriverAdvances, EndsInStep};
+ghost use Rattle.refinement.specs.Driver.{DriverState, DriverRelation, ByDevice, DriverAdvances, EndsInSteps};
 ghost use Rattle.refinement.specs.Links.{DoesNotWrite};
 ghost use Rattle.refinement.specs.Recovering.{WorksPlainly};
 ghost use Rattle.refinement.specs.Slots.{Own, op_of};
 
 use super::lawful::law_below;
 
-/// What is one act: an access that the machine follows by the device's steps, or whose last step is the driver's own;
-/// and, without an access, a step of the driver's own, or none where it knows of the same device something else.
+/// What is one act: an access that the machine follows by the device's steps, or that ends with what the driver
+/// decides; and, without an access, a step of the driver's own, or none where it knows of the same device something
+/// else.
 pub fn law_acts_are_done()
     ensures access { (k later : DriverState) (m : Machine) (access : Access)
         → IsSimulatedBySteps DriverRelation k later (ByDevice k.device later.device) → IsReachable m
         → DriverRelation m k
         → Does access k.device later.device → (steps : List Step) × AllByDevice steps
         × IsActDone k m (record { access = Some access; steps = steps; later = later }) }
-    ensures ends { (k later : DriverState) (m : Machine) (access : Access) (step : Step)
-        → (e : EndsInStep k m step later)
+    ensures ends { (k later : DriverState) (m : Machine) (access : Access) (own : List Step)
+        → (e : EndsInSteps k m own later) → IsOneDecision access own
         → Does access k.device later.device
-        → IsActDone k m (record { access = Some access; steps = step ∷ e.steps; later = later }) }
+        → IsActDone k m (record { access = Some access; steps = own ++ e.steps; later = later }) }
     ensures own { (k later : DriverState) (m : Machine) (step : Step) → (IsByDevice step → ⊥) → May m step
         → later.device ≡ k.device → DriverRelation (after_step m step) later
         → IsActDone k m (record { access = None; steps = step ∷ []; later = later }) }

@@ -32,13 +32,14 @@ ghost use Rattle.block_machine.specs.Steps.{Step, Accept, Issue, Age, Again, Ans
 ghost use Rattle.block_machine.specs.declared.due.QueueMode.{QueueMode};
 ghost use Rattle.refinement.specs.Relation.{StateRelation, IsDiskOf, SameMemory, SameSectors, HaveSlots, ServeApart, port_at};
 ghost use Rattle.refinement.specs.Returning.{replug_candidates};
-ghost use Rattle.refinement.specs.Driver.{MayStore, LeavesUses, KeepsTables, DriverState, DriverRelation, IsBacked, ByDevice, DriverAdvances, IsPrepared, IsOwnPrepared, EndsInStep, HasNoSlot, ForgetsAtMost, ForgetsAtMostKept, serving, parking, freeing, idle, KeepsOtherCmdBits, MissesTable, MissesScratch};
+ghost use Rattle.refinement.specs.Acts.{IsIssueStep};
+ghost use Rattle.refinement.specs.Driver.{MayStore, LeavesUses, KeepsTables, DriverState, DriverRelation, IsBacked, ByDevice, DriverAdvances, IsOwnPrepared, EndsInStep, HasNoSlot, ForgetsAtMost, ForgetsAtMostKept, parking, freeing, idle, KeepsOtherCmdBits, MissesTable, MissesScratch};
 ghost use Rattle.refinement.specs.Follows.{SimulatesSteps};
 ghost use Rattle.refinement.specs.Links.{IsPlugEvent};
 ghost use Rattle.refinement.specs.Places.{list_of, scratch_of, received_of};
 ghost use Rattle.refinement.specs.Trimmed.{TrimIsKnown};
 ghost use Rattle.refinement.specs.Witness.{PreparedReadWitness, FirstReadWitness, KeptIsKnown, ParkedReadWitness, EndedIsKnown, OwnIsKnown};
-ghost use Rattle.refinement.specs.Served.{TwoReadsWitness};
+ghost use Rattle.refinement.specs.Served.{TwoReadsWitness, TwoStoredReads};
 ghost use Rattle.refinement.specs.Slots.{SlotState, Free, Armed, Own, Serves, SlotStates, put, serving_count, SlotDecodesTo, HasTrimBlock, IsOver, op_of, IsMove};
 ghost use Rattle.refinement.specs.Spares.{IsFurther, AllFurther, SparesBook, IsOfAnother};
 ghost use Rattle.refinement.specs.Tape.{OneAtMost, TellsDeviceSteps};
@@ -66,23 +67,8 @@ pub fn law_reading_is_followed()
         → IsSimulatedBySteps DriverRelation k (record k { device = new }) (ByDevice k.device new) }
 {}
 
-/// The write of PxCI is the request's issue, whatever the device does before it: what was prepared stays so.
-pub fn law_issuing_is_followed()
-    ensures { (k : DriverState) (m : Machine) (port : Port) (slot : ℕ) (mode : QueueMode) (e : Pending) (v : ℕ)
-        (new : Device)
-        → IsReachable m → DriverRelation m k → k.device.hr ≡ false
-        → IsPrepared k.uses m k.device port.0 slot mode e v → Writes (Px port Ci) v k.device new
-        → EndsInStep k m (Issue mode e) (serving k port.0 slot e.request.id new) }
-{}
-
-/// The write of PxSACT arms a free slot of a running port, which is no step of the machine. Once ST is cleared, the
-/// slot is free again. A free slot has no bit of PxSACT.
-pub fn law_arming_is_followed()
-    ensures armed { (k : DriverState) (port : Port) (slot v : ℕ) (new : Device) → k.device.hr ≡ false
-        → k.uses port.0 slot ≡ Free → (k.device.port port.0).st ≡ true → bit v slot ≡ true
-        → ((other : ℕ) → other ≢ slot → bit v other ≡ false) → Writes (Px port Sact) v k.device new
-        → IsSimulatedBySteps DriverRelation k (record k { uses = put k.uses port.0 slot Armed; device = new })
-        (ByDevice k.device new) }
+/// Once ST is cleared, an armed slot is free again. A free slot has no bit of PxSACT.
+pub fn law_slots_are_disarmed()
     ensures disarmed { (k : DriverState) (m : Machine) → DriverRelation m k → (port slot : ℕ)
         → (k.device.port port).st ≡ false
         → k.uses port slot ≡ Armed → DriverRelation m (freeing k port slot) }
@@ -350,10 +336,10 @@ pub fn law_stored_commands_stay()
         → MissesScratch port at n }
 {}
 
-/// A request that is due stays due, whatever the device does.
+/// Requests that may be issued one after another may be so still, whatever the device does first.
 pub fn law_due_stays()
     ensures { (m : Machine) (steps : List Step) → IsReachable m → AllByDevice steps → AllMay m steps
-        → (mode : QueueMode) (e : Pending) → May m (Issue mode e) → May (after m steps) (Issue mode e) }
+        → (own : List Step) → All IsIssueStep own → AllMay m own → AllMay (after m steps) own }
 {}
 
 /// The device's own steps leave the machine's grants and owners, its loans and its next id; and the same requests are
@@ -566,6 +552,11 @@ pub fn law_two_queued_reads_agree()
 {
     law_below();
 }
+
+/// And so there is one before, on which both reads are stored and may be issued.
+pub fn law_two_reads_are_stored()
+    ensures { TwoStoredReads }
+{}
 
 /// There is an adapter with a trim, which is issued by a write that is permitted, taken, and done to its end; and a
 /// machine agrees with it all the way.

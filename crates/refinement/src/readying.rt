@@ -1,10 +1,10 @@
 // Laws of a slot that is made ready and issued: the clause is the theorem. Nothing that runs calls these functions.
-ghost use Rattle.std.specs.Prelude.{ℕ, true, false, ◌≡◌, ◌≢◌, ◌<◌, ◌≤◌, ◌/◌, ◌%◌, List, All, length, not};
+ghost use Rattle.std.specs.Prelude.{ℕ, true, false, ◌≡◌, ◌≢◌, ◌<◌, List, [], ◌∷◌, All, length, not};
 ghost use Rattle.ata_types.specs.declared.Port.{Port};
 ghost use Rattle.hba_regs.specs.Bits.{bit};
 ghost use Rattle.hba_regs.specs.declared.reg.Reg.TheVariants.{Px};
 ghost use Rattle.hba_regs.specs.declared.reg.PortReg.TheVariants.{Clb, Sact, Ci};
-ghost use Rattle.adapter.specs.Access.{Writes, Access, Does};
+ghost use Rattle.adapter.specs.Access.{Writes, Access, Does, written};
 ghost use Rattle.adapter.specs.Access.Access.{Storing, Writing};
 ghost use Rattle.adapter.specs.Commands.{Meaning, is_queued};
 ghost use Rattle.adapter.specs.Device.{Device};
@@ -17,18 +17,18 @@ ghost use Rattle.block_machine.specs.Steps.{Issue, May};
 ghost use Rattle.block_machine.specs.declared.due.QueueMode.{QueueMode};
 ghost use Rattle.refinement.specs.Acts.{Act, AreActsDone, accesses_of};
 ghost use Rattle.refinement.specs.Relation.{StateRelation};
-ghost use Rattle.refinement.specs.Driver.{IsPrepared, DriverState, DriverRelation, MissesTable, LeavesUses};
+ghost use Rattle.refinement.specs.Driven.{IsSoleBit};
+ghost use Rattle.refinement.specs.Driver.{IsPrepared, DriverState, DriverAdvances, DriverRelation, MissesTable, serving};
 ghost use Rattle.refinement.specs.Links.{DoesNotWrite};
 ghost use Rattle.refinement.specs.Slots.{Free, Armed, SlotStates, put, Means, HasTrimBlock};
 ghost use Rattle.refinement.specs.Started.{ClearsNoStart};
-ghost use Rattle.refinement.specs.Readying.{IsStored, IsReadied, LeavesStored};
+ghost use Rattle.refinement.specs.Readying.{IsStored, IsReadied, IsReadyToIssue, LeavesStored};
 
 use super::lawful::law_below;
 
 /// While no reset is pending, what is stored for a slot of a running port stays so, whatever the device does, and over
-/// each access that doesn't clear ST, doesn't write PxCLB and stores nothing in the slot's header or table; so a slot
-/// stays readied. A free slot is readied by its bit of PxSACT, or without it for a plain command. No machine is asked
-/// for, but one that agrees.
+/// each access that doesn't clear ST, doesn't write PxCLB and stores nothing in the slot's header or table. No machine
+/// is asked for, but one that agrees.
 pub fn law_readied_stays()
     ensures steps { (uses : SlotStates) (m : Machine) (port slot : ℕ) (c : Meaning) (places : List ℕ) (old new : Device)
         → IsReachable m → StateRelation uses m old → old.hr ≡ false → Steps old new → IsStored old port slot c places
@@ -39,27 +39,16 @@ pub fn law_readied_stays()
         → DoesNotWrite (Px port Clb) access
         → ((at : ℕ) (bytes : List ℕ) → access ≡ Storing at bytes → MissesTable port.0 slot at (length bytes))
         → Does access old new → IsStored old port.0 slot c places → IsStored new port.0 slot c places }
-    ensures arms { (uses : SlotStates) (m : Machine) (port : Port) (slot : ℕ) (c : Meaning) (places : List ℕ) (v : ℕ)
-        (old new : Device)
-        → IsReachable m → StateRelation uses m old → old.hr ≡ false → is_queued c.operation ≡ true
-        → uses port.0 slot ≡ Free
-        → bit v slot ≡ true → Writes (Px port Sact) v old new
-        → IsStored old port.0 slot c places → IsReadied (put uses port.0 slot Armed) new port.0 slot c places }
-    ensures plain { (uses : SlotStates) (d : Device) (port slot : ℕ) (c : Meaning) (places : List ℕ)
-        → is_queued c.operation ≡ false → uses port slot ≡ Free → IsStored d port slot c places
-        → IsReadied uses d port slot c places }
 {
     law_below();
 }
 
-/// The bit of PxCI of a slot that is readied may be written, whatever the device does first. With a request that is due
+/// Bits of PxCI of slots that are readied may be written, whatever the device does first. With a request that is due
 /// and that the command means, the slot is prepared; and a slot that is prepared is readied.
 pub fn law_readied_is_issued()
-    ensures permitted { (uses : SlotStates) (m : Machine) (d : Device) (port : Port) (slot : ℕ) (c : Meaning)
-        (places : List ℕ) (v : ℕ)
-        → IsReachable m → StateRelation uses m d → IsOn d → HasPort d port.0 → slot ≤ d.cap / 256 % 32
-        → IsReadied uses d port.0 slot c places → bit v slot ≡ true → ((k : ℕ) → k ≢ slot → bit v k ≡ false)
-        → IsStable (MayWrite (Px port Ci) v) d }
+    ensures permitted { (uses : SlotStates) (m : Machine) (d : Device) (port : Port) (v : ℕ)
+        → IsReachable m → StateRelation uses m d → IsOn d → HasPort d port.0 → (d.port port.0).st ≡ true
+        → ((slot : ℕ) → bit v slot ≡ true → IsReadyToIssue uses d port.0 slot) → IsStable (MayWrite (Px port Ci) v) d }
     ensures prepared { (uses : SlotStates) (m : Machine) (d : Device) (port slot : ℕ) (c : Meaning) (places : List ℕ)
         (mode : QueueMode) (e : Pending)
         (v : ℕ) → IsReadied uses d port slot c places → May m (Issue mode e) → e.request.port.0 ≡ port
@@ -74,6 +63,20 @@ pub fn law_readied_is_issued()
 {
     law_below();
 }
+
+/// What one bit of a write does, with no step of the device. A bit of PxSACT arms its free slot on a running port, which
+/// is no step of the machine; and one of PxCI is its request's issue, where the slot is prepared. A write of several
+/// bits is followed so, one bit after another.
+pub fn law_bits_are_followed_in_turn()
+    ensures arms { (k : DriverState) (m : Machine) (port : Port) (slot v : ℕ) → DriverRelation m k
+        → k.uses port.0 slot ≡ Free → (k.device.port port.0).st ≡ true → IsSoleBit slot v
+        → DriverAdvances k m []
+        (record k { uses = put k.uses port.0 slot Armed; device = written (Px port Sact) v k.device }) }
+    ensures issues { (k : DriverState) (m : Machine) (port : Port) (slot : ℕ) (mode : QueueMode) (e : Pending) (v : ℕ)
+        → IsReachable m → DriverRelation m k → IsPrepared k.uses m k.device port.0 slot mode e v
+        → DriverAdvances k m (Issue mode e ∷ [])
+        (serving k port.0 slot e.request.id (written (Px port Ci) v k.device)) }
+{}
 
 /// What is stored for a slot stays so over acts whose accesses leave it.
 pub fn law_stored_stays_over_acts()

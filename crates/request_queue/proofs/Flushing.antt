@@ -8,9 +8,8 @@ use Rattle.ata_types.specs.declared.request.RequestId.{RequestId}
 use Rattle.block_machine.specs.declared.due.Unanswered.{Unanswered}
 use Rattle.block_machine.specs.Due.{is_flush, mark_issued, mark_waiting, without_request}
 use Rattle.request_queue.specs.declared.flushes.Flush.{Flush}
-use Rattle.request_queue.specs.Entries.{BookEntry, asks, asks_of, update_if_id, issue, requeued_entry, without_entry}
+use Rattle.request_queue.specs.Entries.{BookEntry, asks_of, update_if_id, issue, requeued_entry, without_entry}
 use Rattle.request_queue.specs.Flushes.{listed_flush, flushes_of}
-use Rattle.request_queue.proofs.Indexing.{asks_more}
 use Rattle.request_queue.proofs.Members.{into_map, map_in}
 use Rattle.request_queue.proofs.Unheld.{in_filter, of_filter}
 use Rattle.request_queue.proofs.Working.{after_answer, after_issue, after_requeue}
@@ -44,7 +43,7 @@ of_flushes book f there =
     (m.0, own.0, own.1, sym m.2)
 
 -- accepted
-longer_flushes : (xs ys : List Unanswered) → flushes_of (xs ++ ys) ≡ flushes_of xs ++ flushes_of ys
+pub longer_flushes : (xs ys : List Unanswered) → flushes_of (xs ++ ys) ≡ flushes_of xs ++ flushes_of ys
 longer_flushes xs ys = ap (map listed_flush) (filter-append (λ (x : Unanswered). is_flush x.op) xs ys) ∙ map-append listed_flush (filter (λ x. is_flush x.op) xs) (filter (λ x. is_flush x.op) ys)
 
 -- changed in nothing that the list has
@@ -100,10 +99,3 @@ requeued_flushes es id fs is = is ∙ sym (ap flushes_of (after_requeue es id)
 pub fewer_flushes : (es : List BookEntry) (id : RequestId) (fs left : List Flush) → fs ≡ flushes_of (asks_of es) → left ≡ filter (λ (f : Flush). not (f.id.0 == id.0)) fs
     → left ≡ flushes_of (asks_of (without_entry id es))
 fewer_flushes es id fs left is are = are ∙ (ap (filter (λ (f : Flush). not (f.id.0 == id.0))) is ∙ (left_listed id (asks_of es) ∙ ap flushes_of (sym (after_answer es id))))
-
-pub more_flushes : (es : List BookEntry) (e : BookEntry) (r : Unanswered) (fs more : List Flush) → r ≡ asks e.entry → fs ≡ flushes_of (asks_of es) → more ≡ fs ++ flushes_of (r ∷ [])
-    → more ≡ flushes_of (asks_of (es ++ e ∷ []))
-more_flushes es e r fs more same is are = are
-    ∙ (ap (λ (gs : List Flush). gs ++ flushes_of (r ∷ [])) is
-    ∙ (ap (λ (x : Unanswered). flushes_of (asks_of es) ++ flushes_of (x ∷ [])) same
-    ∙ (sym (longer_flushes (asks_of es) (asks e.entry ∷ [])) ∙ ap flushes_of (sym (asks_more es e)))))

@@ -26,3 +26,5 @@ mod Editing
 mod Leading
 mod Ends
 mod Sorting
+mod Placed
+mod Conflicting

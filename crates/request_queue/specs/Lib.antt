@@ -4,6 +4,7 @@ pub mod Store
 pub mod Machine
 pub mod Dispositions
 pub mod Sectors
+pub mod Conflicts
 pub mod Flushes
 pub mod Holders
 pub mod Walk

@@ -9,15 +9,13 @@ ghost use Rattle.request_queue.specs.Entries.{due_ids};
 ghost use Rattle.request_queue.specs.Entries.{BookEntry, GivesBack, IsEarlier, IsNewlyAccepted, BookIsInOrder, IsUnanswered, IsWaiting, MayGoAgain, HasItsFrames, IsAnyOverdue, IsOverdue, IsOverdueOn, aged, asks_of, update_if_id, ids_where, is_among, is_of, issue, lone_due, older_entry, requeued_entry, all_marked_under, marked_under, unanswered_entries, waits_under, without_entry};
 
 use crate::PendingRequest;
+use crate::conflicts::Conflicts;
 use crate::due::{DueIds, list_due};
-use crate::flushes::{Flush, add_flush, no_flushes, take_flush};
 use crate::holder::Holder;
-use crate::holders::{holder_of, no_holders, refind_holders};
-use crate::ranges::Ranges;
-use crate::sectors::{add_sectors, no_sectors, take_sectors};
+use crate::holders::{no_holders, refind_holders};
 use crate::store::{RequestSlab, asks_of};
 use arrayvec::ArrayVec;
-use ata_types::{ClientId, Frame, MOST_REQUEST_FRAMES, MOST_UNANSWERED, PORTS, Port, RequestId};
+use ata_types::{ClientId, Frame, MOST_REQUEST_FRAMES, MOST_UNANSWERED, Port, RequestId};
 use block_machine::{QueueMode, Unanswered, is_plain};
 use dma_frames::{FrameTable, Loan};
 use std::alloc::Global;
@@ -37,10 +35,8 @@ pub struct NoMemory;
 /// ends it.
 pub struct Book {
     store: RequestSlab,
-    /// The sectors of the requests, port by port, which tell what conflicts.
-    sectors: [Ranges; PORTS],
-    /// The flushes of all ports, in order of acceptance. A flush has no sectors, and conflicts all the same.
-    flushes: Vec<Flush>,
+    /// Which requests conflict.
+    conflicts: Conflicts,
     /// For each waiting read or write an earlier one that conflicts with it, if there is one: its holder.
     holders: Vec<Holder>,
     /// How many of the requests each client has, by its number. None is of client 0.
@@ -52,19 +48,17 @@ impl Model for Book {
     ghost use Rattle.ata_types.specs.declared.limits.TheConstants.{MOST_UNANSWERED};
     ghost use Rattle.request_queue.specs.Counts.{AreCounts};
     ghost use Rattle.request_queue.specs.Entries.{BookEntry, BookIsInOrder, asks_of};
-    ghost use Rattle.request_queue.specs.Flushes.{flushes_of};
     ghost use Rattle.request_queue.specs.Beside.{IndexesMatch};
+    ghost use Rattle.request_queue.specs.Conflicts.{AreConflictLists};
     ghost use Rattle.request_queue.specs.Holders.{AreHolders};
-    ghost use Rattle.request_queue.specs.Sectors.{AreIndexed};
 
     ghost Value = { List BookEntry };
 
     ghost view = { λ b. b.store };
 
-    ghost invariant = { λ b. BookIsInOrder b.store × AreIndexed (asks_of b.store) b.sectors
+    ghost invariant = { λ b. BookIsInOrder b.store × AreConflictLists (asks_of b.store) b.conflicts
         × AreHolders (asks_of b.store) b.holders.items × (MOST_UNANSWERED ≤ vec_capacity b.holders)
-        × AreCounts b.store b.counts
-        × (b.flushes.items ≡ flushes_of (asks_of b.store)) × (MOST_UNANSWERED ≤ vec_capacity b.flushes) };
+        × AreCounts b.store b.counts };
 }
 
 impl Book {
@@ -73,10 +67,7 @@ impl Book {
     pub fn new(alloc: Global) -> Result<Self, NoMemory>
         ensures { IfOk result (λ book. book ≡ []) }
     {
-        let Ok(sectors) = no_sectors(alloc) else {
-            return Err(NoMemory);
-        };
-        let Ok(flushes) = no_flushes(alloc) else {
+        let Ok(conflicts) = Conflicts::new(alloc) else {
             return Err(NoMemory);
         };
         let Ok(holders) = no_holders(alloc) else {
@@ -85,8 +76,7 @@ impl Book {
         match RequestSlab::new(alloc) {
             Ok(store) => Ok(Book {
                 store,
-                sectors,
-                flushes,
+                conflicts,
                 holders,
                 counts: [0; COUNTS],
             }),
@@ -123,11 +113,8 @@ impl Book {
         ensures lent { LendsOnly table.old table.new frames.now (Some request.id) }
     {
         self.counts[usize::from(request.client.0)] += 1;
-        let asks = asks_of(request);
-        let holder = holder_of(&self.sectors, self.flushes.as_slice(), &asks);
+        let holder = self.conflicts.add(&self.store, &asks_of(request));
         self.holders.push_reserved(holder);
-        add_sectors(&mut self.sectors, &self.store, &asks);
-        add_flush(&mut self.flushes, &asks);
         self.store.push(request, frames, table);
     }
 
@@ -223,11 +210,7 @@ impl Book {
                 ..old
             },
         );
-        let holder = holder_of(
-            &self.sectors,
-            self.flushes.as_slice(),
-            &self.store.asks(place),
-        );
+        let holder = self.conflicts.holder(&self.store.asks(place));
         self.holders[place] = holder;
     }
 
@@ -270,8 +253,7 @@ impl Book {
     {
         let place = place_of(&self.store, id);
         take_beside(
-            &mut self.sectors,
-            &mut self.flushes,
+            &mut self.conflicts,
             &mut self.holders,
             &mut self.counts,
             &self.store,
@@ -290,8 +272,7 @@ impl Book {
     {
         let place = place_of(&self.store, id);
         take_beside(
-            &mut self.sectors,
-            &mut self.flushes,
+            &mut self.conflicts,
             &mut self.holders,
             &mut self.counts,
             &self.store,
@@ -307,8 +288,7 @@ impl Book {
     {
         let Book {
             store,
-            sectors: _,
-            flushes: _,
+            conflicts: _,
             holders: _,
             counts: _,
         } = self;
@@ -349,8 +329,7 @@ fn place_of(store: &RequestSlab, id: RequestId) -> usize
 
 /// Takes the request at a place out of what stands beside the store, before it is taken out of the store.
 fn take_beside(
-    sectors: &mut [Ranges; PORTS],
-    flushes: &mut Vec<Flush>,
+    conflicts: &mut Conflicts,
     holders: &mut Vec<Holder>,
     counts: &mut [usize; COUNTS],
     store: &RequestSlab,
@@ -358,23 +337,14 @@ fn take_beside(
 )
     requires place { place < length store.now }
     requires ordered { BookIsInOrder store.now }
-    requires beside { IndexesMatch store.now sectors.old flushes.old.items holders.old.items counts.old }
-    ensures beside { IndexesMatch (remove store.now place) sectors.new flushes.new.items holders.new.items counts.new }
-    ensures flushes { vec_capacity flushes.new ≡ vec_capacity flushes.old }
+    requires beside { IndexesMatch store.now conflicts.old holders.old.items counts.old }
+    ensures beside { IndexesMatch (remove store.now place) conflicts.new holders.new.items counts.new }
     ensures holders { vec_capacity holders.new ≡ vec_capacity holders.old }
 {
     let request = store.request(place);
-    take_sectors(sectors, store, place);
-    take_flush(flushes, request.id);
+    conflicts.take(store, place);
     holders.remove(place);
-    refind_holders(
-        holders,
-        sectors,
-        flushes.as_slice(),
-        store,
-        place,
-        request.id,
-    );
+    refind_holders(holders, conflicts, store, place, request.id);
     counts[usize::from(request.client.0)] -= 1;
 }
 

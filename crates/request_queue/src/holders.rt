@@ -2,11 +2,13 @@
 ghost use Rattle.std.specs.Prelude.{◌≡◌, ◌<◌, ◌≤◌, ◌&&◌, [], length, false, true, Contains, List, IfNone, IfOk, IfSome, not, remove, vec_capacity};
 ghost use Rattle.std.specs.List.{list_any};
 ghost use Rattle.block_machine.specs.declared.due.Unanswered.{Unanswered};
+ghost use Rattle.request_queue.specs.Conflicts.{AreConflictLists};
 ghost use Rattle.request_queue.specs.Entries.{asks_of};
 ghost use Rattle.request_queue.specs.Flushes.{flushes_of, is_earlier_flush};
 ghost use Rattle.request_queue.specs.Holders.{AreHolders, AreHoldersBut, IsHolderOf, is_read_or_write, may_have_holder};
 ghost use Rattle.request_queue.specs.Sectors.{AreIndexed};
 
+use crate::conflicts::Conflicts;
 use crate::flushes::{Flush, earlier_flush};
 use crate::holder::Holder;
 use crate::ranges::Ranges;
@@ -40,25 +42,23 @@ pub fn holder_of(sectors: &[Ranges; PORTS], flushes: &[Flush], request: &Unanswe
 }
 
 /// Searches anew for the holders of those that a request held which is answered. It stands at this place of the store
-/// still, and its sectors, its own holder, and itself as a flush were taken out.
+/// still, and was taken out of the lists of conflicts, as its own holder was of the holders.
 pub fn refind_holders(
     holders: &mut Vec<Holder>,
-    sectors: &[Ranges; PORTS],
-    flushes: &[Flush],
+    conflicts: &Conflicts,
     store: &RequestSlab,
     place: usize,
     answered: RequestId,
 )
     requires place { place < length store.now }
-    requires indexed { AreIndexed (remove (asks_of store.now) place) sectors.now }
-    requires flushes { flushes.now ≡ flushes_of (remove (asks_of store.now) place) }
+    requires lists { AreConflictLists (remove (asks_of store.now) place) conflicts.now }
     requires but { AreHoldersBut answered place (remove (asks_of store.now) place) holders.old.items }
     ensures holders { AreHolders (remove (asks_of store.now) place) holders.new.items }
     ensures room { vec_capacity holders.new ≡ vec_capacity holders.old }
 {
     for later in place..holders.len() {
         if holders[later].is(answered) {
-            let holder = holder_of(sectors, flushes, &store.asks(later + 1));
+            let holder = conflicts.holder(&store.asks(later + 1));
             holders[later] = holder;
         }
     }

@@ -7,6 +7,7 @@
 #![tactic(auto)]
 
 mod book;
+mod conflicts;
 mod disposition;
 mod due;
 mod flushes;

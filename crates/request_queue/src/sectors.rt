@@ -1,6 +1,7 @@
 // The sectors of the unanswered requests, indexed: what conflicts with a request is found without a walk over all.
-ghost use Rattle.std.specs.Prelude.{◌≡◌, ◌<◌, ◌++◌, ◌∷◌, [], length, not, remove, All, IfOk};
+ghost use Rattle.std.specs.Prelude.{◌≡◌, ◌<◌, ◌++◌, ◌∷◌, [], length, not, remove, All, IfOk, List};
 ghost use Rattle.block_machine.specs.Due as machine;
+ghost use Rattle.block_machine.specs.declared.due.Unanswered.{Unanswered};
 ghost use Rattle.request_queue.specs.Entries.{asks_of};
 ghost use Rattle.request_queue.specs.Sectors.{AreIndexed, item_of, index_of_port};
 
@@ -22,12 +23,12 @@ pub fn no_sectors(alloc: Global) -> Result<[Ranges; PORTS], AllocError>
     ])
 }
 
-/// Puts the sectors of a request into its port's list, before the request is put into the store.
-pub fn add_sectors(sectors: &mut [Ranges; PORTS], store: &RequestSlab, request: &Unanswered)
-    requires indexed { AreIndexed (asks_of store.now) sectors.old }
-    requires room { length store.now < MOST_UNANSWERED }
-    requires newest { All (λ r. r.id.0 < request.now.id.0) (asks_of store.now) }
-    ensures { AreIndexed (asks_of store.now ++ request.now ∷ []) sectors.new }
+/// Puts the sectors of a request into its port's list. It was accepted after all whose sectors are listed.
+pub fn add_sectors(sectors: &mut [Ranges; PORTS], request: &Unanswered)
+    requires { (book : List Unanswered) × AreIndexed book sectors.old × (length book < MOST_UNANSWERED)
+        × All (λ r. r.id.0 < request.now.id.0) book }
+    ensures { (book : List Unanswered) → AreIndexed book sectors.old → All (λ r. r.id.0 < request.now.id.0) book
+        → AreIndexed (book ++ request.now ∷ []) sectors.new }
 {
     if !has_sectors(request.op) {
         return;

@@ -1,3 +1,4 @@
+pub mod Buffer
 pub mod Answer
 pub mod Fields
 pub mod Line

@@ -6,6 +6,17 @@ use adapter::DeviceStep;
 use ata_types::Call;
 use std::marker::Model;
 
+/// The part of a buffer that has a call.
+#[derive(Clone, Copy, Debug, PartialEq, Eq)]
+pub enum CallPart {
+    /// A read or a write.
+    Transfer,
+    /// A step of the device.
+    Step,
+    /// Any other.
+    Other,
+}
+
 /// Has the call that was read last, and any one until one was. Reads and writes have a part of their own, so that
 /// their room for frames is kept from line to line: to clear it for each costs more than to read the line. So have
 /// steps of the device, since a step that is put over a call of another kind clears that room, too.
@@ -17,20 +28,18 @@ pub struct CallBuffer {
     pub(crate) step: Call<DeviceStep>,
     /// The last call of another kind.
     pub(crate) other: Call<DeviceStep>,
-    /// Whether a read or a write was read last.
-    pub(crate) is_transfer: bool,
-    /// Whether a step was, where no read or write was.
-    pub(crate) is_step: bool,
+    /// Which of them was read last.
+    pub(crate) last: CallPart,
 }
 
 impl Model for CallBuffer {
-    ghost use Rattle.std.specs.Prelude.{if◌then◌else◌};
     ghost use Rattle.adapter.specs.declared.access.DeviceStep.{DeviceStep};
     ghost use Rattle.ata_types.specs.declared.call.Call.{Call};
+    ghost use Rattle.script.specs.Buffer.{part_of};
 
     ghost Value = { Call DeviceStep };
 
-    ghost view = { λ p. if p.is_transfer then p.transfer else (if p.is_step then p.step else p.other) };
+    ghost view = { λ p. part_of p.last p.transfer p.step p.other };
 }
 
 impl CallBuffer {
@@ -42,8 +51,7 @@ impl CallBuffer {
             transfer: Call::Service,
             step: Call::Service,
             other: Call::Service,
-            is_transfer: false,
-            is_step: false,
+            last: CallPart::Other,
         }
     }
 
@@ -51,12 +59,10 @@ impl CallBuffer {
     pub fn call(&self) -> &Call<DeviceStep>
         ensures { result.now ≡ self.now }
     {
-        if self.is_transfer {
-            &self.transfer
-        } else if self.is_step {
-            &self.step
-        } else {
-            &self.other
+        match self.last {
+            CallPart::Transfer => &self.transfer,
+            CallPart::Step => &self.step,
+            CallPart::Other => &self.other,
         }
     }
 
@@ -64,12 +70,10 @@ impl CallBuffer {
     pub fn into_call(self) -> Call<DeviceStep>
         ensures { result ≡ self }
     {
-        if self.is_transfer {
-            self.transfer
-        } else if self.is_step {
-            self.step
-        } else {
-            self.other
+        match self.last {
+            CallPart::Transfer => self.transfer,
+            CallPart::Step => self.step,
+            CallPart::Other => self.other,
         }
     }
 }

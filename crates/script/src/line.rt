@@ -8,7 +8,7 @@ ghost use Rattle.ata_types.specs.declared.request.Op.{Op};
 ghost use Rattle.ata_types.specs.declared.request.Request.{Request};
 ghost use Rattle.adapter.specs.declared.access.DeviceStep.{DeviceStep};
 
-use crate::call_buffer::CallBuffer;
+use crate::call_buffer::{CallBuffer, CallPart};
 use crate::fields;
 use crate::fields::is;
 use adapter::DeviceStep;
@@ -517,21 +517,20 @@ fn asked(name: &[u8], words: &[&[u8]], call: &mut CallBuffer) -> Option<()>
     ensures found { ReadsAsLine (name.now ∷ map (λ w. w.now) words.now) result call.new }
     ensures only { ReadsEachLine (name.now ∷ map (λ w. w.now) words.now) result call.new }
 {
-    call.is_transfer = false;
-    call.is_step = false;
+    call.last = CallPart::Other;
     if words.is_empty() {
         return of_word(name, &mut call.other);
     }
     if is(name, "read") {
-        call.is_transfer = true;
+        call.last = CallPart::Transfer;
         return of_transfer(Op::Read, words, &mut call.transfer);
     }
     if is(name, "write") {
-        call.is_transfer = true;
+        call.last = CallPart::Transfer;
         return of_transfer(Op::Write, words, &mut call.transfer);
     }
     if is(name, "dev") {
-        call.is_step = true;
+        call.last = CallPart::Step;
         return of_device(words, &mut call.step);
     }
     asked_else(name, words, &mut call.other)

@@ -8,9 +8,13 @@ use crate::watched::{ALL_PORTS, Readings, Watched, model};
 use adapter::{Adapter, DeviceStep, DiskNumber};
 use ata_types::{DRIVER_BYTES, PORTS, Port, PortState};
 use hba_regs::{PortReg, Reg};
+use host_boot::laws::law_what_was_taken_over_may_be_served;
 use host_boot::{ProbeResult, take_over};
 use port_control::{PortFault, receive, stop};
+use refinement::fragments::law_other_ports_are_left;
+use refinement::kinds::law_followed_fragments_give;
 use std::alloc::Global;
+use std::marker::Brand;
 use std::process::Abort;
 use std::test::Fail;
 
@@ -47,6 +51,9 @@ fn received_anew<A: Adapter>(adapter: &mut A) -> PortState
     requires idle { IsIdle (A.device adapter.old) }
     requires room { DRIVER_BYTES ≤ (A.device adapter.old).size }
 {
+    law_followed_fragments_give::<Brand>();
+    law_other_ports_are_left();
+    law_what_was_taken_over_may_be_served();
     let host = take_over(adapter, &IMAGE_DISK);
     let ProbeResult::Ready(_) = host.ports[0] else {
         return PortState::Absent;

@@ -4,6 +4,8 @@ pub mod Looks
 pub mod RefusalsAndBytes
 pub mod AcceptableRequests
 pub mod Acceptances
-pub mod OneIssue
+pub mod RequestsInSlots
+pub mod NextSlots
+pub mod IssuedTogether
 pub mod IssueRounds
 pub mod OlderRequests

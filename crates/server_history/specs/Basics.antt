@@ -29,13 +29,11 @@ use Rattle.hba_regs.specs.Bits.{bit}
 use Rattle.hba_regs.specs.declared.reg.PortReg.TheVariants.{Ci, Clb}
 use Rattle.hba_regs.specs.declared.reg.Reg.TheVariants.{Px}
 use Rattle.refinement.specs.GivingUp.{parking_all, served_ids}
-use Rattle.refinement.specs.Slots.{Armed, Free, IsMove, IsOver, Own, Serves, SlotState, SlotStates, op_of, put}
-use Rattle.block_machine.specs.Due.{is_plain}
+use Rattle.refinement.specs.Slots.{Free, IsMove, IsOver, Own, Serves, SlotState, SlotStates, op_of, put}
 use Rattle.block_machine.specs.Ports.{PortsWellFormed, Ports}
 use Rattle.block_machine.specs.Rules.{Names}
 use Rattle.block_machine.specs.State.{Accepted, Machine, Pending}
-use Rattle.block_machine.specs.Steps.{Step, Accept, Age, Again, Issue, Answer, HoldsFrames, MayAccept, May, MayStillMove, after_step, stays, Revoke}
-use Rattle.block_machine.specs.declared.due.QueueMode.{QueueMode}
+use Rattle.block_machine.specs.Steps.{Step, Accept, Age, Again, Answer, HoldsFrames, MayAccept, MayStillMove, after_step, stays, Revoke}
 use Rattle.refinement.specs.Facts.{EndedIn, IsSlotClear, ShowsFault}
 use Rattle.dma_frames.specs.Table.{Table}
 use Rattle.request_queue.specs.Entries.{BookEntry, IsAccepted, BookIsInOrder, aged, asks_of}
@@ -139,17 +137,6 @@ pub record SlotLaws : Type 0 where
       → ((other : RequestId) → u ≡ Serves other → other ≢ id) → HasNoSlot (put uses port slot u) id
   pub waiting : (uses : SlotStates) (m : Machine) (d : Device) → IsReachable m → StateRelation uses m d → (e : Pending)
       → Contains m.book e → e.issued ≡ false → HasNoSlot uses e.request.id
-  -- a request that is due finds a free slot
-  pub plain_free : (uses : SlotStates) (m : Machine) (d : Device) → IsReachable m → StateRelation uses m d
-      → (mode : QueueMode) (e : Pending) → May m (Issue mode e)
-      → ((o : Operation) → uses e.request.port.0 0 ≡ Own o → ⊥)
-      → ((slot : ℕ) → uses e.request.port.0 slot ≡ Armed → ⊥) → is_plain mode e.request.asked.op ≡ true
-      → uses e.request.port.0 0 ≡ Free
-  pub queued_free : (uses : SlotStates) (m : Machine) (d : Device) → IsReachable m → StateRelation uses m d
-      → (mode : QueueMode) (e : Pending) → May m (Issue mode e)
-      → ((o : Operation) → uses e.request.port.0 0 ≡ Own o → ⊥)
-      → ((slot : ℕ) → uses e.request.port.0 slot ≡ Armed → ⊥) → is_plain mode e.request.asked.op ≡ false → (slot : ℕ)
-      × (slot < mode.usable) × (uses e.request.port.0 slot ≡ Free)
   -- a command that is over stays so
   pub over : (port slot : ℕ) (old new : Device) → Steps old new → IsOver (old.port port) slot
       → IsOver (new.port port) slot

@@ -27,7 +27,7 @@ use Rattle.refinement.specs.Driven.{AnyUse, IsDrivenBy, IsSimulated, SparesOther
 use Rattle.refinement.specs.Relation.{StateRelation, IsDiskOf, SameMemory, SameSectors, port_at}
 use Rattle.refinement.specs.Returning.{replug_candidates}
 use Rattle.adapter.specs.Idle.{IsIdle}
-use Rattle.refinement.specs.Driver.{EndsInStep, IsBacked, DriverState, DriverRelation, idle}
+use Rattle.refinement.specs.Driver.{EndsInStep, EndsInSteps, IsBacked, DriverState, DriverRelation, idle}
 use Rattle.refinement.specs.Slots.{Own, SlotStates, op_of}
 use Rattle.refinement.specs.Vacant.{IsFreshIfShown, IsVacant}
 use Rattle.block_machine.specs.Due.{AreAllDueInOrder, IsDue, IsInOrder, due_of, of_port, with_issued, without_request, with_waiting}
@@ -42,7 +42,7 @@ use Rattle.block_machine.specs.declared.due.QueueMode.{QueueMode}
 use Rattle.block_machine.specs.declared.due.Unanswered.{Unanswered}
 use Rattle.dma_frames.specs.Table.{Table, LendsOnly, lent_to}
 use Rattle.refinement.specs.Facts.{RunsWell, Undisturbed}
-use Rattle.std.specs.List.{list_any}
+use Rattle.std.specs.List.{AllZip, list_any}
 use Rattle.block_machine.specs.Events.{changes_disk, IsByDevice}
 use Rattle.block_machine.specs.Left.{IsInitial, after}
 use Rattle.block_machine.specs.Histories.{IsReachable}
@@ -51,8 +51,8 @@ use Rattle.port_boot.specs.States.{RunsOn, IsOfBoot}
 use Rattle.port_control.specs.Engines.{Falls, Sticks}
 use Rattle.error_recovery.specs.Recovery.{IsRecoveryAccess}
 use Rattle.commands.specs.Masks.{ReadsDone, ReadsCiOrSact}
-use Rattle.commands.specs.Tasks.{IsIssuing, IsTaskOf, IssuesTask, MayServe, with_serving}
-use Rattle.commands.specs.declared.ncq.Task.{Task}
+use Rattle.commands.specs.Batches.{IsIssuingOn, IssuesBatch, MayServeBatch, SlotTask, issues_of, with_serving_batch}
+use Rattle.commands.specs.Tasks.{IsTaskOf}
 use Rattle.port_control.specs.EventLaws.{Laws}
 use Rattle.request_queue.specs.Entries.{BookEntry, IsAccepted, IsEarlier, IsNewlyAccepted, BookIsInOrder, IsWaiting, MayGoAgain, all_marked_under, asks_of, update_if_id, issue, requeued_entry, unanswered_entries, without_entry}
 use Rattle.request_queue.specs.declared.PendingRequest.{PendingRequest}
@@ -155,19 +155,18 @@ pub record LawsBelow : Type 0 where
   -- accesses that serve ports
   pub looks : Laws
   pub looking : LookLaws
-  -- a task is issued
-  pub issuing_ends : (port : Port) (slot : ℕ) (r : Task) (frames : List Frame) (mode : QueueMode) (e : Pending)
-      (old new : Device) (s : DriverSlots) (m : Machine)
-      → IssuesTask port slot r frames old new → IsTaskOf port slot r frames mode e → IsReachable m
-      → DriverRelation m (driver_state s old) → MayServe port slot mode e s m
-      → EndsInStep (driver_state s old) m (Issue mode e) (driver_state (with_serving port slot e.request.id s) new)
-  pub issuing_silent : (port : Port) (slot : ℕ) (r : Task) (frames : List Frame) (mode : QueueMode) (e : Pending)
-      (old new : Device) (s : DriverSlots) (m : Machine)
-      → IssuesTask port slot r frames old new → IsTaskOf port slot r frames mode e → IsReachable m
-      → DriverRelation m (driver_state s old) → MayServe port slot mode e s m → (q : ℕ) (o : Operation) → op_of o ≡ None
-      → (s.uses q 0 ≡ Own o → ⊥) → GainsNoMove q o old new
-  pub issuing_of : (port : Port) (slot : ℕ) (access : Access) → IsIssuing port slot access
-      → SparesOtherPorts port access
+  -- a batch is issued
+  pub issuing_ends : (port : Port) (tasks : List SlotTask) (mode : QueueMode) (es : List Pending) (old new : Device)
+      (s : DriverSlots) (m : Machine)
+      → IssuesBatch port tasks old new → AllZip (λ t e. IsTaskOf port t.slot t.task t.frames mode e) tasks es
+      → IsReachable m → DriverRelation m (driver_state s old) → MayServeBatch port tasks mode es s m
+      → EndsInSteps (driver_state s old) m (issues_of mode es) (driver_state (with_serving_batch port tasks es s) new)
+  pub issuing_silent : (port : Port) (tasks : List SlotTask) (mode : QueueMode) (es : List Pending) (old new : Device)
+      (s : DriverSlots) (m : Machine)
+      → IssuesBatch port tasks old new → AllZip (λ t e. IsTaskOf port t.slot t.task t.frames mode e) tasks es
+      → IsReachable m → DriverRelation m (driver_state s old) → MayServeBatch port tasks mode es s m
+      → (q : ℕ) (o : Operation) → op_of o ≡ None → (s.uses q 0 ≡ Own o → ⊥) → GainsNoMove q o old new
+  pub issuing_of : (port : Port) (access : Access) → IsIssuingOn port access → SparesOtherPorts port access
   -- it is found done
   pub finding_of : (port : Port) (access : Access) → ReadsCiOrSact port access → SparesOtherPorts port access
   pub finding_followed : (port : Port) (mask done : ℕ) (old new : Device) → ReadsDone port mask done old new

@@ -130,7 +130,7 @@ abbrev pub holdings_of : Port → ServerState → Holdings
 holdings_of port s = record { book = s.book; table = s.table; kept = quarantined_at s.kept port.0 }
 
 -- no slot of the port is used, and as many are usable as its mode has
-pub record AreUnused (mode : QueueMode) (slots : PortSlots) : Type 0 where
+pub record AreEmptySlots (mode : QueueMode) (slots : PortSlots) : Type 0 where
   pub usable : slots.usable ≡ mode.usable
   pub places : length slots.places ≡ 32
   pub free : (slot : ℕ) → use_at slots slot ≡ None
@@ -164,7 +164,7 @@ pub record HasResolved (port : Port) (later : List Reply) (old new : ServerState
   pub mode : QueueMode
   pub mode_is : mode ≡ probed_mode new.device.cap found
   pub slots : PortSlots
-  pub unused : AreUnused mode slots
+  pub unused : AreEmptySlots mode slots
   pub failed : Option disposition.FailedRequest
   pub names : IsFailedRequest (slots_at mid.slots port.0) error_handled.result.failed failed
   pub revalidation : Revalidation

@@ -1,5 +1,5 @@
 -- How a port is served, as the block machine has it (this project's own).
-use Rattle.std.specs.Prelude.{ℕ, Bool, true, false, not, ◌≡◌, ◌⊎◌, ◌↔◌, ◌<◌, ◌+◌, ◌++◌, List, [], ◌∷◌, map, Option, Some, None, AllPairs, Contains}
+use Rattle.std.specs.Prelude.{ℕ, Bool, true, false, not, ◌≡◌, ◌⊎◌, ◌↔◌, ◌<◌, ◌≤◌, ◌+◌, ◌/◌, ◌%◌, ◌++◌, List, [], ◌∷◌, map, Option, Some, None, All, AllPairs, Contains, length}
 use Rattle.std.specs.List.{AllZip}
 use Rattle.ata_types.specs.declared.Port.{Port}
 use Rattle.ata_types.specs.declared.request.Outcome.TheVariants as outcome
@@ -8,7 +8,7 @@ use Rattle.ata_types.specs.declared.request.Reply.{Reply}
 use Rattle.ata_types.specs.declared.request.Request.{Request}
 use Rattle.ata_types.specs.declared.request.RequestId.{RequestId}
 use Rattle.adapter.specs.Device.{Device}
-use Rattle.refinement.specs.Driven.{IsDrivenBy}
+use Rattle.refinement.specs.Driven.{IsDrivenBy, RelatesWith}
 use Rattle.block_machine.specs.Due.{IsDue, is_plain}
 use Rattle.block_machine.specs.declared.due.QueueMode.{QueueMode}
 use Rattle.block_machine.specs.Events.{AllByDevice, IsByDevice}
@@ -16,15 +16,13 @@ use Rattle.block_machine.specs.Rules.{IsNamed}
 use Rattle.block_machine.specs.State.{Pending}
 use Rattle.block_machine.specs.Steps.{Step, Answer, Issue, AllTouched}
 use Rattle.dma_frames.specs.Table.{Table, LendsOnly}
-use Rattle.adapter.specs.Access.{Access}
 use Rattle.hba_regs.specs.Bits.{bit}
 use Rattle.commands.specs.Masks.{ReadsDone}
-use Rattle.commands.specs.Tasks.{HasBlockOf, IsIssuing, IssuesTask, addresses_of, meaning_of}
-use Rattle.refinement.specs.Readying.{IsStored}
+use Rattle.commands.specs.Batches.{AreUnused, IsBatchIssued, IsIssuingOn, IsSlotOf, SlotTask}
 use Rattle.commands.specs.declared.ncq.Task.{Task}
-use Rattle.request_queue.specs.Entries.{BookEntry, IsEarlier, asks, asks_of, update_if_id, due_ids, issue, without_entry}
+use Rattle.request_queue.specs.Entries.{BookEntry, BookIsInOrder, IsAccepted, IsEarlier, asks, asks_of, update_if_id, due_ids, issue, without_entry}
 use Rattle.request_queue.specs.Machine.{EntryRelation}
-use Rattle.server_history.specs.Server.{ServerState, mode_in, slots_at, used_for, with_slot}
+use Rattle.server_history.specs.Server.{ServerState, SlotsInvariant, mode_in, slots_at, used_for, with_slot}
 use Rattle.slots.specs.Uses.{PortSlots, IsLowestFree, use_at}
 use Rattle.slots.specs.declared.SlotUse.{SlotUse}
 use Rattle.port_control.specs.Looks.{LooksAt}
@@ -42,10 +40,6 @@ is_used (Some used) = true
 abbrev pub IsMaskOf : PortSlots → ℕ → Type 0
 IsMaskOf slots mask = (slot : ℕ) → slot < 32 → bit mask slot ≡ is_used (use_at slots slot)
 
--- it stores header or table of a slot of the port, or writes that slot's bit of PxSACT or PxCI
-abbrev pub IsIssuingAnySlot : Port → Access → Type 0
-IsIssuingAnySlot port access = (slot : ℕ) × (slot < 32) × IsIssuing port slot access
-
 -- no slot has its bit
 abbrev pub IsEmptyMask : ℕ → Type 0
 IsEmptyMask mask = (slot : ℕ) → slot < 32 → bit mask slot ≡ false
@@ -56,7 +50,7 @@ IsAnsweredIn id replies = (reply : Reply) × Contains replies reply × (reply.id
 
 -- PxCI and PxSACT were read, which tell which slots of the mask are done. A used slot's request was answered exactly if
 -- its slot was found done; where none was, nobody was answered, and that was all. Of accesses, only those followed that
--- issue requests of the port's, if any.
+-- store for commands of the port, or write its PxSACT or PxCI, if any.
 pub record PollsSlots (port : Port) (slots : PortSlots) (mask : ℕ) (replies : List Reply)
     (old new : Device) : Type 0 where
   pub done : ℕ
@@ -65,7 +59,7 @@ pub record PollsSlots (port : Port) (slots : PortSlots) (mask : ℕ) (replies : 
   pub exact : (slot : ℕ) (used : SlotUse) → slot < 32 → use_at slots slot ≡ Some used → bit done slot ≡ true
       ↔ IsAnsweredIn used.id replies
   pub running : IsEmptyMask done → (replies ≡ []) × (new ≡ read)
-  pub over : IsDrivenBy (IsIssuingAnySlot port) read new
+  pub over : IsDrivenBy (IsIssuingOn port) read new
 
 -- The slots that are used were checked. Where none is, nothing was read, nobody was answered, and that was all.
 pub record PollsUsedSlots (port : Port) (slots : PortSlots) (replies : List Reply) (old new : Device) : Type 0 where
@@ -94,35 +88,68 @@ task_of mode e = record { op = e.entry.op; range = e.entry.range; queued = not (
 abbrev pub use_for : QueueMode → BookEntry → SlotUse
 use_for mode e = record { id = e.entry.id; queued = (task_of mode e).queued }
 
--- A due request of the port was issued in the lowest slot that was free: the slot's bytes say it, and a trim's block
--- names its sectors.
-pub record IssuesOne (port : Port) (id : RequestId) (old new : ServerState) : Type 0 where
+-- A due request of the port was put in the lowest slot that was free, as this task. Book and slots say so; the device
+-- doesn't know it yet.
+pub record PutsInSlot (port : Port) (id : RequestId) (t : SlotTask) (old new : ServerState) : Type 0 where
   pub request : BookEntry
   pub here : Contains old.book request
   pub id_is : request.entry.id ≡ id
   pub port_is : request.entry.port ≡ port
   pub due : IsDue (mode_in old port) (asks_of old.book) (asks request.entry)
-  pub slot : ℕ
-  pub small : slot < 32
-  pub lowest : IsLowestFree (slots_at old.slots port.0) slot
-  pub issues : IssuesTask port slot (task_of (mode_in old port) request) request.frames old.device new.device
-  pub stored : IsStored new.device port.0 slot (meaning_of (task_of (mode_in old port) request))
-      (addresses_of port.0 request.entry.op request.entry.range.count request.frames)
-  pub block : HasBlockOf request.entry.op request.entry.range port.0 new.device.memory
+  pub task_is : t.task ≡ task_of (mode_in old port) request
+  pub frames_are : t.frames ≡ request.frames
+  pub small : t.slot < 32
+  pub lowest : IsLowestFree (slots_at old.slots port.0) t.slot
   pub server : new ≡ record old {
-    device = new.device;
-    slots = with_slot old.slots port.0 slot (Some (use_for (mode_in old port) request));
+    slots = with_slot old.slots port.0 t.slot (Some (use_for (mode_in old port) request));
     book = map (update_if_id id issue) old.book;
   }
 
--- these requests of the port were issued, one after another
-abbrev pub IssuesEach : Port → List RequestId → ServerState → ServerState → Type 0
-IssuesEach port [] old new = new ≡ old
-IssuesEach port (id ∷ ids) old new = (mid : ServerState) × IssuesOne port id old mid × IssuesEach port ids mid new
+-- these requests of the port were put in slots, as these tasks, one after another
+abbrev pub PutsInSlots : Port → List RequestId → List SlotTask → ServerState → ServerState → Type 0
+PutsInSlots port [] [] old new = new ≡ old
+PutsInSlots port (id ∷ ids) (t ∷ tasks) old new =
+    (mid : ServerState) × PutsInSlot port id t old mid × PutsInSlots port ids tasks mid new
+PutsInSlots port _ _ old new = ⊥
 
--- the port's due requests were issued, in order of acceptance
+-- What holds of the lowest free slot that a due request of the port finds once these tasks were put in slots: it is
+-- usable, one of the adapter's, none of theirs, and slot 0 for a plain command; and some machine agrees with a driver
+-- that uses none of them, nor this one.
+pub record MayTakeSlot (s : ServerState) (port : Port) (tasks : List SlotTask) (request : BookEntry) (slot : ℕ)
+    : Type 0 where
+  pub usable : slot < (mode_in s port).usable
+  pub small : slot < 32
+  pub there : slot ≤ s.device.cap / 256 % 32
+  pub head : is_plain (mode_in s port) request.entry.op ≡ true → slot ≡ 0
+  pub own : IsSlotOf tasks slot → ⊥
+  pub agreed : (t : SlotTask) → t.slot ≡ slot → RelatesWith (AreUnused port.0 (tasks ++ t ∷ [])) s.device
+
+-- What requests that are put in slots leave of a server: all but book and slots; each port has as many slots as it had,
+-- and the book is in order, with requests as they were accepted.
+pub record LeavesBookInOrder (old new : ServerState) : Type 0 where
+  pub settings : new ≡ record old { slots = new.slots; book = new.book }
+  pub four : length new.slots ≡ 4
+  pub slots : (port : ℕ) → port < 4 → SlotsInvariant old.ports old.modes new.slots port
+  pub ordered : BookIsInOrder new.book
+  pub accepted : All (IsAccepted old.table) new.book
+
+-- They were put in slots, and their commands were issued together: the slots' bytes say them, and a trim's block names
+-- its sectors.
+pub record IssuesTogether (port : Port) (ids : List RequestId) (old new : ServerState) : Type 0 where
+  pub tasks : List SlotTask
+  pub taken : ServerState
+  pub puts : PutsInSlots port ids tasks old taken
+  pub issued : IsBatchIssued port tasks old.device new.device
+  pub server : new ≡ record taken { device = new.device }
+
+-- these requests of the port were issued together; where there is none, nothing was done
+abbrev pub IssuesBatchOf : Port → List RequestId → ServerState → ServerState → Type 0
+IssuesBatchOf port [] old new = new ≡ old
+IssuesBatchOf port ids old new = IssuesTogether port ids old new
+
+-- the port's due requests were issued, in order of acceptance, together
 abbrev pub IssuesAll : Port → ServerState → ServerState → Type 0
-IssuesAll port old new = IssuesEach port (due_ids (mode_in old port) port (asks_of old.book)) old new
+IssuesAll port old new = IssuesBatchOf port (due_ids (mode_in old port) port (asks_of old.book)) old new
 
 -- ---- a request is accepted
 

@@ -1,5 +1,5 @@
 // Laws of the definitions, for callers: the clause is the theorem. Nothing comes of calling these functions.
-ghost use Rattle.std.specs.Prelude.{ℕ, Bool, true, false, ◌≡◌, ◌≢◌, ◌<◌, ◌≤◌, ◌+◌, ◌*◌, ◌/◌, ◌%◌, List, [], Some, None, Ok, Err, length, All, Contains, count_by, not};
+ghost use Rattle.std.specs.Prelude.{ℕ, Bool, true, false, ◌≡◌, ◌≢◌, ◌<◌, ◌≤◌, ◌+◌, ◌*◌, ◌/◌, ◌%◌, ◌++◌, List, [], ◌∷◌, Some, None, Ok, Err, length, All, Contains, count_by, not};
 ghost use Rattle.ata_types.specs.declared.Port.{Port};
 ghost use Rattle.ata_types.specs.declared.PortState.TheVariants.{Dead, Ready as ReadyState};
 ghost use Rattle.ata_types.specs.declared.grant.GrantRow.{GrantRow};
@@ -32,12 +32,13 @@ ghost use Rattle.host_boot.specs.declared.ProbeResult.TheVariants.{Ready, Unread
 ghost use Rattle.identify.specs.declared.DiskInfo.{DiskInfo};
 ghost use Rattle.host_boot.specs.declared.Host.{Host};
 ghost use Rattle.hba_regs.specs.Bits.{bit};
+ghost use Rattle.commands.specs.Batches.{SlotTask};
 ghost use Rattle.commands.specs.Masks.{ReadsDone, SeesClear};
 ghost use Rattle.request_queue.specs.Entries.{BookEntry, asks, asks_of, due_ids};
 ghost use Rattle.server_history.specs.Histories.{ExtendsSettled, ExtendsBy, ExtendsHistory, StartsHistory, InvariantBy, load_said, store_said};
 ghost use Rattle.server_history.specs.Kept.{LoansEndInTurn};
 ghost use Rattle.server_history.specs.Revoked.{RevokesGrant};
-ghost use Rattle.server_history.specs.Served.{Accepts, AnswersDone, AnswersOne, IsEmptyMask, IsMaskOf, IssuesOne, accepting, IssuesAll};
+ghost use Rattle.server_history.specs.Served.{Accepts, AnswersDone, AnswersOne, IsEmptyMask, IsMaskOf, IssuesAll, IssuesBatchOf, LeavesBookInOrder, MayTakeSlot, PutsInSlot, PutsInSlots, accepting};
 ghost use Rattle.server_history.specs.StuckServer.{ServerInvariant};
 ghost use Rattle.server_history.specs.Probing.{ProbesPort};
 ghost use Rattle.server_history.specs.Turns.{IsPortTurn, InRestart, ServePorts, ServesPort, Ticks, ProbesUnready, a_tick_older};
@@ -157,6 +158,32 @@ pub fn law_a_due_request_may_issue()
     law_below();
 }
 
+/// Due requests of a port get slots one after another, before anything is stored for them. Each finds a free slot, and
+/// may take the lowest, which makes one more of them; several are due only where all are queued; and of the server they
+/// leave all but book and slots.
+pub fn law_due_requests_get_slots()
+    ensures lowest { (s mid : ServerState) (port : Port) (ids : List RequestId) (tasks : List SlotTask)
+        (request : BookEntry) → InCallInvariant s → PutsInSlots port ids tasks s mid → Contains mid.book request
+        → request.entry.port ≡ port → IsDue (mode_in mid port) (asks_of mid.book) (asks request.entry)
+        → (slot : ℕ) → IsLowestFree (slots_at mid.slots port.0) slot → MayTakeSlot s port tasks request slot }
+    ensures full { (s mid : ServerState) (port : Port) (ids : List RequestId) (tasks : List SlotTask)
+        (request : BookEntry) → InCallInvariant s → PutsInSlots port ids tasks s mid → Contains mid.book request
+        → request.entry.port ≡ port → IsDue (mode_in mid port) (asks_of mid.book) (asks request.entry)
+        → ((slot : ℕ) → slot < (slots_at mid.slots port.0).usable → IsTaken (slots_at mid.slots port.0) slot) → ⊥ }
+    ensures together { (s mid : ServerState) (port : Port) (ids : List RequestId) (tasks : List SlotTask)
+        (request : BookEntry) → InCallInvariant s → PutsInSlots port ids tasks s mid → Contains mid.book request
+        → request.entry.port ≡ port → IsDue (mode_in mid port) (asks_of mid.book) (asks request.entry)
+        → (tasks ≡ [] → ⊥) → (is_plain (mode_in s port) request.entry.op ≡ false)
+        × All (λ t. t.task.queued ≡ true) tasks }
+    ensures goes_on { (s mid : ServerState) (port : Port) (ids : List RequestId) (tasks : List SlotTask)
+        → InCallInvariant s → PutsInSlots port ids tasks s mid → LeavesBookInOrder s mid }
+    ensures more { (s mid new : ServerState) (port : Port) (ids : List RequestId) (tasks : List SlotTask)
+        (id : RequestId) (t : SlotTask) → PutsInSlots port ids tasks s mid → PutsInSlot port id t mid new
+        → PutsInSlots port (ids ++ id ∷ []) (tasks ++ t ∷ []) s new }
+{
+    law_below();
+}
+
 /// A slot of a ready port that is used has an unanswered request of the port, which is issued.
 pub fn law_a_used_slot_has_its_request()
     ensures { (s : ServerState) (port : Port) (slot : ℕ) (used : SlotUse) → InCallInvariant s
@@ -177,8 +204,8 @@ pub fn law_requests_preserve_invariant()
         → state_of (probe_result_of s.ports port.0)
         ≡ ReadyState
         → (one : AnswersOne port request s new) → IsOver (s.device.port port.0) one.slot → InCallInvariant new }
-    ensures issued { (s new : ServerState) (port : Port) (id : RequestId) → InCallInvariant s → IssuesOne port id s new
-        → InCallInvariant new }
+    ensures issued { (s new : ServerState) (port : Port) (ids : List RequestId) → InCallInvariant s
+        → IssuesBatchOf port ids s new → InCallInvariant new }
     ensures revoked { (s new : ServerState) (client : ClientId) (number : ℕ) (replies : List Reply) → InCallInvariant s
         → RevokesGrant client number replies s new → InCallInvariant new }
 {

@@ -1,4 +1,4 @@
-use Rattle.std.proofs.Common.{ℕ, replicate, ◌<◌, length, refl, ◌∙◌, below_more, arith}
+use Rattle.std.proofs.Common.{ℕ, replicate, ◌<◌, length, ◌∙◌, below_more, arith}
 use Rattle.std.proofs.lemmas.Bool.{iff_false}
 use Rattle.std.proofs.lemmas.Option.{slice_get_within, slice_get-get_or}
 use Rattle.ata_types.specs.declared.request.Frame.{Frame}
@@ -26,7 +26,7 @@ loop-place-preserved c =
     let within = c.requires place first c.loop-place-test.true in
     record {
       words = c.set_bit.auto.words ∙ v.words;
-      seen = seen_more _ frames place _ here within v.seen _ (c.set_bit.ensures.this.1 refl) c.set_bit.ensures.others;
+      seen = seen_more _ frames place _ here within v.seen _ c.set_bit.ensures.this c.set_bit.ensures.others;
       once = below_more _ _ v.once (once_here _ frames place _ here within v.seen (iff_false c.is_set.ensures c.if-is_set.false));
     }
 

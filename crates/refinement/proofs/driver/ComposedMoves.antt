@@ -8,7 +8,7 @@ use Rattle.block_machine.specs.State.{Machine}
 use Rattle.block_machine.specs.Steps.{Step, May, after_step}
 use Rattle.block_machine.proofs.EventLemmas.{after-append}
 use Rattle.block_machine.proofs.HistoryLemmas.{may-append, reached_more}
-use Rattle.refinement.specs.Driver.{DriverState, DriverRelation, IsBacked, ByDevice, EndsInStep, DriverAdvances}
+use Rattle.refinement.specs.Driver.{DriverState, DriverRelation, IsBacked, ByDevice, EndsInSteps, DriverAdvances}
 use Rattle.refinement.specs.Follows.{SimulatesSteps}
 use Rattle.refinement.proofs.driver.AddedSteps.{backed_then, nothing_backed, knowing_goes_on}
 use Rattle.refinement.proofs.driver.IssueWrite.{own_backed}
@@ -39,8 +39,8 @@ goes_device k later m steps may by x = record { may = may; backed = by.backed; k
 pub goes_following : (k : DriverState) (m : Machine) (new : Device) → DriverRelation m k → (f : SimulatesSteps k.uses m k.device new) → DriverAdvances k m f.steps (record k { device = new })
 goes_following k m new x f = let y = knowing_goes_on k m new x f in goes_device k (record k { device = new }) m f.steps f.may y.1 y.0
 
-pub goes_ending : (k later : DriverState) (m : Machine) (step : Step) → (e : EndsInStep k m step later) → DriverAdvances k m (step ∷ e.steps) later
-goes_ending k later m step e = record { may = e.may; backed = e.backed; knows = e.knows }
+pub goes_ending : (k later : DriverState) (m : Machine) (own : List Step) → (e : EndsInSteps k m own later) → DriverAdvances k m (own ++ e.steps) later
+goes_ending k later m own e = record { may = e.may; backed = e.backed; knows = e.knows }
 
 pub goes_access : (k later : DriverState) (m : Machine) → IsSimulatedBySteps DriverRelation k later (ByDevice k.device later.device) → IsReachable m → DriverRelation m k → (steps : List Step) × AllByDevice steps × DriverAdvances k m steps later
 goes_access k later m adds reached x = let y = adds.adds m reached x in (y.0, y.3.only, goes_device k later m y.0 y.1 y.3 y.2)

@@ -1,73 +1,39 @@
--- The write of CI as a call.
-use Rattle.std.specs.Prelude.{if◌then◌else◌}
-use Rattle.std.proofs.Common.{List, ℕ, Bool, true, false, ◌≡◌, ◌≢◌, [], ◌∷◌, refl, sym, ◌∙◌, ap, subst, append-nil, ◌≤◌, length, arith}
+-- The writes of SACT and CI, bit by bit, and the write that issues a command of the driver's own.
+use Rattle.std.proofs.Common.{List, ℕ, true, false, ◌≡◌, [], ◌∷◌, refl, sym, ◌∙◌, ap, subst, append-nil, ◌≤◌, length, arith}
 use Rattle.ata_types.specs.declared.Port.{Port}
 use Rattle.ata_types.specs.declared.request.RequestId.{RequestId}
-use Rattle.hba_regs.specs.Bits.{bit}
 use Rattle.hba_regs.specs.declared.reg.Reg.TheVariants.{Px}
 use Rattle.hba_regs.specs.declared.reg.PortReg.TheVariants as px
-use Rattle.adapter.specs.Access.{Writes}
+use Rattle.adapter.specs.Access.{Writes, written}
 use Rattle.adapter.specs.Device as device
 use Rattle.adapter.specs.Device.{Device}
 use Rattle.adapter.specs.Kept.{Keeps, KeepsOutsideReset}
-use Rattle.adapter.specs.Steps.{Steps}
+use Rattle.adapter.specs.Steps.{Steps, with_port}
 use Rattle.adapter.specs.declared.command.Operation.{Operation}
 use Rattle.adapter.specs.declared.tape.Entry.{Entry}
 use Rattle.adapter.proofs.KeptLemmas.{law_steps_guarantee}
-use Rattle.block_machine.specs.Due.{is_plain}
 use Rattle.block_machine.specs.declared.due.QueueMode.{QueueMode}
 use Rattle.block_machine.specs.State.{Pending, Machine}
-use Rattle.block_machine.specs.Steps.{Step, Accept, Issue, Touch, End, Age, Again, Answer, Revoke, Release, Unplug, Replace, Store, Load, after_step}
+use Rattle.block_machine.specs.Steps.{Step, Accept, Issue, Touch, End, Age, Again, Answer, Revoke, Release, Unplug, Replace, Store, Load}
 use Rattle.block_machine.specs.Events.{IsByDevice}
 use Rattle.block_machine.specs.Left as left
 use Rattle.block_machine.specs.Left.{StepIsFaithful}
 use Rattle.refinement.specs.Tape.{PutsInDisks}
 use Rattle.block_machine.specs.Histories.{IsReachable, IsSimulatedBySteps}
-use Rattle.block_machine.proofs.HistoryLemmas.{reached_more}
 use Rattle.refinement.specs.Places.{scratch_of}
 use Rattle.refinement.specs.Slots.{SlotState, Free, Own, Serves, SlotStates, put, Armed}
 use Rattle.refinement.specs.Relation.{StateRelation}
-use Rattle.refinement.specs.Driver.{DriverState, DriverRelation, IsBacked, ByDevice, IsPrepared, IsOwnPrepared, EndsInStep, serving, KeepsTables}
+use Rattle.refinement.specs.Driven.{IsSoleBit}
+use Rattle.refinement.specs.Driver.{DriverState, DriverRelation, IsBacked, ByDevice, DriverAdvances, IsPrepared, IsOwnPrepared, serving, KeepsTables}
 use Rattle.refinement.specs.Follows.{SimulatesSteps}
-use Rattle.refinement.proofs.driver.AddedSteps.{backed, backed_then}
+use Rattle.refinement.proofs.driver.AddedSteps.{backed, nothing_backed}
 use Rattle.refinement.proofs.steps.FollowedSteps.{steps_follow}
 use Rattle.refinement.proofs.steps.UnusedSlots.{steps_leave}
 use Rattle.refinement.proofs.driver.PutSlot.{issue_agrees, issue_have, own_agrees, put_have, arming_agrees}
 use Rattle.refinement.proofs.relation.OtherSlots.{same_plugged}
-use Rattle.refinement.proofs.relation.SlotRelation.{told_on, block_on, placed_on, known_on}
-use Rattle.refinement.proofs.steps.WaitingRequests.{law_due_stays, follows_have, tells_device}
+use Rattle.refinement.proofs.relation.SlotRelation.{told_on, placed_on, known_on}
+use Rattle.refinement.proofs.steps.WaitingRequests.{follows_have, tells_device}
 use Rattle.refinement.proofs.steps.RegisterWrites.{write_effect}
-
-not_own : {A : Type 0} {o : Operation} (plain : Bool) → Own o ≡ (if plain then Free else Armed) → A
-not_own {A} {o} true e = absurd (let z : Own o ≡ Free = e in cc)
-not_own {A} {o} false e = absurd (let z : Own o ≡ Armed = e in cc)
-
--- what was prepared stays so, whatever the device does
-pub prepared_stays : (uses : SlotStates) (m : Machine) (old mid : Device) (port slot : ℕ) (mode : QueueMode) (e : Pending) (v : ℕ) → IsReachable m → StateRelation uses m old → old.hr ≡ false →
-    Steps old mid → (f : SimulatesSteps uses m old mid) → IsPrepared uses m old port slot mode e v → IsPrepared uses (left.after m f.steps) mid port slot mode e v
-prepared_stays uses m old mid port slot mode e v r a calm s f x =
-    let k : Keeps old mid = law_steps_guarantee s in
-    let c : KeepsOutsideReset old mid = k.on calm in
-    let list : (mid.port port).bases.clb ≡ (old.port port).bases.clb = ap (λ (b : device.Bases). b.clb) (k.port port).bases in
-    let l : KeepsTables uses old mid = steps_leave uses m old mid r a calm s in
-    record {
-      may = law_due_stays uses m old mid r f mode e x.may;
-      port_is = x.port_is;
-      free = x.free;
-      usable = x.usable;
-      head = x.head;
-      started = (c.controls port).st ∙ x.started;
-      placed = placed_on (old.port port) (mid.port port) port slot list x.placed;
-      command = x.command;
-      places = x.places;
-      told = told_on old.memory mid.memory (old.port port).bases.clb (mid.port port).bases.clb port slot x.command x.places x.placed.list list (λ at t. l.tables port slot at x.placed.port_below x.placed.slot_below t) x.told;
-      means = x.means;
-      kind = x.kind;
-      block = block_on e.request.asked.op old.memory mid.memory port e.request
-          (λ trim at t. l.scratch port at x.placed.port_below (λ o own. not_own (is_plain mode e.request.asked.op) (sym own ∙ (ap (λ (n : ℕ). uses port n) (sym (x.means.head trim)) ∙ x.free))) t) x.block;
-      here = x.here;
-      alone = x.alone;
-    }
 
 pub own_prepared_stays : (uses : SlotStates) (m : Machine) (old mid : Device) (port : ℕ) (o : Operation) (v : ℕ) → IsReachable m → StateRelation uses m old → old.hr ≡ false →
     Steps old mid → IsOwnPrepared uses old port o v → IsOwnPrepared uses mid port o v
@@ -131,32 +97,44 @@ own_backed d m step own = record {
     puts (Store client frame offset bytes) o q = refl
     puts (Load client frame offset bytes) o q = refl
 
-pub issue_follows : (k : DriverState) (m : Machine) (port : Port) (slot : ℕ) (mode : QueueMode) (e : Pending) (v : ℕ) (new : Device) → IsReachable m → DriverRelation m k → k.device.hr ≡ false →
-    IsPrepared k.uses m k.device port.0 slot mode e v → Writes (Px port px.Ci) v k.device new → EndsInStep k m (Issue mode e) (serving k port.0 slot e.request.id new)
-issue_follows k m port slot mode e v new r knows calm x call =
-    let f : SimulatesSteps k.uses m k.device call.mid = steps_follow k.uses m k.device call.mid r knows.agrees call.steps in
-    let y : IsPrepared k.uses (left.after m f.steps) call.mid port.0 slot mode e v = prepared_stays k.uses m k.device call.mid port.0 slot mode e v r knows.agrees calm call.steps f x in
-    let later : IsReachable (left.after m f.steps) = reached_more m f.steps r f.may in
-    let first : IsBacked k.device call.mid m f.steps = backed k.uses m k.device call.mid f in
-    let all : IsBacked k.device call.mid m (Issue mode e ∷ f.steps) = backed_then k.device call.mid call.mid m f.steps (Issue mode e ∷ []) first (own_backed call.mid (left.after m f.steps) (Issue mode e) (λ z. z)) in
-    record {
-      steps = f.steps;
-      only = tells_device m f.gained f.steps f.tells;
-      may = (f.may, y.may);
-      backed = subst (λ (d : Device). IsBacked k.device d m (Issue mode e ∷ f.steps)) (sym call.effect) (record {
-        telling = all.telling;
-        gained = all.gained;
-        tape = all.tape;
-        tells = all.tells;
-        told = all.told;
-        plugged = λ q. let z = all.plugged q in (z.0, same_plugged call.mid port.0 _ refl q ∙ z.1, z.2);
-      });
-      knows = record {
-        agrees = subst (λ (d : Device). StateRelation (put k.uses port.0 slot (Serves e.request.id)) (after_step (left.after m f.steps) (Issue mode e)) d) (sym call.effect)
-            (issue_agrees k.uses (left.after m f.steps) call.mid later f.agrees port.0 slot mode e v y);
-        have = λ q. issue_have k.uses (left.after m f.steps) call.mid later f.agrees port.0 slot mode e v y q (k.parked q) (follows_have k.uses m k.device call.mid f q (k.parked q) (knows.have q));
-      };
-    }
+-- ---- bits that are written in turn
+
+-- what is backed stays so as a port is changed that has the same disks
+backed_on : (old mid : Device) (m : Machine) (steps : List Step) (port : ℕ) (p : device.DevicePort) → p.plugged ≡ (mid.port port).plugged → IsBacked old mid m steps → IsBacked old (with_port mid port p) m steps
+backed_on old mid m steps port p same b = record {
+  telling = b.telling;
+  gained = b.gained;
+  tape = b.tape;
+  tells = b.tells;
+  told = b.told;
+  plugged = λ q. let z = b.plugged q in (z.0, same_plugged mid port p same q ∙ z.1, z.2);
+}
+
+-- a slot is armed: no step of the machine
+pub bit_arms : (k : DriverState) (m : Machine) (port : Port) (slot v : ℕ) → DriverRelation m k → k.uses port.0 slot ≡ Free → (k.device.port port.0).st ≡ true → IsSoleBit slot v →
+    DriverAdvances k m [] (record k { uses = put k.uses port.0 slot Armed; device = written (Px port px.Sact) v k.device })
+bit_arms k m port slot v knows free st sole = record {
+  may = tt;
+  backed = backed_on k.device k.device m [] port.0 _ refl (nothing_backed k.device m);
+  knows = record {
+    agrees = arming_agrees k.uses m k.device knows.agrees port.0 slot v free st sole.here sole.alone;
+    have = λ q. put_have k.uses m port.0 slot Armed q (k.parked q) (λ id u. absurd (let z : Free ≡ Serves id = sym free ∙ u in cc)) (knows.have q);
+  };
+}
+
+-- a request is issued
+pub bit_issues : (k : DriverState) (m : Machine) (port : Port) (slot : ℕ) (mode : QueueMode) (e : Pending) (v : ℕ) → IsReachable m → DriverRelation m k → IsPrepared k.uses m k.device port.0 slot mode e v →
+    DriverAdvances k m (Issue mode e ∷ []) (serving k port.0 slot e.request.id (written (Px port px.Ci) v k.device))
+bit_issues k m port slot mode e v reached knows x = record {
+  may = (tt, x.may);
+  backed = backed_on k.device k.device m (Issue mode e ∷ []) port.0 _ refl (own_backed k.device m (Issue mode e) (λ z. z));
+  knows = record {
+    agrees = issue_agrees k.uses m k.device reached knows.agrees port.0 slot mode e v x;
+    have = λ q. issue_have k.uses m k.device reached knows.agrees port.0 slot mode e v x q (k.parked q) (knows.have q);
+  };
+}
+
+-- ---- a command of the driver's own
 
 -- a command of the driver's own is issued: no step of the machine
 pub own_adds : (k : DriverState) (port : Port) (o : Operation) (v : ℕ) (new : Device) → k.device.hr ≡ false → IsOwnPrepared k.uses k.device port.0 o v → Writes (Px port px.Ci) v k.device new →
@@ -178,21 +156,3 @@ own_adds k port o v new calm x call = record {
   where
     free_serves : {u : SlotState} {id : RequestId} → u ≡ Free → u ≡ Serves id → ⊥
     free_serves a b = let e : Free ≡ Serves _ = sym a ∙ b in cc
-
--- a slot is armed: no step of the machine
-pub arming_adds : (k : DriverState) (port : Port) (slot v : ℕ) (new : Device) → k.device.hr ≡ false → k.uses port.0 slot ≡ Free → (k.device.port port.0).st ≡ true → bit v slot ≡ true → ((other : ℕ) → other ≢ slot → bit v other ≡ false) →
-    Writes (Px port px.Sact) v k.device new → IsSimulatedBySteps DriverRelation k (record k { uses = put k.uses port.0 slot Armed; device = new }) (ByDevice k.device new)
-arming_adds k port slot v new calm free st here alone call = record {
-  adds = λ m r knows.
-      let f : SimulatesSteps k.uses m k.device call.mid = steps_follow k.uses m k.device call.mid r knows.agrees call.steps in
-      let started : (call.mid.port port.0).st ≡ true = (((law_steps_guarantee call.steps).on calm).controls port.0).st ∙ st in
-      let g : SimulatesSteps (put k.uses port.0 slot Armed) m k.device new = write_effect k.uses (put k.uses port.0 slot Armed) m (Px port px.Sact) v k.device new call f (arming_agrees k.uses (left.after m f.steps) call.mid f.agrees port.0 slot v free started here alone) in (
-        g.steps,
-        g.may,
-        record {
-          agrees = g.agrees;
-          have = λ q. follows_have (put k.uses port.0 slot Armed) m k.device new g q (k.parked q) (put_have k.uses m port.0 slot Armed q (k.parked q) (λ id u. absurd (let z : Free ≡ Serves id = sym free ∙ u in cc)) (knows.have q));
-        },
-        record { backed = backed (put k.uses port.0 slot Armed) m k.device new g; only = tells_device m g.gained g.steps g.tells },
-      );
-}

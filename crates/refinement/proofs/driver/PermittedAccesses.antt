@@ -14,7 +14,6 @@ use Rattle.adapter.specs.Rules.{InUse, IsUnowned, IsOn, HasPort, MayWrite, IsSta
 use Rattle.adapter.specs.Decoding.{DecodesTo}
 use Rattle.adapter.specs.declared.command.Operation.{Operation}
 use Rattle.adapter.proofs.SaysLemmas.{says_meaning}
-use Rattle.block_machine.specs.Due.{is_plain}
 use Rattle.block_machine.specs.declared.due.QueueMode.{QueueMode}
 use Rattle.block_machine.specs.Histories.{IsReachable}
 use Rattle.block_machine.specs.Left as left
@@ -27,13 +26,15 @@ use Rattle.refinement.specs.Relation.{StateRelation}
 use Rattle.refinement.specs.Driver.{MayStore, IsPrepared, IsOwnPrepared}
 use Rattle.refinement.specs.Follows.{SimulatesSteps}
 use Rattle.refinement.proofs.relation.WrittenBytes.{same_port}
-use Rattle.refinement.proofs.driver.IssueWrite.{prepared_stays, own_prepared_stays}
+use Rattle.refinement.proofs.driver.IssueWrite.{own_prepared_stays}
+use Rattle.refinement.proofs.driver.ReadySlot.{prepared_readied, readied_permitted}
+use Rattle.refinement.specs.Readying.{IsReadyToIssue}
 use Rattle.refinement.proofs.driver.ClientBytes.{open_in}
 use Rattle.refinement.proofs.steps.StillFrames.{unlent_is_still, still_is_free}
 use Rattle.block_machine.proofs.Reading.{open_unlent}
 use Rattle.refinement.proofs.steps.FollowedSteps.{steps_follow}
 use Rattle.refinement.proofs.steps.FreeBytes.{IsUsed, is_used, of_slot_in, stores_unused}
-use Rattle.refinement.proofs.driver.PutSlot.{own_over, readied_slot}
+use Rattle.refinement.proofs.driver.PutSlot.{own_over}
 use Rattle.refinement.proofs.relation.OtherSlots.{true_false}
 use Rattle.refinement.proofs.relation.ReachedMachine.{client_frame}
 use Rattle.refinement.proofs.steps.TakenCommand.{own_plain}
@@ -93,25 +94,13 @@ module _ (laws : StepLaws) (uses : SlotStates) (m : Machine) (old : Device) (rea
   only_bit v slot k alone b = ⊎_elim (λ (e : k ≡ slot). e) (λ (ne : k ≡ slot → ⊥). true_false b (alone k ne)) (cases_eq k slot)
 
   pub issue_is_permitted : (port : Port) (slot : ℕ) (mode : QueueMode) (e : Pending) (v : ℕ) → IsOn old → HasPort old port.0 → slot ≤ old.cap / 256 % 32 → IsPrepared uses m old port.0 slot mode e v → IsStable (MayWrite (Px port px.Ci) v) old
-  issue_is_permitted port slot mode e v on there usable x mid s =
-      let f : SimulatesSteps uses m old mid = steps_follow uses m old mid reached a s in
-      let y : IsPrepared uses (left.after m f.steps) mid port.0 slot mode e v = prepared_stays uses m old mid port.0 slot mode e v reached a on.no_reset s f x in
-      let k : Keeps old mid = laws.keeps _ _ s in
-      let c : KeepsOutsideReset old mid = k.on on.no_reset in
-      let over : IsOver (mid.port port.0) slot = (readied_slot uses (left.after m f.steps) mid f.agrees port.0 slot (is_plain mode e.request.asked.op) y.free y.started).0 in (
-        record { ae = c.ae ∙ on.ae; no_reset = c.no_reset },
-        (there.0, ap (λ (n : ℕ). bit n port.0) k.pi ∙ there.1),
-        record {
-          running = y.started;
-          usable = λ j b. subst (λ (n : ℕ). n ≤ mid.cap / 256 % 32) (sym (only_bit v slot j y.alone b)) (subst (λ (n : ℕ). slot ≤ n / 256 % 32) (sym k.cap) usable);
-          free = λ j b. subst (λ (n : ℕ). ((mid.port port.0).ci n ≡ false) × ((mid.port port.0).taken n ≡ None)) (sym (only_bit v slot j y.alone b)) (over.issued, over.free);
-          says = λ j b. subst (λ (n : ℕ). (meaning : Meaning) × (places : List ℕ) × DecodesTo mid.memory (mid.port port.0).bases.clb n meaning places) (sym (only_bit v slot j y.alone b)) (y.command, y.places, y.told.says);
-          queued = λ j meaning places b says q.
-              let z : DecodesTo mid.memory (mid.port port.0).bases.clb slot meaning places = subst (λ (n : ℕ). DecodesTo mid.memory (mid.port port.0).bases.clb n meaning places) (only_bit v slot j y.alone b) says in
-              ap (λ (n : ℕ). (mid.port port.0).sact n) (only_bit v slot j y.alone b) ∙ ((readied_slot uses (left.after m f.steps) mid f.agrees port.0 slot (is_plain mode e.request.asked.op) y.free y.started).1 ∙ sym y.kind)
-              ∙ ap (λ (w : Meaning). is_queued w.operation) (sym (says_meaning mid.memory (mid.port port.0).bases.clb slot meaning y.command places y.places z y.told.says)) ∙ q;
-        },
-      )
+  issue_is_permitted port slot mode e v on there usable x =
+      readied_permitted laws uses m old port v reached a on there x.started (λ j b. subst (IsReadyToIssue uses old port.0) (sym (only_bit v slot j x.alone b)) (record {
+        usable = usable;
+        command = x.command;
+        places = x.places;
+        readied = prepared_readied uses m old port.0 slot mode e v x;
+      }))
 
   pub own_is_permitted : (port : Port) (o : Operation) (v : ℕ) → IsOn old → HasPort old port.0 → IsOwnPrepared uses old port.0 o v → IsStable (MayWrite (Px port px.Ci) v) old
   own_is_permitted port o v on there x mid s =

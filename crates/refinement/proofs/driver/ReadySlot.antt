@@ -1,18 +1,17 @@
 -- A slot that is made ready stays so, and its bit of PxCI may be written.
-use Rattle.std.proofs.Common.{ℕ, if◌then◌else◌, ◌≡◌, ◌≢◌, ◌<◌, ◌≤◌, ◌/◌, ◌%◌, Bool, true, false, not, List, length, None, refl, sym, ◌∙◌, ap, subst, ⊎_elim}
-use Rattle.std.proofs.lemmas.Bool.{cases_eq, cond-true, cond-false, both_ways}
+use Rattle.std.proofs.Common.{ℕ, if◌then◌else◌, ◌≡◌, ◌≢◌, ◌<◌, ◌≤◌, ◌/◌, ◌%◌, Bool, true, false, not, List, length, refl, sym, ◌∙◌, ap, subst}
+use Rattle.std.proofs.lemmas.Bool.{cond-true, cond-false}
 use Rattle.ata_types.specs.declared.Port.{Port}
 use Rattle.hba_regs.specs.Bits.{bit}
 use Rattle.hba_regs.specs.declared.reg.Reg.TheVariants.{Px}
 use Rattle.hba_regs.specs.declared.reg.PortReg.{PortReg}
-use Rattle.hba_regs.specs.declared.reg.PortReg.TheVariants.{Cmd, Clb, Sact, Ci}
-use Rattle.adapter.specs.Access.{Access, Does, Writes, port_written, with_st, with_fre}
+use Rattle.hba_regs.specs.declared.reg.PortReg.TheVariants.{Cmd, Clb, Ci}
+use Rattle.adapter.specs.Access.{Access, Does, port_written, with_st, with_fre}
 use Rattle.adapter.specs.Access.Access.{Reading, Writing, Loading, Storing}
 use Rattle.adapter.specs.Commands.{Meaning, is_queued}
 use Rattle.adapter.specs.Device.{Bases, DevicePort, Device}
 use Rattle.adapter.specs.Kept.{Keeps, KeepsOutsideReset}
 use Rattle.adapter.specs.Rules.{IsOn, HasPort, MayWrite, IsStable}
-use Rattle.adapter.specs.Decoding.{DecodesTo}
 use Rattle.adapter.specs.Steps.{Steps}
 use Rattle.adapter.proofs.MemoryLemmas.{patched_apart}
 use Rattle.adapter.proofs.SaysLemmas.{says_meaning}
@@ -28,16 +27,15 @@ use Rattle.refinement.specs.Driver.{IsPrepared, KeepsTables, MissesTable}
 use Rattle.refinement.specs.Follows.{SimulatesSteps}
 use Rattle.refinement.specs.Links.{DoesNotWrite}
 use Rattle.refinement.specs.Places.{IsTableByte}
-use Rattle.refinement.specs.Slots.{SlotState, Free, Armed, SlotStates, put, Means, HasTrimBlock, IsArmed, IsEmptySlot, IsOver, RelatesSlot}
+use Rattle.refinement.specs.Slots.{SlotState, Free, Armed, SlotStates, Means, HasTrimBlock, IsArmed, IsEmptySlot, IsOver, RelatesSlot}
 use Rattle.refinement.specs.Started.{ClearsNoStart}
 use Rattle.refinement.proofs.device.FactsOverAccesses.{access_steps, effect_keeps}
 use Rattle.refinement.proofs.steps.FollowedSteps.{steps_follow}
 use Rattle.refinement.proofs.steps.UnusedSlots.{steps_leave}
 use Rattle.refinement.proofs.driver.UnusedOverCalls.{noted_memory, written_memory}
 use Rattle.refinement.proofs.device.PortControls.{spared}
-use Rattle.refinement.proofs.driver.PutSlot.{put_same}
 use Rattle.refinement.proofs.relation.SlotRelation.{told_on, placed_on}
-use Rattle.refinement.specs.Readying.{IsStored, IsReadied}
+use Rattle.refinement.specs.Readying.{IsStored, IsReadied, IsReadyToIssue}
 
 -- the same port, as far as the slot's bytes and ST go, and the same table
 stored_on : (old new : Device) (port slot : ℕ) (c : Meaning) (places : List ℕ) → (new.port port).st ≡ true → (new.port port).bases.clb ≡ (old.port port).bases.clb →
@@ -101,22 +99,6 @@ module _ (laws : StepLaws) (uses : SlotStates) (m : Machine) (port : Port) (slot
       (y.started, ap (λ (b : Bases). b.clb) (k.port port.0).bases) in
       stored_on old new port.0 slot c places on.0 on.1 (λ low small at t. access_tables uses m port.0 slot old new reached a off low small access misses x at t) h
 
--- a write of PxSACT clears no ST
-sact_keeps : (port : Port) (v : ℕ) → ClearsNoStart port (Writing (Px port Sact) v)
-sact_keeps port v w e = absurd (let z : Writing (Px port Sact) v ≡ Writing (Px port Cmd) w = e in cc)
-
-pub arming_readies : StepLaws → (uses : SlotStates) (m : Machine) (port : Port) (slot : ℕ) (c : Meaning) (places : List ℕ) (v : ℕ) (old new : Device) → IsReachable m → StateRelation uses m old → old.hr ≡ false → is_queued c.operation ≡ true →
-    Writes (Px port Sact) v old new → IsStored old port.0 slot c places → IsReadied (put uses port.0 slot Armed) new port.0 slot c places
-arming_readies laws uses m port slot c places v old new reached a off queued call x = record {
-  used = put_same uses port.0 slot Armed ∙ sym (cond-true (is_queued c.operation) Armed Free queued);
-  stored = access_stored laws uses m port slot c places (Writing (Px port Sact) v) old new reached a off (sact_keeps port v)
-      (λ e. let z : Px port Sact ≡ Px port Clb = e in cc)
-      (λ at bytes e. absurd (let z : Writing (Px port Sact) v ≡ Storing at bytes = e in cc)) call x;
-}
-
-pub plain_readied : (uses : SlotStates) (d : Device) (port slot : ℕ) (c : Meaning) (places : List ℕ) → is_queued c.operation ≡ false → uses port slot ≡ Free → IsStored d port slot c places → IsReadied uses d port slot c places
-plain_readied uses d port slot c places plain free x = record { used = free ∙ sym (cond-false (is_queued c.operation) Armed Free plain); stored = x }
-
 -- ---- the write of PxCI
 
 -- the slot has no command, and its bit of PxSACT is as this one
@@ -138,31 +120,31 @@ used_so : (plain queued : Bool) → queued ≡ not plain → (if queued then Arm
 used_so true queued e = cond-false queued Armed Free e
 used_so false queued e = cond-true queued Armed Free e
 
-pub readied_permitted : StepLaws → (uses : SlotStates) (m : Machine) (d : Device) (port : Port) (slot : ℕ) (c : Meaning) (places : List ℕ) (v : ℕ) → IsReachable m → StateRelation uses m d → IsOn d → HasPort d port.0 → slot ≤ d.cap / 256 % 32 →
-    IsReadied uses d port.0 slot c places → bit v slot ≡ true → ((k : ℕ) → k ≢ slot → bit v k ≡ false) → IsStable (MayWrite (Px port Ci) v) d
-readied_permitted laws uses m d port slot c places v reached a on there usable x here alone mid s =
-    let f : SimulatesSteps uses m d mid = steps_follow uses m d mid reached a s in
-    let y : IsStored mid port.0 slot c places = steps_stored laws uses m port.0 slot c places d mid reached a on.no_reset s x.stored in
+pub readied_permitted : StepLaws → (uses : SlotStates) (m : Machine) (d : Device) (port : Port) (v : ℕ) → IsReachable m → StateRelation uses m d → IsOn d → HasPort d port.0 → (d.port port.0).st ≡ true →
+    ((slot : ℕ) → bit v slot ≡ true → IsReadyToIssue uses d port.0 slot) → IsStable (MayWrite (Px port Ci) v) d
+readied_permitted laws uses m d port v reached a on there st ready mid s =
     let k : Keeps d mid = laws.keeps _ _ s in
-    let w : KeepsOutsideReset d mid = k.on on.no_reset in
-    let h : ReadyTo (is_queued c.operation) (mid.port port.0) slot =
-    served_ready (left.after m f.steps) mid port.0 slot (is_queued c.operation) (uses port.0 slot) x.used y.started (f.agrees.slot port.0 slot) in (
+    let w : KeepsOutsideReset d mid = k.on on.no_reset in (
       record { ae = w.ae ∙ on.ae; no_reset = w.no_reset },
       (there.0, ap (λ (n : ℕ). bit n port.0) k.pi ∙ there.1),
       record {
-        running = y.started;
-        usable = λ j b. subst (λ (n : ℕ). n ≤ mid.cap / 256 % 32) (sym (one j b)) (subst (λ (n : ℕ). slot ≤ n / 256 % 32) (sym k.cap) usable);
-        free = λ j b. subst (λ (n : ℕ). ((mid.port port.0).ci n ≡ false) × ((mid.port port.0).taken n ≡ None)) (sym (one j b)) (h.over.issued, h.over.free);
-        says = λ j b. subst (λ (n : ℕ). (meaning : Meaning) × (list : List ℕ) × DecodesTo mid.memory (mid.port port.0).bases.clb n meaning list) (sym (one j b)) (c, places, y.told.says);
+        running = (w.controls port.0).st ∙ st;
+        usable = λ j b. subst (λ (n : ℕ). j ≤ n / 256 % 32) (sym k.cap) (ready j b).usable;
+        free = λ j b. let h = slot_ready j b in (h.over.issued, h.over.free);
+        says = λ j b. ((ready j b).command, (ready j b).places, (stays j b).told.says);
         queued = λ j meaning list b says q.
-            let z : DecodesTo mid.memory (mid.port port.0).bases.clb slot meaning list = subst (λ (n : ℕ). DecodesTo mid.memory (mid.port port.0).bases.clb n meaning list) (one j b) says in
-            ap (λ (n : ℕ). (mid.port port.0).sact n) (one j b) ∙ h.armed
-            ∙ ap (λ (e : Meaning). is_queued e.operation) (sym (says_meaning mid.memory (mid.port port.0).bases.clb slot meaning c list places z y.told.says)) ∙ q;
+            (slot_ready j b).armed
+            ∙ ap (λ (e : Meaning). is_queued e.operation) (sym (says_meaning mid.memory (mid.port port.0).bases.clb j meaning (ready j b).command list (ready j b).places says (stays j b).told.says)) ∙ q;
       },
     )
   where
-    one : (j : ℕ) → bit v j ≡ true → j ≡ slot
-    one j b = ⊎_elim (λ (e : j ≡ slot). e) (λ (ne : j ≡ slot → ⊥). absurd (both_ways _ (alone j ne) b)) (cases_eq j slot)
+    stays : (j : ℕ) (b : bit v j ≡ true) → IsStored mid port.0 j (ready j b).command (ready j b).places
+    stays j b = steps_stored laws uses m port.0 j (ready j b).command (ready j b).places d mid reached a on.no_reset s (ready j b).readied.stored
+
+    slot_ready : (j : ℕ) (b : bit v j ≡ true) → ReadyTo (is_queued (ready j b).command.operation) (mid.port port.0) j
+    slot_ready j b =
+        let f : SimulatesSteps uses m d mid = steps_follow uses m d mid reached a s in
+        served_ready (left.after m f.steps) mid port.0 j (is_queued (ready j b).command.operation) (uses port.0 j) (ready j b).readied.used (stays j b).started (f.agrees.slot port.0 j)
 
 pub readied_prepared : (uses : SlotStates) (m : Machine) (d : Device) (port slot : ℕ) (c : Meaning) (places : List ℕ) (mode : QueueMode) (e : Pending) (v : ℕ) → IsReadied uses d port slot c places → May m (Issue mode e) → e.request.port.0 ≡ port →
     slot < mode.usable → (is_plain mode e.request.asked.op ≡ true → slot ≡ 0) → Means port slot e.request c places → is_queued c.operation ≡ not (is_plain mode e.request.asked.op) →

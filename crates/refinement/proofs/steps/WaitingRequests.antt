@@ -1,7 +1,9 @@
 -- What the device's steps leave of requests that wait, and of slots.
-use Rattle.std.proofs.Common.{ℕ, zero, suc, ◌≡◌, ◌≢◌, ◌⊎◌, ◌++◌, true, map, Option, None, Some, List, [], ◌∷◌, refl, sym, ◌∙◌, ap, subst, ⊎_elim}
-use Rattle.std.specs.List.{Contains}
+use Rattle.std.proofs.Common.{ℕ, zero, suc, ◌≡◌, ◌≢◌, ◌⊎◌, ◌++◌, true, false, map, Option, None, Some, List, [], ◌∷◌, refl, sym, ◌∙◌, ap, subst, ⊎_elim}
+use Rattle.std.specs.List.{All, Contains}
 use Rattle.std.proofs.lemmas.Bool.{and_parts, not-true}
+use Rattle.std.proofs.lemmas.List.Elements.{All-head, All-tail}
+use Rattle.ata_types.specs.declared.grant.GrantRow.{GrantRow}
 use Rattle.ata_types.specs.declared.request.Op.{Op}
 use Rattle.ata_types.specs.declared.request.Op.TheVariants.{Read, Write, Trim, Flush}
 use Rattle.ata_types.specs.declared.request.RequestId.{RequestId}
@@ -13,8 +15,9 @@ use Rattle.adapter.specs.declared.tape.Entry.TheVariants as entry
 use Rattle.block_machine.specs.declared.due.QueueMode.{QueueMode}
 use Rattle.block_machine.specs.declared.due.Unanswered.{Unanswered}
 use Rattle.block_machine.specs.State.{Accepted, Pending, Machine, unanswered}
-use Rattle.block_machine.specs.Due.{IsDue}
-use Rattle.block_machine.specs.Steps.{Step, Accept, Issue, Touch, End, Age, Again, Answer, Revoke, Release, Unplug, Replace, Store, Load, HasGrant, May, MayStillMove, after_step, at, touch, mark_ended}
+use Rattle.block_machine.specs.Due.{IsDue, with_issued}
+use Rattle.block_machine.specs.Rules.{HasRow}
+use Rattle.block_machine.specs.Steps.{Step, Accept, Issue, Touch, End, Age, Again, Answer, Revoke, Release, Unplug, Replace, Store, Load, May, MayStillMove, after_step, at, newly_issued, touch, mark_ended}
 use Rattle.block_machine.specs.Left as left
 use Rattle.block_machine.specs.Events.{AllMay, IsByDevice, AllByDevice}
 use Rattle.block_machine.specs.Histories.{IsReachable}
@@ -22,7 +25,9 @@ use Rattle.block_machine.proofs.Members.{map_in, into_map, at_cases}
 use Rattle.block_machine.proofs.Keeps.{at_keeps}
 use Rattle.block_machine.proofs.Sound.{Sound}
 use Rattle.block_machine.proofs.Standing.{standing}
+use Rattle.block_machine.proofs.Stepping.{asks_issued}
 use Rattle.block_machine.proofs.HistoryLemmas.{reached_more}
+use Rattle.refinement.specs.Acts.{IsIssueStep}
 use Rattle.refinement.specs.Slots.{Serves, SlotStates, op_of}
 use Rattle.refinement.specs.Relation.{HaveSlots}
 use Rattle.refinement.specs.Tape.{TellsMove, TellsDone, TellsEntry, TapeTells, touch_steps}
@@ -97,18 +102,33 @@ steps_have uses m (step ∷ before) is port parked had = step_have uses (left.af
 pub follows_have : (uses : SlotStates) (m : Machine) (old new : Device) (f : SimulatesSteps uses m old new) (port : ℕ) (parked : List RequestId) → HaveSlots uses m port parked → HaveSlots uses (left.after m f.steps) port parked
 follows_have uses m old new f = steps_have uses m f.steps (tells_device m f.gained f.steps f.tells)
 
--- ---- a request that is due stays due
+-- ---- requests that may be issued may be so still
 
-module _ (m : Machine) (s : Sound m) (mode : QueueMode) (e : Pending) (may : May m (Issue mode e)) where
-  not_moving : (x : Pending) → MayStillMove m x → e.request.id.0 ≢ x.request.id.0
-  not_moving x r same = ⊎_elim
-      (λ (z : Contains m.book x × (x.issued ≡ true)). true_false (ap (λ (y : Pending). y.issued) (s.one e x may.0 z.0 same) ∙ z.1) (not-true e.issued (and_parts _ _ may.1.clear).0))
-      (λ (z : Contains m.kept x). s.apart e x may.0 z same) r
+-- What the device's steps leave, of what says which requests may be issued: those that wait, as they are; what all ask; on which ports some are kept; and the grants.
+record LeavesWaiting (m later : Machine) : Type 0 where
+  waits : (e : Pending) → Contains m.book e → e.issued ≡ false → Contains later.book e
+  asks : map unanswered later.book ≡ map unanswered m.book
+  kept : (y : Pending) → Contains later.kept y → (x : Pending) × Contains m.kept x × (x.request ≡ y.request)
+  rows : later.rows ≡ m.rows
 
-  module _ (f : Pending → Pending) (request : (y : Pending) → (f y).request ≡ y.request) (issued : (y : Pending) → (f y).issued ≡ y.issued) (x : Pending) (r : MayStillMove m x) where
-    own : at x.request.id f e ≡ e
-    own = ⊎_elim (λ p. absurd (not_moving x r p.0)) (λ p. p.1) (at_cases x.request.id f e)
+leaves_none : (m : Machine) → LeavesWaiting m m
+leaves_none m = record { waits = λ e here waits. here; asks = refl; kept = λ y here. (y, here, refl); rows = refl }
 
+leaves_more : (m mid later : Machine) → LeavesWaiting m mid → LeavesWaiting mid later → LeavesWaiting m later
+leaves_more m mid later a b = record {
+  waits = λ e here waits. b.waits e (a.waits e here waits) waits;
+  asks = b.asks ∙ a.asks;
+  kept = λ y here. let p = b.kept y here in let q = a.kept p.0 p.1 in (q.0, q.1, q.2 ∙ p.2);
+  rows = b.rows ∙ a.rows;
+}
+
+module _ (m : Machine) (s : Sound m) (x : Pending) (r : MayStillMove m x) where
+  not_moving : (e : Pending) → Contains m.book e → e.issued ≡ false → e.request.id.0 ≢ x.request.id.0
+  not_moving e here waits same = ⊎_elim
+      (λ (z : Contains m.book x × (x.issued ≡ true)). true_false (ap (λ (y : Pending). y.issued) (s.one e x here z.0 same) ∙ z.1) waits)
+      (λ (z : Contains m.kept x). s.apart e x here z same) r
+
+  module _ (f : Pending → Pending) (request : (y : Pending) → (f y).request ≡ y.request) (issued : (y : Pending) → (f y).issued ≡ y.issued) where
     -- what says which are due stays
     same_unanswered : (y : Pending) → unanswered (at x.request.id f y) ≡ unanswered y
     same_unanswered y = ⊎_elim
@@ -123,34 +143,91 @@ module _ (m : Machine) (s : Sound m) (mode : QueueMode) (e : Pending) (may : May
     same_book [] = refl
     same_book (y ∷ ys) = let a : unanswered (at x.request.id f y) ≡ unanswered y = same_unanswered y in let b : map unanswered (map (at x.request.id f) ys) ≡ map unanswered ys = same_book ys in λ i. a i ∷ b i
 
-    changed_may : Contains (map (at x.request.id f) m.book) e × IsDue mode (map unanswered (map (at x.request.id f) m.book)) (unanswered e) × ((y : Pending) → Contains (map (at x.request.id f) m.kept) y → y.request.port ≢ e.request.port) × HasGrant m e
-    changed_may = (
-      subst (λ (y : Pending). Contains (map (at x.request.id f) m.book) y) own (into_map (at x.request.id f) m.book e may.0),
-      subst (λ (b : List Unanswered). IsDue mode b (unanswered e)) (sym (same_book m.book)) may.1,
-      λ y i same. let q = map_in (at x.request.id f) m.kept y i in
-          may.2 q.0 q.1 (ap (λ (j : Accepted). j.port) (sym (ap (λ (z : Pending). z.request) q.2 ∙ at_keeps x.request.id f request q.0)) ∙ same),
-      may.3,
-    )
+    changed_leaves : (later : Machine) → later.book ≡ map (at x.request.id f) m.book → later.kept ≡ map (at x.request.id f) m.kept → later.rows ≡ m.rows → LeavesWaiting m later
+    changed_leaves later book kept rows = record {
+      waits = λ e here waits.
+          subst (λ (es : List Pending). Contains es e) (sym book)
+          (subst (λ (y : Pending). Contains (map (at x.request.id f) m.book) y)
+          (⊎_elim (λ p. absurd (not_moving e here waits p.0)) (λ p. p.1) (at_cases x.request.id f e)) (into_map (at x.request.id f) m.book e here));
+      asks = ap (map unanswered) book ∙ same_book m.book;
+      kept = λ y here.
+          let q = map_in (at x.request.id f) m.kept y (subst (λ (es : List Pending). Contains es y) kept here) in
+          (q.0, q.1, sym (ap (λ (z : Pending). z.request) q.2 ∙ at_keeps x.request.id f request q.0));
+      rows = rows;
+    }
 
-  step_may : (step : Step) → IsByDevice step → May m step → May (after_step m step) (Issue mode e)
-  step_may (Touch x i block) is can = changed_may (touch i) (λ y. refl) (λ y. refl) x can.0
-  step_may (End x) is can = changed_may mark_ended (λ y. refl) (λ y. refl) x can.0
-  step_may (Unplug port) is can = may
-  step_may (Replace port name size disk) is can = may
-  step_may (Accept r) is can = absurd is
-  step_may (Issue other x) is can = absurd is
-  step_may (Age ready) is can = absurd is
-  step_may (Again x) is can = absurd is
-  step_may (Answer x outcome) is can = absurd is
-  step_may (Revoke client number) is can = absurd is
-  step_may Release is can = absurd is
-  step_may (Store client frame offset bytes) is can = absurd is
-  step_may (Load client frame offset bytes) is can = absurd is
+step_leaves : (m : Machine) → Sound m → (step : Step) → IsByDevice step → May m step → LeavesWaiting m (after_step m step)
+step_leaves m s (Touch x i block) is can = changed_leaves m s x can.0 (touch i) (λ y. refl) (λ y. refl) (after_step m (Touch x i block)) refl refl refl
+step_leaves m s (End x) is can = changed_leaves m s x can.0 mark_ended (λ y. refl) (λ y. refl) (after_step m (End x)) refl refl refl
+step_leaves m s (Unplug port) is can = record { waits = λ e here waits. here; asks = refl; kept = λ y here. (y, here, refl); rows = refl }
+step_leaves m s (Replace port name size disk) is can = record { waits = λ e here waits. here; asks = refl; kept = λ y here. (y, here, refl); rows = refl }
+step_leaves m s (Accept r) is can = absurd is
+step_leaves m s (Issue other x) is can = absurd is
+step_leaves m s (Age ready) is can = absurd is
+step_leaves m s (Again x) is can = absurd is
+step_leaves m s (Answer x outcome) is can = absurd is
+step_leaves m s (Revoke client number) is can = absurd is
+step_leaves m s Release is can = absurd is
+step_leaves m s (Store client frame offset bytes) is can = absurd is
+step_leaves m s (Load client frame offset bytes) is can = absurd is
 
-pub steps_may : (m : Machine) (steps : List Step) → IsReachable m → AllByDevice steps → AllMay m steps → (mode : QueueMode) (e : Pending) → May m (Issue mode e) → May (left.after m steps) (Issue mode e)
-steps_may m [] r is all mode e may = may
-steps_may m (step ∷ before) r is all mode e may =
-    step_may (left.after m before) (standing (left.after m before) (reached_more m before r all.0)).sound mode e (steps_may m before r is.0 all.0 mode e may) step is.1 all.1
+device_leaves : (m : Machine) (steps : List Step) → IsReachable m → AllByDevice steps → AllMay m steps → LeavesWaiting m (left.after m steps)
+device_leaves m [] r is all = leaves_none m
+device_leaves m (step ∷ before) r is all =
+    leaves_more m (left.after m before) (after_step (left.after m before) step) (device_leaves m before r is.0 all.0)
+    (step_leaves (left.after m before) (standing (left.after m before) (reached_more m before r all.0)).sound step is.1 all.1)
 
-pub law_due_stays : (uses : SlotStates) (m : Machine) (old new : Device) → IsReachable m → (f : SimulatesSteps uses m old new) → (mode : QueueMode) (e : Pending) → May m (Issue mode e) → May (left.after m f.steps) (Issue mode e)
-law_due_stays uses m old new r f mode e may = steps_may m f.steps r (tells_device m f.gained f.steps f.tells) f.may mode e may
+module _ (m later : Machine) (l : LeavesWaiting m later) (mode : QueueMode) (e : Pending) where
+  issue_may : May m (Issue mode e) → May later (Issue mode e)
+  issue_may may = (
+    l.waits e may.0 (not-true e.issued (and_parts _ _ may.1.clear).0),
+    subst (λ (b : List Unanswered). IsDue mode b (unanswered e)) (sym l.asks) may.1,
+    λ y here same. let q = l.kept y here in may.2 q.0 q.1 (ap (λ (j : Accepted). j.port) q.2 ∙ same),
+    subst (λ (rows : List GrantRow). HasRow e.request.asked.client e.request.asked.grant rows) (sym l.rows) may.3,
+  )
+
+  -- what is left goes on so once the request is issued
+  issue_leaves : LeavesWaiting (after_step m (Issue mode e)) (after_step later (Issue mode e))
+  issue_leaves = record {
+    waits = λ y here waits.
+        let f : Pending → Pending = at e.request.id newly_issued in
+        let q = map_in f m.book y here in
+        ⊎_elim
+        (λ p. absurd (true_false (ap (λ (z : Pending). z.issued) (q.2 ∙ p.1)) waits))
+        (λ p.
+        let is : y ≡ q.0 = q.2 ∙ p.1 in
+        subst (λ (z : Pending). Contains (map f later.book) z) (sym q.2)
+        (into_map f later.book q.0 (l.waits q.0 q.1 (ap (λ (z : Pending). z.issued) (sym is) ∙ waits))))
+        (at_cases e.request.id newly_issued q.0);
+    asks = asks_issued later.book e.request.id ∙ (ap (with_issued e.request.id) l.asks ∙ sym (asks_issued m.book e.request.id));
+    kept = l.kept;
+    rows = l.rows;
+  }
+
+-- the same for issues, one after another
+issues_may : (m later : Machine) (l : LeavesWaiting m later) (own : List Step) → All IsIssueStep own → AllMay m own → AllMay later own × LeavesWaiting (left.after m own) (left.after later own)
+issues_may m later l [] only may = (tt, l)
+issues_may m later l (step ∷ own) only may =
+    let before : AllMay later own × LeavesWaiting (left.after m own) (left.after later own) = issues_may m later l own (All-tail IsIssueStep step own only) may.0 in
+    let now : May (left.after later own) step × LeavesWaiting (after_step (left.after m own) step) (after_step (left.after later own) step) =
+    one before.1 step (All-head IsIssueStep step own only) may.1 in
+    ((before.0, now.0), now.1)
+  where
+    one : LeavesWaiting (left.after m own) (left.after later own) → (step : Step) → IsIssueStep step → May (left.after m own) step →
+        May (left.after later own) step × LeavesWaiting (after_step (left.after m own) step) (after_step (left.after later own) step)
+    one before (Issue mode e) is can = (issue_may (left.after m own) (left.after later own) before mode e can, issue_leaves (left.after m own) (left.after later own) before mode e)
+    one before (Touch x i block) is can = absurd is
+    one before (End x) is can = absurd is
+    one before (Unplug port) is can = absurd is
+    one before (Replace port name size disk) is can = absurd is
+    one before (Accept r) is can = absurd is
+    one before (Age ready) is can = absurd is
+    one before (Again x) is can = absurd is
+    one before (Answer x outcome) is can = absurd is
+    one before (Revoke client number) is can = absurd is
+    one before Release is can = absurd is
+    one before (Store client frame offset bytes) is can = absurd is
+    one before (Load client frame offset bytes) is can = absurd is
+
+pub steps_may : (m : Machine) (steps : List Step) → IsReachable m → AllByDevice steps → AllMay m steps → (own : List Step) → All IsIssueStep own → AllMay m own → AllMay (left.after m steps) own
+steps_may m steps r is all own only may = (issues_may m (left.after m steps) (device_leaves m steps r is all) own only may).0

@@ -29,7 +29,7 @@ use Rattle.refinement.specs.Below.{StepLaws}
 use Rattle.refinement.specs.Relation.{StateRelation, port_at, HaveSlots}
 use Rattle.refinement.specs.Driver.{DriverRelation, IsPrepared, idle}
 use Rattle.refinement.specs.Places.{table_of}
-use Rattle.refinement.specs.Served.{queued_read, two_memory, two_armed, armed_uses, one_issued, two_issued, one_taken, two_known, TwoReadsWitness}
+use Rattle.refinement.specs.Served.{queued_read, two_memory, two_armed, armed_uses, one_issued, two_issued, one_taken, two_known, TwoReadsWitness, TwoStoredReads}
 use Rattle.refinement.specs.Slots.{Free, Serves, SlotStates, put, SlotDecodesTo, Armed}
 use Rattle.refinement.specs.Witness.{first_id, ready_with}
 use Rattle.refinement.proofs.witnesses.AcceptedRequests.{accepted_of, has_its_grant, read_into, read_is_new, read_no_trim, places_in}
@@ -268,4 +268,21 @@ two_are_known laws = record {
   taken = bits.0;
   queued = refl;
   waits = bits.1;
+}
+
+pub two_are_stored : TwoStoredReads
+two_are_stored = record {
+  machine = accepted;
+  reached = accepted_reached;
+  knows = accepted_knows;
+  mode = queued;
+  queued = refl;
+  usable = omega arith;
+  first = first_waits;
+  second = second_waits;
+  first_asks = record { port_is = refl; operation = refl; first_is = refl; count = refl; frames = refl };
+  second_asks = record { port_is = refl; operation = refl; first_is = refl; count = refl; frames = refl };
+  may = ((tt, may_first), may_second);
+  first_says = first_told;
+  second_says = second_told;
 }

@@ -25,15 +25,15 @@ use Rattle.driver_history.specs.Evidence.{Gains, ShowsChange, ShowsFailure}
 use Rattle.driver_history.specs.Histories.{LosesNoPortError}
 use Rattle.error_recovery.specs.Evidence.{GainsSinceStart, ShowsFatal}
 use Rattle.commands.specs.Masks.{ReadsCiOrSact}
-use Rattle.commands.specs.Tasks.{IsIssuing}
+use Rattle.commands.specs.Batches.{IsIssuingOn}
 use Rattle.port_control.specs.Looks.{IsLooking}
 use Rattle.port_control.specs.Services.{LeavesCauses}
 use Rattle.port_control.specs.declared.events.PortEvent.TheVariants.{NoEvent}
 use Rattle.slots.specs.Uses.{PortSlots}
 use Rattle.server_history.specs.Below.{LawsBelow}
-use Rattle.server_history.specs.Served.{PollsUsedSlots, IsEmptyMask, HasTurnWithoutError, IsIssuingAnySlot}
+use Rattle.server_history.specs.Served.{PollsUsedSlots, IsEmptyMask, HasTurnWithoutError}
 use Rattle.server_history.proofs.state.TurnAccesses.{none_or_some}
-use Rattle.server_history.proofs.state.TransferAccesses.{issues_serve}
+use Rattle.server_history.proofs.state.TransferAccesses.{issuing_serves}
 use Rattle.server_history.proofs.any_turn.ShownTrouble.{fatal_unless, set_unless}
 
 -- ---- what the tape gained
@@ -62,17 +62,17 @@ finding_ordinary port (Writing r v) here = absurd here
 finding_ordinary port (Loading at bytes) here = absurd here
 finding_ordinary port (Storing at bytes) here = absurd here
 
-issuing_spares : (port : Port) (slot : ℕ) (access : Access) → IsIssuing port slot access → DoesNotWrite (Px port Is) access
-issuing_spares port slot (Writing r v) here = ⊎_elim
+issuing_spares : (port : Port) (access : Access) → IsIssuingOn port access → DoesNotWrite (Px port Is) access
+issuing_spares port (Writing r v) here = ⊎_elim
     (λ (is : r ≡ Px port Sact). λ q. let z : Px port Sact ≡ Px port Is = sym is ∙ q in absurd cc)
     (λ (is : r ≡ Px port Ci). λ q. let z : Px port Ci ≡ Px port Is = sym is ∙ q in absurd cc)
-    here.0
-issuing_spares port slot (Storing at bytes) here = tt
-issuing_spares port slot (Loading at bytes) here = tt
-issuing_spares port slot (Reading r v) here = tt
+    here
+issuing_spares port (Storing at bytes) here = tt
+issuing_spares port (Loading at bytes) here = tt
+issuing_spares port (Reading r v) here = tt
 
-issuing_ordinary : (port : Port) (access : Access) → IsIssuingAnySlot port access → LeavesCauses port access
-issuing_ordinary port access here = (issues_serve port access here, issuing_spares port here.0 access here.2)
+issuing_ordinary : (port : Port) (access : Access) → IsIssuingOn port access → LeavesCauses port access
+issuing_ordinary port access here = (issuing_serves port access here, issuing_spares port access here)
 
 module _ (laws : LawsBelow) where
   module _ (port : Port) (slots : PortSlots) (replies : List Reply) (old : JointState Device) (new : Device) (turn : HasTurnWithoutError port slots replies old.device new) (on : IsOn old.device) where
@@ -83,7 +83,7 @@ module _ (laws : LawsBelow) where
         (λ some.
         let k = c.checks (λ none. false≢true (sym (none some.0 some.1) ∙ some.2)) in
         by_then laws (driven_as (ReadsCiOrSact port) (LeavesCauses port) turn.seen k.read (finding_ordinary port) k.reads.driven)
-        (driven_as (IsIssuingAnySlot port) (LeavesCauses port) k.read new (issuing_ordinary port) k.over))
+        (driven_as (IsIssuingOn port) (LeavesCauses port) k.read new (issuing_ordinary port) k.over))
         (none_or_some 32 c.mask)
       where
         c : PollsUsedSlots port slots replies turn.seen new

@@ -37,7 +37,8 @@ use Rattle.request_queue.specs.Entries.{BookEntry, asks_of, due_ids}
 use Rattle.slots.specs.Uses.{PortSlots}
 use Rattle.slots.specs.declared.SlotUse.{SlotUse}
 use Rattle.server_history.specs.Below.{LawsBelow}
-use Rattle.server_history.specs.Served.{AnswersDone, AnswersEach, AnswersOne, IsEmptyMask, HasTurnWithoutError, IsMaskOf, IsIssuingAnySlot, AllByDeviceOrIssue, IsAnsweredIn, ok_answers_of, done_reply, is_used}
+use Rattle.commands.specs.Batches.{IsIssuingOn}
+use Rattle.server_history.specs.Served.{AnswersDone, AnswersEach, AnswersOne, IsEmptyMask, HasTurnWithoutError, IsMaskOf, AllByDeviceOrIssue, IsAnsweredIn, ok_answers_of, done_reply, is_used}
 use Rattle.server_history.specs.Turns.{ServesPort}
 use Rattle.server_history.specs.Server.{ServerState, InCallInvariant, MachineRelation, SettledInvariant, mode_in, slots_at, state_of, used_for, with_slot}
 use Rattle.server_history.proofs.healthy_turn.OneAnswer.{answer_kept}
@@ -259,7 +260,7 @@ module _ (s : ServerState) (seen : Device) (port : Port) (t : SettledInvariant s
                 reads = reads;
                 exact = λ slot used small is. ((λ found. absurd (false≢true (sym (none slot small) ∙ found))), (λ w. absurd (nowhere w.0 w.1)));
                 running = λ _. (refl, refl);
-                over = by_none (IsIssuingAnySlot port) new;
+                over = by_none (IsIssuingOn port) new;
               };
             };
           })
@@ -349,8 +350,8 @@ module _ (s : ServerState) (seen : Device) (port : Port) (t : SettledInvariant s
             z : AreIssued port ids a.mid new (after m base)
             z = each_issued laws port ids a.mid new mid_kept a.issued (after m base) (laws.basic.reached m base reached base_may) (subst (MachineRelation a.mid) (sym base_is) y.stands)
 
-        last_issues : IsDrivenBy (IsIssuingAnySlot port) found new.device
-        last_issues = subst (λ (d : Device). IsDrivenBy (IsIssuingAnySlot port) d new.device) mid_device (each_driven laws port ids a.mid new a.issued)
+        last_issues : IsDrivenBy (IsIssuingOn port) found new.device
+        last_issues = subst (λ (d : Device). IsDrivenBy (IsIssuingOn port) d new.device) mid_device (each_driven laws port ids a.mid new a.issued)
 
         -- a request is told exactly if its slot was found done
         told_of : (e : BookEntry) → Contains a.requests e → IsAnsweredIn e.entry.id replies

@@ -41,7 +41,8 @@ use Rattle.adapter.specs.Access.{Access}
 use Rattle.adapter.specs.Access.Access.{Loading, Reading, Storing, Writing}
 use Rattle.server_history.specs.Below.{LawsBelow}
 use Rattle.server_history.specs.Histories.{ExtendsSettled, LeadsToServer}
-use Rattle.server_history.specs.Served.{IsIssuingAnySlot, Accepts, IssuesAll, accepted_as, accepting}
+use Rattle.commands.specs.Batches.{IsIssuingOn}
+use Rattle.server_history.specs.Served.{Accepts, IssuesAll, accepted_as, accepting}
 use Rattle.server_history.specs.Server.{ServerState, InCallInvariant, MachineRelation, SettledInvariant, mode_in, ports_of, admission_context, state_of, used_for, RevokedMarkInvariant}
 use Rattle.slots.specs.declared.SlotUse.{SlotUse}
 use Rattle.block_machine.specs.declared.due.QueueMode.{QueueMode}
@@ -58,21 +59,21 @@ use Rattle.server_history.proofs.state.FirstMembers.{first_here}
 -- ---- what issuing writes
 
 -- neither GHC, nor a bit that tells of trouble
-pub issuing_spares_host : (port : Port) (access : Access) → IsIssuingAnySlot port access → DoesNotWrite Ghc access
+pub issuing_spares_host : (port : Port) (access : Access) → IsIssuingOn port access → DoesNotWrite Ghc access
 issuing_spares_host port (Writing r v) here =
-    λ q. ⊎_elim (λ (is : r ≡ Px port Sact). let z : Px port Sact ≡ Ghc = sym is ∙ q in absurd cc) (λ (is : r ≡ Px port Ci). let z : Px port Ci ≡ Ghc = sym is ∙ q in absurd cc) here.2.0
+    λ q. ⊎_elim (λ (is : r ≡ Px port Sact). let z : Px port Sact ≡ Ghc = sym is ∙ q in absurd cc) (λ (is : r ≡ Px port Ci). let z : Px port Ci ≡ Ghc = sym is ∙ q in absurd cc) here
 issuing_spares_host port (Storing at bytes) here = tt
-issuing_spares_host port (Loading at bytes) here = absurd here.2
-issuing_spares_host port (Reading r v) here = absurd here.2
+issuing_spares_host port (Loading at bytes) here = absurd here
+issuing_spares_host port (Reading r v) here = absurd here
 
-pub issuing_clears_none : (port other : Port) (access : Access) → IsIssuingAnySlot port access → ClearsNoError other access
+pub issuing_clears_none : (port other : Port) (access : Access) → IsIssuingOn port access → ClearsNoError other access
 issuing_clears_none port other (Writing r v) here = record {
-  is = λ q. absurd (⊎_elim (λ (is : r ≡ Px port Sact). let z : Px port Sact ≡ Px other register.Is = sym is ∙ q in absurd cc) (λ (is : r ≡ Px port Ci). let z : Px port Ci ≡ Px other register.Is = sym is ∙ q in absurd cc) here.2.0);
-  serr = λ q. absurd (⊎_elim (λ (is : r ≡ Px port Sact). let z : Px port Sact ≡ Px other register.Serr = sym is ∙ q in absurd cc) (λ (is : r ≡ Px port Ci). let z : Px port Ci ≡ Px other register.Serr = sym is ∙ q in absurd cc) here.2.0);
+  is = λ q. absurd (⊎_elim (λ (is : r ≡ Px port Sact). let z : Px port Sact ≡ Px other register.Is = sym is ∙ q in absurd cc) (λ (is : r ≡ Px port Ci). let z : Px port Ci ≡ Px other register.Is = sym is ∙ q in absurd cc) here);
+  serr = λ q. absurd (⊎_elim (λ (is : r ≡ Px port Sact). let z : Px port Sact ≡ Px other register.Serr = sym is ∙ q in absurd cc) (λ (is : r ≡ Px port Ci). let z : Px port Ci ≡ Px other register.Serr = sym is ∙ q in absurd cc) here);
 }
 issuing_clears_none port other (Storing at bytes) here = tt
-issuing_clears_none port other (Loading at bytes) here = absurd here.2
-issuing_clears_none port other (Reading r v) here = absurd here.2
+issuing_clears_none port other (Loading at bytes) here = absurd here
+issuing_clears_none port other (Reading r v) here = absurd here
 
 -- ---- lending
 
@@ -197,7 +198,7 @@ module _ (laws : LawsBelow) (s : ServerState) (k : InCallInvariant s) (r : Reque
     same : new ≡ record more { device = new.device; slots = new.slots; book = new.book }
     same = each_settings laws port ids more new issues
 
-    driven : IsDrivenBy (IsIssuingAnySlot port) s.device new.device
+    driven : IsDrivenBy (IsIssuingOn port) s.device new.device
     driven = each_driven laws port ids more new issues
 
     port_low : port.0 < 4
@@ -214,10 +215,10 @@ module _ (laws : LawsBelow) (s : ServerState) (k : InCallInvariant s) (r : Reque
         (allowed, (asked, accepts_on mode port x.steps early x.only, refl), same_ports_are, all_issued)
         tt
         driven.accesses
-        (driven.all, (row, its_row, All-weaker (IsIssuingAnySlot port) (IsIssuingAccess row.port) (λ access here. subst (λ (p : Port). IsIssuingAccess p access) (sym port_is) (issuing_is port port_low access here)) driven.accesses driven.only))
-        (λ other. All-weaker (IsIssuingAnySlot port) (LeavesEngine other) (issuing_leaves laws port other) driven.accesses driven.only)
+        (driven.all, (row, its_row, All-weaker (IsIssuingOn port) (IsIssuingAccess row.port) (λ access here. subst (λ (p : Port). IsIssuingAccess p access) (sym port_is) (issuing_is port port_low access here)) driven.accesses driven.only))
+        (λ other. All-weaker (IsIssuingOn port) (LeavesEngine other) (issuing_leaves laws port other) driven.accesses driven.only)
         (λ other is_ready. due_now other)
-        (λ other. record { finds = tt; faults = tt; probes = tt; boots = tt; port_error = laws.calls.ordinary other (with_device s.device old) new.device driven.accesses (told_by s.device old.abstract.ports) (ports_of new) k.on driven.all (All-weaker (IsIssuingAnySlot port) (DoesNotWrite Ghc) (issuing_spares_host port) driven.accesses driven.only) (All-weaker (IsIssuingAnySlot port) (ClearsNoError other) (issuing_clears_none port other) driven.accesses driven.only); well = λ i. absurd (uninterrupted s.device old.abstract.ports other i); heeds = uninterrupted s.device old.abstract.ports other })
+        (λ other. record { finds = tt; faults = tt; probes = tt; boots = tt; port_error = laws.calls.ordinary other (with_device s.device old) new.device driven.accesses (told_by s.device old.abstract.ports) (ports_of new) k.on driven.all (All-weaker (IsIssuingOn port) (DoesNotWrite Ghc) (issuing_spares_host port) driven.accesses driven.only) (All-weaker (IsIssuingOn port) (ClearsNoError other) (issuing_clears_none port other) driven.accesses driven.only); well = λ i. absurd (uninterrupted s.device old.abstract.ports other i); heeds = uninterrupted s.device old.abstract.ports other })
         (laws.backed_parts s.device s.device new.device m early x.steps (laws.backed_own s.device m (Accept asked) (λ no. no)) x.backed)
         stands
       where

@@ -1,9 +1,8 @@
--- Due requests of a port are issued one after another, and what is due then.
+-- Due requests of a port are issued together, and what is due then.
 use Rattle.std.proofs.Common.{ℕ, ◌≡◌, ◌≢◌, ◌⊎◌, ◌==◌, ◌||◌, Bool, true, false, not, List, [], ◌∷◌, ◌++◌, map, None, inl, inr, refl, sym, ap, ◌∙◌, subst, ⊎_elim, eqb-true, eq-eqb}
 use Rattle.std.specs.Prelude.{◌↔◌, if◌then◌else◌}
 use Rattle.std.specs.List.{Contains, list_any}
 use Rattle.std.proofs.lemmas.Bool.{cases_Bool, cases_eq, cond-true, cond-false, false≢true, or_cases, or_left, or_right, and_parts}
-use Rattle.std.proofs.lemmas.List.Elements.{All-append}
 use Rattle.std.proofs.lemmas.List.{get_or-set_other}
 use Rattle.ata_types.specs.declared.Port.{Port}
 use Rattle.ata_types.specs.declared.request.RequestId.{RequestId}
@@ -12,7 +11,7 @@ use Rattle.adapter.specs.declared.command.Operation.{Operation}
 use Rattle.refinement.specs.Driven.{IsDrivenBy, GainsNoMove}
 use Rattle.refinement.specs.Slots.{op_of}
 use Rattle.refinement.specs.Driver.{IsBacked}
-use Rattle.server_history.proofs.state.DrivenAccesses.{by_none, driven_as}
+use Rattle.server_history.proofs.state.DrivenAccesses.{by_none}
 use Rattle.block_machine.specs.Due.{AreAllDueInOrder, IsDue, NoneDue, due_of, mark_issued, of_port, with_issued}
 use Rattle.block_machine.specs.Events.{AbstractCall, AbstractState, AllByDevice, AllLawful, AllMay, AreStepsOfCall, IsIssuedIn, IsByServer, IssuesLast, accepts_of, handles, issues_it}
 use Rattle.block_machine.specs.Histories.{IsReachable}
@@ -24,15 +23,16 @@ use Rattle.block_machine.specs.declared.due.QueueMode.{QueueMode}
 use Rattle.block_machine.specs.declared.due.Unanswered.{Unanswered}
 use Rattle.server_history.proofs.state.ListMembers.{contains_cases, contains_here, contains_there, into_map, map_in}
 use Rattle.driver_history.specs.Histories.{IssuesDue, with_issue_undone}
-use Rattle.commands.specs.Tasks.{IsIssuing}
-use Rattle.request_queue.specs.Entries.{BookEntry, BookIsInOrder, IsWaiting, asks, asks_of, update_if_id, due_ids, has_id, issue}
+use Rattle.commands.specs.Batches.{IsIssuingOn, SlotTask, issues_of}
+use Rattle.request_queue.specs.Entries.{BookEntry, BookIsInOrder, IsWaiting, asks, asks_of, due_ids}
 use Rattle.server_history.specs.Below.{LawsBelow}
-use Rattle.server_history.specs.Served.{IssuesAll, IsIssuingAnySlot, IssuesEach, IssuesOne, AllByDeviceOrIssue}
+use Rattle.server_history.specs.Served.{AllByDeviceOrIssue, IssuesAll, IssuesBatchOf, PutsInSlot, PutsInSlots}
 use Rattle.server_history.specs.Server.{ServerState, InCallInvariant, MachineRelation, SettledInvariant, mode_at, mode_in, no_slots, slots_at}
 use Rattle.server_history.proofs.state.DueRequests.{same_book}
 use Rattle.server_history.proofs.state.DeviceSteps.{devices_last, not_handled}
-use Rattle.server_history.proofs.plain_calls.OneIssue.{IsIssue, issue_kept, issue_one, issue_silent}
-use Rattle.server_history.proofs.state.SilentOperations.{silent_more, silent_none}
+use Rattle.server_history.proofs.plain_calls.IssuedTogether.{AreIssuedTogether, HaveIds, issued_together, together_kept, together_silent}
+use Rattle.server_history.proofs.plain_calls.RequestsInSlots.{BookAndSlotsInvariant, book_and_slots, never_again, put_keeps, puts_settings}
+use Rattle.server_history.proofs.state.SilentOperations.{silent_none}
 use Rattle.host_boot.specs.Taken.{probe_result_of}
 use Rattle.host_boot.specs.declared.ProbeResult.TheVariants.{Unready}
 use Rattle.server_history.proofs.state.FirstMembers.{nowhere, first_here}
@@ -117,7 +117,7 @@ module _ (mode : QueueMode) (port : Port) where
   accepts_on (Accept r ∷ late) early only = absurd only.0
   accepts_on (step ∷ late) early only = accepts_on late early only.1
 
--- ---- one after another
+-- ---- together
 
 -- These requests are issued by such steps from the machine, after which it stands for the new server.
 pub record AreIssued (port : Port) (ids : List RequestId) (old new : ServerState) (m : Machine) : Type 0 where
@@ -133,44 +133,60 @@ pub record AreIssued (port : Port) (ids : List RequestId) (old new : ServerState
 same_id : (a b : RequestId) → a.0 ≡ b.0 → a ≡ b
 same_id a b same = ap (λ (n : ℕ). record { 0 = n }) same
 
+-- The requests were put in slots, one after another, and the device went on.
+pub record ArePutInSlots (port : Port) (ids : List RequestId) (old new : ServerState) : Type 0 where
+  pub tasks : List SlotTask
+  pub taken : ServerState
+  pub puts : PutsInSlots port ids tasks old taken
+  pub server : new ≡ record taken { device = new.device }
+
+pub are_put : (port : Port) (ids : List RequestId) (old new : ServerState) → IssuesBatchOf port ids old new → ArePutInSlots port ids old new
+are_put port [] old new none = record { tasks = []; taken = old; puts = refl; server = none ∙ ap (λ (n : ServerState). record old { device = n.device }) (sym none) }
+are_put port (id ∷ ids) old new issues = record { tasks = issues.tasks; taken = issues.taken; puts = issues.puts; server = issues.server }
+
 module _ (laws : LawsBelow) (port : Port) where
-  -- each waits until its turn comes
-  each_waits : (ids : List RequestId) (old new : ServerState) → InCallInvariant old → IssuesEach port ids old new → (id : RequestId) → Contains ids id → (e : BookEntry) → Contains old.book e → e.entry.id ≡ id → e.entry.issued ≡ false
-  each_waits [] old new k none id there e here its = absurd (nowhere id there)
-  each_waits (first ∷ ids) old new k (mid, one, more) id there e here its = ⊎_elim
-      (λ (same : id ≡ first).
-      let it : one.request ≡ e = laws.one old.book one.request e k.ordered one.here here (one.id_is ∙ sym same ∙ sym its) in
-      subst (λ (x : BookEntry). x.entry.issued ≡ false) it (not_true one.request.entry.issued (and_parts _ _ one.due.clear).0))
-      (λ (later : Contains ids id).
-      let moved : Contains mid.book (update_if_id first issue e) = subst (λ (n : ServerState). Contains n.book (update_if_id first issue e)) (sym one.server) (into_map (update_if_id first issue) old.book e here) in
-      let waits : (update_if_id first issue e).entry.issued ≡ false = each_waits ids mid new (issue_kept laws old mid port first k one) more id later (update_if_id first issue e) moved (by_id e (has_id first e) ∙ its) in
-      still e (has_id first e) refl waits)
+  -- ---- the issues of requests
+
+  issues_only : (mode : QueueMode) (ids : List RequestId) (requests : List Pending) → HaveIds port ids requests → AllByDeviceOrIssue mode port (issues_of mode requests)
+  issues_only mode ids [] are = tt
+  issues_only mode [] (e ∷ requests) are = absurd are
+  issues_only mode (id ∷ ids) (e ∷ requests) are = only_append mode port (issues_of mode requests) (Issue mode e ∷ []) (issues_only mode ids requests are.1) (refl, are.0.1, tt)
+
+  issues_named : (mode : QueueMode) (ids : List RequestId) (requests : List Pending) → HaveIds port ids requests → (id : RequestId) → IsIssuedIn id (issues_of mode requests) → Contains ids id
+  issues_named mode ids [] are id i = absurd (false≢true i)
+  issues_named mode [] (e ∷ requests) are id i = absurd are
+  issues_named mode (first ∷ ids) (e ∷ requests) are id i = ⊎_elim
+      (λ (late : IsIssuedIn id (issues_of mode requests)). contains_there first ids id (issues_named mode ids requests are.1 id late))
+      (λ (here : IsIssuedIn id (Issue mode e ∷ [])). contains_here first ids id (its_issue mode first e are.0.0 id here))
+      (issued_parts id (issues_of mode requests) (Issue mode e ∷ []) i)
+    where
+      its_issue : (mode : QueueMode) (first : RequestId) (e : Pending) → e.request.id ≡ first → (id : RequestId) → IsIssuedIn id (Issue mode e ∷ []) → id ≡ first
+      its_issue mode first e is id here = same_id id first (sym (eqb-true e.request.id.0 id.0 (sym (or_none (e.request.id.0 == id.0)) ∙ here)) ∙ ap (λ (r : RequestId). r.0) is)
+
+  issues_all : (mode : QueueMode) (ids : List RequestId) (requests : List Pending) → HaveIds port ids requests → (id : RequestId) → Contains ids id → IsIssuedIn id (issues_of mode requests)
+  issues_all mode [] requests are id there = absurd (nowhere id there)
+  issues_all mode (first ∷ ids) [] are id there = absurd are
+  issues_all mode (first ∷ ids) (e ∷ requests) are id there = ⊎_elim
+      (λ (same : id ≡ first). issued_early id (issues_of mode requests) (Issue mode e ∷ []) (or_left _ _ (eq-eqb e.request.id.0 id.0 (ap (λ (r : RequestId). r.0) (are.0.0 ∙ sym same)))))
+      (λ (later : Contains ids id). issued_late id (issues_of mode requests) (Issue mode e ∷ []) (issues_all mode ids requests are.1 id later))
       (contains_cases first ids id there)
-    where
-      by_id : (e : BookEntry) (b : Bool) → (if b then record e { entry = issue e.entry } else e).entry.id ≡ e.entry.id
-      by_id e true = refl
-      by_id e false = refl
 
-      still : (e : BookEntry) (b : Bool) → has_id first e ≡ b → (update_if_id first issue e).entry.issued ≡ false → e.entry.issued ≡ false
-      still e true is waits = absurd (false≢true (sym waits ∙ ap (λ (x : BookEntry). x.entry.issued) (cond-true (has_id first e) (record e { entry = issue e.entry }) e is)))
-      still e false is waits = sym (ap (λ (x : BookEntry). x.entry.issued) (cond-false (has_id first e) (record e { entry = issue e.entry }) e is)) ∙ waits
+  -- none is issued twice
+  issues_last : (mode : QueueMode) (ids : List RequestId) (tasks : List SlotTask) (s new : ServerState) → BookAndSlotsInvariant s → PutsInSlots port ids tasks s new → (requests : List Pending) → HaveIds port ids requests → IssuesLast (issues_of mode requests)
+  issues_last mode [] [] s new k none [] are = tt
+  issues_last mode [] [] s new k none (e ∷ requests) are = absurd are
+  issues_last mode (first ∷ ids) (t ∷ tasks) s new k (mid, one, more) [] are = absurd are
+  issues_last mode (first ∷ ids) (t ∷ tasks) s new k (mid, one, more) (e ∷ requests) are =
+      last_on mode port (issues_of mode requests) (Issue mode e ∷ []) (issues_only mode ids requests are.1)
+      (issues_last mode ids tasks mid new (put_keeps laws s mid port first t k one) more requests are.1)
+      (tt, λ id h i. false≢true i)
+      (λ id late i.
+      let is : id ≡ first = same_id id first (sym (eqb-true e.request.id.0 id.0 (sym (or_none (e.request.id.0 == id.0)) ∙ i)) ∙ ap (λ (r : RequestId). r.0) are.0.0) in
+      never_again laws port first t ids tasks s mid new k one more (subst (Contains ids) is (issues_named mode ids requests are.1 id late)))
+  issues_last mode [] (t ∷ tasks) s new k puts requests are = absurd puts
+  issues_last mode (first ∷ ids) [] s new k puts requests are = absurd puts
 
-  -- so no request is issued twice
-  never_again : (first : RequestId) (ids : List RequestId) (old mid new : ServerState) → InCallInvariant old → IssuesOne port first old mid → IssuesEach port ids mid new → Contains ids first → ⊥
-  never_again first ids old mid new k one more there = false≢true (sym waits ∙ ap (λ (x : BookEntry). x.entry.issued) now)
-    where
-      e : BookEntry
-      e = one.request
-
-      now : update_if_id first issue e ≡ record e { entry = issue e.entry }
-      now = cond-true (has_id first e) (record e { entry = issue e.entry }) e (eq-eqb e.entry.id.0 first.0 (ap (λ (r : RequestId). r.0) one.id_is))
-
-      waits : (update_if_id first issue e).entry.issued ≡ false
-      waits = each_waits ids mid new (issue_kept laws old mid port first k one) more first there (update_if_id first issue e)
-          (subst (λ (n : ServerState). Contains n.book (update_if_id first issue e)) (sym one.server) (into_map (update_if_id first issue) old.book e one.here))
-          (ap (λ (x : BookEntry). x.entry.id) now ∙ one.id_is)
-
-  pub each_issued : (ids : List RequestId) (old new : ServerState) → InCallInvariant old → IssuesEach port ids old new → (m : Machine) → IsReachable m → MachineRelation old m → AreIssued port ids old new m
+  pub each_issued : (ids : List RequestId) (old new : ServerState) → InCallInvariant old → IssuesBatchOf port ids old new → (m : Machine) → IsReachable m → MachineRelation old m → AreIssued port ids old new m
   each_issued [] old new k none m reached is = record {
     steps = [];
     may = tt;
@@ -181,65 +197,53 @@ module _ (laws : LawsBelow) (port : Port) where
     all = λ id here. absurd (nowhere id here);
     last = tt;
   }
-  each_issued (first ∷ ids) old new k (mid, one, more) m reached is =
-      let x : IsIssue port first old mid m = issue_one laws old mid port first k one m reached is in
-      let early : List Step = Issue (mode_in old port) x.request ∷ x.steps in
-      let y : AreIssued port ids mid new (after m early) = each_issued ids mid new (issue_kept laws old mid port first k one) more (after m early) (laws.basic.reached m early reached x.may) x.stands in
+  each_issued (first ∷ ids) old new k issues m reached is =
+      let x : AreIssuedTogether port (first ∷ ids) old new m = issued_together laws old new port first ids k issues m reached is in
+      let mode : QueueMode = mode_in old port in
+      let own : List Step = issues_of mode x.requests in
+      let only : AllByDeviceOrIssue mode port own = issues_only mode (first ∷ ids) x.requests x.ids_are in
       record {
-        steps = y.steps ++ early;
-        may = laws.basic.may m y.steps early x.may y.may;
-        backed = laws.backed_parts old.device mid.device new.device m early y.steps x.backed y.backed;
-        stands = subst (MachineRelation new) (sym (laws.basic.joined m y.steps early)) y.stands;
-        only = only_append (mode_in old port) port y.steps early (subst (λ (modes : List QueueMode). AllByDeviceOrIssue (mode_at modes port.0) port y.steps) (ap (λ (n : ServerState). n.modes) one.server) y.only) (refl, x.port_is, devices_only (mode_in old port) port x.steps x.only);
+        steps = own ++ x.steps;
+        may = x.may;
+        backed = x.backed;
+        stands = x.stands;
+        only = only_append mode port own x.steps only (devices_only mode port x.steps x.only);
         named = λ id i. ⊎_elim
-            (λ (late : IsIssuedIn id y.steps). contains_there first ids id (y.named id late))
-            (λ (here : IsIssuedIn id early). ⊎_elim
-            (λ (its : (x.request.request.id.0 == id.0) ≡ true). contains_here first ids id (same_id id first (sym (eqb-true x.request.request.id.0 id.0 its) ∙ ap (λ (r : RequestId). r.0) x.id_is)))
+            (λ (late : IsIssuedIn id own). issues_named mode (first ∷ ids) x.requests x.ids_are id late)
             (λ (before : IsIssuedIn id x.steps). absurd (false≢true (sym (devices_issue_none id x.steps x.only) ∙ before)))
-            (or_cases (x.request.request.id.0 == id.0) (list_any (issues_it id) x.steps) here))
-            (issued_parts id y.steps early i);
-        all = λ id there. ⊎_elim
-            (λ (same : id ≡ first). issued_early id y.steps early (or_left _ _ (eq-eqb x.request.request.id.0 id.0 (ap (λ (r : RequestId). r.0) (x.id_is ∙ sym same)))))
-            (λ (later : Contains ids id). issued_late id y.steps early (y.all id later))
-            (contains_cases first ids id there);
-        last = last_on (mode_in mid port) port y.steps early y.only y.last
-            (devices_last x.steps x.only, λ id h i. false≢true (sym (devices_issue_none id x.steps x.only) ∙ i))
-            (λ id late i. ⊎_elim
-            (λ (its : (x.request.request.id.0 == id.0) ≡ true).
-            never_again first ids old mid new k one more (subst (Contains ids) (same_id id first (sym (eqb-true x.request.request.id.0 id.0 its) ∙ ap (λ (r : RequestId). r.0) x.id_is)) (y.named id late)))
-            (λ (before : IsIssuedIn id x.steps). absurd (false≢true (sym (devices_issue_none id x.steps x.only) ∙ before)))
-            (or_cases (x.request.request.id.0 == id.0) (list_any (issues_it id) x.steps) i));
+            (issued_parts id own x.steps i);
+        all = λ id there. issued_late id own x.steps (issues_all mode (first ∷ ids) x.requests x.ids_are id there);
+        last = last_on mode port own x.steps only (issues_last mode (first ∷ ids) issues.tasks old issues.taken (book_and_slots laws old k) issues.puts x.requests x.ids_are) (devices_last x.steps x.only)
+            (λ id late i. false≢true (sym (devices_issue_none id x.steps x.only) ∙ i));
       }
 
-  pub each_kept : (ids : List RequestId) (old new : ServerState) → InCallInvariant old → IssuesEach port ids old new → InCallInvariant new
+  pub each_kept : (ids : List RequestId) (old new : ServerState) → InCallInvariant old → IssuesBatchOf port ids old new → InCallInvariant new
   each_kept [] old new k none = subst InCallInvariant (sym none) k
-  each_kept (first ∷ ids) old new k (mid, one, more) = each_kept ids mid new (issue_kept laws old mid port first k one) more
+  each_kept (first ∷ ids) old new k issues = together_kept laws old new port first ids k issues
 
   -- in that no data comes for a command of the driver's own but on dead ports
-  pub each_silent : (ids : List RequestId) (old new : ServerState) → InCallInvariant old → IssuesEach port ids old new → (q : ℕ) (o : Operation) → op_of o ≡ None → probe_result_of old.ports q ≢ Unready Dead
+  pub each_silent : (ids : List RequestId) (old new : ServerState) → InCallInvariant old → IssuesBatchOf port ids old new → (q : ℕ) (o : Operation) → op_of o ≡ None → probe_result_of old.ports q ≢ Unready Dead
       → GainsNoMove q o old.device new.device
   each_silent [] old new k none q o own other = subst (λ (n : ServerState). GainsNoMove q o old.device n.device) (sym none) (silent_none q o old.device)
-  each_silent (first ∷ ids) old new k (mid, one, more) q o own other =
-      silent_more q o old.device mid.device new.device (issue_silent laws old mid port first k one q o own other)
-      (each_silent ids mid new (issue_kept laws old mid port first k one) more q o own (λ dead. other (ap (λ (n : ServerState). probe_result_of n.ports q) (sym one.server) ∙ dead)))
-
-  -- but for the device, the slots and the book, the server is as it was
-  pub each_settings : (ids : List RequestId) (old new : ServerState) → IssuesEach port ids old new → new ≡ record old { device = new.device; slots = new.slots; book = new.book }
-  each_settings [] old new none = none ∙ ap (λ (n : ServerState). record old { device = n.device; slots = n.slots; book = n.book }) (sym none)
-  each_settings (first ∷ ids) old new (mid, one, more) =
-      each_settings ids mid new more ∙ ap (λ (n : ServerState). record n { device = new.device; slots = new.slots; book = new.book }) one.server
+  each_silent (first ∷ ids) old new k issues q o own other = together_silent laws old new port first ids k issues q o own other
 
   -- the accesses that issue them
-  pub each_driven : (ids : List RequestId) (old new : ServerState) → IssuesEach port ids old new → IsDrivenBy (IsIssuingAnySlot port) old.device new.device
-  each_driven [] old new none = subst (λ (n : ServerState). IsDrivenBy (IsIssuingAnySlot port) old.device n.device) (sym none) (by_none (IsIssuingAnySlot port) old.device)
-  each_driven (first ∷ ids) old new (mid, one, more) =
-      let late = each_driven ids mid new more in
-      let early = driven_as (IsIssuing port one.slot) (IsIssuingAnySlot port) old.device mid.device (λ access is. (one.slot, one.small, is)) one.issues.driven in
-      record {
-        accesses = early.accesses ++ late.accesses;
-        all = laws.basic.does_append early.accesses late.accesses old.device mid.device new.device early.all late.all;
-        only = All-append (IsIssuingAnySlot port) early.accesses late.accesses early.only late.only;
-      }
+  pub each_driven : (ids : List RequestId) (old new : ServerState) → IssuesBatchOf port ids old new → IsDrivenBy (IsIssuingOn port) old.device new.device
+  each_driven [] old new none = subst (λ (n : ServerState). IsDrivenBy (IsIssuingOn port) old.device n.device) (sym none) (by_none (IsIssuingOn port) old.device)
+  each_driven (first ∷ ids) old new issues = issues.issued.issues.driven
+
+  -- ---- the server then
+
+  -- but for the device, the slots and the book, the server is as it was
+  pub each_settings : (ids : List RequestId) (old new : ServerState) → IssuesBatchOf port ids old new → new ≡ record old { device = new.device; slots = new.slots; book = new.book }
+  each_settings ids old new issues =
+      let x : ArePutInSlots port ids old new = are_put port ids old new issues in
+      x.server ∙ ap (λ (n : ServerState). record n { device = new.device }) (puts_settings laws port ids x.tasks old x.taken x.puts)
+      ∙ ap (λ (n : ServerState). record old { device = new.device; slots = n.slots; book = n.book }) (sym x.server)
+
+  -- nothing changes how ports take commands
+  pub each_modes : (ids : List RequestId) (old new : ServerState) → IssuesBatchOf port ids old new → new.modes ≡ old.modes
+  each_modes ids old new issues = ap (λ (n : ServerState). n.modes) (each_settings ids old new issues)
 
   -- ---- the book then
 
@@ -248,37 +252,62 @@ module _ (laws : LawsBelow) (port : Port) where
   with_each [] book = book
   with_each (id ∷ ids) book = with_each ids (with_issued id book)
 
-  each_asks : (ids : List RequestId) (old new : ServerState) → IssuesEach port ids old new → asks_of new.book ≡ with_each ids (asks_of old.book)
-  each_asks [] old new none = ap (λ (n : ServerState). asks_of n.book) none
-  each_asks (first ∷ ids) old new (mid, one, more) =
-      each_asks ids mid new more ∙ ap (with_each ids) (ap (λ (n : ServerState). asks_of n.book) one.server ∙ laws.asks_issued old.book first)
+  -- what one that is put in a slot leaves of what is asked
+  put_asks : (old mid : ServerState) (id : RequestId) (t : SlotTask) → PutsInSlot port id t old mid → asks_of mid.book ≡ with_issued id (asks_of old.book)
+  put_asks old mid id t one = ap (λ (n : ServerState). asks_of n.book) one.server ∙ laws.asks_issued old.book id
 
-  -- nothing changes how ports take commands
-  pub each_modes : (ids : List RequestId) (old new : ServerState) → IssuesEach port ids old new → new.modes ≡ old.modes
-  each_modes [] old new none = ap (λ (n : ServerState). n.modes) none
-  each_modes (first ∷ ids) old new (mid, one, more) = each_modes ids mid new more ∙ ap (λ (n : ServerState). n.modes) one.server
+  puts_asks : (ids : List RequestId) (tasks : List SlotTask) (old new : ServerState) → PutsInSlots port ids tasks old new → asks_of new.book ≡ with_each ids (asks_of old.book)
+  puts_asks [] [] old new none = ap (λ (n : ServerState). asks_of n.book) none
+  puts_asks (id ∷ ids) (t ∷ tasks) old new (mid, one, more) = puts_asks ids tasks mid new more ∙ ap (with_each ids) (put_asks old mid id t one)
+  puts_asks [] (t ∷ tasks) old new puts = absurd puts
+  puts_asks (id ∷ ids) [] old new puts = absurd puts
+
+  each_asks : (ids : List RequestId) (old new : ServerState) → IssuesBatchOf port ids old new → asks_of new.book ≡ with_each ids (asks_of old.book)
+  each_asks ids old new issues =
+      let x : ArePutInSlots port ids old new = are_put port ids old new issues in
+      ap (λ (n : ServerState). asks_of n.book) x.server ∙ puts_asks ids x.tasks old x.taken x.puts
 
   -- once all that were due are issued, none is
-  pub each_done : (mode : QueueMode) (ids : List RequestId) (old new : ServerState) → IssuesEach port ids old new → AreAllDueInOrder mode port ids (asks_of old.book) → NoneDue mode (asks_of new.book) port
-  each_done mode [] old new none turns = subst (λ (n : ServerState). NoneDue mode (asks_of n.book) port) (sym none) turns
-  each_done mode (first ∷ ids) old new (mid, one, more) turns =
-      each_done mode ids mid new more
-      (subst (AreAllDueInOrder mode port ids) (sym (ap (λ (n : ServerState). asks_of n.book) one.server ∙ laws.asks_issued old.book first)) turns.1)
+  puts_done : (mode : QueueMode) (ids : List RequestId) (tasks : List SlotTask) (old new : ServerState) → PutsInSlots port ids tasks old new → AreAllDueInOrder mode port ids (asks_of old.book) → NoneDue mode (asks_of new.book) port
+  puts_done mode [] [] old new none turns = subst (λ (n : ServerState). NoneDue mode (asks_of n.book) port) (sym none) turns
+  puts_done mode (id ∷ ids) (t ∷ tasks) old new (mid, one, more) turns =
+      puts_done mode ids tasks mid new more (subst (AreAllDueInOrder mode port ids) (sym (put_asks old mid id t one)) turns.1)
+  puts_done mode [] (t ∷ tasks) old new puts turns = absurd puts
+  puts_done mode (id ∷ ids) [] old new puts turns = absurd puts
+
+  pub each_done : (mode : QueueMode) (ids : List RequestId) (old new : ServerState) → IssuesBatchOf port ids old new → AreAllDueInOrder mode port ids (asks_of old.book) → NoneDue mode (asks_of new.book) port
+  each_done mode ids old new issues turns =
+      let x : ArePutInSlots port ids old new = are_put port ids old new issues in
+      subst (λ (n : ServerState). NoneDue mode (asks_of n.book) port) (sym x.server) (puts_done mode ids x.tasks old x.taken x.puts turns)
 
   -- requests of another port are as they were
-  pub each_apart : (ids : List RequestId) (old new : ServerState) → BookIsInOrder old.book → IssuesEach port ids old new → (other : Port) → other ≢ port → of_port other (asks_of new.book) ≡ of_port other (asks_of old.book)
-  each_apart [] old new order none other ne = ap (λ (n : ServerState). of_port other (asks_of n.book)) none
-  each_apart (first ∷ ids) old new order (mid, one, more) other ne =
-      each_apart ids mid new (subst (λ (n : ServerState). BookIsInOrder n.book) (sym one.server) (laws.issued old.book first order (subst (λ (id : RequestId). IsWaiting id old.book) one.id_is (laws.waits (mode_in old port) old.book (asks one.request.entry) one.due)))) more other ne
-      ∙ ap (of_port other) (ap (λ (n : ServerState). asks_of n.book) one.server ∙ laws.asks_issued old.book first ∙ ap (λ (id : RequestId). with_issued id (asks_of old.book)) (sym one.id_is))
+  puts_apart : (ids : List RequestId) (tasks : List SlotTask) (old new : ServerState) → BookIsInOrder old.book → PutsInSlots port ids tasks old new → (other : Port) → other ≢ port → of_port other (asks_of new.book) ≡ of_port other (asks_of old.book)
+  puts_apart [] [] old new order none other ne = ap (λ (n : ServerState). of_port other (asks_of n.book)) none
+  puts_apart (first ∷ ids) (t ∷ tasks) old new order (mid, one, more) other ne =
+      puts_apart ids tasks mid new (subst (λ (n : ServerState). BookIsInOrder n.book) (sym one.server) (laws.issued old.book first order (subst (λ (id : RequestId). IsWaiting id old.book) one.id_is (laws.waits (mode_in old port) old.book (asks one.request.entry) one.due)))) more other ne
+      ∙ ap (of_port other) (put_asks old mid first t one ∙ ap (λ (id : RequestId). with_issued id (asks_of old.book)) (sym one.id_is))
       ∙ laws.issued_apart other (asks_of old.book) (asks one.request.entry) (laws.asked old.book order) (into_map (λ (y : BookEntry). asks y.entry) old.book one.request one.here)
       (λ same. ne (sym same ∙ one.port_is))
+  puts_apart [] (t ∷ tasks) old new order puts other ne = absurd puts
+  puts_apart (id ∷ ids) [] old new order puts other ne = absurd puts
+
+  pub each_apart : (ids : List RequestId) (old new : ServerState) → BookIsInOrder old.book → IssuesBatchOf port ids old new → (other : Port) → other ≢ port → of_port other (asks_of new.book) ≡ of_port other (asks_of old.book)
+  each_apart ids old new order issues other ne =
+      let x : ArePutInSlots port ids old new = are_put port ids old new issues in
+      ap (λ (n : ServerState). of_port other (asks_of n.book)) x.server ∙ puts_apart ids x.tasks old x.taken order x.puts other ne
 
   -- and so are the slots of another port
-  pub each_slots : (ids : List RequestId) (old new : ServerState) → IssuesEach port ids old new → (other : ℕ) → other ≢ port.0 → slots_at new.slots other ≡ slots_at old.slots other
-  each_slots [] old new none other ne = ap (λ (n : ServerState). slots_at n.slots other) none
-  each_slots (first ∷ ids) old new (mid, one, more) other ne = each_slots ids mid new more other ne ∙ ap (λ (n : ServerState). slots_at n.slots other) one.server
-      ∙ get_or-set_other old.slots port.0 other _ no_slots ne
+  puts_slots : (ids : List RequestId) (tasks : List SlotTask) (old new : ServerState) → PutsInSlots port ids tasks old new → (other : ℕ) → other ≢ port.0 → slots_at new.slots other ≡ slots_at old.slots other
+  puts_slots [] [] old new none other ne = ap (λ (n : ServerState). slots_at n.slots other) none
+  puts_slots (id ∷ ids) (t ∷ tasks) old new (mid, one, more) other ne =
+      puts_slots ids tasks mid new more other ne ∙ ap (λ (n : ServerState). slots_at n.slots other) one.server ∙ get_or-set_other old.slots port.0 other _ no_slots ne
+  puts_slots [] (t ∷ tasks) old new puts other ne = absurd puts
+  puts_slots (id ∷ ids) [] old new puts other ne = absurd puts
+
+  pub each_slots : (ids : List RequestId) (old new : ServerState) → IssuesBatchOf port ids old new → (other : ℕ) → other ≢ port.0 → slots_at new.slots other ≡ slots_at old.slots other
+  each_slots ids old new issues other ne =
+      let x : ArePutInSlots port ids old new = are_put port ids old new issues in
+      ap (λ (n : ServerState). slots_at n.slots other) x.server ∙ puts_slots ids x.tasks old x.taken x.puts other ne
 
   pub settled : (old new : ServerState) → InCallInvariant old → ((other : Port) → other ≢ port → NoneDue (mode_in old other) (asks_of old.book) other) → IssuesAll port old new → SettledInvariant new
   settled old new k none issues = record {

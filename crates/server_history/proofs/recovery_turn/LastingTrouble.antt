@@ -34,7 +34,7 @@ use Rattle.request_queue.specs.Entries.{asks_of, due_ids}
 use Rattle.identify.specs.declared.wanted.Wanted.{Wanted}
 use Rattle.server_history.specs.Below.{LawsBelow}
 use Rattle.server_history.specs.ErrorHandling.{IsRevalidated, IsErrorHandled, HasResolved, HandlesPortError}
-use Rattle.server_history.specs.Served.{IsIssuingAnySlot}
+use Rattle.commands.specs.Batches.{IsIssuingOn}
 use Rattle.server_history.specs.Server.{ServerState, InCallInvariant, mode_in, ports_of, state_of}
 use Rattle.server_history.specs.Turns.{joint_state_of}
 use Rattle.server_history.proofs.recovery_turn.MendedPort.{interrupted, next_dead, ready_info, state_new}
@@ -77,12 +77,12 @@ ie_apart port v = (
 )
 
 -- of any port
-pub issuing_leaves : (at port : Port) (access : Access) → IsIssuingAnySlot at access → LeavesTrouble port access
+pub issuing_leaves : (at port : Port) (access : Access) → IsIssuingOn at access → LeavesTrouble port access
 issuing_leaves at port (Reading r v) is = (tt, tt, tt, tt, stays_on (Reading r v) tt)
 issuing_leaves at port (Writing r v) is = ⊎_elim
     (λ (same : r ≡ Px at Sact). subst (λ (x : Reg). LeavesTrouble port (Writing x v)) (sym same) (sact_apart port at v))
     (λ (same : r ≡ Px at Ci). subst (λ (x : Reg). LeavesTrouble port (Writing x v)) (sym same) (ci_apart port at v))
-    is.2.0
+    is
 issuing_leaves at port (Loading a bytes) is = (tt, tt, tt, tt, stays_on (Loading a bytes) tt)
 issuing_leaves at port (Storing a bytes) is = (tt, tt, tt, tt, stays_on (Storing a bytes) tt)
 
@@ -140,7 +140,7 @@ module _ (laws : LawsBelow) (port : Port) (replies : List Reply) (old new : Serv
 
   -- what is issued leaves what the port shows
   pub issuing : IsDrivenBy (LeavesTrouble port) r.mid.device new.device
-  issuing = driven_as (IsIssuingAnySlot port) (LeavesTrouble port) r.mid.device new.device (issuing_leaves port port) (each_driven laws port (due_ids (mode_in r.mid port) port (asks_of r.mid.book)) r.mid new r.issued)
+  issuing = driven_as (IsIssuingOn port) (LeavesTrouble port) r.mid.device new.device (issuing_leaves port port) (each_driven laws port (due_ids (mode_in r.mid port) port (asks_of r.mid.book)) r.mid new r.issued)
 
   -- the adapter is on when the port was recovered
   pub recovered_driven : IsDrivenBy (SparesOtherPorts port) old.device a.device

@@ -43,7 +43,7 @@ use Rattle.request_queue.specs.declared.disposition.Revalidation.TheVariants.{Sa
 use Rattle.slots.specs.Uses.{PortSlots}
 use Rattle.server_history.specs.Below.{LawsBelow}
 use Rattle.server_history.specs.Dispositions.{IsResolveStep, AreResolvable, AreResolvedInMachine, keeps_frames_lent}
-use Rattle.server_history.specs.ErrorHandling.{AreUnused, IsFailedRequest, IsRevalidated, IsRevalidation, HasResolved, holdings_of, requests_of, with_port_found}
+use Rattle.server_history.specs.ErrorHandling.{AreEmptySlots, IsFailedRequest, IsRevalidated, IsRevalidation, HasResolved, holdings_of, requests_of, with_port_found}
 use Rattle.server_history.specs.Served.{ok_answers_of}
 use Rattle.server_history.specs.Server.{QuarantineRelation, AreUsesOf, InCallInvariant, MachineRelation, ServerState, is_served, quarantined_at, slots_at, state_of, RevokedMarkInvariant}
 use Rattle.server_history.proofs.state.HistorySteps.{book_on, still_kept}
@@ -224,7 +224,7 @@ module _ (laws : LawsBelow) (port : Port) (mid : ServerState) (k : InCallInvaria
     none_left : found ≢ Unready Dead → met.parked port.0 ≡ []
     none_left other = none_parked port disposition its (fits_each failed revalidation its) later (holdings_of port mid) now (driver_state t device) w met (quiet other) parked_by
 
-    module _ (mode : QueueMode) (slots : PortSlots) (unused : AreUnused mode slots) where
+    module _ (mode : QueueMode) (slots : PortSlots) (unused : AreEmptySlots mode slots) where
       abbrev new : ServerState
       new = with_port_found port device found was mode slots now mid
 

@@ -46,7 +46,7 @@ use Rattle.request_queue.specs.Entries.{BookEntry, IsAccepted, BookIsInOrder}
 use Rattle.slots.specs.Uses.{PortSlots, use_at}
 use Rattle.slots.specs.declared.SlotUse.{SlotUse}
 use Rattle.server_history.specs.Below.{LawsBelow}
-use Rattle.server_history.specs.ErrorHandling.{IsRevalidated, AreUnused}
+use Rattle.server_history.specs.ErrorHandling.{IsRevalidated, AreEmptySlots}
 use Rattle.server_history.specs.Server.{SlotsInvariant, ServerState, InCallInvariant, MachineRelation, PortInvariant, is_served, quarantined_at, mode_at, probed_mode, mode_in, no_slots, plain_mode, slots_at, state_of, usable_of, used_for, RevokedMarkInvariant}
 use Rattle.port_control.specs.declared.events.PortError.{PortError}
 use Rattle.server_history.proofs.state.PortGrounds.{left_on}
@@ -206,7 +206,7 @@ pub record IsBookLeft (port : Port) (found : ProbeResult) (table : Table) (book 
 
 module _ (laws : LawsBelow) (port : Port) (s : ServerState) (k : InCallInvariant s) (low : port.0 < 4) (device : Device) (slots : DriverSlots) (whole : Passes s port slots device) (table : Table)
     (found : ProbeResult) (remembered : List (Option DiskInfo)) (mode : QueueMode) (its : PortSlots) (kept : List (List Lending)) (book : List BookEntry)
-    (served : is_served (probe_result_of s.ports port.0) ≡ true) (stands : StandsAt (wanted_of s.wanted port.0) found port.0 device) (mode_is : mode ≡ probed_mode device.cap found) (unused : AreUnused mode its)
+    (served : is_served (probe_result_of s.ports port.0) ≡ true) (stands : StandsAt (wanted_of s.wanted port.0) found port.0 device) (mode_is : mode ≡ probed_mode device.cap found) (unused : AreEmptySlots mode its)
     (left : IsBookLeft port found table book s) where
   abbrev then_is : ServerState
   then_is = with_found port device table found remembered mode its kept book s

@@ -41,7 +41,8 @@ use Rattle.port_control.specs.declared.events.PortEvent.TheVariants as look
 use Rattle.request_queue.specs.Entries.{BookEntry, asks, asks_of, due_ids}
 use Rattle.server_history.specs.Below.{LawsBelow}
 use Rattle.server_history.specs.ErrorHandling.{ErrorIsFound, IsErrorHandled, HasResolved, HandlesPortError}
-use Rattle.server_history.specs.Served.{IssuesEach, IsIssuingAnySlot}
+use Rattle.commands.specs.Batches.{IsIssuingOn}
+use Rattle.server_history.specs.Served.{IssuesBatchOf}
 use Rattle.server_history.specs.Server.{ServerState, InCallInvariant, mode_in, state_of, used_for}
 use Rattle.port_control.specs.declared.events.PortError.{PortError}
 use Rattle.port_control.specs.declared.events.PortError.TheVariants.{FatalError, TaskFileError, TimedOut, LinkChanged}
@@ -188,19 +189,19 @@ module _ (laws : LawsBelow) (port : Port) (replies : List Reply) (old new : Serv
   afterwards : AfterList port x.port_error x.result.next a.found a.device r.mid.device
   afterwards = after_list laws port low (wanted_of old.wanted port.0) x.port_error a.was x.result.next a.device r.mid.device a.found a.is
 
-  each : IsDrivenBy (IsIssuingAnySlot port) r.mid.device new.device
+  each : IsDrivenBy (IsIssuingOn port) r.mid.device new.device
   each = each_driven laws port (due_ids (mode_in r.mid port) port (asks_of r.mid.book)) r.mid new r.issued
 
   issuing : IsDrivenBy (IsPart port) r.mid.device new.device
-  issuing = record { accesses = each.accesses; all = each.all; only = All-weaker (IsIssuingAnySlot port) (IsPart port) (λ access is. (issuing_turns laws port low access is).1) each.accesses each.only }
+  issuing = record { accesses = each.accesses; all = each.all; only = All-weaker (IsIssuingOn port) (IsPart port) (λ access is. (issuing_turns laws port low access is).1) each.accesses each.only }
 
   issuing_spares : All (DoesNotWrite (Px port Sctl)) issuing.accesses
   unfolding issuing
-  issuing_spares = All-weaker (IsIssuingAnySlot port) (DoesNotWrite (Px port Sctl)) (λ access is. (issuing_leaves laws port port access is).1) each.accesses each.only
+  issuing_spares = All-weaker (IsIssuingOn port) (DoesNotWrite (Px port Sctl)) (λ access is. (issuing_leaves laws port port access is).1) each.accesses each.only
 
   -- nothing is issued on a dead port, of which there are no requests
   none_issued : state_of (probe_result_of r.mid.ports port.0) ≡ DeadState → new ≡ r.mid
-  none_issued dead = subst (λ (ids : List RequestId). IssuesEach port ids r.mid new) (ap (λ (us : List Unanswered). map (λ (u : Unanswered). u.id) us) (nobody (due_of (mode_in r.mid port) port (asks_of r.mid.book)) none)) r.issued
+  none_issued dead = subst (λ (ids : List RequestId). IssuesBatchOf port ids r.mid new) (ap (λ (us : List Unanswered). map (λ (u : Unanswered). u.id) us) (nobody (due_of (mode_in r.mid port) port (asks_of r.mid.book)) none)) r.issued
     where
       none : (u : Unanswered) → Contains (due_of (mode_in r.mid port) port (asks_of r.mid.book)) u → ⊥
       none u here =

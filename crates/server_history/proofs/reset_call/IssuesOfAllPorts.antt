@@ -28,11 +28,12 @@ use Rattle.server_history.proofs.state.DueRequests.{same_book}
 use Rattle.server_history.proofs.any_turn.JoinedParts.{ready_or_not}
 use Rattle.server_history.proofs.recovery_turn.CallPart.{none_due_unready}
 use Rattle.server_history.proofs.dispositions.RemainingBook.{WasIn, was_itself, was_more}
-use Rattle.server_history.proofs.plain_calls.IssueRounds.{AreIssued, any_append, dues, dues_carried, each_apart, each_done, each_issued, each_kept, each_settings, issued_parts, last_on, or_none}
+use Rattle.server_history.proofs.plain_calls.IssueRounds.{AreIssued, ArePutInSlots, any_append, are_put, dues, dues_carried, each_apart, each_done, each_issued, each_kept, each_settings, issued_parts, last_on, or_none}
 use Rattle.server_history.proofs.state.PortSlots.{ready_found}
 use Rattle.server_history.specs.Below.{LawsBelow}
 use Rattle.server_history.specs.Resets.{IssuePorts}
-use Rattle.server_history.specs.Served.{IssuesAll, IssuesEach, AllByDeviceOrIssue}
+use Rattle.commands.specs.Batches.{SlotTask}
+use Rattle.server_history.specs.Served.{AllByDeviceOrIssue, IssuesAll, IssuesBatchOf, PutsInSlots}
 use Rattle.server_history.specs.Server.{InCallInvariant, MachineRelation, SettledInvariant, ServerState, mode_in, ports_of, state_of}
 
 -- the step is the device's, or issues a request of a ready port in the port's mode
@@ -61,10 +62,17 @@ issued_was id book e here =
     by x here true = record { was = x; there = here; id = refl; client = refl; grant = refl; port = refl; op = refl; revoked = refl; waiting = λ waits. absurd (false≢true (sym waits)) }
     by x here false = was_itself book x here
 
-each_from : (port : Port) (ids : List RequestId) (old new : ServerState) → IssuesEach port ids old new → (e : BookEntry) → Contains new.book e → WasIn old.book e
-each_from port [] old new none e here = was_itself old.book e (subst (λ (c : ServerState). Contains c.book e) none here)
-each_from port (id ∷ ids) old new (mid, one, more) e here =
-    was_more old.book mid.book e (λ x there. issued_was id old.book x (subst (λ (c : ServerState). Contains c.book x) one.server there)) (each_from port ids mid new more e here)
+puts_from : (port : Port) (ids : List RequestId) (tasks : List SlotTask) (old new : ServerState) → PutsInSlots port ids tasks old new → (e : BookEntry) → Contains new.book e → WasIn old.book e
+puts_from port [] [] old new none e here = was_itself old.book e (subst (λ (c : ServerState). Contains c.book e) none here)
+puts_from port (id ∷ ids) (t ∷ tasks) old new (mid, one, more) e here =
+    was_more old.book mid.book e (λ x there. issued_was id old.book x (subst (λ (c : ServerState). Contains c.book x) one.server there)) (puts_from port ids tasks mid new more e here)
+puts_from port [] (t ∷ tasks) old new puts e here = absurd puts
+puts_from port (id ∷ ids) [] old new puts e here = absurd puts
+
+each_from : (port : Port) (ids : List RequestId) (old new : ServerState) → IssuesBatchOf port ids old new → (e : BookEntry) → Contains new.book e → WasIn old.book e
+each_from port ids old new issues e here =
+    let x : ArePutInSlots port ids old new = are_put port ids old new issues in
+    puts_from port ids x.tasks old x.taken x.puts e (subst (λ (c : ServerState). Contains c.book e) x.server here)
 
 -- ---- so far
 

@@ -33,7 +33,7 @@ use Rattle.port_control.specs.Ports.{IsCommandRegister}
 use Rattle.request_queue.specs.Entries.{asks_of, due_ids}
 use Rattle.server_history.specs.Below.{LawsBelow}
 use Rattle.server_history.specs.Resets.{IsReinitialized, IssuePorts, ResetsServer, ResolvePorts}
-use Rattle.server_history.specs.Served.{IsIssuingAnySlot}
+use Rattle.commands.specs.Batches.{IsIssuingOn}
 use Rattle.server_history.specs.Server.{ServerState, is_served, mode_in, ports_of}
 use Rattle.server_history.specs.StuckServer.{ServerInvariant}
 use Rattle.server_history.proofs.reset_call.BootedPorts.{DidBoot, IsOfFound, TookTurn, WentBy, command_boots, went_by}
@@ -57,7 +57,7 @@ settles_as port (found ∷ rest) replies old new (mid, its, later, are, one, mor
 
 -- an access that issues requests of one of these ports, which is ready; the first of them has this number
 abbrev pub IsOfReady : ℕ → List ProbeResult → Access → Type 0
-IsOfReady first ports access = (port : Port) × (k : ℕ) × (info : DiskInfo) × (port.0 ≡ first + k) × (probe_result_of ports k ≡ Ready info) × IsIssuingAnySlot port access
+IsOfReady first ports access = (port : Port) × (k : ℕ) × (info : DiskInfo) × (port.0 ≡ first + k) × (probe_result_of ports k ≡ Ready info) × IsIssuingOn port access
 
 ready_later : (first : ℕ) (found : ProbeResult) (rest : List ProbeResult) (access : Access) → IsOfReady (first + 1) rest access → IsOfReady first (found ∷ rest) access
 ready_later first found rest access (port, k, info, at, is, its) = (port, suc k, info, (omega (arith, at)), is, its)
@@ -82,7 +82,7 @@ module _ (laws : LawsBelow) where
         accesses = early.accesses ++ late.accesses;
         all = laws.basic.does_append early.accesses late.accesses old.device mid.device new.device early.all late.all;
         only = All-append (IsOfReady first (Ready info ∷ rest)) early.accesses late.accesses
-            (All-weaker (IsIssuingAnySlot (port_at first)) (IsOfReady first (Ready info ∷ rest)) (λ access is. (port_at first, 0, info, (omega arith), refl, is)) early.accesses early.only)
+            (All-weaker (IsIssuingOn (port_at first)) (IsOfReady first (Ready info ∷ rest)) (λ access is. (port_at first, 0, info, (omega arith), refl, is)) early.accesses early.only)
             (All-weaker (IsOfReady (first + 1) rest) (IsOfReady first (Ready info ∷ rest)) (ready_later first (Ready info) rest) late.accesses late.only);
       }
   issues_driven first (Unserved ∷ rest) old new more = driven_as (IsOfReady (first + 1) rest) (IsOfReady first (Unserved ∷ rest)) old.device new.device (ready_later first Unserved rest) (issues_driven (first + 1) rest old new more)
@@ -307,7 +307,7 @@ module _ (laws : LawsBelow) (s new : ServerState) (replies : List Reply) (k : Se
   pub of : All (IsOfPorts (IsPortServed (ports_of s))) accesses
   of = each (IsOfPorts (IsPortServed (ports_of s))) (reset_of (IsPortServed (ports_of s))) tt (survey_of (IsPortServed (ports_of s)))
       (λ access (port, n, at, its). its_of (IsPortServed (ports_of s)) port (serves port n at its.0) access (laws.booting_of port access its.1)) tt
-      (λ access (port, n, info, at, is, its). its_of (IsPortServed (ports_of s)) port (serves port n at (ready_other n info is)) access (laws.issuing_of port its.0 access its.2))
+      (λ access (port, n, info, at, is, its). its_of (IsPortServed (ports_of s)) port (serves port n at (ready_other n info is)) access (laws.issuing_of port access its))
 
   pub begins : BeginsReset accesses
   begins = record { rest = _; here = ap (λ (list : List Access). list ++ (Writing Ghc 0x80000000 ∷ (survey ++ (went.driven.accesses ++ last)))) t.resets.awaited.here }
@@ -315,7 +315,7 @@ module _ (laws : LawsBelow) (s new : ServerState) (replies : List Reply) (k : Se
   -- ---- the adapter
 
   issuing_host : (access : Access) → IsOfReady 0 ports access → DoesNotWrite Ghc access
-  issuing_host access (port, n, info, at, is, its) = laws.of_host port access (laws.issuing_of port its.0 access its.2)
+  issuing_host access (port, n, info, at, is, its) = laws.of_host port access (laws.issuing_of port access its)
 
   pub tells : HasAeAndIe new.device
   tells =

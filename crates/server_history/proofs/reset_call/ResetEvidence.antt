@@ -210,7 +210,7 @@ module _ (laws : LawsBelow) (s new : ServerState) (replies : List Reply) (k : Se
           let number : n ≡ port.0 = omega (arith, at, same) in
           let z : Ready info ≡ Unready DeadState = sym is ∙ ap (probe_result_of ports) number ∙ dead_found port dead in
           cc),
-      laws.issuing_of q its.0 access its.2,
+      laws.issuing_of q access its,
     )
 
     counted : (new.device.port port.0).notes.engine_count ≡ MOST_READINGS

@@ -33,7 +33,8 @@ use Rattle.request_queue.specs.Entries.{asks_of, due_ids}
 use Rattle.server_history.specs.Below.{LawsBelow}
 use Rattle.server_history.specs.Histories.{ExtendsSettled, ExtendsHistory}
 use Rattle.server_history.specs.Revoked.{RevokesGrant}
-use Rattle.server_history.specs.Served.{IssuesAll, IssuesEach, IsIssuingAnySlot}
+use Rattle.commands.specs.Batches.{IsIssuingOn}
+use Rattle.server_history.specs.Served.{IssuesAll, IssuesBatchOf}
 use Rattle.server_history.specs.Server.{InCallInvariant, MachineRelation, SettledInvariant, ServerState, mode_in, ports_of, state_of}
 use Rattle.server_history.proofs.any_turn.JoinedParts.{ready_or_not}
 use Rattle.server_history.proofs.plain_calls.Acceptances.{issuing_clears_none, issuing_spares_host}
@@ -152,7 +153,7 @@ module _ (laws : LawsBelow) (s : ServerState) (client : ClientId) (number : ℕ)
       -- nothing is due where it isn't ready
       with_issue_undone : state_of (probe_result_of s.ports port.0) ≢ ReadyState → new ≡ then_is
       with_issue_undone other =
-          subst (λ (list : List RequestId). IssuesEach port list then_is new)
+          subst (λ (list : List RequestId). IssuesBatchOf port list then_is new)
           (unready_undue laws then_is kept port (λ info found. other (ap state_of found))) issues
 
       quiet : state_of (probe_result_of s.ports port.0) ≢ ReadyState → ExtendsHistory s new (RevokeOf client number) (WasRevoked (Some replies))
@@ -161,7 +162,7 @@ module _ (laws : LawsBelow) (s : ServerState) (client : ClientId) (number : ℕ)
           (quiet_event (holding then_is kept) (stays laws s k) other (λ q ready. (subst SettledInvariant (with_issue_undone other) settles).issued q) may)
 
       module _ (ready : state_of (probe_result_of s.ports port.0) ≡ ReadyState) where
-        driven : IsDrivenBy (IsIssuingAnySlot port) s.device new.device
+        driven : IsDrivenBy (IsIssuingOn port) s.device new.device
         driven = each_driven laws port ids then_is new issues
 
         event : ExtendsHistory s new (RevokeOf client number) (WasRevoked (Some replies))
@@ -174,8 +175,8 @@ module _ (laws : LawsBelow) (s : ServerState) (client : ClientId) (number : ℕ)
             (answers new (ap ports_of same) (ap (λ (n : ServerState). n.grants) same) old.abstract leads.stands.ports_are h x.steps (no_answer_issuing mode port x.steps x.only) (issuing_answers mode port x.steps early x.only) stands (λ q on. settles.issued q))
             tt
             driven.accesses
-            (driven.all, (revoked.has_row laws s client number replies mid r m h, All-weaker (IsIssuingAnySlot port) (IsIssuingAccess port) (λ access here. issuing_is port port_low access here) driven.accesses driven.only, λ other. absurd (other its_state)))
-            (λ q. All-weaker (IsIssuingAnySlot port) (LeavesEngine q) (issuing_leaves laws port q) driven.accesses driven.only)
+            (driven.all, (revoked.has_row laws s client number replies mid r m h, All-weaker (IsIssuingOn port) (IsIssuingAccess port) (λ access here. issuing_is port port_low access here) driven.accesses driven.only, λ other. absurd (other its_state)))
+            (λ q. All-weaker (IsIssuingOn port) (LeavesEngine q) (issuing_leaves laws port q) driven.accesses driven.only)
             (λ q is_ready. due_now q)
             (λ q. record {
               finds = tt;
@@ -183,7 +184,7 @@ module _ (laws : LawsBelow) (s : ServerState) (client : ClientId) (number : ℕ)
               probes = tt;
               boots = tt;
               port_error = laws.calls.ordinary q (with_device s.device old) new.device driven.accesses (told_by s.device old.abstract.ports) (ports_of new) k.on driven.all
-                  (All-weaker (IsIssuingAnySlot port) (DoesNotWrite Ghc) (issuing_spares_host port) driven.accesses driven.only) (All-weaker (IsIssuingAnySlot port) (ClearsNoError q) (issuing_clears_none port q) driven.accesses driven.only);
+                  (All-weaker (IsIssuingOn port) (DoesNotWrite Ghc) (issuing_spares_host port) driven.accesses driven.only) (All-weaker (IsIssuingOn port) (ClearsNoError q) (issuing_clears_none port q) driven.accesses driven.only);
               well = λ i. absurd (uninterrupted s.device old.abstract.ports q i);
               heeds = uninterrupted s.device old.abstract.ports q;
             })

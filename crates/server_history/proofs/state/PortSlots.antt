@@ -4,11 +4,10 @@ use Rattle.std.specs.List.{Contains}
 use Rattle.std.specs.Prelude.{if◌then◌else◌, min}
 use Rattle.std.proofs.Math.Nat.{min-eq_left, min-eq_right, min-le_left, min-le_right}
 use Rattle.identify.specs.declared.wanted.Wanted.{Wanted}
-use Rattle.std.proofs.lemmas.Bool.{and_parts, cases_Bool, cases_eq, cases_lt, false≢true}
+use Rattle.std.proofs.lemmas.Bool.{cases_lt, false≢true}
 use Rattle.std.proofs.lemmas.List.Elements.{All-contains}
 use Rattle.ata_types.specs.declared.Port.{Port}
 use Rattle.ata_types.specs.declared.PortState.TheVariants.{Absent, Dead, Ready as ReadyState}
-use Rattle.std.specs.Prelude.{IsSome}
 use Rattle.ata_types.specs.declared.request.Op.{Op}
 use Rattle.ata_types.specs.declared.request.Op.TheVariants.{Read, Write, Trim, Flush}
 use Rattle.ata_types.specs.declared.request.RequestId.{RequestId}
@@ -16,31 +15,25 @@ use Rattle.adapter.specs.Commands.{Meaning}
 use Rattle.hba_regs.specs.Bits.{bit}
 use Rattle.adapter.specs.Device.{Device, DevicePort}
 use Rattle.adapter.specs.declared.command.Operation.{Operation}
-use Rattle.block_machine.specs.Due.{IsDue, is_plain}
+use Rattle.block_machine.specs.Due.{is_plain}
 use Rattle.block_machine.specs.Ports.{IsValidMode}
-use Rattle.block_machine.specs.State.{Machine, Pending, unanswered}
-use Rattle.block_machine.specs.Steps.{Issue, May, MayStillMove, NoneQuarantined, HasGrant}
+use Rattle.block_machine.specs.State.{Machine, Pending}
+use Rattle.block_machine.specs.Steps.{MayStillMove, NoneQuarantined}
 use Rattle.block_machine.specs.declared.due.QueueMode.{QueueMode}
-use Rattle.block_machine.specs.declared.due.Unanswered.{Unanswered}
-use Rattle.refinement.specs.Driven.{RelatesWith}
-use Rattle.refinement.specs.Slots.{Armed, Free, Own, Serves, SlotState, IsDropped, IsEnded, IsOver, RelatesSlot, ServesRequest, Stage}
-use Rattle.command_table.specs.Written.{IsUnused}
+use Rattle.refinement.specs.Slots.{Free, Own, Serves, SlotState, IsDropped, IsEnded, IsOver, RelatesSlot, ServesRequest, Stage}
 use Rattle.host_boot.specs.Taken.{StillStandsBehind, probe_result_of, wanted_of}
 use Rattle.host_boot.specs.declared.ProbeResult.{ProbeResult}
 use Rattle.host_boot.specs.declared.ProbeResult.TheVariants.{Unserved, Ready, Unready}
 use Rattle.identify.specs.declared.DiskInfo.{DiskInfo}
-use Rattle.request_queue.specs.Entries.{BookEntry, asks, asks_of}
+use Rattle.request_queue.specs.Entries.{BookEntry}
 use Rattle.request_queue.specs.Machine.{EntryRelation}
 use Rattle.std.proofs.lemmas.List.{get_or_past}
-use Rattle.slots.specs.Uses.{PortSlots, IsLowestFree, IsTaken, use_at}
+use Rattle.slots.specs.Uses.{PortSlots, use_at}
 use Rattle.slots.specs.declared.SlotUse.{SlotUse}
 use Rattle.server_history.specs.Served.{is_used}
-use Rattle.server_history.specs.Server.{ServerState, InCallInvariant, MachineRelation, IsUsedAs, is_served, mode_at, probed_mode, mode_in, no_slots, slots_at, state_of, usable_of, slot_state_of, used_for, RevokedMarkInvariant}
-use Rattle.server_history.specs.Below.{LawsBelow}
-use Rattle.server_history.proofs.state.DueRequests.{asked_alike, same_book}
-use Rattle.server_history.proofs.state.PairedLists.{at_left, at_right}
+use Rattle.server_history.specs.Server.{ServerState, InCallInvariant, MachineRelation, IsUsedAs, is_served, mode_at, probed_mode, no_slots, slots_at, state_of, usable_of, slot_state_of, used_for}
+use Rattle.server_history.proofs.state.PairedLists.{at_right}
 use Rattle.server_history.proofs.state.FirstMembers.{nowhere}
-use Rattle.server_history.proofs.state.RevokedMarks.{tells_of, unmarked_has}
 
 -- ---- ready ports
 
@@ -279,110 +272,6 @@ issued_has s m port is k ready e here own issued = ⊎_elim
     let x = used_serves s m port.0 is ready w.0 e.request.id w.1 in
     record { slot = w.0; small = used_small s port.0 w.0 x.0 k ready x.1; used = x.0; used_is = x.1; id_is = x.2 })
     (is.knows.have port.0 e (inl (here, issued)) (ap (λ (p : Port). p.0) own))
-
--- ---- a request that is due has its grant, and finds a free slot
-
-pub due_has : (s : ServerState) (k : InCallInvariant s) (m : Machine) → MachineRelation s m → (e : BookEntry) → Contains s.book e → (mode : QueueMode) → IsDue mode (asks_of s.book) (asks e.entry)
-    → (p : Pending) → EntryRelation e p → HasGrant m p
-due_has s k m is e here mode due p entry =
-    let mark = All-contains (RevokedMarkInvariant s.grants) s.book e k.marked here in
-    unmarked_has m e p entry (tells_of m.rows s.grants e.entry is.rows mark.tells) (mark.waiting (not_true e.entry.issued (and_parts _ _ due.clear).0))
-
-module _ (laws : LawsBelow) (s : ServerState) (e : BookEntry) (k : InCallInvariant s) (here : Contains s.book e) (due : IsDue (mode_in s e.entry.port) (asks_of s.book) (asks e.entry)) where
-  abbrev port : Port
-  port = e.entry.port
-
-  abbrev mode : QueueMode
-  mode = mode_in s port
-
-  ready : state_of (probe_result_of s.ports port.0) ≡ ReadyState
-  ready = of_ready s k e here
-
-  x : (p : Pending) × Contains k.machine.book p × EntryRelation e p
-  x = at_left EntryRelation s.book k.machine.book k.stands.book e here
-
-  abbrev p : Pending
-  p = x.0
-
-  may : May k.machine (Issue mode p)
-  may = (
-    x.1,
-    (let B : List Unanswered → Type 0 = λ book. IsDue mode book (unanswered p) in
-        let R : Unanswered → Type 0 = λ r. IsDue mode (asks_of s.book) r in
-        subst B (sym (same_book s.book k.machine.book k.stands.book)) (subst R (sym (asked_alike e p x.2)) due)),
-    none_kept s k.machine p.request.port k.stands (not_dead s p.request.port.0 (ap (λ (q : Port). state_of (probe_result_of s.ports q.0)) x.2.port ∙ ready)),
-    due_has s k k.machine k.stands e here mode due p x.2,
-  )
-
-  use_known : (slot : ℕ) → k.stands.uses p.request.port.0 slot ≡ slot_state_of (used_for s.slots port.0 slot)
-  use_known slot = ap (λ (q : Port). k.stands.uses q.0 slot) x.2.port ∙ ready_use s k.machine port.0 k.stands ready slot
-
-  not_armed : (used : Option SlotUse) → slot_state_of used ≡ Armed → ⊥
-  not_armed None is = let z : Free ≡ Armed = is in cc
-  not_armed (Some used) is = let z : Serves used.id ≡ Armed = is in cc
-
-  never_own : (used : Option SlotUse) (o : Operation) → slot_state_of used ≡ Own o → ⊥
-  never_own None o is = let z : Free ≡ Own o = is in cc
-  never_own (Some used) o is = let z : Serves used.id ≡ Own o = is in cc
-
-  free_none : (used : Option SlotUse) → slot_state_of used ≡ Free → used ≡ None
-  free_none None is = refl
-  free_none (Some used) is = let z : Serves used.id ≡ Free = is in absurd cc
-
-  own_none : (o : Operation) → k.stands.uses p.request.port.0 0 ≡ Own o → ⊥
-  own_none o is = never_own (used_for s.slots port.0 0) o (sym (use_known 0) ∙ is)
-
-  armed_none : (slot : ℕ) → k.stands.uses p.request.port.0 slot ≡ Armed → ⊥
-  armed_none slot is = not_armed (used_for s.slots port.0 slot) (sym (use_known slot) ∙ is)
-
-  -- a plain one finds slot 0 free
-  pub plain_free : is_plain mode e.entry.op ≡ true → used_for s.slots port.0 0 ≡ None
-  plain_free plain = free_none (used_for s.slots port.0 0) (sym (use_known 0) ∙ laws.slots.plain_free k.stands.uses k.machine s.device k.reached k.stands.knows.agrees mode p may own_none armed_none (ap (is_plain mode) x.2.op ∙ plain))
-
-  -- and a queued one some usable slot
-  pub queued_free : is_plain mode e.entry.op ≡ false → (slot : ℕ) × (slot < mode.usable) × (used_for s.slots port.0 slot ≡ None)
-  queued_free queued =
-      let f = laws.slots.queued_free k.stands.uses k.machine s.device k.reached k.stands.knows.agrees mode p may own_none armed_none (ap (is_plain mode) x.2.op ∙ queued) in
-      (f.0, f.1, free_none (used_for s.slots port.0 f.0) (sym (use_known f.0) ∙ f.2))
-
-  low : port.0 < 4
-  low = (ready_found s port.0 k ready).0
-
-  -- so not all are taken
-  pub never_full : ((slot : ℕ) → slot < (slots_at s.slots port.0).usable → IsTaken (slots_at s.slots port.0) slot) → ⊥
-  never_full all = ⊎_elim
-      (λ (plain : is_plain mode e.entry.op ≡ true). free_taken 0 (let some = (its_mode s port.0 k low).0.0 in some) (plain_free plain))
-      (λ (queued : is_plain mode e.entry.op ≡ false). let f = queued_free queued in free_taken f.0 f.1 f.2)
-      (cases_Bool (is_plain mode e.entry.op))
-    where
-      some_not : (used : Option SlotUse) → used ≡ None → IsSome used → ⊥
-      some_not None is some = absurd (false≢true some)
-      some_not (Some u) is some = let z : Some u ≡ None = is in cc
-
-      free_taken : (slot : ℕ) → slot < mode.usable → used_for s.slots port.0 slot ≡ None → ⊥
-      free_taken slot small free =
-          let z : IsSome (used_for s.slots port.0 slot) = all slot (subst (λ (n : ℕ). slot < n) (sym (k.slots port.0 low).usable) small) in
-          some_not (used_for s.slots port.0 slot) free z
-
-  -- The lowest free slot is one of the adapter's, and slot 0 for a plain command; some machine agrees with a driver that doesn't use it.
-  pub lowest_may : (slot : ℕ) → IsLowestFree (slots_at s.slots port.0) slot
-      → (slot < mode.usable) × (slot < 32) × (slot ≤ s.device.cap / 256 % 32) × (is_plain mode e.entry.op ≡ true → slot ≡ 0) × RelatesWith (IsUnused port.0 slot) s.device
-  lowest_may slot lowest = (
-    small,
-    (let few = fit.0.1 in omega (arith, few, small)),
-    (let few = fit.1 in omega (arith, few, small)),
-    (λ plain. ⊎_elim (λ (head : slot ≡ 0). head) (λ (other : slot ≢ 0). absurd (taken_not (plain_free plain) (lowest.2 0 (omega (arith, other))))) (cases_eq slot 0)),
-    (k.stands.uses, free_unused s k.machine port.0 k.stands ready slot lowest.1, record { machine = k.machine; parked = k.stands.parked; reached = k.reached; knows = k.stands.knows }),
-  )
-    where
-      fit : IsValidMode mode × (mode.usable ≤ s.device.cap / 256 % 32 + 1)
-      fit = its_mode s port.0 k low
-
-      small : slot < mode.usable
-      small = subst (λ (n : ℕ). slot < n) (k.slots port.0 low).usable lowest.0
-
-      taken_not : used_for s.slots port.0 0 ≡ None → IsTaken (slots_at s.slots port.0) 0 → ⊥
-      taken_not free some = let y : false ≡ true = subst (λ (o : Option SlotUse). IsSome o) free some in false≢true y
 
 -- ---- a slot is given up
 

@@ -1,17 +1,23 @@
--- What is stored for a slot stays so while another is issued in.
-use Rattle.std.proofs.Common.{ℕ, ◌≡◌, ◌≢◌, ◌⊎◌, ◌<◌, ◌≤◌, ◌+◌, ◌*◌, length, List, inl, inr, refl, subst, ⊎_elim, arith}
+-- What is stored for a slot stays so while others are issued in.
+use Rattle.std.proofs.Common.{ℕ, Bool, true, false, ◌≡◌, ◌≢◌, ◌⊎◌, ◌<◌, ◌≤◌, ◌+◌, ◌*◌, length, List, [], ◌∷◌, inl, inr, refl, sym, ◌∙◌, subst, ⊎_elim, arith}
+use Rattle.std.specs.List.{All, Contains}
+use Rattle.std.proofs.lemmas.List.Elements.{All-append, All-cons, All-nil, All-weaker}
+use Rattle.ata_types.specs.declared.request.Op.{Op}
+use Rattle.ata_types.specs.declared.request.Op.TheVariants.{Read, Write, Trim, Flush}
 use Rattle.std.proofs.lemmas.Bool.{cases_eq, cases_lt}
 use Rattle.ata_types.specs.declared.Port.{Port}
 use Rattle.ata_types.specs.declared.memory.TheConstants.{PORT_BYTES, SCRATCH_OFFSET, TABLES_OFFSET, TABLE_BYTES}
-use Rattle.hba_regs.specs.declared.reg.PortReg.TheVariants.{Cmd, Clb}
+use Rattle.hba_regs.specs.declared.reg.PortReg.TheVariants.{Ci, Cmd, Clb, Sact}
+use Rattle.hba_regs.specs.declared.reg.Reg.{Reg}
 use Rattle.hba_regs.specs.declared.reg.Reg.TheVariants.{Px}
 use Rattle.adapter.specs.Access.{Access}
-use Rattle.adapter.specs.Access.Access.{Storing}
+use Rattle.adapter.specs.Access.Access.{Storing, Writing}
 use Rattle.refinement.specs.Links.{DoesNotWrite}
 use Rattle.refinement.specs.Places.{IsTableByte}
 use Rattle.refinement.specs.Readying.{LeavesStored}
-use Rattle.command_table.specs.Written.{IsBlockStore, IsTableStore}
-use Rattle.commands.specs.Tasks.{IsIssuing}
+use Rattle.command_table.specs.Written.{IsBlockStore, IsStoreWithBlock, IsTableStore}
+use Rattle.commands.specs.Batches.{IsIssuingOn, IsStoreForBatch, SlotTask, StoresThenWritesAll}
+use Rattle.commands.specs.Tasks.{IsStoreFor, writes_of}
 use Rattle.port_control.specs.Services.{IsService}
 use Rattle.server_history.specs.Below.{LawsBelow}
 use Rattle.server_history.proofs.state.TransferAccesses.{issuing_serves}
@@ -79,11 +85,41 @@ never_beyond port other k place a b c block (inr h) = ⊎_elim
     (λ (most : port ≤ other). omega (arith, a, b, c, most, block.0, block.1, h.0, h.1))
     (cases_lt other port)
 
--- what issues in one slot leaves what is stored for another
-pub issuing_leaves_stored : LawsBelow → (port other : Port) (slot k : ℕ) → port.0 < 4 → slot < 32 → other.0 < 4 → k < 32 → AreApart port.0 slot other.0 k → (access : Access) → IsIssuing port slot access → LeavesStored other k access
-issuing_leaves_stored laws port other slot k a b c d apart access is = service_leaves_stored laws other k access (issuing_serves port slot access is) (λ at bytes place e t from to.
+-- An access that issues a batch: it stores what one of its tasks needs, or writes PxSACT or PxCI.
+abbrev pub IsOfBatch : Port → List SlotTask → Access → Type 0
+IsOfBatch port tasks access = IsStoreForBatch port.0 tasks access ⊎ ((r : Reg) × (v : ℕ) × (access ≡ Writing r v))
+
+-- so are all that issue it
+pub of_batch : (port : Port) (queued : Bool) (tasks : List SlotTask) (accesses : List Access) → StoresThenWritesAll port queued tasks accesses → All (IsOfBatch port tasks) accesses
+of_batch port queued tasks accesses order =
+    subst (All (IsOfBatch port tasks)) (sym order.order)
+    (All-append (IsOfBatch port tasks) order.stores (writes_of port queued order.mask) (All-weaker (IsStoreForBatch port.0 tasks) (IsOfBatch port tasks) (λ access is. inl is) order.stores order.only) (writes queued))
+  where
+    write : (r : Reg) (v : ℕ) → IsOfBatch port tasks (Writing r v)
+    write r v = inr (r, v, refl)
+
+    writes : (b : Bool) → All (IsOfBatch port tasks) (writes_of port b order.mask)
+    writes true =
+        All-cons (IsOfBatch port tasks) (Writing (Px port Sact) order.mask) (Writing (Px port Ci) order.mask ∷ []) (write (Px port Sact) order.mask)
+        (All-cons (IsOfBatch port tasks) (Writing (Px port Ci) order.mask) [] (write (Px port Ci) order.mask) (All-nil (IsOfBatch port tasks)))
+    writes false = All-cons (IsOfBatch port tasks) (Writing (Px port Ci) order.mask) [] (write (Px port Ci) order.mask) (All-nil (IsOfBatch port tasks))
+
+-- what issues in some slots leaves what is stored for another
+pub batch_leaves_stored : LawsBelow → (port other : Port) (tasks : List SlotTask) (k : ℕ) → port.0 < 4 → other.0 < 4 → k < 32 → ((t : SlotTask) → Contains tasks t → (t.slot < 32) × AreApart port.0 t.slot other.0 k)
+    → (access : Access) → IsIssuingOn port access → IsOfBatch port tasks access → LeavesStored other k access
+batch_leaves_stored laws port other tasks k a c d apart access is (inr (r, v, same)) =
+    service_leaves_stored laws other k access (issuing_serves port access is) (λ at bytes place e t from to. let z : Writing r v ≡ Storing at bytes = sym same ∙ e in cc)
+batch_leaves_stored laws port other tasks k a c d apart access is (inl (task, there, store)) = service_leaves_stored laws other k access (issuing_serves port access is) (λ at bytes place e t from to.
+    let its = apart task there in
+    let b : task.slot < 32 = its.0 in
     ⊎_elim
-    (λ (table : IsTableStore port.0 slot (Storing at bytes)). never_both port.0 slot other.0 k place a b c d apart (of_store port.0 slot at place bytes table from to) (of_table other.0 k place t))
-    (λ (block : IsBlockStore port.0 slot (Storing at bytes)).
+    (λ (table : IsTableStore port.0 task.slot (Storing at bytes)). never_both port.0 task.slot other.0 k place a b c d its.1 (of_store port.0 task.slot at place bytes table from to) (of_table other.0 k place t))
+    (λ (block : IsBlockStore port.0 task.slot (Storing at bytes)).
     never_beyond port.0 other.0 k place a c d (let here = block.1 in let size = block.2 in (omega (arith, here, from), omega (arith, here, size, to))) (of_table other.0 k place t))
-    (subst (IsIssuing port slot) e is))
+    (subst (IsStoreWithBlock port.0 task.slot) e (with_block task.task.op store)))
+  where
+    with_block : (op : Op) → IsStoreFor op port.0 task.slot access → IsStoreWithBlock port.0 task.slot access
+    with_block Read table = inl table
+    with_block Write table = inl table
+    with_block Trim its = its
+    with_block Flush table = inl table

@@ -6,21 +6,17 @@ use Rattle.hba_regs.specs.declared.reg.Reg.TheVariants.{Px}
 use Rattle.adapter.specs.Access.{Access, DoesAll, Reads}
 use Rattle.adapter.specs.Access.Access.{Reading, Writing, Loading, Storing}
 use Rattle.adapter.specs.Device.{Device}
+use Rattle.commands.specs.Batches.{IsIssuingOn}
 use Rattle.commands.specs.Masks.{ReadsDone, ReadsCiOrSact}
-use Rattle.commands.specs.Tasks.{IsIssuing}
-use Rattle.server_history.specs.Served.{IsIssuingAnySlot}
 use Rattle.port_control.specs.Services.{IsService}
 
 -- ---- issuing
 
-pub issuing_serves : (port : Port) (slot : ℕ) (access : Access) → IsIssuing port slot access → IsService access
-issuing_serves port slot (Writing r v) here = ⊎_elim (λ (is : r ≡ Px port Sact). inr (port, inr (inr is))) (λ (is : r ≡ Px port Ci). inr (port, inr (inl is))) here.0
-issuing_serves port slot (Storing at bytes) here = tt
-issuing_serves port slot (Loading at bytes) here = absurd here
-issuing_serves port slot (Reading r v) here = absurd here
-
-pub issues_serve : (port : Port) (access : Access) → IsIssuingAnySlot port access → IsService access
-issues_serve port access here = issuing_serves port here.0 access here.2
+pub issuing_serves : (port : Port) (access : Access) → IsIssuingOn port access → IsService access
+issuing_serves port (Writing r v) here = ⊎_elim (λ (is : r ≡ Px port Sact). inr (port, inr (inr is))) (λ (is : r ≡ Px port Ci). inr (port, inr (inl is))) here
+issuing_serves port (Storing at bytes) here = tt
+issuing_serves port (Loading at bytes) here = absurd here
+issuing_serves port (Reading r v) here = absurd here
 
 -- ---- finding what is done
 

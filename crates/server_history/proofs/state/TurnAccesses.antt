@@ -21,12 +21,12 @@ use Rattle.refinement.specs.Driven.{IsSoleBit, IsDrivenBy, SparesOtherPorts}
 use Rattle.refinement.specs.Facts.{RunsWell, Undisturbed}
 use Rattle.command_table.specs.Written.{IsStoreWithBlock, IsTableStore}
 use Rattle.driver_history.specs.Histories.{IsIssuingAccess}
-use Rattle.commands.specs.Tasks.{IsIssuing}
+use Rattle.commands.specs.Batches.{IsIssuingOn}
 use Rattle.driver_history.specs.Trace.{IsDriversOwn, DoesNotWriteCmd, LeavesEngine, ReadsCiAndSact}
 use Rattle.server_history.specs.Below.{LawsBelow}
-use Rattle.server_history.specs.Served.{PollsSlots, IsEmptyMask, HasTurnWithoutError, IsMaskOf, IsIssuingAnySlot, is_used}
+use Rattle.server_history.specs.Served.{PollsSlots, IsEmptyMask, HasTurnWithoutError, IsMaskOf, is_used}
 use Rattle.slots.specs.Uses.{PortSlots, use_at}
-use Rattle.server_history.proofs.state.TransferAccesses.{both_read, issues_serve}
+use Rattle.server_history.proofs.state.TransferAccesses.{both_read, issuing_serves}
 use Rattle.port_control.specs.Looks.{LooksAt}
 use Rattle.port_control.specs.Services.{IsService}
 use Rattle.port_control.specs.declared.events.PortEvent.{PortEvent}
@@ -55,17 +55,14 @@ stored_own : (port slot at : ℕ) (bytes : List ℕ) → port < 4 → slot < 32 
 stored_own port slot at bytes low small (inl table) = table_own port slot at bytes low small table
 stored_own port slot at bytes low small (inr block) = let here = block.1 in let size = block.2 in omega (arith, low, here, size)
 
-issuing_on : (port : Port) (slot : ℕ) → port.0 < 4 → slot < 32 → (access : Access) → IsIssuing port slot access → IsIssuingAccess port access
-issuing_on port slot low small (Writing r v) here = here.0
-issuing_on port slot low small (Storing at bytes) here = stored_own port.0 slot at bytes low small here
-issuing_on port slot low small (Reading r v) here = absurd here
-issuing_on port slot low small (Loading at bytes) here = absurd here
+pub issuing_is : (port : Port) → port.0 < 4 → (access : Access) → IsIssuingOn port access → IsIssuingAccess port access
+issuing_is port low (Writing r v) here = here
+issuing_is port low (Storing at bytes) (slot, small, is) = stored_own port.0 slot at bytes low small is
+issuing_is port low (Reading r v) here = absurd here
+issuing_is port low (Loading at bytes) here = absurd here
 
-pub issuing_is : (port : Port) → port.0 < 4 → (access : Access) → IsIssuingAnySlot port access → IsIssuingAccess port access
-issuing_is port low access here = issuing_on port here.0 low here.1 access here.2
-
-pub issuing_turns : LawsBelow → (port : Port) → port.0 < 4 → (access : Access) → IsIssuingAnySlot port access → IsTurn port access
-issuing_turns laws port low access here = (issues_serve port access here, (own access (issuing_is port low access here), laws.issuing_of port here.0 access here.2))
+pub issuing_turns : LawsBelow → (port : Port) → port.0 < 4 → (access : Access) → IsIssuingOn port access → IsTurn port access
+issuing_turns laws port low access here = (issuing_serves port access here, (own access (issuing_is port low access here), laws.issuing_of port access here))
   where
     own : (access : Access) → IsIssuingAccess port access → IsDriversOwn access
     own (Writing r v) on = tt
@@ -77,8 +74,8 @@ issuing_turns laws port low access here = (issues_serve port access here, (own a
 service_leaves : LawsBelow → (port : Port) (access : Access) → IsService access → LeavesEngine port access
 service_leaves laws port access here = (laws.looking.services_spare port Cmd (λ e. cc) (λ e. cc) (λ e. cc) access here, laws.looking.services_spare port Sctl (λ e. cc) (λ e. cc) (λ e. cc) access here)
 
-pub issuing_leaves : LawsBelow → (port other : Port) (access : Access) → IsIssuingAnySlot port access → LeavesEngine other access
-issuing_leaves laws port other access here = service_leaves laws other access (issues_serve port access here)
+pub issuing_leaves : LawsBelow → (port other : Port) (access : Access) → IsIssuingOn port access → LeavesEngine other access
+issuing_leaves laws port other access here = service_leaves laws other access (issuing_serves port access here)
 
 pub turn_leaves : LawsBelow → (port other : Port) (access : Access) → IsTurn port access → LeavesEngine other access
 turn_leaves laws port other access here = service_leaves laws other access here.0

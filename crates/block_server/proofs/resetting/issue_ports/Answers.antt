@@ -9,7 +9,7 @@ use Rattle.block_server.specs.FourPorts.{by_port}
 use Rattle.block_server.specs.Seen.{with_ports}
 use Rattle.port_driver.specs.declared.served_port.ServedPort.{ServedPort}
 use Rattle.port_driver.specs.declared.served_port.Shared.{Shared}
-use Rattle.server_history.specs.Served.{IssuesAll, IssuesEach}
+use Rattle.server_history.specs.Served.{IssuesAll, IssuesBatchOf}
 use Rattle.server_history.specs.Server.{InCallInvariant, ServerState, mode_in}
 use Rattle.request_queue.specs.Entries.{asks_of, due_ids}
 use Rattle.block_server.proofs.Placing as placing
@@ -57,14 +57,14 @@ loop-number-preserved g c =
       four = length-set ports number issued.new.self ∙ four;
       found = map-set_same (λ (q : ServedPort). q.found) ports number issued.new.self c.index-ports-number.result (ap (λ (q : ServedPort). q.found) issued.ensures.rest) ∙ so_far.found;
       kept = λ s kept.
-          reviving.issues_keep c.law_requests_preserve_invariant.ensures.issued (port_at number) (due_ids (mode_in (now s) (port_at number)) (port_at number) (asks_of (now s).book)) (now s) (later s) (so_far.kept s kept)
+          c.law_requests_preserve_invariant.ensures.issued (now s) (later s) (port_at number) (due_ids (mode_in (now s) (port_at number)) (port_at number) (asks_of (now s).book)) (so_far.kept s kept)
           (all s (so_far.kept s kept));
       rest = λ s kept last issues.
           let holds = so_far.kept s kept in
           so_far.rest s kept last
           (reviving.one_issued found number within (now s) (later s) last (all s holds)
           (λ unready.
-          subst (λ (ids : List RequestId). IssuesEach (port_at number) ids (now s) (later s))
+          subst (λ (ids : List RequestId). IssuesBatchOf (port_at number) ids (now s) (later s))
           (c.law_a_port_goes_on_after_its_errors.ensures.undue (now s) (port_at number) holds (λ info is. unready info (ap (λ (list : List ProbeResult). probe_result_of list number) (sym so_far.found) ∙ is))) (all s holds))
           issues);
       cost = omega (arith, so_far.cost, issued.ensures.cost);

@@ -1,13 +1,46 @@
-use Rattle.std.proofs.Common.{arith}
+use Rattle.std.proofs.Common.{[], ◌∷◌}
+use Rattle.command_table.specs.Written.{IsTableStore}
+use Rattle.commands.specs.Batches.{SlotTask}
+use Rattle.commands.proofs.Armed.{armed_transfer}
+use Rattle.commands.proofs.Stores.{Leaving, stores_may, stores_there, table_stores}
 use Rattle.commands.proofs.ncq.issue.Goals as goal
 
-pub prepare-own-requires : goal.prepare-own-requires
-prepare-own-requires g c = record { may = record { may = c.requires.may; small = c.requires.slot; usable = c.requires.usable; fits = c.requires.fits } }
+pub prepare-requires : goal.prepare-requires
+prepare-requires g c = record { may = record { may = c.requires.may; small = c.requires.slot; usable = c.requires.usable; fits = c.requires.fits } }
+
+pub arm-requires-clause-there : goal.arm-requires-clause-there
+arm-requires-clause-there g c =
+    let q = c.requires.may in
+    let stores = c.prepare.ensures.stores.stores in
+    let laws : Leaving = record {
+      left = c.law_other_ports_are_left.ensures.left;
+      on = c.law_other_ports_are_left.ensures.on;
+      adapter = c.law_other_ports_are_left.ensures.adapter;
+    } in
+    stores_there laws c.args.port (IsTableStore c.args.port.0 c.args.slot.0)
+    (table_stores c.args.port.0 c.args.slot.0) _ _ stores.driven q.there
+
+pub arm-requires-clause-started : goal.arm-requires-clause-started
+arm-requires-clause-started g c =
+    let q = c.requires.may in
+    let stores = c.prepare.ensures.stores.stores in
+    let laws : Leaving = record {
+      left = c.law_other_ports_are_left.ensures.left;
+      on = c.law_other_ports_are_left.ensures.on;
+      adapter = c.law_other_ports_are_left.ensures.adapter;
+    } in
+    (stores_may laws c.args.port (IsTableStore c.args.port.0 c.args.slot.0)
+    (table_stores c.args.port.0 c.args.slot.0) _ _ stores.driven q.on q.may).started
 
 pub write-requires : goal.write-requires
-write-requires g c = (c.law_writing_issues.ensures c.args.port c.args.slot.0 c.args.transfer.now c.args.frames.now c.prepare-own.result _ _ c.prepare-own.ensures.armed).0
+write-requires g c =
+    let t : SlotTask = record { slot = c.args.slot.0; task = c.args.transfer.now; frames = c.args.frames.now } in
+    (c.law_writing_issues.ensures c.args.port t.task.queued (t ∷ []) c.bit_of-own.result _ _
+    (armed_transfer c.args.port t c.bit_of-own.result _ _ _ (record { may = c.requires.may; small = c.requires.slot; usable = c.requires.usable; fits = c.requires.fits }) c.prepare.ensures.stores c.bit_of-own.ensures c.arm.ensures.arms)).0
 
-pub returns : goal.returns
-returns g c =
-    let z = (c.law_writing_issues.ensures c.args.port c.args.slot.0 c.args.transfer.now c.args.frames.now c.prepare-own.result _ _ c.prepare-own.ensures.armed).1 _ c.write.ensures.does in
-    record { issued = z; cost = omega arith }
+pub returns-clause-issued : goal.returns-clause-issued
+returns-clause-issued g c =
+    let t : SlotTask = record { slot = c.args.slot.0; task = c.args.transfer.now; frames = c.args.frames.now } in
+    (c.law_writing_issues.ensures c.args.port t.task.queued (t ∷ []) c.bit_of-own.result _ _
+    (armed_transfer c.args.port t c.bit_of-own.result _ _ _ (record { may = c.requires.may; small = c.requires.slot; usable = c.requires.usable; fits = c.requires.fits }) c.prepare.ensures.stores c.bit_of-own.ensures c.arm.ensures.arms)).1
+    _ c.write.ensures.does

@@ -5,7 +5,7 @@ use Rattle.command_table.specs.Places.{places_of}
 use Rattle.command_table.specs.Written.{IsTableFor}
 use Rattle.std.specs.Prelude.{List}
 use Rattle.commands.specs.Tasks.{addresses_of, meaning_of}
-use Rattle.commands.proofs.Telling.{kind_of, never_trim, no_block, stored_for, table_says}
+use Rattle.commands.proofs.Telling.{no_block, table_says}
 use Rattle.commands.proofs.ncq.prepare_in.Goals as goal
 
 pub prds_in-prds-requires : goal.prds_in-prds-requires
@@ -29,14 +29,8 @@ prds_in-prds-requires g c =
 pub as_slice-requires : goal.as_slice-requires
 as_slice-requires g c = let small = c.requires.small in omega (arith, small)
 
-pub arm-requires-clause-there : goal.arm-requires-clause-there
-arm-requires-clause-there g c = (c.law_stores_leave_the_port.ensures c.args.port c.args.slot.0 _ _ c.requires.may.may.on c.requires.may.may.there c.requires.may.may.may c.write_table.ensures.followed).0
-
-pub arm-requires-clause-started : goal.arm-requires-clause-started
-arm-requires-clause-started g c = (c.law_stores_leave_the_port.ensures c.args.port c.args.slot.0 _ _ c.requires.may.may.on c.requires.may.may.there c.requires.may.may.may c.write_table.ensures.followed).1.started
-
-pub returns-clause-armed : goal.returns-clause-armed
-returns-clause-armed g c =
+pub returns-clause-stores : goal.returns-clause-stores
+returns-clause-stores g c =
     let q = c.requires in
     let few = q.may.fits.few in
     let places : pieces c.prds_in-prds.result.items ≡ places_of c.args.frames.now c.args.transfer.now.range.count =
@@ -48,21 +42,12 @@ returns-clause-armed g c =
     let table = table_says transfer c.args.frames.now port slot q.may.fits.transfers q.may.fits.some few q.may.fits.first c.command.result c.prds_in-prds.result.items c.command.ensures
     (c.prds_in-prds.ensures.whole (omega arith)) places in
     record {
-      on = q.may.may.on;
-      there = q.may.may.there;
-      small = q.may.small;
-      usable = q.may.usable;
-      agreed = q.may.may.agreed;
-      may = q.may.may.may;
-      kind = kind_of transfer.queued transfer.op q.may.fits.transfers;
-      head = never_trim slot transfer.op q.may.fits.transfers;
-      mid = g.A.Adapter.device c.write_table.new.adapter;
-      mid_on = c.write_table.ensures.on;
-      stores = stored_for port slot _ _ transfer.op q.may.fits.transfers c.write_table.ensures.followed;
-      told =
-          let P : List Prd → Type 0 = λ es. IsTableFor slot c.command.result es (meaning_of transfer) addresses in
-          c.write_table.ensures.says (meaning_of transfer) addresses (subst P (sym c.as_slice.ensures.value) table);
-      block = no_block transfer.range port _ transfer.op q.may.fits.transfers;
-      alone = c.bit_of-own.ensures;
-      arms = c.arm.ensures.arms;
+      on = c.write_table.ensures.on;
+      stores = c.write_table.ensures.followed;
+      says = record {
+        told =
+            let P : List Prd → Type 0 = λ es. IsTableFor slot c.command.result es (meaning_of transfer) addresses in
+            c.write_table.ensures.says (meaning_of transfer) addresses (subst P (sym c.as_slice.ensures.value) table);
+        block = no_block transfer.range port _ transfer.op q.may.fits.transfers;
+      };
     }

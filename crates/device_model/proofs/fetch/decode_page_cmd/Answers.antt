@@ -4,39 +4,39 @@ use Rattle.adapter.specs.Commands.{command_of}
 use Rattle.adapter.specs.declared.command.Operation.{Operation}
 use Rattle.device_model.proofs.Absurd.{some-none, true-false}
 use Rattle.device_model.specs.Finishing.{sends_page}
-use Rattle.device_model.specs.View.{transfer_operation}
+use Rattle.device_model.specs.View.{operation_of_kind}
 use Rattle.device_model.specs.declared.port.CommandKind.{CommandKind}
-use Rattle.device_model.proofs.Transfers.{transfer_of}
+use Rattle.device_model.proofs.Transfers.{kind_of_operation}
 use Rattle.device_model.proofs.fetch.decode_page_cmd.Goals as goal
 
-pub returns-in_err-transfer-clause-only : goal.returns-in_err-transfer-clause-only
-returns-in_err-transfer-clause-only c = λ none m places sends s.
-    let t = transfer_of m.operation in
+pub returns-in_err-command_kind-clause-only : goal.returns-in_err-command_kind-clause-only
+returns-in_err-command_kind-clause-only c = λ none m places sends s.
+    let t = kind_of_operation m.operation in
     let header = rw c.header_place.ensures at c.header_bytes-header.ensures in
     let points : little_from 8 4 c.header_bytes-header.result ≡ s.table = rw (← header) at s.header.points in
     let fis = rw points at c.command_fis_bytes-fis.ensures in
     let code = rw (← fis) at s.fis.code in
-    let its = c.transfer_coded.ensures t.0 c.args.slot m.first m.count (ap (λ (o : Operation). (command_of o c.args.slot m.first m.count).code) (sym t.1) ∙ sym code) in
-    some-none its c.in_err-transfer.was
+    let its = c.kind_of_code.ensures t.0 c.args.slot m.first m.count (ap (λ (o : Operation). (command_of o c.args.slot m.first m.count).code) (sym t.1) ∙ sym code) in
+    some-none its c.in_err-command_kind.was
 
 pub returns-then-not-sends_page-clause-only : goal.returns-then-not-sends_page-clause-only
 returns-then-not-sends_page-clause-only c = λ none m places sends s.
-    let t = transfer_of m.operation in
+    let t = kind_of_operation m.operation in
     let header = rw c.header_place.ensures at c.header_bytes-header.ensures in
     let points : little_from 8 4 c.header_bytes-header.result ≡ s.table = rw (← header) at s.header.points in
     let fis = rw points at c.command_fis_bytes-fis.ensures in
     let code = rw (← fis) at s.fis.code in
-    let its = c.transfer_coded.ensures t.0 c.args.slot m.first m.count (ap (λ (o : Operation). (command_of o c.args.slot m.first m.count).code) (sym t.1) ∙ sym code) in
-    let same : t.0 ≡ c.in_ok-transfer.transfer = let z : Some t.0 ≡ Some c.in_ok-transfer.transfer = sym its ∙ c.in_ok-transfer.was in cc in
-    true-false (subst (λ (k : CommandKind). sends_page (transfer_operation k) ≡ true) same (ap sends_page (sym t.1) ∙ sends)) (sym c.sends_page.ensures ∙ c.if-not-sends_page.true)
+    let its = c.kind_of_code.ensures t.0 c.args.slot m.first m.count (ap (λ (o : Operation). (command_of o c.args.slot m.first m.count).code) (sym t.1) ∙ sym code) in
+    let same : t.0 ≡ c.in_ok-command_kind.command_kind = let z : Some t.0 ≡ Some c.in_ok-command_kind.command_kind = sym its ∙ c.in_ok-command_kind.was in cc in
+    true-false (subst (λ (k : CommandKind). sends_page (operation_of_kind k) ≡ true) same (ap sends_page (sym t.1) ∙ sends)) (sym c.sends_page.ensures ∙ c.if-not-sends_page.true)
 
 pub returns-else-decode_command-clause-only : goal.returns-else-decode_command-clause-only
 returns-else-decode_command-clause-only c = λ none m places sends s.
-    let t = transfer_of m.operation in
+    let t = kind_of_operation m.operation in
     let header = rw c.header_place.ensures at c.header_bytes-header.ensures in
     let points : little_from 8 4 c.header_bytes-header.result ≡ s.table = rw (← header) at s.header.points in
     let fis = rw points at c.command_fis_bytes-fis.ensures in
     let code = rw (← fis) at s.fis.code in
-    let its = c.transfer_coded.ensures t.0 c.args.slot m.first m.count (ap (λ (o : Operation). (command_of o c.args.slot m.first m.count).code) (sym t.1) ∙ sym code) in
-    let same : t.0 ≡ c.in_ok-transfer.transfer = let z : Some t.0 ≡ Some c.in_ok-transfer.transfer = sym its ∙ c.in_ok-transfer.was in cc in
-    c.decode_command.ensures.only c.if-decode_command.false c.args.list header m places (t.1 ∙ ap transfer_operation same) s
+    let its = c.kind_of_code.ensures t.0 c.args.slot m.first m.count (ap (λ (o : Operation). (command_of o c.args.slot m.first m.count).code) (sym t.1) ∙ sym code) in
+    let same : t.0 ≡ c.in_ok-command_kind.command_kind = let z : Some t.0 ≡ Some c.in_ok-command_kind.command_kind = sym its ∙ c.in_ok-command_kind.was in cc in
+    c.decode_command.ensures.only c.if-decode_command.false c.args.list header m places (t.1 ∙ ap operation_of_kind same) s

@@ -1,38 +1,29 @@
-use Rattle.std.proofs.Common.{ℕ, None, Some, length, refl, get_or, below_more, sym, ap, ◌∙◌, arith, ◌≡◌, ◌<◌, List, Option, subst}
+use Rattle.std.proofs.Common.{ℕ, replicate, length, get_or, below_more, sym, ap, ◌∙◌, subst, arith, ◌<◌}
 use Rattle.std.proofs.lemmas.Bool.{iff_false}
+use Rattle.std.proofs.lemmas.List.{length-replicate}
 use Rattle.std.proofs.lemmas.Option.{same_Some, slice_get_within, slice_get-get_or}
-use Rattle.ata_types.specs.declared.memory.TheConstants.{MOST_FRAMES}
-use Rattle.ata_types.specs.declared.request.ClientId.{ClientId}
+use Rattle.std.specs.Prelude.{IsSome}
 use Rattle.ata_types.specs.declared.request.Frame.{Frame}
-use Rattle.ata_types.specs.declared.request.RequestId.{RequestId}
-use Rattle.block_machine.specs.Rules.{IsLentAt}
-use Rattle.dma_frames.specs.Table.{Table, owner_of, lent_to}
-use Rattle.dma_frames.specs.Words.{owners_of}
-use Rattle.dma_frames.proofs.Clear.{none_taken, taken_more, once_there, free_there}
+use Rattle.dma_frames.specs.Table.{owner_of, lent_to}
 use Rattle.dma_frames.proofs.FaultLemmas.{no_fault}
-use Rattle.dma_frames.proofs.OwnerLemmas.{owner_within}
-use Rattle.dma_frames.proofs.OwnerWords.{owner_count}
+use Rattle.dma_frames.proofs.OwnerLemmas.{get_or-copies}
+use Rattle.dma_frames.proofs.Seen.{none_seen, seen_more, once_here}
 use Rattle.dma_frames.proofs.FrameTable.are_clear.Goals as goal
 
 abbrev first : Frame
 first = record { 0 = 0 }
 
--- a frame of the client is in the memory
-in_memory : (words : List ℕ) (client : ClientId) (frame : Frame) → length words ≡ 64 → get_or (owners_of words) frame.0 None ≡ Some client → frame.0 < MOST_FRAMES
-in_memory words client frame many owned = let below = owner_within (owners_of words) client frame.0 owned in let all = owner_count words many in omega (arith, below, all)
-
 pub loop-frame-init : goal.loop-frame-init
 loop-frame-init c = record {
-  words = c.self.invariant.lent_words;
-  taken = none_taken c.self.inside.lent c.args.frames.now;
+  words = length-replicate {A = ℕ} 16 0;
+  seen = none_seen (replicate 16 0) c.args.frames.now (λ i. get_or-copies 16 i 0);
   own = λ k lt. absurd (omega (arith, lt));
   once = λ k lt. absurd (omega (arith, lt));
   free = λ k lt. absurd (omega (arith, lt));
 }
 
 pub set_bit-requires-clause-frame : goal.set_bit-requires-clause-frame
-set_bit-requires-clause-frame c =
-    in_memory c.self.inside.owners c.args.client (get_or c.args.frames.now c.loop-frame.frame-index first) c.self.invariant.owner_words (c.is_owner.ensures c.if-not-is_owner.false)
+set_bit-requires-clause-frame c = c.is_free.ensures.within c.if-not-is_free.false
 
 pub loop-frame-preserved : goal.loop-frame-preserved
 loop-frame-preserved c =
@@ -41,18 +32,15 @@ loop-frame-preserved c =
     let n = c.loop-frame.frame-index in
     let frame = get_or frames n first in
     let here = slice_get-get_or frames n first c.loop-frame-test.true in
-    let owned = c.is_owner.ensures c.if-not-is_owner.false in
-    let within = in_memory c.self.inside.owners c.args.client frame c.self.invariant.owner_words owned in
-    let clear = iff_false c.is_set.ensures c.if-is_set.false in
-    let owners = ap (λ (t : Table). t.owners) c.self.view_is in
-    let ids = ap (λ (t : Table). t.lent) c.self.view_is in
+    let free = c.is_free.ensures.free c.if-not-is_free.false in
+    let within = c.is_free.ensures.within c.if-not-is_free.false in
     record {
       words = c.set_bit.auto.words ∙ v.words;
-      taken = taken_more c.self.inside.lent c.loop-frame.taken frames n frame here v.taken c.set_bit.new.words (c.set_bit.ensures.this.1 refl) c.set_bit.ensures.others;
-      own = below_more _ _ v.own (λ w. w.2 (ap (λ (f : Frame). owner_of c.args.self.now f) (same_Some _ _ (sym w.1 ∙ here)) ∙ (ap (λ (os : List (Option ClientId)). get_or os frame.0 None) (sym owners) ∙ owned)));
-      once = below_more _ _ v.once (once_there c.self.inside.lent c.loop-frame.taken frames n frame here v.taken within clear);
-      free = below_more _ _ v.free (λ w. free_there c.self.inside.lent c.loop-frame.taken frames n frame here v.taken within clear c.self.inside.ids c.self.invariant.marked
-          (subst (λ (is : List (Option RequestId)). IsLentAt (λ f. get_or is f.0 None) frames n) (sym ids) w));
+      seen = seen_more c.loop-frame.before frames n frame here within v.seen c.set_bit.new.words c.set_bit.ensures.this c.set_bit.ensures.others;
+      own = below_more _ _ v.own (λ w. w.2 (ap (λ (f : Frame). owner_of c.args.self.now f) (same_Some _ _ (sym w.1 ∙ here)) ∙ free.0));
+      once = below_more _ _ v.once (once_here c.loop-frame.before frames n frame here within v.seen (iff_false c.is_set.ensures c.if-is_set.false));
+      free = below_more _ _ v.free (λ w. absurd (let lent : IsSome (lent_to c.args.self.now frame) = subst (λ (f : Frame). IsSome (lent_to c.args.self.now f)) (same_Some _ _ (sym w.1 ∙ here)) w.2 in
+          let none = free.1 in let is = subst IsSome none lent in cc));
     }
 
 pub returns : goal.returns

@@ -1,8 +1,9 @@
 use Rattle.std.proofs.Common.{◌<◌, length, below_more, sym, ap, ◌∙◌, arith}
 use Rattle.std.proofs.lemmas.Option.{slice_get_within, get_or_from_slice_get}
+use Rattle.std.proofs.lemmas.List.{length-map}
+use Rattle.dma_frames.specs.Stored.{client_of}
 use Rattle.dma_frames.specs.Table.{Table}
 use Rattle.dma_frames.proofs.OwnerLemmas.{owned_within}
-use Rattle.dma_frames.proofs.OwnerWords.{owner_count}
 use Rattle.dma_frames.proofs.FrameTable.first_foreign.Goals as goal
 
 pub loop-place-preserved : goal.loop-place-preserved
@@ -18,5 +19,5 @@ pub returns-clause-within : goal.returns-clause-within
 returns-clause-within c = λ _ k d h.
     let past = c.loop-place-test.false in
     let owned = owned_within c.args.self.now c.args.client c.args.frames.now (λ j lt. c.loop-place.invariant j (omega (arith, lt, past))) k d h in
-    let all = sym (ap (λ (t : Table). length t.owners) c.self.view_is) ∙ owner_count c.self.inside.owners c.self.invariant.owner_words in
+    let all = sym (ap (λ (t : Table). length t.owners) c.self.view_is) ∙ (length-map c.self.inside.owners client_of ∙ c.self.invariant.0) in
     omega (arith, owned, all)

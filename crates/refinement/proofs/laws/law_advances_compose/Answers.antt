@@ -1,3 +1,4 @@
+use Rattle.std.proofs.Common.{[], ◌∷◌}
 use Rattle.refinement.proofs.driver.ComposedMoves.{goes_none, goes_more, goes_still, goes_own, goes_device, goes_following, goes_ending, goes_access, goes_part, going_adds, going_reaches}
 use Rattle.refinement.proofs.laws.law_advances_compose.Goals as goal
 
@@ -20,7 +21,7 @@ pub returns-clause-follows : goal.returns-clause-follows
 returns-clause-follows c = goes_following
 
 pub returns-clause-ends : goal.returns-clause-ends
-returns-clause-ends c = goes_ending
+returns-clause-ends c = λ k later m step e. goes_ending k later m (step ∷ []) e
 
 pub returns-clause-access : goal.returns-clause-access
 returns-clause-access c = goes_access

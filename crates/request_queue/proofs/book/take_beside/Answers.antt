@@ -1,59 +1,33 @@
-use Rattle.std.proofs.Common.{ℕ, ◌≡◌, ◌<◌, ◌≤◌, ◌-◌, Some, [], get_or, length, map, set, arith, ◌∙◌, List, sym, ap, subst, refl}
+use Rattle.std.proofs.Common.{ℕ, ◌≡◌, ◌<◌, ◌≤◌, ◌-◌, Some, get_or, length, map, set, arith, List, sym, ap, subst, refl}
 use Rattle.std.specs.List.{remove, slice_get}
-use Rattle.std.proofs.lemmas.Option.{slice_get-get_or}
 use Rattle.block_machine.specs.declared.due.Unanswered.{Unanswered}
+use Rattle.request_queue.specs.Conflicts.{AreConflictLists}
 use Rattle.request_queue.specs.Counts.{AreCounts}
-use Rattle.request_queue.specs.Entries.{BookEntry, BookIsInOrder, asks_of, without_entry}
-use Rattle.request_queue.specs.Flushes.{flushes_of}
+use Rattle.request_queue.specs.Entries.{BookEntry, BookIsInOrder}
 use Rattle.request_queue.specs.Holders.{AreHolders}
-use Rattle.request_queue.specs.Sectors.{AreIndexed}
 use Rattle.request_queue.specs.declared.PendingRequest.{PendingRequest}
-use Rattle.request_queue.proofs.Changing.{asks_in_order, dropped_at, request_is}
+use Rattle.request_queue.proofs.Changing.{asks_in_order, request_is}
 use Rattle.request_queue.proofs.Counts.{is_counted, one_uncounted}
-use Rattle.request_queue.proofs.Flushing.{fewer_flushes}
 use Rattle.request_queue.proofs.Holding.{fewer_holders}
 use Rattle.request_queue.proofs.Indexing.{asks_less}
+use Rattle.request_queue.proofs.Placed.{e, at}
 use Rattle.request_queue.proofs.book.take_beside.Goals as goal
 
 module _ (es : List BookEntry) (i : ℕ) (r : PendingRequest) (lt : i < length es) (s : BookIsInOrder es) (is : slice_get (map (λ (e : BookEntry). e.entry) es) i ≡ Some r) where
-  abbrev d : BookEntry
-  d = record { entry = r; frames = [] }
-
-  -- the request with its frames
-  abbrev e : BookEntry
-  e = record { entry = r; frames = (get_or es i d).frames }
-
-  at : slice_get es i ≡ Some e
-  at = slice_get-get_or es i d lt ∙ ap (λ (x : PendingRequest). Some (record { entry = x; frames = (get_or es i d).frames })) (request_is es i r d is)
-
-  dropped : remove es i ≡ without_entry r.id es
-  dropped = dropped_at es i e r.id s.ordered at refl
-
   small : r.client.0 < 9
   small =
-      let c = (s.clients i d lt).1 in
-      let same = ap (λ (x : PendingRequest). x.client.0) (request_is es i r d is) in
+      let c = (s.clients i (e es i r lt s is) lt).1 in
+      let same = ap (λ (x : PendingRequest). x.client.0) (request_is es i r (e es i r lt s is) is) in
       omega (arith, c, same)
 
   some : (counts : List ℕ) → AreCounts es counts → 1 ≤ get_or counts r.client.0 0
-  some counts are = let its = are.each r.client.0 small in let one = is_counted es e i at in omega (arith, its, one)
+  some counts are = let its = are.each r.client.0 small in let one = is_counted es (e es i r lt s is) i (at es i r lt s is) in omega (arith, its, one)
 
   fewer : (counts : List ℕ) → AreCounts es counts → AreCounts (remove es i) (set counts r.client.0 (get_or counts r.client.0 0 - 1))
   fewer counts are =
       let its = are.each r.client.0 small in
-      let one = is_counted es e i at in
-      one_uncounted es e i counts (get_or counts r.client.0 0 - 1) are at small (omega (arith, its, one))
-
-pub take_sectors-requires-clause-ordered : goal.take_sectors-requires-clause-ordered
-take_sectors-requires-clause-ordered c = asks_in_order c.args.store.now c.requires.ordered.ordered
-
-pub refind_holders-requires-clause-flushes : goal.refind_holders-requires-clause-flushes
-refind_holders-requires-clause-flushes c =
-    let es = c.args.store.now in
-    let r = c.request-request.result in
-    c.as_slice.ensures.value
-    ∙ (fewer_flushes es r.id c.args.flushes.now.items c.take_flush.new.flushes.items c.requires.beside.listed c.take_flush.ensures.list
-    ∙ ap flushes_of (ap asks_of (sym (dropped es c.args.place r c.requires.place c.requires.ordered c.request-request.ensures)) ∙ asks_less es c.args.place))
+      let one = is_counted es (e es i r lt s is) i (at es i r lt s is) in
+      one_uncounted es (e es i r lt s is) i counts (get_or counts r.client.0 0 - 1) are (at es i r lt s is) small (omega (arith, its, one))
 
 pub refind_holders-requires-clause-but : goal.refind_holders-requires-clause-but
 refind_holders-requires-clause-but c =
@@ -68,9 +42,7 @@ returns-clause-beside c =
     let r = c.request-request.result in
     let less = sym (asks_less es c.args.place) in
     record {
-      indexed = subst (λ (book : List Unanswered). AreIndexed book c.take_sectors.new.sectors) less c.take_sectors.ensures;
-      listed = fewer_flushes es r.id c.args.flushes.now.items c.take_flush.new.flushes.items c.requires.beside.listed c.take_flush.ensures.list
-          ∙ ap flushes_of (ap asks_of (sym (dropped es c.args.place r c.requires.place c.requires.ordered c.request-request.ensures)));
+      conflicts = subst (λ (book : List Unanswered). AreConflictLists book c.take.new.self) less c.take.ensures;
       held = subst (λ (book : List Unanswered). AreHolders book c.refind_holders.new.holders.items) less c.refind_holders.ensures.holders;
       counted = subst (λ (n : ℕ). AreCounts (remove es c.args.place) (set c.args.counts.now n (get_or c.args.counts.now n 0 - 1))) (sym c.from.ensures)
           (fewer es c.args.place r c.requires.place c.requires.ordered c.request-request.ensures c.args.counts.now c.requires.beside.counted);

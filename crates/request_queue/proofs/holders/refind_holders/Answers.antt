@@ -6,6 +6,7 @@ use Rattle.std.proofs.lemmas.Option.{get_or_from_slice_get, slice_get-get_or}
 use Rattle.request_queue.specs.Entries.{BookEntry, asks, asks_of}
 use Rattle.request_queue.specs.Holders.{is_held_by}
 use Rattle.request_queue.proofs.Holding.{all_searched, one_anew, one_kept}
+use Rattle.request_queue.proofs.Conflicting.{in_book}
 use Rattle.request_queue.proofs.holders.refind_holders.Goals as goal
 use Rattle.request_queue.proofs.holders.refind_holders.Goals.{then-is, else-is}
 
@@ -30,7 +31,8 @@ loop-later-preserved c =
           ∙ ap Some (get_or-remove_above all c.args.place w.asks.result c.loop-later.later low (omega (arith, place, long))
           ∙ get_or_from_slice_get all (c.loop-later.later + 1) w.asks.result w.asks.result w.asks.ensures) in
           rw w.holders-is (record {
-            but = one_anew c.args.answered c.loop-later.later book c.loop-later.holders.items but w.asks.result w.holder_of-holder.result at (w.holder_of-holder.ensures book c.requires.indexed c.requires.flushes);
+            but = one_anew c.args.answered c.loop-later.later book c.loop-later.holders.items but w.asks.result w.holder-holder.result at
+                (w.holder-holder.ensures book c.requires.lists (in_book book c.loop-later.later w.asks.result at));
             room = c.loop-later.invariant.room;
           })
       | else-is w ↦ rw w.holders-is (record {

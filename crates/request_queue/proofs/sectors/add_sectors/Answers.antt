@@ -1,10 +1,8 @@
 use Rattle.ata_types.specs.declared.limits.TheConstants.{MOST_UNANSWERED}
 use Rattle.std.proofs.Common.{◌≡◌, ◌≢◌, ◌<◌, ◌++◌, ◌∷◌, [], List, Bool, not, true, false, get_or, length, subst, sym, ap, ◌∙◌, arith, refl}
 use Rattle.std.proofs.lemmas.Bool.{not-true}
-use Rattle.std.proofs.lemmas.List.{length-map}
 use Rattle.std.specs.List.{All, insert}
 use Rattle.request_queue.specs.declared.ranges.BookRange.{BookRange}
-use Rattle.request_queue.specs.Entries.{BookEntry, asks, asks_of}
 use Rattle.request_queue.specs.Sectors.{item_of, index_of_port}
 use Rattle.request_queue.proofs.Indexing.{flush_accepted, accepted, room_left, items_fresh, put_back, by_default, in_four}
 use Rattle.request_queue.proofs.sectors.add_sectors.Goals as goal
@@ -14,36 +12,34 @@ not_false true e = refl
 not_false false e = e
 
 pub returns-then-not-has_sectors : goal.returns-then-not-has_sectors
-returns-then-not-has_sectors c = flush_accepted (asks_of c.args.store.now) c.args.sectors.now c.requires.indexed c.args.request.now (not_false _ c.if-not-has_sectors.ensures)
+returns-then-not-has_sectors c = λ book is newest. flush_accepted book c.args.sectors.now is c.args.request.now (not_false _ c.if-not-has_sectors.ensures)
 
 pub insert-requires-clause-room : goal.insert-requires-clause-room
 insert-requires-clause-room c =
     let r = c.args.request.now in
     let lists = c.args.sectors.now in
-    let four = c.requires.indexed.four in
-    let few = c.requires.room in
-    let n = length-map c.args.store.now (λ (e : BookEntry). asks e.entry) in
+    let four = c.requires.1.four in
     let e = by_default lists c.index_of_port.result (index_of_port r.port) c.index-sectors-index_of_port.result c.index_of_port.ensures (omega (arith, four, in_four r.port)) in
-    subst (λ (xs : List BookRange). length xs < MOST_UNANSWERED) (sym e) (room_left (asks_of c.args.store.now) lists c.requires.indexed r (omega (arith, n, few)))
+    subst (λ (xs : List BookRange). length xs < MOST_UNANSWERED) (sym e) (room_left c.requires.0 lists c.requires.1 r c.requires.2)
 
 pub insert-requires-clause-fresh : goal.insert-requires-clause-fresh
 insert-requires-clause-fresh c =
     let r = c.args.request.now in
     let lists = c.args.sectors.now in
-    let four = c.requires.indexed.four in
+    let four = c.requires.1.four in
     let e = by_default lists c.index_of_port.result (index_of_port r.port) c.index-sectors-index_of_port.result c.index_of_port.ensures (omega (arith, four, in_four r.port)) in
     subst (λ (xs : List BookRange). All (λ (x : BookRange). x.id ≢ c.item_of.result.id) xs) (sym e)
-    (subst (λ (i : BookRange). All (λ (x : BookRange). x.id ≢ i.id) (get_or lists (index_of_port r.port) [])) (sym c.item_of.ensures) (items_fresh (asks_of c.args.store.now) lists c.requires.indexed r c.requires.newest))
+    (subst (λ (i : BookRange). All (λ (x : BookRange). x.id ≢ i.id) (get_or lists (index_of_port r.port) [])) (sym c.item_of.ensures) (items_fresh c.requires.0 lists c.requires.1 r c.requires.3))
 
 pub returns : goal.returns
-returns c =
+returns c = λ book is newest.
     let r = c.args.request.now in
     let lists = c.args.sectors.now in
-    let four = c.requires.indexed.four in
+    let four = c.requires.1.four in
     let within = c.insert.ensures.1 in
     let e = by_default lists c.index_of_port.result (index_of_port r.port) c.index-sectors-index_of_port.result c.index_of_port.ensures (omega (arith, four, in_four r.port)) in
     let len = ap length e in
     let place = c.insert.ensures.0 in
-    put_back (asks_of c.args.store.now ++ r ∷ []) lists c.index_of_port.result (index_of_port r.port) _ (insert (get_or lists (index_of_port r.port) []) place (item_of r)) c.index_of_port.ensures
+    put_back (book ++ r ∷ []) lists c.index_of_port.result (index_of_port r.port) _ (insert (get_or lists (index_of_port r.port) []) place (item_of r)) c.index_of_port.ensures
     (c.insert.ensures.2 ∙ (ap (λ (xs : List BookRange). insert xs place c.item_of.result) e ∙ ap (insert (get_or lists (index_of_port r.port) []) place) c.item_of.ensures))
-    (accepted (asks_of c.args.store.now) lists c.requires.indexed r (not-true _ (sym c.if-not-has_sectors.ensures)) c.requires.newest place (omega (arith, within, len)))
+    (accepted book lists is r (not-true _ (sym c.if-not-has_sectors.ensures)) newest place (omega (arith, within, len)))

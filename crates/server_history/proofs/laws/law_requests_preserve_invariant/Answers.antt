@@ -1,7 +1,7 @@
 use Rattle.std.proofs.Common.{sym, subst}
 use Rattle.server_history.proofs.plain_calls.Acceptances.{accept_kept}
 use Rattle.server_history.proofs.healthy_turn.OneAnswer.{answer_kept}
-use Rattle.server_history.proofs.plain_calls.OneIssue.{issue_kept}
+use Rattle.server_history.proofs.plain_calls.IssueRounds.{each_kept}
 use Rattle.server_history.proofs.revoke_call.RevokedEach.{revokes_each}
 use Rattle.server_history.proofs.revoke_call.RevokedServer.{revoked_kept}
 use Rattle.server_history.specs.Server.{InCallInvariant}
@@ -14,7 +14,7 @@ pub returns-clause-answered : goal.returns-clause-answered
 returns-clause-answered c s new port request k ready one over = answer_kept c.law_below.ensures s new port request k ready one over
 
 pub returns-clause-issued : goal.returns-clause-issued
-returns-clause-issued c s new port id k one = issue_kept c.law_below.ensures s new port id k one
+returns-clause-issued c s new port ids k issues = each_kept c.law_below.ensures port ids s new k issues
 
 pub returns-clause-revoked : goal.returns-clause-revoked
 returns-clause-revoked c s new client number replies k r =

@@ -2,7 +2,7 @@ use Rattle.std.proofs.Common.{rules, ℕ, ◌≡◌, ◌+◌, ◌∙◌, inl, in
 use Rattle.device_model.specs.Cached.{HasOldRoom}
 use Rattle.device_model.specs.Disks.{disk_over}
 use Rattle.device_model.specs.Trims.{written_ahead}
-use Rattle.device_model.specs.View.{transfer_operation}
+use Rattle.device_model.specs.View.{operation_of_kind}
 use Rattle.device_model.specs.declared.port.CommandKind.{CommandKind}
 use Rattle.device_model.proofs.Transfers.{fits_sector, replaced_is}
 use Rattle.device_model.proofs.bay.Bay.transfer_bytes.Goals as goal
@@ -33,10 +33,10 @@ returns-in-Write g c =
       cached = search rules;
       old_room = λ n room.
           let P : ℕ → Type 0 = λ k. HasOldRoom c.args.self.now.cache k in
-          let one : written_ahead (transfer_operation c.args.next.transfer) 1 ≡ 1 =
-          let Q : CommandKind → ℕ = λ k. written_ahead (transfer_operation k) 1 in
+          let one : written_ahead (operation_of_kind c.args.next.command_kind) 1 ≡ 1 =
+          let Q : CommandKind → ℕ = λ k. written_ahead (operation_of_kind k) 1 in
           elim c.in-Write.is [ inl plain ↦ ap Q plain | inr queued ↦ ap Q queued ] in
-          let more : written_ahead (transfer_operation c.args.next.transfer) 1 + n ≡ n + 1 = omega (arith, one) in
+          let more : written_ahead (operation_of_kind c.args.next.command_kind) 1 + n ≡ n + 1 = omega (arith, one) in
           c.put_sector.ensures.left n (subst P more room);
       rest = search rules;
     }

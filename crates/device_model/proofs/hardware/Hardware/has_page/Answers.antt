@@ -5,7 +5,7 @@ use Rattle.device_model.proofs.Absurd.{some_one, true-false}
 use Rattle.device_model.specs.Finishing.{LooksForPage, sends_page}
 use Rattle.device_model.specs.Whole.{device_of}
 use Rattle.device_model.specs.declared.port.TakenCommand.{TakenCommand}
-use Rattle.device_model.specs.View.{transfer_operation}
+use Rattle.device_model.specs.View.{operation_of_kind}
 use Rattle.device_model.proofs.Ready.{Ends, page_barred, page_held, page_unheld, page_unmeant, page_unsaid, page_unused}
 use Rattle.device_model.proofs.SlotLemmas.{at_port, none_filled}
 use Rattle.device_model.proofs.hardware.Hardware.has_page.Goals as goal
@@ -46,7 +46,7 @@ returns-then-not-sends_page c = λ o.
       page_unheld c.args.self.now c.args.port c.args.slot _ refl
           (λ r held kind ends.
           let same : r ≡ c.in_ok-command.command.now = some_one (sym held.held ∙ c.in_ok-command.ensures.found.held) in
-          true-false (ap (λ (x : TakenCommand). sends_page (transfer_operation x.transfer)) (sym same) ∙ kind) (sym c.sends_page.ensures ∙ c.if-not-sends_page.true))
+          true-false (ap (λ (x : TakenCommand). sends_page (operation_of_kind x.command_kind)) (sym same) ∙ kind) (sym c.sends_page.ensures ∙ c.if-not-sends_page.true))
           never o,
     )
 

@@ -7,7 +7,7 @@ use Rattle.adapter.specs.declared.tape.Entry.TheVariants as entry
 use Rattle.device_model.specs.Exchanged.{piece_of}
 use Rattle.device_model.specs.Fetched.{bytes_of}
 use Rattle.device_model.specs.Slots.{IsNext}
-use Rattle.device_model.specs.View.{blank_port, taken_in, transfer_operation}
+use Rattle.device_model.specs.View.{blank_port, taken_in, operation_of_kind}
 use Rattle.device_model.specs.declared.hardware.Hardware.{Hardware}
 use Rattle.device_model.specs.declared.port.TakenCommand.{TakenCommand}
 use Rattle.device_model.specs.declared.port.CommandKind.{CommandKind}
@@ -61,8 +61,8 @@ returns-clause-after c =
     IfSome_then c.after.result c.after.ensures
     (λ n one.
     let ranged = is.behind.ranged one.0 in
-    let no_trim : c.args.next.transfer ≡ Trim → ⊥ = λ (e : c.args.next.transfer ≡ Trim).
-    true-false ranged (ap (λ (k : CommandKind). is_ranged (transfer_operation k)) (sym is.transfer_is ∙ e)) in
+    let no_trim : c.args.next.command_kind ≡ Trim → ⊥ = λ (e : c.args.next.command_kind ≡ Trim).
+    true-false ranged (ap (λ (k : CommandKind). is_ranged (operation_of_kind k)) (sym is.kind_is ∙ e)) in
     let next = next_after h c.from.result c.args.port c.args.slot c.args.next t _ c.push_reserved.new.self h.starved is one.0 c.from.ensures small
     (rw (at_port h.ports c.from.result c.index-self-from.result small) at c.advance.ensures.rest)
     ((rw (at_port h.ports c.from.result c.index-self-from.result small) at (c.advance.ensures.held t)) here no_trim) in

@@ -1,12 +1,12 @@
 use Rattle.std.proofs.Common.{arith, refl}
-use Rattle.device_model.specs.View.{transfer_operation}
+use Rattle.device_model.specs.View.{operation_of_kind}
 use Rattle.device_model.proofs.Told.{done_answers, done_left}
 use Rattle.device_model.proofs.model.Model.done.Goals as goal
 
 pub returns : goal.returns
 returns g c =
     let f = c.in-Some.ensures in
-    done_answers g.S.SectorStore.size g.S.SectorStore.told g.S.SectorStore.failures c.args.self.now c.done.new.self c.args.port c.args.slot (transfer_operation c.in-Some.transfer) c.note_end_of.new.bays
+    done_answers g.S.SectorStore.size g.S.SectorStore.told g.S.SectorStore.failures c.args.self.now c.done.new.self c.args.port c.args.slot (operation_of_kind c.in-Some.command_kind) c.note_end_of.new.bays
     (omega (arith, c.if-port-ge4.false)) (omega (arith, c.if-slot-ge32.false)) (f.did _) f.fed (rw c.from.ensures at c.note_end_of.ensures)
 
 pub returns-in_default : goal.returns-in_default

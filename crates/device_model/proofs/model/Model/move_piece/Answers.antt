@@ -20,7 +20,7 @@ use Rattle.device_model.specs.Finishing.{HasMove}
 use Rattle.device_model.specs.Modelled.{device_at, media_of, outside_at}
 use Rattle.device_model.specs.Slots.{IsNext}
 use Rattle.device_model.specs.Trims.{written_ahead}
-use Rattle.device_model.specs.View.{Media, transfer_operation, taken_of}
+use Rattle.device_model.specs.View.{Media, operation_of_kind, taken_of}
 use Rattle.device_model.specs.declared.port.CommandKind.{CommandKind}
 use Rattle.device_model.specs.Whole.{Outside, device_of, outside_after}
 use Rattle.device_model.specs.declared.bay.Bay.{Bay}
@@ -139,16 +139,16 @@ moved g c =
     let behind : outside_at g.S.SectorStore.size g.S.SectorStore.told (moved_model g c) ≡ outside_after o c.args.port.0 (taken_of r) bytes =
     outside_moved m (moved_model g c) c.args.port.0 a c.transfer_piece.new.self (was g c) (items g c)
     (exchanged g c).rest g.S.SectorStore.size g.S.SectorStore.told
-    c.in-Some-next_move.next r bytes (lasts g c) is.transfer_is is.sector_is ((exchanged g c).disk did) in
+    c.in-Some-next_move.next r bytes (lasts g c) is.kind_is is.sector_is ((exchanged g c).disk did) in
     let R : Device → Type 0 = λ d. Can (Move c.args.port.0 c.args.slot.0 (taken_of r) bytes) d in
     record {
       t = taken_of r;
       bytes = bytes;
       can = subst R (c.reserve-room.ensures.same o)
           (may_move h o c.args.port.0 c.args.slot.0 c.in-Some-next_move.next r bytes is (exchanged g c).sector
-          (subst (λ (x : Media). is_ranged (transfer_operation c.in-Some-next_move.next.transfer) ≡ true →
+          (subst (λ (x : Media). is_ranged (operation_of_kind c.in-Some-next_move.next.command_kind) ≡ true →
           c.in-Some-next_move.next.sector < x.disk.size) at ((exchanged g c).inside did))
-          (subst (λ (x : Media). is_ranged (transfer_operation c.in-Some-next_move.next.transfer) ≡ true → reads_memory (transfer_operation c.in-Some-next_move.next.transfer) ≡ false →
+          (subst (λ (x : Media). is_ranged (operation_of_kind c.in-Some-next_move.next.command_kind) ≡ true → reads_memory (operation_of_kind c.in-Some-next_move.next.command_kind) ≡ false →
           IfSome x.disk.sectors (λ f. bytes ≡ f c.in-Some-next_move.next.sector)) at ((exchanged g c).gives did))
           (exchanged g c).takes);
       effect = ap (λ (x : Outside). device_of c.note_move.new.self x) behind
@@ -194,12 +194,12 @@ returns-clause-answers g c =
         which = store_whichs m (moved_model g c) c.args.port.0 a b (was g c) (items g c)
             (exchanged g c).rest c.args.port.0;
         others = seated_others m (moved_model g c) c.args.port.0 a b (was g c) (items g c);
-        pages = gains_moved g.S.SectorStore.size m _ a found.0.transfer
+        pages = gains_moved g.S.SectorStore.size m _ a found.0.command_kind
             (move_of c.args.port.0 c.args.slot.0 (taken_of found.0) bytes) (was g c)
             (ap (λ (d : Device). d.tape) noted ∙ ap (λ (d : Device). d.tape ++ entry ∷ [])
             (c.reserve-room.ensures.same o)) refl
-            (λ identify. (exchanged g c).page c.if-not-transfer_piece.false (found.1.transfer_is ∙ identify))
-            (λ log. (exchanged g c).log c.if-not-transfer_piece.false (found.1.transfer_is ∙ log));
+            (λ identify. (exchanged g c).page c.if-not-transfer_piece.false (found.1.kind_is ∙ identify))
+            (λ log. (exchanged g c).log c.if-not-transfer_piece.false (found.1.kind_is ∙ log));
         disks = λ none w.
             seated_same m (moved_model g c) c.args.port.0 a b (was g c) (items g c) (option_map (λ (x : Bay g.row.S.Denot). disk_in_bay x w))
             (ap (λ (x : Bay g.row.S.Denot). Some (disk_in_bay x w))
@@ -260,20 +260,20 @@ past g c =
 
 -- it names one
 past_ranged : (g : Over) (c : goal.After-fail-failed g) → (next_sector (taken_of (grow c.args.port.0 c.args.slot.0 c.reserve-room.ensures.rest c.in-Some-next_move.ensures.found).0) ≡ c.in-Some-next_move.next.sector)
-    × (is_ranged (transfer_operation (grow c.args.port.0 c.args.slot.0 c.reserve-room.ensures.rest c.in-Some-next_move.ensures.found).0.transfer) ≡ true) × (g.S.SectorStore.size c.in-Some.bay.disk.store ≤ c.in-Some-next_move.next.sector)
-past_ranged g c = by (is_ranged (transfer_operation c.in-Some-next_move.next.transfer)) refl
+    × (is_ranged (operation_of_kind (grow c.args.port.0 c.args.slot.0 c.reserve-room.ensures.rest c.in-Some-next_move.ensures.found).0.command_kind) ≡ true) × (g.S.SectorStore.size c.in-Some.bay.disk.store ≤ c.in-Some-next_move.next.sector)
+past_ranged g c = by (is_ranged (operation_of_kind c.in-Some-next_move.next.command_kind)) refl
   where
     found : (t : TakenCommand) × IsNext c.reserve-room.new.self c.args.port.0 c.args.slot.0 c.in-Some-next_move.next t
     found = (grow c.args.port.0 c.args.slot.0 c.reserve-room.ensures.rest c.in-Some-next_move.ensures.found)
 
-    never : (is_ranged (transfer_operation c.in-Some-next_move.next.transfer) ≡ true → c.in-Some-next_move.next.sector < c.sectors.result) → ⊥
+    never : (is_ranged (operation_of_kind c.in-Some-next_move.next.command_kind) ≡ true → c.in-Some-next_move.next.sector < c.sectors.result) → ⊥
     never on = true-false (c.is_on.ensures.1 on) c.if-not-is_on.true
 
-    by : (b : Bool) → is_ranged (transfer_operation c.in-Some-next_move.next.transfer) ≡ b → (next_sector (taken_of found.0) ≡ c.in-Some-next_move.next.sector)
-        × (is_ranged (transfer_operation found.0.transfer) ≡ true) × (g.S.SectorStore.size c.in-Some.bay.disk.store ≤ c.in-Some-next_move.next.sector)
+    by : (b : Bool) → is_ranged (operation_of_kind c.in-Some-next_move.next.command_kind) ≡ b → (next_sector (taken_of found.0) ≡ c.in-Some-next_move.next.sector)
+        × (is_ranged (operation_of_kind found.0.command_kind) ≡ true) × (g.S.SectorStore.size c.in-Some.bay.disk.store ≤ c.in-Some-next_move.next.sector)
     by true e = (
       sym found.1.sector_is,
-      ap (λ (k : CommandKind). is_ranged (transfer_operation k)) (sym found.1.transfer_is) ∙ e,
+      ap (λ (k : CommandKind). is_ranged (operation_of_kind k)) (sym found.1.kind_is) ∙ e,
       elim (cases_lt c.in-Some-next_move.next.sector c.sectors.result) [
         | inl below ↦ absurd (never (λ _. below))
         | inr past ↦ let size = c.sectors.ensures in omega (arith, past, size)
@@ -400,22 +400,22 @@ store_failed g c =
     let listed = c.sectors.ensures in
     let on : c.reserve.new.self.cache.is_on ≡ port_has_cache m c.args.port.0 = c.reserve.ensures.same.is_on ∙ sym (ap has_cache (was_store g c)) in
     let Q : Bool → ℕ → Type 0 = λ writes sector. CallFails (port_has_cache m c.args.port.0) writes sector (g.S.SectorStore.failures a.disk.store) (g.S.SectorStore.failures b.disk.store) in
-    let O : Bool → Type 0 = λ x. CallFails x (reads_memory (transfer_operation c.in-Some-next_move.next.transfer)) c.in-Some-next_move.next.sector (g.S.SectorStore.failures a.disk.store) (g.S.SectorStore.failures b.disk.store) in
+    let O : Bool → Type 0 = λ x. CallFails x (reads_memory (operation_of_kind c.in-Some-next_move.next.command_kind)) c.in-Some-next_move.next.sector (g.S.SectorStore.failures a.disk.store) (g.S.SectorStore.failures b.disk.store) in
     let failed = subst O on ((exchanged_so g c).fails c.if-not-transfer_piece.true (omega (arith, here, listed))) in
-    let writes = ap (λ (k : CommandKind). reads_memory (transfer_operation k)) next.1.transfer_is in
+    let writes = ap (λ (k : CommandKind). reads_memory (operation_of_kind k)) next.1.kind_is in
     let size : ((device_at g.S.SectorStore.size g.S.SectorStore.told m).port c.args.port.0).disk.size ≡ g.S.SectorStore.size a.disk.store =
     ap (λ x. (media_of g.S.SectorStore.size g.S.SectorStore.told x).disk.size) (was_store g c) in
     let sector : c.in-Some-next_move.next.sector ≡ next_sector (taken_of next.0) = next.1.sector_is in
     let before : disk_failures g.S.SectorStore.failures m c.args.port.0 ≡ g.S.SectorStore.failures a.disk.store = ap (failing g.S.SectorStore.failures) (was_store g c) in
     let now : disk_failures g.S.SectorStore.failures (store_model g c) c.args.port.0 ≡ g.S.SectorStore.failures b.disk.store =
     ap (failing g.S.SectorStore.failures) (seated_here m (store_model g c) c.args.port.0 a b (was_store g c) (store_items g c)) in
-    let R : Option Failures → Option Failures → Type 0 = λ x y. CallFails (port_has_cache m c.args.port.0) (reads_memory (transfer_operation next.0.transfer)) (next_sector (taken_of next.0)) x y in
-    let called = subst (λ w. Q w (next_sector (taken_of next.0))) writes (subst (Q (reads_memory (transfer_operation c.in-Some-next_move.next.transfer))) next.1.sector_is failed) in
+    let R : Option Failures → Option Failures → Type 0 = λ x y. CallFails (port_has_cache m c.args.port.0) (reads_memory (operation_of_kind next.0.command_kind)) (next_sector (taken_of next.0)) x y in
+    let called = subst (λ w. Q w (next_sector (taken_of next.0))) writes (subst (Q (reads_memory (operation_of_kind c.in-Some-next_move.next.command_kind))) next.1.sector_is failed) in
     fails_to_move g.S.SectorStore.size g.S.SectorStore.told g.S.SectorStore.failures c.args.port c.args.slot 0x40 (taken_of next.0) m
     (store_model g c) c.fail-failed-then-not-transfer_piece.new.self (store g c) (store_same g c)
     (store_says m (store_model g c) c.args.port.0 a b (was_store g c) (store_items g c)
     (exchanged_so g c).rest c.args.port.0) (store_fits g c)
-    (ap (λ (k : CommandKind). is_ranged (transfer_operation k)) (sym next.1.transfer_is) ∙ ranged)
+    (ap (λ (k : CommandKind). is_ranged (operation_of_kind k)) (sym next.1.kind_is) ∙ ranged)
     (inr (
       omega (arith, here, listed, size, sector),
       refl,
@@ -431,7 +431,7 @@ returns-then-not-transfer_piece-clause-answers g c =
     let a = c.in-Some.bay in
     let b = c.transfer_piece.new.self in
     let next = (grow c.args.port.0 c.args.slot.0 c.reserve-room.ensures.rest c.in-Some-next_move.ensures.found) in
-    let ranged = ap (λ (k : CommandKind). is_ranged (transfer_operation k)) (sym next.1.transfer_is)
+    let ranged = ap (λ (k : CommandKind). is_ranged (operation_of_kind k)) (sym next.1.kind_is)
     ∙ (exchanged_so g c).ranged c.if-not-transfer_piece.true in (
       (c.requires.small, taken_of next.0, store_fits g c),
       did_fail g.S.SectorStore.size g.S.SectorStore.told g.S.SectorStore.failures c.args.port c.args.slot 0x40 (taken_of next.0) m
@@ -461,12 +461,12 @@ returns-clause-readies g c = λ _.
           let found = (grow c.args.port.0 c.args.slot.0 c.reserve-room.ensures.rest c.in-Some-next_move.ensures.found) in
           let o : Outside = outside_at g.S.SectorStore.size g.S.SectorStore.told m in
           let one : t ≡ taken_of found.0 = some_one (sym taken ∙ (fits g c).works.taken) in
-          let kind : written_ahead t.meaning.operation 1 ≡ written_ahead (transfer_operation c.in-Some-next_move.next.transfer) 1 =
-          ap (λ (x : FetchedCommand). written_ahead x.meaning.operation 1) one ∙ ap (λ (k : CommandKind). written_ahead (transfer_operation k) 1) (sym found.1.transfer_is) in
+          let kind : written_ahead t.meaning.operation 1 ≡ written_ahead (operation_of_kind c.in-Some-next_move.next.command_kind) 1 =
+          ap (λ (x : FetchedCommand). written_ahead x.meaning.operation 1) one ∙ ap (λ (k : CommandKind). written_ahead (operation_of_kind k) 1) (sym found.1.kind_is) in
           let P : ℕ → Type 0 = λ k. HasOldRoom a.cache (k + n) in
           room_there (moved_model g c) c.args.port.0 n c.transfer_piece.new.self (seated_here m (moved_model g c) c.args.port.0 a c.transfer_piece.new.self (was g c) (items g c))
           ((exchanged g c).old_room n
-          (c.reserve.ensures.kept (written_ahead (transfer_operation c.in-Some-next_move.next.transfer) 1 + n)
+          (c.reserve.ensures.kept (written_ahead (operation_of_kind c.in-Some-next_move.next.command_kind) 1 + n)
           (subst P kind (room_here m c.args.port.0 (written_ahead t.meaning.operation 1 + n) a (was g c) room))));
       next = c.note_move.ensures.after;
     }
@@ -500,12 +500,12 @@ returns-then-not-reserve-clause-answers g c =
     let fits : HasMove (device_at g.S.SectorStore.size g.S.SectorStore.told m) c.args.port.0 c.args.slot.0 (taken_of r) =
     next_has_move c.reserve-room.new.self o _ c.args.port.0 c.args.slot.0 c.in-Some-next_move.next r (has_disks g.S.SectorStore.size g.S.SectorStore.told m c.args.port.0 a was)
     (c.reserve-room.ensures.same o) found.1 in
-    let changes : written_ahead (transfer_operation r.transfer) 1 ≡ c.written.result = ap (λ (k : CommandKind). written_ahead (transfer_operation k) 1) (sym found.1.transfer_is) ∙ sym c.written.ensures in
+    let changes : written_ahead (operation_of_kind r.command_kind) 1 ≡ c.written.result = ap (λ (k : CommandKind). written_ahead (operation_of_kind k) 1) (sym found.1.kind_is) ∙ sym c.written.ensures in
     let lacks : LacksMemory (asked.Move c.args.port c.args.slot) (device_at g.S.SectorStore.size g.S.SectorStore.told m) m.hardware m.bays.items = (
       taken_of r,
       fits,
       λ _ old. c.reserve.ensures.lacked c.if-not-reserve.true
-          (subst (HasOldRoom a.cache) changes (room_here m c.args.port.0 (written_ahead (transfer_operation r.transfer) 1) a was old)),
+          (subst (HasOldRoom a.cache) changes (room_here m c.args.port.0 (written_ahead (operation_of_kind r.command_kind) 1) a was old)),
     ) in
     grown_left g.S.SectorStore.size g.S.SectorStore.told g.S.SectorStore.failures m _ c.args.port.0 a c.reserve.new.self.cache was
     (ap (λ k. slice_set m.bays.items k (Some c.reserve.new.self)) c.from-place.ensures ∙ ap (λ (x : Bay g.row.S.Denot). slice_set m.bays.items c.args.port.0 (Some x)) c.reserve.ensures.rest)
@@ -522,7 +522,7 @@ returns-then-not-reserve-clause-page g c = λ t taken sends _ _ _ _.
     let P : Device → Type 0 = λ d. (d.port c.args.port.0).taken c.args.slot.0 ≡ Some (taken_of found.0) in
     let here = subst P (c.reserve-room.ensures.same o) (found.1.holds.works (o.media c.args.port.0)).taken in
     let one : t ≡ taken_of found.0 = some_one (sym taken ∙ here) in
-    let none : written_ahead (transfer_operation found.0.transfer) 1 ≡ 0 =
+    let none : written_ahead (operation_of_kind found.0.command_kind) 1 ≡ 0 =
     ap (λ (x : FetchedCommand). written_ahead x.meaning.operation 1) (sym one) ∙ page_unwritten t.meaning.operation 1 sends in
-    let changes : written_ahead (transfer_operation found.0.transfer) 1 ≡ c.written.result = ap (λ (k : CommandKind). written_ahead (transfer_operation k) 1) (sym found.1.transfer_is) ∙ sym c.written.ensures in
+    let changes : written_ahead (operation_of_kind found.0.command_kind) 1 ≡ c.written.result = ap (λ (k : CommandKind). written_ahead (operation_of_kind k) 1) (sym found.1.kind_is) ∙ sym c.written.ensures in
     c.reserve.ensures.lacked c.if-not-reserve.true (subst (HasOldRoom a.cache) (sym none ∙ changes) (no_room a.cache))

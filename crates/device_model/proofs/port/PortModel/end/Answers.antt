@@ -8,7 +8,7 @@ use Rattle.adapter.specs.Steps.{lasting_after, with_done, with_flush}
 use Rattle.adapter.specs.declared.command.Operation.{Operation}
 use Rattle.adapter.specs.declared.command.Operation.TheVariants as operation
 use Rattle.device_model.specs.Bits.{word_bits}
-use Rattle.device_model.specs.View.{Media, cause_of, taken_in, lasting_sectors, transfer_operation, port_of, taken_slots}
+use Rattle.device_model.specs.View.{Media, cause_of, taken_in, lasting_sectors, operation_of_kind, port_of, taken_slots}
 use Rattle.device_model.specs.declared.port.PortModel.{PortModel}
 use Rattle.device_model.specs.declared.port.CommandKind.{CommandKind}
 use Rattle.device_model.proofs.SlotLemmas.{slots_changed}
@@ -30,11 +30,11 @@ ended_lasting operation.Trim m was here since e = λ i. record { sectors = m.las
 pub returns-then-is_queued : goal.returns-then-is_queued
 returns-then-is_queued c = λ m.
     let p : PortModel = c.args.self.now in
-    let k : CommandKind = c.args.transfer in
+    let k : CommandKind = c.args.command_kind in
     let slot : ℕ = c.args.slot in
-    let state : DevicePort = with_flush (with_done (port_of p m) slot (cause_of k) (transfer_operation k)) (transfer_operation k) c.args.here in
-    let lasting = ended_lasting (transfer_operation k) m p.lasting_at c.args.here c.lasting_at-self.result (c.lasting_at-self.ensures (record { sectors = m.lasting; since = p.lasting_at }) m.disk refl) in
-    let queued : true ≡ is_queued (transfer_operation k) = sym c.if-is_queued.true ∙ c.is_queued.ensures in
+    let state : DevicePort = with_flush (with_done (port_of p m) slot (cause_of k) (operation_of_kind k)) (operation_of_kind k) c.args.here in
+    let lasting = ended_lasting (operation_of_kind k) m p.lasting_at c.args.here c.lasting_at-self.result (c.lasting_at-self.ensures (record { sectors = m.lasting; since = p.lasting_at }) m.disk refl) in
+    let queued : true ≡ is_queued (operation_of_kind k) = sym c.if-is_queued.true ∙ c.is_queued.ensures in
     let taken = ap taken_slots c.remove.ensures ∙ slots_changed (taken_in p.taken) slot None in
     let is : word_bits c.with_bit_as-self.result ≡ changed (word_bits p.is) (cause_of k) true =
     c.with_bit_as-self.ensures ∙ ap (λ (place : ℕ). changed (word_bits p.is) place true) c.cause.ensures in
@@ -48,11 +48,11 @@ returns-then-is_queued c = λ m.
 pub returns-else-is_queued : goal.returns-else-is_queued
 returns-else-is_queued c = λ m.
     let p : PortModel = c.args.self.now in
-    let k : CommandKind = c.args.transfer in
+    let k : CommandKind = c.args.command_kind in
     let slot : ℕ = c.args.slot in
-    let state : DevicePort = with_flush (with_done (port_of p m) slot (cause_of k) (transfer_operation k)) (transfer_operation k) c.args.here in
-    let lasting = ended_lasting (transfer_operation k) m p.lasting_at c.args.here c.lasting_at-self.result (c.lasting_at-self.ensures (record { sectors = m.lasting; since = p.lasting_at }) m.disk refl) in
-    let plain : false ≡ is_queued (transfer_operation k) = sym c.if-is_queued.false ∙ c.is_queued.ensures in
+    let state : DevicePort = with_flush (with_done (port_of p m) slot (cause_of k) (operation_of_kind k)) (operation_of_kind k) c.args.here in
+    let lasting = ended_lasting (operation_of_kind k) m p.lasting_at c.args.here c.lasting_at-self.result (c.lasting_at-self.ensures (record { sectors = m.lasting; since = p.lasting_at }) m.disk refl) in
+    let plain : false ≡ is_queued (operation_of_kind k) = sym c.if-is_queued.false ∙ c.is_queued.ensures in
     let taken = ap taken_slots c.remove.ensures ∙ slots_changed (taken_in p.taken) slot None in
     let is : word_bits c.with_bit_as-self.result ≡ changed (word_bits p.is) (cause_of k) true =
     c.with_bit_as-self.ensures ∙ ap (λ (place : ℕ). changed (word_bits p.is) place true) c.cause.ensures in

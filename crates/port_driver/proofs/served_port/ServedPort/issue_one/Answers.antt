@@ -1,7 +1,6 @@
 use Rattle.std.proofs.Common.{◌<◌, ◌≤◌, ◌/◌, ◌%◌, List, Some, not, refl, ap, ◌∙◌, subst}
-use Rattle.refinement.specs.Readying.{IsStored}
 use Rattle.ata_types.specs.declared.request.Frame.{Frame}
-use Rattle.commands.specs.Tasks.{HasBlockOf, IssuesTask, addresses_of, meaning_of}
+use Rattle.commands.specs.Issuing.{IsIssued}
 use Rattle.block_machine.specs.Due.{is_plain}
 use Rattle.request_queue.specs.declared.PendingRequest.{PendingRequest}
 use Rattle.commands.specs.declared.ncq.Task.{Task}
@@ -13,22 +12,22 @@ use Rattle.port_driver.proofs.served_port.ServedPort.issue_one.Goals.{After-fram
 
 pub unreachable-requires : goal.unreachable-requires
 unreachable-requires g c =
-    let l = c.requires.lends in
-    sending.is_free l.0 (g.A.Adapter.device c.args.adapter.now) c.args.book.now c.args.self.now.slots c.args.port c.args.self.now.mode c.args.self.now.found c.requires.ready l.1 c.args.id c.requires.due c.law_a_due_request_may_issue.ensures.full c.in_default.ensures.full
+    let l = c.requires.may.lends in
+    sending.is_free l.0 (g.A.Adapter.device c.args.adapter.now) c.args.book.now c.args.self.now.slots c.args.port c.args.self.now.mode c.args.self.now.found c.requires.may.ready l.1 c.args.id c.requires.due c.law_a_due_request_may_issue.ensures.full c.in_default.ensures.full
 
 pub issue_task-requires-clause-fits : goal.issue_task-requires-clause-fits
 issue_task-requires-clause-fits g c =
-    let l = c.requires.lends in
+    let l = c.requires.may.lends in
     let one = c.law_an_id_is_one_request.ensures.one in
     let device = g.A.Adapter.device c.args.adapter.now in
     let book = c.args.book.now in
     let slots = c.args.self.now.slots in
     let lowest = c.law_a_due_request_may_issue.ensures.lowest in
-    let entry_is = sending.entry_is l.0 device book slots c.args.port c.args.self.now.mode c.args.self.now.found c.requires.ready l.1 c.args.id c.requires.due one c.entry.result.0.now c.entry.result.1.now.frames c.entry.ensures.held c.entry.ensures.id.0 in
-    sending.may_go l.0.table c.requires.due.0 (sending.its l.0 device book slots c.args.port c.args.self.now.mode c.args.self.now.found c.requires.ready l.1 c.args.id c.requires.due) c.args.self.now.mode c.in-Some.slot.0
-    (sending.may_issue l.0 device book slots c.args.port c.args.self.now.mode c.args.self.now.found c.requires.ready l.1 c.args.id c.requires.due lowest c.in-Some.slot.0 c.in-Some.ensures.lowest).2
+    let entry_is = sending.entry_is l.0 device book slots c.args.port c.args.self.now.mode c.args.self.now.found c.requires.may.ready l.1 c.args.id c.requires.due one c.entry.result.0.now c.entry.result.1.now.frames c.entry.ensures.held c.entry.ensures.id.0 in
+    sending.may_go l.0.table c.requires.due.0 (sending.its l.0 device book slots c.args.port c.args.self.now.mode c.args.self.now.found c.requires.may.ready l.1 c.args.id c.requires.due) c.args.self.now.mode c.in-Some.slot.0
+    (sending.may_issue l.0 device book slots c.args.port c.args.self.now.mode c.args.self.now.found c.requires.may.ready l.1 c.args.id c.requires.due lowest c.in-Some.slot.0 c.in-Some.ensures.lowest).2
     (not c.is_plain.result) (ap not c.is_plain.ensures ∙ ap (λ (x : PendingRequest). not (is_plain c.args.self.now.mode x.op)) entry_is) c.entry.result.0.now entry_is
-    c.frames.result.now (c.frames.ensures.frames ∙ sending.frames_are l.0 device book slots c.args.port c.args.self.now.mode c.args.self.now.found c.requires.ready l.1 c.args.id c.requires.due one c.entry.result.0.now c.entry.result.1.now.frames c.entry.ensures.held c.entry.ensures.id.0)
+    c.frames.result.now (c.frames.ensures.frames ∙ sending.frames_are l.0 device book slots c.args.port c.args.self.now.mode c.args.self.now.found c.requires.may.ready l.1 c.args.id c.requires.due one c.entry.result.0.now c.entry.result.1.now.frames c.entry.ensures.held c.entry.ensures.id.0)
 
 pub returns : goal.returns
 returns g c = record {
@@ -39,18 +38,15 @@ returns g c = record {
       let one = c.law_an_id_is_one_request.ensures.one in
       let e = c.requires.due.0 in
       let task : Task = record { op = c.entry.result.0.now.op; range = c.entry.result.0.now.range; queued = not c.is_plain.result } in
-      let small = (sending.may_issue s (device c.args.adapter.now) c.args.book.now c.args.self.now.slots port c.args.self.now.mode c.args.self.now.found c.requires.ready l c.args.id c.requires.due c.law_a_due_request_may_issue.ensures.lowest slot c.in-Some.ensures.lowest).0 in
-      let entry_is = sending.entry_is s (device c.args.adapter.now) c.args.book.now c.args.self.now.slots port c.args.self.now.mode c.args.self.now.found c.requires.ready l c.args.id c.requires.due one c.entry.result.0.now c.entry.result.1.now.frames c.entry.ensures.held c.entry.ensures.id.0 in
-      let task_is = sending.task_is s (device c.args.adapter.now) c.args.book.now c.args.self.now.slots port c.args.self.now.mode c.args.self.now.found c.requires.ready l c.args.id c.requires.due c.is_plain.result c.entry.result.0.now c.is_plain.ensures entry_is in
-      let lent_is = c.frames.ensures.frames ∙ sending.frames_are s (device c.args.adapter.now) c.args.book.now c.args.self.now.slots port c.args.self.now.mode c.args.self.now.found c.requires.ready l c.args.id c.requires.due one c.entry.result.0.now c.entry.result.1.now.frames c.entry.ensures.held c.entry.ensures.id.0 in
-      let F : List Frame → Type 0 = λ frames. IssuesTask port slot task frames (device c.args.adapter.now) (device c.issue_task.new.adapter) in
-      let T : Task → Type 0 = λ t. IssuesTask port slot t e.frames (device c.args.adapter.now) (device c.issue_task.new.adapter) in
-      let FS : List Frame → Type 0 = λ frames. IsStored (device c.issue_task.new.adapter) port.0 slot (meaning_of task) (addresses_of port.0 task.op task.range.count frames) in
-      let TS : Task → Type 0 = λ t. IsStored (device c.issue_task.new.adapter) port.0 slot (meaning_of t) (addresses_of port.0 t.op t.range.count e.frames) in
-      let B : Task → Type 0 = λ t. HasBlockOf t.op t.range port.0 (device c.issue_task.new.adapter).memory in
-      sending.sent s (device c.args.adapter.now) c.args.book.now c.args.self.now.slots port c.args.self.now.mode c.args.self.now.found c.requires.ready l c.args.id c.requires.due
+      let small = (sending.may_issue s (device c.args.adapter.now) c.args.book.now c.args.self.now.slots port c.args.self.now.mode c.args.self.now.found c.requires.may.ready l c.args.id c.requires.due c.law_a_due_request_may_issue.ensures.lowest slot c.in-Some.ensures.lowest).0 in
+      let entry_is = sending.entry_is s (device c.args.adapter.now) c.args.book.now c.args.self.now.slots port c.args.self.now.mode c.args.self.now.found c.requires.may.ready l c.args.id c.requires.due one c.entry.result.0.now c.entry.result.1.now.frames c.entry.ensures.held c.entry.ensures.id.0 in
+      let task_is = sending.task_is s (device c.args.adapter.now) c.args.book.now c.args.self.now.slots port c.args.self.now.mode c.args.self.now.found c.requires.may.ready l c.args.id c.requires.due c.is_plain.result c.entry.result.0.now c.is_plain.ensures entry_is in
+      let lent_is = c.frames.ensures.frames ∙ sending.frames_are s (device c.args.adapter.now) c.args.book.now c.args.self.now.slots port c.args.self.now.mode c.args.self.now.found c.requires.may.ready l c.args.id c.requires.due one c.entry.result.0.now c.entry.result.1.now.frames c.entry.ensures.held c.entry.ensures.id.0 in
+      let F : List Frame → Type 0 = λ frames. IsIssued port slot task frames (device c.args.adapter.now) (device c.issue_task.new.adapter) in
+      let T : Task → Type 0 = λ t. IsIssued port slot t e.frames (device c.args.adapter.now) (device c.issue_task.new.adapter) in
+      sending.sent s (device c.args.adapter.now) c.args.book.now c.args.self.now.slots port c.args.self.now.mode c.args.self.now.found c.requires.may.ready l c.args.id c.requires.due
       slot small c.in-Some.ensures.lowest (device c.issue_task.new.adapter)
-      (subst T task_is (subst F lent_is c.issue_task.ensures.issued.issues)) (subst TS task_is (subst FS lent_is c.issue_task.ensures.issued.stored)) (subst B task_is c.issue_task.ensures.issued.block) c.issue.new.self c.issue.ensures
+      (subst T task_is (subst F lent_is c.issue_task.ensures.issued)) c.issue.new.self c.issue.ensures
       c.take.new.self (c.in-Some.ensures.taken ∙ ap (λ (t : Task). with_use c.args.self.now.slots slot (Some (record { id = c.args.id; queued = t.queued }))) task_is);
   rest = refl;
   cost = c.issue_task.ensures.cost;
@@ -58,14 +54,14 @@ returns g c = record {
 
 pub issue_task-requires-clause-may : goal.issue_task-requires-clause-may
 issue_task-requires-clause-may g c =
-    let l = c.requires.lends in
-    sending.may_issue_task l.0 (g.A.Adapter.device c.args.adapter.now) c.args.book.now c.args.self.now.slots c.args.port c.args.self.now.mode c.args.self.now.found c.requires.ready l.1 c.args.id c.requires.due c.law_a_due_request_may_issue.ensures.lowest c.in-Some.slot.0 c.in-Some.ensures.lowest
+    let l = c.requires.may.lends in
+    sending.may_issue_task l.0 (g.A.Adapter.device c.args.adapter.now) c.args.book.now c.args.self.now.slots c.args.port c.args.self.now.mode c.args.self.now.found c.requires.may.ready l.1 c.args.id c.requires.due c.law_a_due_request_may_issue.ensures.lowest c.in-Some.slot.0 c.in-Some.ensures.lowest
 
 -- where it may be issued
 goes_in : (g : Over) (c : After-frames g) → (c.in-Some.slot.0 < 32) × (c.in-Some.slot.0 ≤ (g.A.Adapter.device c.args.adapter.now).cap / 256 % 32)
 goes_in g c =
-    let l = c.requires.lends in
-    let may = sending.may_issue l.0 (g.A.Adapter.device c.args.adapter.now) c.args.book.now c.args.self.now.slots c.args.port c.args.self.now.mode c.args.self.now.found c.requires.ready l.1 c.args.id c.requires.due c.law_a_due_request_may_issue.ensures.lowest c.in-Some.slot.0 c.in-Some.ensures.lowest in
+    let l = c.requires.may.lends in
+    let may = sending.may_issue l.0 (g.A.Adapter.device c.args.adapter.now) c.args.book.now c.args.self.now.slots c.args.port c.args.self.now.mode c.args.self.now.found c.requires.may.ready l.1 c.args.id c.requires.due c.law_a_due_request_may_issue.ensures.lowest c.in-Some.slot.0 c.in-Some.ensures.lowest in
     (may.0, may.1)
 
 pub issue_task-requires-clause-small : goal.issue_task-requires-clause-small

@@ -1,12 +1,10 @@
 use Rattle.std.specs.Vec.{vec_len}
 use Rattle.std.proofs.lemmas.List.{length-map}
-use Rattle.std.proofs.Common.{ℕ, ◌+◌, ◌∙◌, ap, get_or, set, ◌≡◌, length, arith, ◌<◌, ◌++◌, ◌∷◌, [], List, sym, subst}
+use Rattle.std.proofs.Common.{ℕ, ◌+◌, get_or, set, ◌≡◌, length, arith, ◌<◌, ◌++◌, ◌∷◌, [], List, sym, subst}
 use Rattle.block_machine.specs.declared.due.Unanswered.{Unanswered}
+use Rattle.request_queue.specs.Conflicts.{AreConflictLists}
 use Rattle.request_queue.specs.Counts.{AreCounts}
-use Rattle.request_queue.specs.Flushes.{flushes_of}
 use Rattle.request_queue.specs.Holders.{AreHolders}
-use Rattle.request_queue.specs.Sectors.{AreIndexed}
-use Rattle.request_queue.proofs.Flushing.{few_flushes, more_flushes}
 use Rattle.request_queue.proofs.Holding.{longer_holders}
 use Rattle.request_queue.proofs.Indexing.{asks_more, asks_newest}
 use Rattle.std.specs.List.{All}
@@ -29,33 +27,30 @@ invariant_of-self c =
           (subst (λ (es : List BookEntry). All (λ x. x.entry.id.0 < c.args.request.id.0) es) (sym c.self.view_is) c.requires.newest)
           c.requires.fresh c.requires.client.0 c.requires.client.1
           (subst (λ (es : List BookEntry). unanswered_entries es c.args.request.client.0 < 16) (sym c.self.view_is) c.requires.few)),
-      subst (λ (es : List BookEntry). AreIndexed (asks_of es) c.add_sectors.new.sectors) (sym c.push.ensures.last)
-          (subst (λ (book : List Unanswered). AreIndexed book c.add_sectors.new.sectors) (sym (asks_more c.self.inside.store new))
-          (subst (λ (r : Unanswered). AreIndexed (asks_of c.self.inside.store ++ r ∷ []) c.add_sectors.new.sectors) c.asks_of-asks.ensures c.add_sectors.ensures)),
-      rw (c.push_reserved.ensures.items) (subst (λ (es : List BookEntry). AreHolders (asks_of es) (c.self.inside.holders.items ++ c.holder_of-holder.result ∷ [])) (sym c.push.ensures.last)
-          (longer_holders c.self.inside.store new c.self.inside.holders.items c.asks_of-asks.result c.holder_of-holder.result c.asks_of-asks.ensures c.self.invariant.2
+      subst (λ (es : List BookEntry). AreConflictLists (asks_of es) c.add-holder.new.self) (sym c.push.ensures.last)
+          (subst (λ (book : List Unanswered). AreConflictLists book c.add-holder.new.self) (sym (asks_more c.self.inside.store new))
+          (subst (λ (r : Unanswered). AreConflictLists (asks_of c.self.inside.store ++ r ∷ []) c.add-holder.new.self) c.asks_of.ensures c.add-holder.ensures.lists)),
+      rw (c.push_reserved.ensures.items) (subst (λ (es : List BookEntry). AreHolders (asks_of es) (c.self.inside.holders.items ++ c.add-holder.result ∷ [])) (sym c.push.ensures.last)
+          (longer_holders c.self.inside.store new c.self.inside.holders.items c.asks_of.result c.add-holder.result c.asks_of.ensures c.self.invariant.2
           (subst (λ (es : List BookEntry). All (λ x. x.entry.id.0 < c.args.request.id.0) es) (sym c.self.view_is) c.requires.newest)
-          (c.holder_of-holder.ensures (asks_of c.self.inside.store) c.self.invariant.1 (c.as_slice.ensures.value ∙ c.self.invariant.5)))),
+          c.add-holder.ensures.holder)),
       let more = c.push_reserved.ensures.capacity in let had = c.self.invariant.3 in omega (arith, more, had),
       subst (λ (es : List BookEntry). AreCounts es (set c.self.inside.counts c.from.result (get_or c.self.inside.counts c.from.result 0 + 1))) (sym c.push.ensures.last)
           (subst (λ (n : ℕ). AreCounts (c.self.inside.store ++ new ∷ []) (set c.self.inside.counts n (get_or c.self.inside.counts n 0 + 1))) (sym c.from.ensures)
           (let high = c.requires.client.1 in
           let its = c.self.invariant.4.each c.args.request.client.0 (omega (arith, high)) in
           one_counted c.self.inside.store new c.self.inside.counts (get_or c.self.inside.counts c.args.request.client.0 0 + 1) c.self.invariant.4 (omega (arith, high)) (omega (arith, its)))),
-      subst (λ (es : List BookEntry). c.add_flush.new.flushes.items ≡ flushes_of (asks_of es)) (sym c.push.ensures.last)
-          (more_flushes c.self.inside.store new c.asks_of-asks.result c.self.inside.flushes.items c.add_flush.new.flushes.items c.asks_of-asks.ensures c.self.invariant.5 c.add_flush.ensures.list),
-      let room = c.add_flush.ensures.room in let had = c.self.invariant.6 in omega (arith, room, had),
     )
 
-pub add_sectors-requires-clause-room : goal.add_sectors-requires-clause-room
-add_sectors-requires-clause-room c =
+pub add-holder-requires-clause-room : goal.add-holder-requires-clause-room
+add-holder-requires-clause-room c =
     let s = c.self.invariant.0 in
     fits c.self.inside.store (λ k d lt. (s.clients k d lt).0) s.few c.args.request.client.0 (λ k d lt. (s.clients k d lt).1) c.requires.client.0 c.requires.client.1
     (subst (λ (es : List BookEntry). unanswered_entries es c.args.request.client.0 < 16) (sym c.self.view_is) c.requires.few)
 
-pub add_sectors-requires-clause-newest : goal.add_sectors-requires-clause-newest
-add_sectors-requires-clause-newest c =
-    subst (λ (r : Unanswered). All (λ (o : Unanswered). o.id.0 < r.id.0) (asks_of c.self.inside.store)) (sym c.asks_of-asks.ensures)
+pub add-holder-requires-clause-newest : goal.add-holder-requires-clause-newest
+add-holder-requires-clause-newest c =
+    subst (λ (r : Unanswered). All (λ (o : Unanswered). o.id.0 < r.id.0) (asks_of c.self.inside.store)) (sym c.asks_of.ensures)
     (asks_newest c.self.inside.store c.args.request.id.0 (subst (λ (es : List BookEntry). All (λ x. x.entry.id.0 < c.args.request.id.0) es) (sym c.self.view_is) c.requires.newest))
 
 pub push_reserved-requires : goal.push_reserved-requires
@@ -68,14 +63,3 @@ push_reserved-requires c =
     let room = c.self.invariant.3 in
     let ok : vec_len c.self.inside.holders ≡ length c.self.inside.holders.items = c.self.inside.holders.ok.0 in
     omega (arith, few, n, long, room, ok)
-
-pub add_flush-requires : goal.add_flush-requires
-add_flush-requires c =
-    let s = c.self.invariant.0 in
-    let few = fits c.self.inside.store (λ k d lt. (s.clients k d lt).0) s.few c.args.request.client.0 (λ k d lt. (s.clients k d lt).1) c.requires.client.0 c.requires.client.1
-    (subst (λ (es : List BookEntry). unanswered_entries es c.args.request.client.0 < 16) (sym c.self.view_is) c.requires.few) in
-    let long = length-map c.self.inside.store (λ (e : BookEntry). asks e.entry) in
-    let fewer = few_flushes (asks_of c.self.inside.store) in
-    let same = ap length c.self.invariant.5 in
-    let room = c.self.invariant.6 in
-    omega (arith, few, long, fewer, same, room)

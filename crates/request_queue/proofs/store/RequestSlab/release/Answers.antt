@@ -1,4 +1,4 @@
-use Rattle.std.proofs.Common.{◌∙◌, sym, refl, arith}
+use Rattle.std.proofs.Common.{refl, arith}
 use Rattle.request_queue.proofs.Taking as taking
 use Rattle.request_queue.proofs.store.RequestSlab.release.Goals as goal
 

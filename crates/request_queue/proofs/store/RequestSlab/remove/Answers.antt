@@ -1,4 +1,4 @@
-use Rattle.std.proofs.Common.{◌∙◌, sym, arith}
+use Rattle.std.proofs.Common.{arith}
 use Rattle.request_queue.proofs.Taking as taking
 use Rattle.request_queue.proofs.store.RequestSlab.remove.Goals as goal
 

@@ -1,0 +1,194 @@
+-- A batch grows by a transfer that is prepared.
+use Rattle.std.proofs.Common.{ℕ, ◌≡◌, ◌≢◌, ◌<◌, ◌≤◌, ◌/◌, ◌%◌, ◌++◌, true, List, [], ◌∷◌, length, inl, inr, sym, ◌∙◌, subst, ⊎_elim, arith}
+use Rattle.std.proofs.lemmas.List.{get_or_default}
+use Rattle.std.proofs.lemmas.List.Elements.{All-contains, All-nil, All-push, Contains-append_left, Contains-append_right}
+use Rattle.std.proofs.lemmas.List.Quantifiers.{all_pairs_push}
+use Rattle.std.specs.List.{All, Contains}
+use Rattle.ata_types.specs.declared.Port.{Port}
+use Rattle.ata_types.specs.declared.memory.TheConstants.{DRIVER_BYTES}
+use Rattle.ata_types.specs.declared.request.Op.{Op}
+use Rattle.adapter.specs.Access.{Access}
+use Rattle.adapter.specs.Access.Access.{Reading, Writing, Loading, Storing}
+use Rattle.adapter.specs.Commands.{Meaning}
+use Rattle.adapter.specs.Device.{Device}
+use Rattle.adapter.specs.Rules.{IsOn, HasPort}
+use Rattle.block_machine.specs.Histories.{IsReachable}
+use Rattle.block_machine.specs.Left.{after}
+use Rattle.block_machine.specs.State.{Machine}
+use Rattle.refinement.specs.Acts.{Act, ActsReach, AreActsDone, DriverSlots, accesses_of, act_steps, driver_state}
+use Rattle.refinement.specs.Driven.{OnlyDeviceActs, RelatesWith}
+use Rattle.refinement.specs.Driver.{DriverAdvances, DriverRelation, DriverState, MayStore, MissesTable}
+use Rattle.refinement.specs.Links.{SameAdapter}
+use Rattle.refinement.specs.Readying.{IsStored, LeavesStored}
+use Rattle.refinement.specs.Slots.{Free, Armed, SlotDecodesTo, SlotStates, put}
+use Rattle.command_table.specs.Written.{IsHeader, IsInTable, IsTableStore, IsUnused}
+use Rattle.commands.specs.Batches.{AreUnused, IsBatchStored, IsSlotOf, IsStoreForBatch, SaysTask, SlotTask, StoresTransfer}
+use Rattle.commands.specs.Issuing.{MayIssueTransfer}
+use Rattle.commands.specs.Tasks.{IsFitTransfer, IsStoreFor, IsTransfer, RunsItsList, addresses_of, meaning_of}
+use Rattle.commands.proofs.Batch.{PutsHere, PutsNoOther, all_as, all_in, contains_here}
+use Rattle.commands.proofs.Stores.{ActLaws, IsStoring, Leaving, batch_stores, simulated_as, simulated_none, simulated_then, stored_in, stores_may, stores_on, stores_same, stores_there, table_stores}
+use Rattle.commands.proofs.Telling.{no_block, of_transfer}
+
+-- what laws of the crates below say
+pub record Laws : Type 0 where
+  pub leaving : Leaving
+  pub acts : ActLaws
+  pub stays : (port : Port) (slot : ℕ) (c : Meaning) (places : List ℕ) (acts : List Act) (k later : DriverState) (m : Machine) → IsReachable m → DriverRelation m k → AreActsDone acts k m later
+      → All (LeavesStored port slot) (accesses_of acts) → IsOn k.device → IsStored k.device port.0 slot c places → IsStored later.device port.0 slot c places
+  pub misses : (uses : SlotStates) (port slot at n : ℕ) → uses port slot ≢ Free → port < 4 → slot < 32 → MayStore uses at n → MissesTable port slot at n
+  pub put_here : PutsHere
+  pub put_others : PutsNoOther
+
+pub none_stored : (port : Port) (d : Device) → IsOn d → HasPort d port.0 → DRIVER_BYTES ≤ d.size → RunsItsList port.0 d → RelatesWith (AreUnused port.0 []) d → IsBatchStored port [] d d
+none_stored port d on there room may agreed = record {
+  on = on;
+  there = there;
+  room = room;
+  may = may;
+  agreed = agreed;
+  apart = λ i j x less small. absurd (omega (arith, small));
+  small = All-nil (λ (t : SlotTask). t.slot < 32);
+  usable = All-nil (λ (t : SlotTask). t.slot ≤ d.cap / 256 % 32);
+  fit = All-nil (λ (t : SlotTask). IsFitTransfer t.task t.frames);
+  queued = All-nil (λ (t : SlotTask). t.task.queued ≡ true);
+  stores = simulated_none (IsStoreForBatch port.0 []) (AreUnused port.0 []) d;
+  say = All-nil (λ (t : SlotTask). SaysTask port.0 t d.memory);
+}
+
+-- what is stored for one slot misses header and table of another
+module _ (laws : Laws) (port : Port) (slot other : ℕ) (low : port.0 < 4) (small : slot < 32) (other_small : other < 32) (apart : other ≢ slot) where
+  -- the other one is used
+  abbrev uses : SlotStates
+  uses = put (λ p k. Free) port.0 other Armed
+
+  table_misses : (at : ℕ) (bytes : List ℕ) → IsTableStore port.0 slot (Storing at bytes) → MissesTable port.0 other at (length bytes)
+  table_misses at bytes here =
+      laws.misses uses port.0 other at (length bytes) (λ e. let z : Armed ≡ Free = sym (laws.put_here (λ p k. Free) port.0 other Armed) ∙ e in cc) low other_small (inl (record {
+        port = port.0;
+        slot = slot;
+        below = low;
+        slot_below = small;
+        free = laws.put_others (λ p k. Free) port.0 other Armed port.0 slot (λ _ e. apart (sym e));
+        here = ⊎_elim
+            (λ (h : IsHeader port.0 slot at bytes). let e = h.0 in let n = h.1 in inl (omega (arith, e), omega (arith, e, n)))
+            (λ (t : IsInTable port.0 slot at bytes). inr t)
+            here;
+      }))
+
+  table_leaves : (access : Access) → IsTableStore port.0 slot access → LeavesStored port other access
+  table_leaves (Storing place bytes) here = record {
+    host = tt;
+    start = λ v e. absurd cc;
+    list = tt;
+    table = λ at some e.
+        let z : IsTableStore port.0 slot (Storing at some) = subst (IsTableStore port.0 slot) e here in
+        table_misses at some z;
+  }
+  table_leaves (Loading place bytes) here = absurd here
+  table_leaves (Reading q v) here = absurd here
+  table_leaves (Writing q v) here = absurd here
+
+store_of_table : (port slot : ℕ) (access : Access) (op : Op) → IsTransfer op → IsTableStore port slot access → IsStoreFor op port slot access
+store_of_table port slot access op is here = of_transfer (λ o. IsStoreFor o port slot access) here here op is
+
+module _ (laws : Laws) (port : Port) (tasks : List SlotTask) (t : SlotTask) (start mid : Device) (b : IsBatchStored port tasks start mid) (agreed : RelatesWith (AreUnused port.0 (tasks ++ t ∷ [])) start)
+    (apart : IsSlotOf tasks t.slot → ⊥) (small : t.slot < 32) (usable : t.slot ≤ start.cap / 256 % 32) (fit : IsFitTransfer t.task t.frames) (queued : t.task.queued ≡ true) where
+  abbrev both : List SlotTask
+  both = tasks ++ t ∷ []
+
+  kinds : (access : Access) → IsStoreForBatch port.0 tasks access → IsStoring access
+  kinds = batch_stores port.0 tasks
+
+  mid_on : IsOn mid
+  mid_on = stores_on laws.leaving port (IsStoreForBatch port.0 tasks) kinds start mid b.stores.driven b.on
+
+  mid_may : RunsItsList port.0 mid
+  mid_may = stores_may laws.leaving port (IsStoreForBatch port.0 tasks) kinds start mid b.stores.driven b.on b.may
+
+  mid_there : HasPort mid port.0
+  mid_there = stores_there laws.leaving port (IsStoreForBatch port.0 tasks) kinds start mid b.stores.driven b.there
+
+  mid_same : SameAdapter start mid
+  mid_same = stores_same laws.leaving port (IsStoreForBatch port.0 tasks) kinds start mid b.stores.driven
+
+  fewer : (uses : SlotStates) → AreUnused port.0 both uses → AreUnused port.0 tasks uses
+  fewer uses free = all_in (λ x. uses port.0 x.slot ≡ Free) tasks (λ x is. All-contains (λ y. uses port.0 y.slot ≡ Free) both x free (Contains-append_left tasks (t ∷ []) x is))
+
+  its : (uses : SlotStates) → AreUnused port.0 both uses → uses port.0 t.slot ≡ Free
+  its uses free = All-contains (λ y. uses port.0 y.slot ≡ Free) both t free (Contains-append_right tasks (t ∷ []) t (contains_here t []))
+
+  -- a machine agrees still
+  s : DriverSlots
+  s = record { uses = agreed.0; parked = agreed.2.parked }
+
+  x : ActsReach b.stores.driven.accesses (driver_state s start) agreed.2.machine (driver_state s mid) (OnlyDeviceActs (IsStoreForBatch port.0 tasks) agreed.0)
+  unfolding s
+  x = b.stores.comes s agreed.2.machine agreed.2.reached agreed.2.knows (fewer agreed.0 agreed.1)
+
+  m : Machine
+  m = after agreed.2.machine (act_steps x.acts)
+
+  goes : DriverAdvances (driver_state s start) agreed.2.machine (act_steps x.acts) (driver_state s mid)
+  unfolding s
+  goes = laws.acts.goes x.acts (driver_state s start) (driver_state s mid) agreed.2.machine agreed.2.knows x.done
+
+  m_reached : IsReachable m
+  unfolding s m
+  m_reached = laws.acts.reached (driver_state s start) (driver_state s mid) agreed.2.machine (act_steps x.acts) agreed.2.reached goes
+
+  pub may_prepare : MayIssueTransfer port t.slot t.task t.frames mid
+  unfolding s m
+  may_prepare = record {
+    may = record {
+      on = mid_on;
+      there = mid_there;
+      room = subst (λ (n : ℕ). DRIVER_BYTES ≤ n) (sym mid_same.size) b.room;
+      agreed = (agreed.0, its agreed.0 agreed.1, record { machine = m; parked = agreed.2.parked; reached = m_reached; knows = goes.knows });
+      may = mid_may;
+    };
+    small = small;
+    usable = subst (λ (n : ℕ). t.slot ≤ n / 256 % 32) (sym mid_same.cap) usable;
+    fits = fit;
+  }
+
+  module _ (new : Device) (w : StoresTransfer port t mid new) where
+    new_may : RunsItsList port.0 new
+    new_may = stores_may laws.leaving port (IsTableStore port.0 t.slot) (table_stores port.0 t.slot) mid new w.stores.driven mid_on mid_may
+
+    stays : (y : SlotTask) → Contains tasks y → SaysTask port.0 y new.memory
+    unfolding s m
+    stays y is =
+        let says : SaysTask port.0 y mid.memory = All-contains (λ z. SaysTask port.0 z mid.memory) tasks y b.say is in
+        let its_small : y.slot < 32 = All-contains (λ z. z.slot < 32) tasks y b.small is in
+        let its_fit : IsFitTransfer y.task y.frames = All-contains (λ z. IsFitTransfer z.task z.frames) tasks y b.fit is in
+        let places : List ℕ = addresses_of port.0 y.task.op y.task.range.count y.frames in
+        let z : ActsReach w.stores.driven.accesses (driver_state s mid) m (driver_state s new) (OnlyDeviceActs (IsTableStore port.0 t.slot) s.uses) = w.stores.comes s m m_reached goes.knows (its agreed.0 agreed.1) in
+        let after_both : IsStored new port.0 y.slot (meaning_of y.task) places =
+        laws.stays port y.slot (meaning_of y.task) places z.acts (driver_state s mid) (driver_state s new) m m_reached goes.knows z.done
+        (subst (All (LeavesStored port y.slot)) (sym z.accesses_are)
+        (all_as (IsTableStore port.0 t.slot) (LeavesStored port y.slot) (table_leaves laws port t.slot y.slot b.there.0 small its_small (λ e. apart (y, is, e))) w.stores.driven.accesses w.stores.driven.only))
+        mid_on (stored_in port y.slot (meaning_of y.task) places mid mid_there its_small mid_may says.told) in
+        record {
+          told = subst (λ (list : ℕ). SlotDecodesTo new.memory list port.0 y.slot (meaning_of y.task) places) new_may.list after_both.told;
+          block = no_block y.task.range port.0 new.memory y.task.op its_fit.transfers;
+        }
+
+    pub grows : IsBatchStored port both start new
+    grows = record {
+      on = b.on;
+      there = b.there;
+      room = b.room;
+      may = b.may;
+      agreed = agreed;
+      apart = all_pairs_push (λ (one other : SlotTask). one.slot ≡ other.slot → ⊥) tasks t b.apart (λ k d below e. apart (_, (k, below, get_or_default tasks k _ d below), e));
+      small = All-push (λ y. y.slot < 32) tasks t b.small small;
+      usable = All-push (λ y. y.slot ≤ start.cap / 256 % 32) tasks t b.usable usable;
+      fit = All-push (λ y. IsFitTransfer y.task y.frames) tasks t b.fit fit;
+      queued = All-push (λ y. y.task.queued ≡ true) tasks t b.queued queued;
+      stores = simulated_then laws.acts (IsStoreForBatch port.0 both) (AreUnused port.0 both) start mid new
+          (simulated_as (IsStoreForBatch port.0 tasks) (IsStoreForBatch port.0 both) (AreUnused port.0 tasks) (AreUnused port.0 both) start mid
+          (λ access is. (is.0, Contains-append_left tasks (t ∷ []) is.0 is.1, is.2)) fewer b.stores)
+          (simulated_as (IsTableStore port.0 t.slot) (IsStoreForBatch port.0 both) (IsUnused port.0 t.slot) (AreUnused port.0 both) mid new
+          (λ access is. (t, Contains-append_right tasks (t ∷ []) t (contains_here t []), store_of_table port.0 t.slot access t.task.op fit.transfers is)) its w.stores);
+      say = All-push (λ y. SaysTask port.0 y new.memory) tasks t (all_in (λ y. SaysTask port.0 y new.memory) tasks stays) w.says;
+    }

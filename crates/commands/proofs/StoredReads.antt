@@ -1,0 +1,89 @@
+-- Two queued reads are stored, and may be issued together.
+use Rattle.std.proofs.Common.{ℕ, zero, suc, ◌≡◌, ◌<◌, ◌≤◌, ◌/◌, ◌%◌, ◌==◌, true, false, not, List, [], ◌∷◌, inl, refl, sym, ap, arith}
+use Rattle.std.proofs.lemmas.Bool.{both_ways}
+use Rattle.std.proofs.lemmas.List.Elements.{All-cons}
+use Rattle.std.proofs.lemmas.List.Kept.{AllPairs-cons}
+use Rattle.std.proofs.lemmas.Nat.Bits.{bit_at_above}
+use Rattle.std.specs.List.{All}
+use Rattle.ata_types.specs.declared.range.Sector.{Sector}
+use Rattle.ata_types.specs.declared.request.Op.TheVariants.{Read}
+use Rattle.hba_regs.specs.Bits.{bit}
+use Rattle.adapter.specs.Memory.{changed}
+use Rattle.block_machine.specs.State.{Pending}
+use Rattle.block_machine.specs.declared.due.QueueMode.{QueueMode}
+use Rattle.refinement.specs.Relation.{port_at}
+use Rattle.refinement.specs.Served.{ReadsIntoFrame, TwoStoredReads, two_memory}
+use Rattle.refinement.specs.Slots.{Free}
+use Rattle.refinement.specs.Witness.{ready_with}
+use Rattle.commands.specs.Batches.{AreUnused, HasBitsOf, IsSlotOf, IsStoreForBatch, SaysTask, SlotTask}
+use Rattle.commands.specs.Tasks.{IsFitTransfer, IsTaskOf}
+use Rattle.commands.specs.Witness.{BatchMayBeIssued}
+use Rattle.commands.proofs.Batch.{all_one, contains_here, contains_there, one_apart}
+use Rattle.commands.proofs.Stores.{simulated_none}
+
+-- a queued read of eight sectors into a frame
+abbrev read_in : ℕ → ℕ → ℕ → SlotTask
+read_in slot first frame = record {
+  slot = slot;
+  task = record { op = Read; range = record { first = record { 0 = first }; count = 8 }; queued = true };
+  frames = record { 0 = frame } ∷ [];
+}
+
+abbrev tasks : List SlotTask
+tasks = read_in 0 100 100 ∷ read_in 1 108 101 ∷ []
+
+-- what holds of both
+both : (P : SlotTask → Type 0) → P (read_in 0 100 100) → P (read_in 1 108 101) → All P tasks
+both P one other = All-cons P (read_in 0 100 100) (read_in 1 108 101 ∷ []) one (all_one P (read_in 1 108 101) other)
+
+fits : (slot first frame : ℕ) → first < 281474976710656 → IsFitTransfer (read_in slot first frame).task (read_in slot first frame).frames
+fits slot first frame small = record { transfers = inl refl; some = omega arith; few = omega arith; first = small; number = refl }
+
+has_bits : HasBitsOf tasks 3
+has_bits = record { here = both (λ t. bit 3 t.slot ≡ true) refl refl; alone = alone }
+  where
+    alone : (slot : ℕ) → bit 3 slot ≡ true → IsSlotOf tasks slot
+    alone zero set = (read_in 0 100 100, contains_here (read_in 0 100 100) (read_in 1 108 101 ∷ []), refl)
+    alone (suc zero) set =
+        (read_in 1 108 101, contains_there (read_in 0 100 100) (read_in 1 108 101 ∷ []) (read_in 1 108 101) (contains_here (read_in 1 108 101) []), refl)
+    alone (suc (suc slot)) set = absurd (both_ways (bit 3 (suc (suc slot))) (ap (λ (n : ℕ). n == 1) (bit_at_above 3 2 (suc (suc slot)) (omega arith) (omega arith))) set)
+
+its_task : (mode : QueueMode) (slot first frame : ℕ) (e : Pending) → mode.queued ≡ true → slot < mode.usable → ReadsIntoFrame first frame e → IsTaskOf (port_at 0) slot (read_in slot first frame).task (read_in slot first frame).frames mode e
+its_task mode slot first frame e queued usable asks = record {
+  port_is = asks.port_is;
+  operation = asks.operation;
+  first = ap (λ (n : ℕ). let s : Sector = record { 0 = n } in s) asks.first_is;
+  count = asks.count;
+  frames_are = asks.frames;
+  kind = sym (ap (λ b. not (not b)) queued);
+  usable = usable;
+  head = λ plain. absurd (let z : true ≡ false = plain in cc);
+}
+
+module _ (known : TwoStoredReads) where
+  pub batch_may_be_issued : BatchMayBeIssued
+  unfolding changed
+  batch_may_be_issued = record {
+    tasks = tasks;
+    two = refl;
+    stored = record {
+      on = record { ae = refl; no_reset = refl };
+      there = (omega arith, refl);
+      room = omega arith;
+      may = record { started = refl; list = refl };
+      agreed = (λ port slot. Free, both (λ t. Free ≡ Free) refl refl, record { machine = known.machine; parked = λ port. []; reached = known.reached; knows = known.knows });
+      apart = AllPairs-cons (λ (a b : SlotTask). a.slot ≡ b.slot → ⊥) (read_in 0 100 100) (read_in 1 108 101 ∷ []) (all_one (λ (b : SlotTask). 0 ≡ b.slot → ⊥) (read_in 1 108 101) (λ e. omega (arith, e))) (one_apart (read_in 1 108 101));
+      small = both (λ t. t.slot < 32) (omega arith) (omega arith);
+      usable = both (λ t. t.slot ≤ (ready_with two_memory).cap / 256 % 32) (omega arith) (omega arith);
+      fit = both (λ t. IsFitTransfer t.task t.frames) (fits 0 100 100 (omega arith)) (fits 1 108 101 (omega arith));
+      queued = both (λ t. t.task.queued ≡ true) refl refl;
+      stores = simulated_none (IsStoreForBatch 0 tasks) (AreUnused 0 tasks) (ready_with two_memory);
+      say = both (λ t. SaysTask 0 t two_memory) (record { told = known.first_says; block = tt }) (record { told = known.second_says; block = tt });
+    };
+    mask = 3;
+    bits = has_bits;
+    mode = known.mode;
+    requests = known.first ∷ known.second ∷ [];
+    are = (its_task known.mode 0 100 100 known.first known.queued (let u = known.usable in omega (arith, u)) known.first_asks, (its_task known.mode 1 108 101 known.second known.queued known.usable known.second_asks, tt));
+    may = record { free = both (λ t. Free ≡ Free) refl refl; may = known.may };
+  }

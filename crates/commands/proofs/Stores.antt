@@ -1,0 +1,179 @@
+-- What stores for commands leave, and how they compose.
+use Rattle.std.proofs.Common.{ℕ, ◌≡◌, ◌≢◌, ◌+◌, ◌<◌, ◌++◌, List, [], ◌∷◌, inl, inr, refl, sym, ◌∙◌, ap, subst, arith}
+use Rattle.std.proofs.lemmas.List.Elements.{All-append, All-nil}
+use Rattle.ata_types.specs.declared.Port.{Port}
+use Rattle.ata_types.specs.declared.request.Op.{Op}
+use Rattle.ata_types.specs.declared.request.Op.TheVariants.{Read, Write, Trim, Flush}
+use Rattle.hba_regs.specs.Bits.{bit}
+use Rattle.hba_regs.specs.declared.reg.Reg.{Reg}
+use Rattle.adapter.specs.Access.{Access, DoesAll}
+use Rattle.adapter.specs.Access.Access.{Reading, Writing, Loading, Storing}
+use Rattle.adapter.specs.Commands.{Meaning}
+use Rattle.adapter.specs.Device.{Bases, Device}
+use Rattle.adapter.specs.Rules.{IsOn, HasPort}
+use Rattle.block_machine.specs.Events.{AllByDevice}
+use Rattle.block_machine.specs.Histories.{IsReachable}
+use Rattle.block_machine.specs.Left.{after}
+use Rattle.block_machine.specs.State.{Machine}
+use Rattle.block_machine.specs.Steps.{Step}
+use Rattle.refinement.specs.Acts.{Act, AreActsDone, driver_state, accesses_of, act_steps}
+use Rattle.refinement.specs.Driven.{AnyAccess, IsDrivenBy, IsSimulated, LeavesPort, SparesOtherPorts}
+use Rattle.refinement.specs.Driver.{DriverAdvances, DriverRelation, DriverState}
+use Rattle.refinement.specs.Links.{SameAdapter, DoesNotWrite}
+use Rattle.refinement.specs.Places.{list_of}
+use Rattle.refinement.specs.Readying.{IsStored}
+use Rattle.refinement.specs.Slots.{SlotDecodesTo, SlotStates}
+use Rattle.command_table.specs.Written.{IsStoreWithBlock, IsTableStore}
+use Rattle.commands.specs.Batches.{IsStoreForBatch, SlotTask}
+use Rattle.commands.specs.Tasks.{IsStoreFor, RunsItsList}
+use Rattle.commands.proofs.Batch.{all_as}
+
+-- ---- stores
+
+-- it stores, whatever and wherever
+abbrev pub IsStoring : Access → Type 0
+IsStoring (Storing at bytes) = Unit {0}
+IsStoring access = ⊥
+
+with_block_stores : (port slot : ℕ) (access : Access) → IsStoreWithBlock port slot access → IsStoring access
+with_block_stores port slot (Storing place bytes) here = tt
+with_block_stores port slot (Loading place bytes) here = elim here [ inl x ↦ x | inr x ↦ x ]
+with_block_stores port slot (Reading q v) here = elim here [ inl x ↦ x | inr x ↦ x ]
+with_block_stores port slot (Writing q v) here = elim here [ inl x ↦ x | inr x ↦ x ]
+
+-- what is stored for a task is header and table, or a block
+pub store_for : (op : Op) (port slot : ℕ) (access : Access) → IsStoreFor op port slot access → IsStoreWithBlock port slot access
+store_for Trim port slot access here = here
+store_for Read port slot access here = inl here
+store_for Write port slot access here = inl here
+store_for Flush port slot access here = inl here
+
+pub batch_stores : (port : ℕ) (tasks : List SlotTask) (access : Access) → IsStoreForBatch port tasks access → IsStoring access
+batch_stores port tasks access here = with_block_stores port here.0.slot access (store_for here.0.task.op port here.0.slot access here.2)
+
+pub table_stores : (port slot : ℕ) (access : Access) → IsTableStore port slot access → IsStoring access
+table_stores port slot (Storing place bytes) here = tt
+table_stores port slot (Loading place bytes) here = here
+table_stores port slot (Reading q v) here = here
+table_stores port slot (Writing q v) here = here
+
+storing_spares : (port : Port) (access : Access) → IsStoring access → SparesOtherPorts port access
+storing_spares port (Storing place bytes) here = tt
+storing_spares port (Loading place bytes) here = tt
+storing_spares port (Reading q v) here = absurd here
+storing_spares port (Writing q v) here = absurd here
+
+pub storing_writes_none : (r : Reg) (access : Access) → IsStoring access → DoesNotWrite r access
+storing_writes_none r (Storing place bytes) here = tt
+storing_writes_none r (Loading place bytes) here = tt
+storing_writes_none r (Reading q v) here = tt
+storing_writes_none r (Writing q v) here = absurd here
+
+-- ---- what they leave
+
+-- what laws say: accesses of another port leave the port to the device, and any leave the adapter what it is
+pub record Leaving : Type 0 where
+  pub left : (port : Port) (q : ℕ) (old new : Device) → q ≢ port.0 → IsOn old → IsDrivenBy (SparesOtherPorts port) old new → LeavesPort (old.port q) (new.port q)
+  pub on : (port : Port) (old new : Device) → IsOn old → IsDrivenBy (SparesOtherPorts port) old new → IsOn new
+  pub adapter : (old new : Device) → IsDrivenBy AnyAccess old new → SameAdapter old new
+
+module _ (laws : Leaving) (port : Port) (May : Access → Type 0) (stores : (access : Access) → May access → IsStoring access) (old mid : Device) (driven : IsDrivenBy May old mid) where
+  as_kind : (Kind : Access → Type 0) → ((access : Access) → IsStoring access → Kind access) → IsDrivenBy Kind old mid
+  as_kind Kind more = record {
+    accesses = driven.accesses;
+    all = driven.all;
+    only = all_as May Kind (λ access is. more access (stores access is)) driven.accesses driven.only;
+  }
+
+  -- no store is of a register, so the port is left as by accesses of another one
+  stores_left : IsOn old → LeavesPort (old.port port.0) (mid.port port.0)
+  stores_left on =
+      let q : Port = record { 0 = port.0 + 1 } in
+      laws.left q port.0 old mid (λ (e : port.0 ≡ port.0 + 1). omega (arith, e)) on (as_kind (SparesOtherPorts q) (storing_spares q))
+
+  pub stores_on : IsOn old → IsOn mid
+  stores_on on = laws.on port old mid on (as_kind (SparesOtherPorts port) (storing_spares port))
+
+  pub stores_same : SameAdapter old mid
+  stores_same = laws.adapter old mid (as_kind AnyAccess (λ access is. tt))
+
+  pub stores_there : HasPort old port.0 → HasPort mid port.0
+  stores_there there = (there.0, ap (λ (pi : ℕ). bit pi port.0) stores_same.pi ∙ there.1)
+
+  pub stores_may : IsOn old → RunsItsList port.0 old → RunsItsList port.0 mid
+  stores_may on may = record {
+    started = (stores_left on).controls.st ∙ may.started;
+    list = ap (λ (x : Bases). x.clb) (stores_left on).keeps.bases ∙ may.list;
+  }
+
+pub stored_in : (port : Port) (slot : ℕ) (c : Meaning) (places : List ℕ) (d : Device) → HasPort d port.0 → slot < 32 → RunsItsList port.0 d → SlotDecodesTo d.memory (list_of port.0) port.0 slot c places → IsStored d port.0 slot c places
+stored_in port slot c places d there small may told = record {
+  started = may.started;
+  placed = record { port_below = there.0; slot_below = small; list = may.list };
+  told = subst (λ (list : ℕ). SlotDecodesTo d.memory list port.0 slot c places) (sym may.list) told;
+}
+
+-- ---- one fragment after another
+
+-- what laws say of acts
+pub record ActLaws : Type 0 where
+  pub goes : (acts : List Act) (k later : DriverState) (m : Machine) → DriverRelation m k → AreActsDone acts k m later → DriverAdvances k m (act_steps acts) later
+  pub reached : (k later : DriverState) (m : Machine) (steps : List Step) → IsReachable m → DriverAdvances k m steps later → IsReachable (after m steps)
+  pub more : (early late : List Act) (a b c : DriverState) (m : Machine) → AreActsDone early a m b → AreActsDone late b (after m (act_steps early)) c → AreActsDone (early ++ late) a m c
+  pub accesses : (early late : List Act) → accesses_of (early ++ late) ≡ accesses_of early ++ accesses_of late
+  pub steps : (early late : List Act) → act_steps (early ++ late) ≡ act_steps late ++ act_steps early
+  pub device : (late early : List Step) → AllByDevice late → AllByDevice early → AllByDevice (late ++ early)
+
+pub does_then : (first then : List Access) (old mid new : Device) → DoesAll first old mid → DoesAll then mid new → DoesAll (first ++ then) old new
+does_then [] then old mid new e rest = let P : Device → Type 0 = λ d. DoesAll then d new in subst P e rest
+does_then (access ∷ accesses) then old mid new (one, does, more) rest = (one, does, does_then accesses then one mid new more rest)
+
+-- no access is made
+pub simulated_none : (May : Access → Type 0) (Fits : SlotStates → Type 0) (d : Device) → IsSimulated May Fits d d
+simulated_none May Fits d = record {
+  driven = record { accesses = []; all = refl; only = All-nil May };
+  comes = λ s m reached knows fits. record {
+    acts = [];
+    done = refl;
+    accesses_are = refl;
+    tells = record { only = tt; kept = λ q issues arms. All-nil (λ (act : Act). act.later.uses q.0 ≡ s.uses q.0) };
+  };
+}
+
+-- more accesses are of this kind, or fewer uses fit
+pub simulated_as : (May More : Access → Type 0) (Fits Fewer : SlotStates → Type 0) (old new : Device) → ((access : Access) → May access → More access) → ((uses : SlotStates) → Fewer uses → Fits uses) → IsSimulated May Fits old new →
+    IsSimulated More Fewer old new
+simulated_as May More Fits Fewer old new more fewer x = record {
+  driven = record { accesses = x.driven.accesses; all = x.driven.all; only = all_as May More more x.driven.accesses x.driven.only };
+  comes = λ s m reached knows fits.
+      let y = x.comes s m reached knows (fewer s.uses fits) in
+      record {
+        acts = y.acts;
+        done = y.done;
+        accesses_are = y.accesses_are;
+        tells = record { only = y.tells.only; kept = λ q issues arms. y.tells.kept q (λ access is. issues access (more access is)) (λ access is. arms access (more access is)) };
+      };
+}
+
+pub simulated_then : ActLaws → (May : Access → Type 0) (Fits : SlotStates → Type 0) (old mid new : Device) → IsSimulated May Fits old mid → IsSimulated May Fits mid new → IsSimulated May Fits old new
+simulated_then laws May Fits old mid new a b = record {
+  driven = record {
+    accesses = a.driven.accesses ++ b.driven.accesses;
+    all = does_then a.driven.accesses b.driven.accesses old mid new a.driven.all b.driven.all;
+    only = All-append May a.driven.accesses b.driven.accesses a.driven.only b.driven.only;
+  };
+  comes = λ s m reached knows fits.
+      let x = a.comes s m reached knows fits in
+      let g = laws.goes x.acts (driver_state s old) (driver_state s mid) m knows x.done in
+      let y = b.comes s (after m (act_steps x.acts)) (laws.reached (driver_state s old) (driver_state s mid) m (act_steps x.acts) reached g) g.knows fits in
+      record {
+        acts = x.acts ++ y.acts;
+        done = laws.more x.acts y.acts (driver_state s old) (driver_state s mid) (driver_state s new) m x.done y.done;
+        accesses_are = laws.accesses x.acts y.acts
+            ∙ (ap (λ (early : List Access). early ++ accesses_of y.acts) x.accesses_are ∙ ap (λ (late : List Access). a.driven.accesses ++ late) y.accesses_are);
+        tells = record {
+          only = subst AllByDevice (sym (laws.steps x.acts y.acts)) (laws.device (act_steps y.acts) (act_steps x.acts) y.tells.only x.tells.only);
+          kept = λ q issues arms. All-append (λ (act : Act). act.later.uses q.0 ≡ s.uses q.0) x.acts y.acts (x.tells.kept q issues arms) (y.tells.kept q issues arms);
+        };
+      };
+}

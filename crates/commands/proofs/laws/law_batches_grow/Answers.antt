@@ -1,0 +1,31 @@
+use Rattle.commands.proofs.Growing.{Laws, grows, may_prepare, none_stored}
+use Rattle.commands.proofs.laws.law_batches_grow.Goals as goal
+
+pub returns-clause-none : goal.returns-clause-none
+returns-clause-none c = none_stored
+
+pub returns-clause-more : goal.returns-clause-more
+returns-clause-more c =
+    let laws : Laws = record {
+      leaving = record {
+        left = c.law_other_ports_are_left.ensures.left;
+        on = c.law_other_ports_are_left.ensures.on;
+        adapter = c.law_other_ports_are_left.ensures.adapter;
+      };
+      acts = record {
+        goes = c.law_acts_advance_driver.ensures.goes;
+        reached = c.law_advances_compose.ensures.reached;
+        more = c.law_acts_compose.ensures.more;
+        accesses = c.law_acts_compose.ensures.accesses;
+        steps = c.law_acts_compose.ensures.steps;
+        device = c.law_histories_compose.ensures.device;
+      };
+      stays = c.law_stored_stays_over_acts.ensures;
+      misses = c.law_stored_commands_stay.ensures.misses;
+      put_here = c.law_putting_is_of_one_slot.ensures.here;
+      put_others = c.law_putting_is_of_one_slot.ensures.others;
+    } in
+    λ port tasks t start mid b agreed apart small usable fit queued. (
+      may_prepare laws port tasks t start mid b agreed apart small usable fit queued,
+      grows laws port tasks t start mid b agreed apart small usable fit queued,
+    )

@@ -1,0 +1,33 @@
+use Rattle.std.proofs.Common.{◌≡◌, true}
+use Rattle.ata_types.specs.declared.Port.{Port}
+use Rattle.hba_regs.specs.declared.reg.Reg.TheVariants.{Px}
+use Rattle.hba_regs.specs.declared.reg.PortReg.TheVariants.{Ci, Sact}
+use Rattle.commands.specs.Batches.{IsStoreForBatch}
+use Rattle.commands.proofs.Armed.{armed_batch}
+use Rattle.commands.proofs.Stores.{Leaving, batch_stores, stores_may, stores_on, stores_there}
+use Rattle.commands.proofs.ncq.issue_all.Goals as goal
+
+pub write-requires : goal.write-requires
+write-requires g c =
+    let q = c.requires.stored in
+    let b = q.2 in
+    let laws : Leaving = record {
+      left = c.law_other_ports_are_left.ensures.left;
+      on = c.law_other_ports_are_left.ensures.on;
+      adapter = c.law_other_ports_are_left.ensures.adapter;
+    } in
+    let kind = IsStoreForBatch c.args.port.0 q.1 in
+    c.law_writing_is_permitted.ensures.rules (Px c.args.port Sact) c.args.mask _ (λ (at : Port) (e : Px c.args.port Sact ≡ Px at Ci). absurd cc) (
+      stores_on laws c.args.port kind (batch_stores c.args.port.0 q.1) _ _ b.stores.driven b.on,
+      stores_there laws c.args.port kind (batch_stores c.args.port.0 q.1) _ _ b.stores.driven b.there,
+      (stores_may laws c.args.port kind (batch_stores c.args.port.0 q.1) _ _ b.stores.driven b.on b.may).started,
+    )
+
+pub write-requires-2 : goal.write-requires-2
+write-requires-2 g c =
+    let q = c.requires.stored in
+    (c.law_writing_issues.ensures c.args.port true q.1 c.args.mask q.0 _ (armed_batch c.args.port q.1 c.args.mask q.0 _ _ q.2 q.3 c.write.ensures.does)).0
+
+pub returns-clause-issued : goal.returns-clause-issued
+returns-clause-issued g c = λ start tasks stored bits.
+    (c.law_writing_issues.ensures c.args.port true tasks c.args.mask start _ (armed_batch c.args.port tasks c.args.mask start _ _ stored bits c.write.ensures.does)).1 _ c.write-2.ensures.does

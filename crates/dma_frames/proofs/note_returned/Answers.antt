@@ -1,0 +1,27 @@
+use Rattle.std.proofs.Common.{ℕ, ◌≡◌, None, get_or, ap, sym, ◌∙◌, subst, arith}
+use Rattle.std.proofs.lemmas.List.{length-set}
+use Rattle.std.proofs.lemmas.List.Elements.{Contains-get_or}
+use Rattle.std.specs.List.{Contains}
+use Rattle.dma_frames.specs.Stored.{borrowers_of}
+use Rattle.dma_frames.proofs.StoredLemmas.{frames_more, returned_here, returned_others}
+use Rattle.dma_frames.proofs.note_returned.Goals as goal
+
+pub loop-frame-preserved : goal.loop-frame-preserved
+loop-frame-preserved c =
+    let v = c.loop-frame.invariant in
+    let lent = c.loop-frame.lent in
+    let ids = c.args.ids.now in
+    let frames = c.args.frames.now in
+    let i = c.loop-frame.frame-index in
+    let frame = get_or frames i (record { 0 = 0 }) in
+    let less = c.requires.within i (record { 0 = 0 }) c.loop-frame-test.true in
+    let many = v.lent in
+    let others = returned_others lent ids frame.0 (omega (arith, less, many)) in
+    record {
+      lent = length-set lent _ _ ∙ v.lent;
+      these = frames_more frames i (record { 0 = 0 }) c.loop-frame-test.true (λ n. get_or (borrowers_of lent ids) n None ≡ None) _ (returned_here lent ids frame.0 (omega (arith, less, many)))
+          (λ n not was. others n not ∙ was) v.these;
+      others = λ f h.
+          others f.0 (λ e. h (subst (Contains frames) (ap (λ (n : ℕ). record { 0 = n }) (sym e)) (Contains-get_or frames i (record { 0 = 0 }) c.loop-frame-test.true)))
+          ∙ v.others f h;
+    }

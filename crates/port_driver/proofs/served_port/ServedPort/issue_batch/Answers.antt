@@ -1,0 +1,254 @@
+use Rattle.std.proofs.Common.{ℕ, rules, ◌≡◌, ◌+◌, ◌/◌, ◌%◌, ◌<◌, ◌≤◌, ◌⊎◌, ⊎_elim, suc, zero, Some, not, false, true, inl, inr, List, [], ◌∷◌, ◌++◌, drop, get_or, length, map, refl, sym, take, ap, ◌∙◌, subst, arith}
+use Rattle.std.proofs.lemmas.Bool.{cases_eq}
+use Rattle.std.proofs.lemmas.List.{drop_more, length-map, take_all, take_more}
+use Rattle.std.proofs.lemmas.List.Elements.{All-nil}
+use Rattle.ata_types.specs.declared.request.RequestId.{RequestId}
+use Rattle.hba_regs.specs.Bits.{bit}
+use Rattle.adapter.specs.Device.{Device}
+use Rattle.block_machine.specs.Due.{AreAllDueInOrder, due_of, is_plain}
+use Rattle.block_machine.specs.declared.due.QueueMode.{QueueMode}
+use Rattle.block_machine.specs.declared.due.Unanswered.{Unanswered}
+use Rattle.commands.specs.Batches.{AreUnused, IsBatchIssued, IsBatchStored, SlotTask, StoresTransfer}
+use Rattle.commands.specs.Issuing.{MayIssueTransfer}
+use Rattle.refinement.specs.Slots.{Free}
+use Rattle.request_queue.specs.Entries.{BookEntry, BookIsInOrder, asks_of, due_ids, issue, update_if_id}
+use Rattle.server_history.specs.Served.{IssuesBatchOf, IssuesTogether, LeavesBookInOrder, MayTakeSlot, PutsInSlots, task_of, use_for}
+use Rattle.server_history.specs.Server.{ServerState}
+use Rattle.slots.specs.Uses.{IsLowestFree, IsTaken, PortSlots, with_use}
+use Rattle.port_driver.specs.Ports.{HasFoundPort, with_port_slots}
+use Rattle.port_driver.specs.declared.served_port.ServedPort.{ServedPort}
+use Rattle.port_driver.proofs.Batching as batching
+use Rattle.port_driver.proofs.Batching.{Preparing}
+use Rattle.port_driver.proofs.Sending as sending
+use Rattle.port_driver.proofs.served_port.ServedPort.issue_batch.Given.{Over}
+use Rattle.port_driver.proofs.served_port.ServedPort.issue_batch.Goals as goal
+use Rattle.port_driver.proofs.served_port.ServedPort.issue_batch.Goals.{After-deref, After-frames, After-take}
+
+abbrev no_id : RequestId
+no_id = record { 0 = 0 }
+
+pub loop-place-init : goal.loop-place-init
+loop-place-init g c =
+    let device = g.A.Adapter.device c.args.adapter.now in
+    let book = c.args.book.now in
+    let self = c.args.self.now in
+    let port = c.args.port in
+    let may = c.requires.may in
+    let s = may.lends.0 in
+    let l = may.lends.1 in
+    let there = sending.ready_there s port l.kept (ap (λ f. Rattle.server_history.specs.Server.state_of f) l.found_is ∙ may.ready) in
+    let runs = (l.kept.behind port.0 there.0).runs (ap (λ f. Rattle.server_history.specs.Server.state_of f) l.found_is ∙ may.ready) in
+    let none : IsBatchStored port [] s.device s.device = c.law_batches_grow.ensures.none port s.device l.kept.on there l.kept.room (record { started = runs.st; list = ap (λ b. b.clb) runs.bases })
+    (l.kept.stands.uses, All-nil (λ t. l.kept.stands.uses port.0 t.slot ≡ Free), record { machine = l.kept.machine; parked = l.kept.stands.parked; reached = l.kept.reached; knows = l.kept.stands.knows }) in
+    let order : BookIsInOrder book = subst BookIsInOrder l.book_is l.kept.ordered in
+    record {
+      batch = ([], subst (λ (d : Device). IsBatchStored port [] d d) l.device_is none, c.law_batch_masks_grow.ensures.none, λ s l. sending.lent_same s device book self.slots port self.mode self.found may.ready l);
+      turns = subst (λ (ids : List RequestId). AreAllDueInOrder self.mode port ids (asks_of book)) (sym c.requires.due) (c.law_due_in_turn.ensures self.mode port (asks_of book) (c.law_the_book_stays_in_order.ensures.asks book order));
+      many = refl;
+      port = refl;
+      fits = omega arith;
+      cost = omega arith;
+    }
+
+-- ---- the request at a place
+
+module _ (g : Over) (c : After-deref g) where
+  abbrev items : List RequestId
+  items = c.args.due.now.items
+
+  abbrev id : RequestId
+  id = get_or c.deref.result.now c.loop-place.place no_id
+
+  pub in_list : c.loop-place.place < length items
+  in_list = let low = c.loop-place-test.true in let end = c.len-place-end.ensures.value in omega (arith, low, end)
+
+  pub id_is : id ≡ get_or items c.loop-place.place no_id
+  id_is = ap (λ (ids : List RequestId). get_or ids c.loop-place.place no_id) c.deref.ensures.0
+
+  abbrev mode : QueueMode
+  mode = c.args.self.now.mode
+
+  abbrev pub preparing : Preparing
+  preparing = record {
+    port = c.args.port;
+    mode = mode;
+    found = c.args.self.now.found;
+    ready = c.requires.may.ready;
+    start = g.A.Adapter.device c.args.adapter.now;
+    first_book = c.args.book.now;
+    first_slots = c.args.self.now.slots;
+    ids = take c.loop-place.place items;
+    tasks = c.loop-place.invariant.batch.0;
+    book = c.loop-place.book;
+    slots = c.loop-place.self.slots;
+    puts = c.loop-place.invariant.batch.3;
+    id = id;
+    turn = subst (sending.IsTurn c.loop-place.book c.args.port mode) (sym id_is)
+        (sending.next_due c.loop-place.book c.args.port mode items c.loop-place.place no_id in_list c.loop-place.invariant.turns);
+  }
+
+  -- what is said of each server that the port may be a part of
+  module _ (s : ServerState) (l : HasFoundPort s preparing.start preparing.first_book preparing.first_slots preparing.port preparing.mode preparing.found) where
+    abbrev mid : ServerState
+    mid = batching.mid preparing s l
+
+    pub goes_on : LeavesBookInOrder s mid
+    goes_on = c.law_due_requests_get_slots.ensures.goes_on s mid preparing.port preparing.ids preparing.tasks l.kept (preparing.puts s l)
+
+    pub full : ((slot : ℕ) → slot < preparing.slots.usable → IsTaken preparing.slots slot) → ⊥
+    full all = c.law_due_requests_get_slots.ensures.full s mid preparing.port preparing.ids preparing.tasks preparing.turn.0 l.kept (preparing.puts s l) preparing.turn.1 preparing.turn.3 (batching.mid_due preparing s l)
+        (subst (λ (u : PortSlots). (slot : ℕ) → slot < u.usable → IsTaken u slot) (sym (batching.mid_slots preparing s l)) all)
+
+    pub may_take : (slot : ℕ) → IsLowestFree preparing.slots slot → MayTakeSlot s preparing.port preparing.tasks preparing.turn.0 slot
+    may_take slot lowest = c.law_due_requests_get_slots.ensures.lowest s mid preparing.port preparing.ids preparing.tasks preparing.turn.0 l.kept (preparing.puts s l) preparing.turn.1 preparing.turn.3 (batching.mid_due preparing s l)
+        slot (subst (λ (u : PortSlots). IsLowestFree u slot) (sym (batching.mid_slots preparing s l)) lowest)
+
+    -- it is queued, since another is due beside it
+    pub is_queued : (slot : ℕ) → IsLowestFree preparing.slots slot → is_plain mode preparing.turn.0.entry.op ≡ false
+    is_queued slot lowest = ⊎_elim first later (cases_eq c.loop-place.place 0)
+      where
+        in_mode : is_plain (Rattle.server_history.specs.Server.mode_in s preparing.port) preparing.turn.0.entry.op ≡ false → is_plain mode preparing.turn.0.entry.op ≡ false
+        in_mode queued = ap (λ (m : QueueMode). is_plain m preparing.turn.0.entry.op) (sym l.mode_is) ∙ queued
+
+        later : (c.loop-place.place ≡ 0 → ⊥) → is_plain mode preparing.turn.0.entry.op ≡ false
+        later some = in_mode (c.law_due_requests_get_slots.ensures.together s mid preparing.port preparing.ids preparing.tasks preparing.turn.0 l.kept (preparing.puts s l) preparing.turn.1 preparing.turn.3 (batching.mid_due preparing s l)
+            (λ none. some (batching.puts_place preparing.port items c.loop-place.place preparing.tasks s mid in_list (preparing.puts s l) none))).0
+
+        first : c.loop-place.place ≡ 0 → is_plain mode preparing.turn.0.entry.op ≡ false
+        first zero_is = batching.first_queued preparing s l slot (may_take slot lowest).small lowest c.law_operations_change_what_is_due.ensures.issue c.law_due_requests_get_slots.ensures.more c.law_due_requests_get_slots.ensures.together
+            items c.loop-place.place no_id (let some = c.requires.several in omega (arith, some, zero_is)) id_is c.loop-place.invariant.turns
+
+pub entry-requires : goal.entry-requires
+entry-requires g c = let turn = (preparing g (goal.at.entry-requires g c).After-deref).turn in (turn.0, turn.1, turn.2)
+
+pub unreachable-requires : goal.unreachable-requires
+unreachable-requires g c =
+    let l = c.requires.may.lends in
+    full g (goal.at.unreachable-requires g c).After-deref l.0 l.1 c.in_default.ensures.full
+
+-- ---- it is stored
+
+module _ (g : Over) (c : After-frames g) where
+  abbrev d : After-deref g
+  d = (goal.at.prepare-requires g c).After-deref
+
+  abbrev x : Preparing
+  x = preparing g d
+
+  abbrev slot : ℕ
+  slot = c.in-Some.slot.0
+
+  abbrev now : Device
+  now = g.A.Adapter.device c.loop-place.adapter
+
+  abbrev s0 : ServerState
+  s0 = c.requires.may.lends.0
+
+  abbrev l0 : HasFoundPort s0 x.start x.first_book x.first_slots x.port x.mode x.found
+  l0 = c.requires.may.lends.1
+
+  takes : MayTakeSlot s0 x.port x.tasks x.turn.0 slot
+  takes = may_take g d s0 l0 slot c.in-Some.ensures.lowest
+
+  pub slot_small : slot < 32
+  slot_small = takes.small
+
+  pub queued : is_plain x.mode x.turn.0.entry.op ≡ false
+  queued = is_queued g d s0 l0 slot c.in-Some.ensures.lowest
+
+  abbrev pub t : SlotTask
+  t = record { slot = slot; task = task_of x.mode x.turn.0; frames = x.turn.0.frames }
+
+  pub made_is : ◌≡◌ {A = SlotTask} (record { slot = slot; task = record { op = c.entry.result.0.now.op; range = c.entry.result.0.now.range; queued = true }; frames = c.frames.result.now }) t
+  made_is = batching.task_made x s0 l0 (goes_on g d s0 l0) c.law_an_id_is_one_request.ensures.one c.entry.result.0.now c.entry.result.1.now.frames c.entry.ensures.held c.entry.ensures.id.0 queued slot c.frames.result.now c.frames.ensures.frames
+
+  pub grows : MayIssueTransfer x.port t.slot t.task t.frames now × ((new : Device) → StoresTransfer x.port t now new → IsBatchStored x.port (x.tasks ++ t ∷ []) x.start new)
+  grows = c.law_batches_grow.ensures.more x.port x.tasks t x.start now c.loop-place.invariant.batch.1
+      (subst (λ (v : Device). Rattle.refinement.specs.Driven.RelatesWith (AreUnused x.port.0 (x.tasks ++ t ∷ [])) v) l0.device_is (takes.agreed t refl))
+      takes.own slot_small (subst (λ (v : Device). slot ≤ v.cap / 256 % 32) l0.device_is takes.there)
+      (batching.fits x s0 l0 (goes_on g d s0 l0) queued slot (λ plain. takes.head (ap (λ (m : QueueMode). is_plain m x.turn.0.entry.op) l0.mode_is ∙ plain)))
+      (ap not queued)
+
+pub prepare-requires : goal.prepare-requires
+prepare-requires g c = record { may = subst (λ (u : SlotTask). MayIssueTransfer c.args.port u.slot u.task u.frames (g.A.Adapter.device c.loop-place.adapter)) (sym (made_is g c)) (grows g c).0 }
+
+pub issue-requires : goal.issue-requires
+issue-requires g c =
+    let x = preparing g (goal.at.issue-requires g c).After-deref in
+    let w = c.law_operations_change_what_is_due.ensures.waits x.mode x.book _ x.turn.4 in
+    (w.0, w.1, w.2 ∙ x.turn.2, w.3)
+
+pub with_bit-mask-requires : goal.with_bit-mask-requires
+with_bit-mask-requires g c = let small = slot_small g (goal.at.with_bit-mask-requires g c).After-frames in let same = c.from.ensures in omega (arith, small, same)
+
+pub loop-place-preserved : goal.loop-place-preserved
+loop-place-preserved g c =
+    let f = (goal.at.loop-place-preserved g c).After-frames in
+    let e = (goal.at.loop-place-preserved g c).After-deref in
+    let x = preparing g e in
+    let items = c.args.due.now.items in
+    let place = c.loop-place.place in
+    let task = t g f in
+    let later = c.issue.new.self in
+    let used = c.take.new.self in
+    let then = g.A.Adapter.device c.prepare.new.adapter in
+    let next = drop_more items place no_id (in_list g e) in
+    let ids_are : take place items ++ x.id ∷ [] ≡ take (place + 1) items = ap (λ (i : RequestId). take place items ++ i ∷ []) (id_is g e) ∙ sym (take_more items place no_id (in_list g e)) in
+    let used_is : used ≡ with_use x.slots c.in-Some.slot.0 (Some (use_for x.mode (sending.with_id x.id x.turn.0))) = c.in-Some.ensures.taken ∙ ap (λ (b : Rattle.std.proofs.Common.Bool). with_use x.slots c.in-Some.slot.0 (Some (record { id = x.id; queued = b }))) (sym (ap not (queued g f))) in
+    let turn : AreAllDueInOrder x.mode x.port (x.id ∷ drop (place + 1) items) (asks_of x.book) =
+    subst (λ (i : RequestId). AreAllDueInOrder x.mode x.port (i ∷ drop (place + 1) items) (asks_of x.book)) (sym (id_is g e))
+    (subst (λ (ids : List RequestId). AreAllDueInOrder x.mode x.port ids (asks_of x.book)) next c.loop-place.invariant.turns) in
+    record {
+      batch = (
+        x.tasks ++ task ∷ [],
+        (grows g f).1 then (subst (λ (u : SlotTask). StoresTransfer x.port u (g.A.Adapter.device c.loop-place.adapter) then) (made_is g f) c.prepare.ensures.stores),
+        c.law_batch_masks_grow.ensures.more x.tasks task c.loop-place.mask c.with_bit-mask.result c.loop-place.invariant.fits c.with_bit-mask.type_inv c.loop-place.invariant.batch.2
+            (subst (λ (n : ℕ). bit c.with_bit-mask.result n ≡ true) c.from.ensures c.with_bit-mask.ensures.set) (λ k small other. c.with_bit-mask.ensures.others k small (λ same. other (same ∙ c.from.ensures))),
+        λ s l. subst (λ (ids : List RequestId). PutsInSlots x.port ids (x.tasks ++ task ∷ []) s (with_port_slots s x.start later used x.port)) ids_are
+            (c.law_due_requests_get_slots.ensures.more s (batching.mid x s l) (with_port_slots s x.start later used x.port) x.port x.ids x.tasks x.id task (x.puts s l)
+            (batching.puts_it x s l c.in-Some.slot.0 (slot_small g f) c.in-Some.ensures.lowest later c.issue.ensures used used_is)),
+      );
+      turns = subst (λ (us : List Unanswered). AreAllDueInOrder x.mode x.port (drop (place + 1) items) us)
+          (sym (ap asks_of c.issue.ensures ∙ c.law_operations_change_what_is_due.ensures.issue x.book x.id)) turn.1;
+      many = ap length c.issue.ensures ∙ length-map x.book (update_if_id x.id issue) ∙ c.loop-place.invariant.many;
+      port = ap (λ (p : ServedPort). record p { slots = used }) c.loop-place.invariant.port;
+      fits = c.with_bit-mask.type_inv;
+      cost = let cost = c.prepare.ensures.cost in let before = c.loop-place.invariant.cost in omega (arith, cost, before);
+    }
+
+pub issue_all-requires : goal.issue_all-requires
+issue_all-requires g c = let b = c.loop-place.invariant.batch in record { stored = (g.A.Adapter.device c.args.adapter.now, b.0, b.1, b.2) }
+
+pub returns : goal.returns
+returns g c =
+    let items = c.args.due.now.items in
+    let port = c.args.port in
+    let self = c.args.self.now in
+    let b = c.loop-place.invariant.batch in
+    let start = g.A.Adapter.device c.args.adapter.now in
+    let then = g.A.Adapter.device c.issue_all.new.adapter in
+    let low = c.loop-place-test.false in
+    let end = c.len-place-end.ensures.value in
+    let whole : take c.loop-place.place items ≡ items = take_all c.loop-place.place items (omega (arith, low, end)) in
+    let many = ap length c.requires.due in
+    let as_long = length-map (due_of self.mode port (asks_of c.args.book.now)) (λ r. r.id) in
+    let several = c.requires.several in
+    record {
+      issues = λ s l.
+          let after : ServerState = with_port_slots s then c.loop-place.book c.loop-place.self.slots port in
+          let together : IssuesTogether port items s after = record {
+            tasks = b.0;
+            taken = with_port_slots s start c.loop-place.book c.loop-place.self.slots port;
+            puts = subst (λ (ids : List RequestId). PutsInSlots port ids b.0 s (with_port_slots s start c.loop-place.book c.loop-place.self.slots port)) whole (b.3 s l);
+            issued = subst (λ (d : Device). IsBatchIssued port b.0 d then) (sym l.device_is) (c.issue_all.ensures.issued start b.0 b.1 b.2);
+            server = refl;
+          } in
+          let M : QueueMode → Type 0 = λ mode. IssuesBatchOf port (due_ids mode port (asks_of s.book)) s after in
+          subst M (sym l.mode_is) (subst (λ (ids : List RequestId). IssuesBatchOf port ids s after)
+          (c.requires.due ∙ ap (λ (book : List BookEntry). due_ids self.mode port (asks_of book)) (sym l.book_is)) (batching.as_batch port items s after several together));
+      rest = c.loop-place.invariant.port;
+      as_many = c.loop-place.invariant.many;
+      none = λ none. absurd (let least : length (due_of self.mode port (asks_of c.args.book.now)) ≡ 0 = ap length none in omega (arith, least, many, as_long, several));
+      each = let cost = c.issue_all.ensures.cost in let before = c.loop-place.invariant.cost in omega (arith, low, end, many, as_long, several, cost, before);
+      cost = search rules;
+    }

@@ -1,0 +1,9 @@
+use Rattle.refinement.proofs.driver.OwnSteps.{disarm_knows}
+use Rattle.refinement.proofs.device.ClearSactBits.{free_unarmed}
+use Rattle.refinement.proofs.laws.law_slots_are_disarmed.Goals as goal
+
+pub returns-clause-disarmed : goal.returns-clause-disarmed
+returns-clause-disarmed c = disarm_knows
+
+pub returns-clause-free : goal.returns-clause-free
+returns-clause-free c = free_unarmed

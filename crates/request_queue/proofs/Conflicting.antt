@@ -1,0 +1,121 @@
+-- What the book's changes make of the lists of conflicts.
+use Rattle.std.proofs.Common.{◌≡◌, ◌<◌, ◌∷◌, [], ℕ, zero, suc, Bool, true, false, cond, ◌&&◌, List, Some, None, length, map, refl, sym, ap, ◌∙◌, subst, arith, inl, inr}
+use Rattle.std.specs.List.{Contains, remove, slice_get}
+use Rattle.std.proofs.lemmas.Bool.{and_parts, false_from_ne_true}
+use Rattle.std.proofs.lemmas.List.{length-map}
+use Rattle.std.proofs.lemmas.Option.{slice_get_within, get_or_from_slice_get}
+use Rattle.ata_types.specs.declared.request.RequestId.{RequestId}
+use Rattle.block_machine.specs.declared.due.Unanswered.{Unanswered}
+use Rattle.request_queue.specs.declared.flushes.Flush.{Flush}
+use Rattle.request_queue.specs.declared.ranges.BookRange.{BookRange}
+use Rattle.request_queue.specs.Conflicts.{AreConflictLists, ConflictLists}
+use Rattle.request_queue.specs.Entries.{BookEntry, asks, asks_of, update_if_id, issue, requeued_entry}
+use Rattle.request_queue.specs.Flushes.{flushes_of}
+use Rattle.request_queue.specs.Holders.{IsHolderOf, may_have_holder, may_hold}
+use Rattle.request_queue.specs.Sectors.{AreIndexed}
+use Rattle.request_queue.proofs.Flushing.{issued_flushes, requeued_flushes}
+use Rattle.request_queue.proofs.Holding.{holds_earlier}
+use Rattle.request_queue.proofs.Indexing.{issued_indexed, requeued_indexed}
+use Rattle.request_queue.proofs.Members.{contains_none, contains_cases}
+use Rattle.request_queue.proofs.Unheld.{one_found}
+
+-- ---- by whether the one request isn't listed
+
+pub when_lone : (book : List Unanswered) (lists : ConflictLists) → AreConflictLists book lists → lists.lone ≡ true
+    → AreIndexed [] lists.sectors × (lists.flushes ≡ []) × (length book ≡ 1)
+when_lone book lists are is = (
+  subst (λ (b : Bool). AreIndexed (cond b [] book) lists.sectors) is are.indexed,
+  subst (λ (b : Bool). lists.flushes ≡ flushes_of (cond b [] book)) is are.listed,
+  are.alone is,
+)
+
+pub when_listed : (book : List Unanswered) (lists : ConflictLists) → AreConflictLists book lists → lists.lone ≡ false
+    → AreIndexed book lists.sectors × (lists.flushes ≡ flushes_of book)
+when_listed book lists are is = (
+  subst (λ (b : Bool). AreIndexed (cond b [] book) lists.sectors) is are.indexed,
+  subst (λ (b : Bool). lists.flushes ≡ flushes_of (cond b [] book)) is are.listed,
+)
+
+pub all_listed : (book : List Unanswered) (sectors : List (List BookRange)) (flushes : List Flush) → AreIndexed book sectors → flushes ≡ flushes_of book
+    → AreConflictLists book (record { sectors = sectors; flushes = flushes; lone = false })
+all_listed book sectors flushes indexed listed = record { indexed = indexed; listed = listed; alone = λ is. cc }
+
+pub flag_down : (book : List Unanswered) (sectors : List (List BookRange)) (flushes : List Flush) (lone : Bool) → lone ≡ false → AreIndexed book sectors → flushes ≡ flushes_of book
+    → AreConflictLists book (record { sectors = sectors; flushes = flushes; lone = lone })
+flag_down book sectors flushes lone is indexed listed =
+    subst (λ (b : Bool). AreConflictLists book (record { sectors = sectors; flushes = flushes; lone = b })) (sym is) (all_listed book sectors flushes indexed listed)
+
+-- one comes into an empty book
+pub first_comes : (lists : ConflictLists) (r : Unanswered) → AreConflictLists [] lists
+    → AreConflictLists (r ∷ []) (record { sectors = lists.sectors; flushes = lists.flushes; lone = true })
+first_comes lists r are =
+    let all = when_listed [] lists are (false_from_ne_true lists.lone (λ is. let one : ◌≡◌ {A = ℕ} 0 1 = are.alone is in omega (arith, one))) in
+    record { indexed = all.0; listed = all.1; alone = λ _. refl }
+
+pub in_book : (book : List Unanswered) (place : ℕ) (r : Unanswered) → slice_get book place ≡ Some r → Contains book r
+in_book book place r at = (place, slice_get_within book place r at, get_or_from_slice_get book place r r at)
+
+-- ---- one request
+
+nothing_left : (book : List Unanswered) (place : ℕ) → length book ≡ 1 → place < length book → remove book place ≡ []
+nothing_left [] place one lt = absurd (let none : ◌≡◌ {A = ℕ} 0 1 = one in omega (arith, none))
+nothing_left (r ∷ []) zero one lt = refl
+nothing_left (r ∷ []) (suc place) one lt = absurd (let low : suc place < 1 = lt in omega (arith, low))
+nothing_left (r ∷ s ∷ book) place one lt = absurd (let two : suc (suc (length book)) ≡ 1 = one in omega (arith, two))
+
+-- it is answered
+pub lone_taken : (book : List Unanswered) (lists : ConflictLists) (place : ℕ) → AreConflictLists book lists → lists.lone ≡ true → place < length book
+    → AreConflictLists (remove book place) (record { sectors = lists.sectors; flushes = lists.flushes; lone = false })
+lone_taken book lists place are is lt =
+    let all = when_lone book lists are is in
+    subst (λ (left : List Unanswered). AreConflictLists left (record { sectors = lists.sectors; flushes = lists.flushes; lone = false })) (sym (nothing_left book place all.2 lt))
+    (all_listed [] lists.sectors lists.flushes all.0 all.1)
+
+the_same : (book : List Unanswered) (r o : Unanswered) → length book ≡ 1 → Contains book r → Contains book o → o ≡ r
+the_same [] r o one there other = absurd (let none : ◌≡◌ {A = ℕ} 0 1 = one in omega (arith, none))
+the_same (x ∷ []) r o one there other = elim (contains_cases x [] r there) [
+  | inl e ↦ elim (contains_cases x [] o other) [ inl f ↦ f ∙ sym e | inr none ↦ absurd (contains_none o none) ]
+  | inr none ↦ absurd (contains_none r none)
+]
+the_same (x ∷ y ∷ book) r o one there other = absurd (let two : suc (suc (length book)) ≡ 1 = one in omega (arith, two))
+
+-- none holds it
+pub lone_is_free : (book : List Unanswered) (r : Unanswered) → length book ≡ 1 → Contains book r → IsHolderOf book r None
+lone_is_free book r one there = false_from_ne_true _ (λ held.
+    let o = one_found (may_hold r) book (and_parts (may_have_holder r) _ held).1 in
+    let earlier = holds_earlier r o.0 o.2 in
+    let same = ap (λ (x : Unanswered). x.id.0) (the_same book r o.0 one there o.1) in
+    omega (arith, earlier, same))
+
+none_both : (b : Bool) → (b && false) ≡ false
+none_both true = refl
+none_both false = refl
+
+pub no_others : (book : List Unanswered) (r : Unanswered) → book ≡ [] → IsHolderOf book r None
+no_others book r none = subst (λ (all : List Unanswered). IsHolderOf all r None) (sym none) (none_both (may_have_holder r))
+
+pub empty_is : (book : List Unanswered) → length book ≡ 0 → book ≡ []
+empty_is [] e = refl
+empty_is (r ∷ book) e = absurd (let some : suc (length book) ≡ 0 = e in omega (arith, some))
+
+-- ---- a change of requests that leaves their sectors, and which are flushes
+
+module _ (book later : List Unanswered) (indexed : (lists : List (List BookRange)) → AreIndexed book lists → AreIndexed later lists)
+    (listed : (flushes : List Flush) → flushes ≡ flushes_of book → flushes ≡ flushes_of later) (same : length later ≡ length book) where
+  by_lone : (b : Bool) (sectors : List (List BookRange)) (flushes : List Flush) → AreConflictLists book (record { sectors = sectors; flushes = flushes; lone = b })
+      → AreConflictLists later (record { sectors = sectors; flushes = flushes; lone = b })
+  by_lone true sectors flushes are = record { indexed = are.indexed; listed = are.listed; alone = λ is. same ∙ are.alone is }
+  by_lone false sectors flushes are = record { indexed = indexed sectors are.indexed; listed = listed flushes are.listed; alone = λ is. cc }
+
+  pub lists_stay : (lists : ConflictLists) → AreConflictLists book lists → AreConflictLists later lists
+  lists_stay lists are = by_lone lists.lone lists.sectors lists.flushes are
+
+as_many : (f : BookEntry → BookEntry) (es : List BookEntry) → length (asks_of (map f es)) ≡ length (asks_of es)
+as_many f es = length-map (map f es) (λ (x : BookEntry). asks x.entry) ∙ (length-map es f ∙ sym (length-map es (λ (x : BookEntry). asks x.entry)))
+
+pub issued_lists : (es : List BookEntry) (id : RequestId) (lists : ConflictLists) → AreConflictLists (asks_of es) lists → AreConflictLists (asks_of (map (update_if_id id issue) es)) lists
+issued_lists es id = lists_stay (asks_of es) (asks_of (map (update_if_id id issue) es)) (issued_indexed es id) (issued_flushes es id) (as_many (update_if_id id issue) es)
+
+pub requeued_lists : (es : List BookEntry) (id : RequestId) (lists : ConflictLists) → AreConflictLists (asks_of es) lists
+    → AreConflictLists (asks_of (map (update_if_id id requeued_entry) es)) lists
+requeued_lists es id = lists_stay (asks_of es) (asks_of (map (update_if_id id requeued_entry) es)) (requeued_indexed es id) (requeued_flushes es id) (as_many (update_if_id id requeued_entry) es)

@@ -1,0 +1,130 @@
+// What tells which of the unanswered requests conflict: their sectors, and their flushes.
+ghost use Rattle.std.specs.Prelude.{◌≡◌, ◌<◌, ◌≤◌, ◌++◌, ◌∷◌, [], length, remove, false, true, All, Contains, IfOk, List, vec_capacity};
+ghost use Rattle.block_machine.specs.declared.due.Unanswered.{Unanswered};
+ghost use Rattle.request_queue.specs.Conflicts.{AreConflictLists};
+ghost use Rattle.request_queue.specs.Entries.{BookIsInOrder, asks_of};
+ghost use Rattle.request_queue.specs.Flushes.{flushes_of};
+ghost use Rattle.request_queue.specs.Holders.{IsHolderOf};
+ghost use Rattle.request_queue.specs.Sectors.{AreIndexed};
+
+use crate::flushes::{Flush, add_flush, no_flushes, take_flush};
+use crate::holder::Holder;
+use crate::holders::holder_of;
+use crate::ranges::Ranges;
+use crate::sectors::{add_sectors, no_sectors, take_sectors};
+use crate::store::RequestSlab;
+use ata_types::{MOST_UNANSWERED, PORTS};
+use block_machine::Unanswered;
+use std::alloc::{AllocError, Global};
+use std::marker::Model;
+
+/// The lists that tell which requests of a book conflict. A request that comes into an empty book is listed once
+/// another comes: mostly it is answered before.
+#[derive(Drop)]
+pub struct Conflicts {
+    /// The sectors of the requests, port by port.
+    sectors: [Ranges; PORTS],
+    /// The flushes of all ports, in order of acceptance. A flush has no sectors, and conflicts all the same.
+    flushes: Vec<Flush>,
+    /// Whether there is one request, which isn't listed.
+    lone: bool,
+}
+
+impl Model for Conflicts {
+    ghost use Rattle.std.specs.Prelude.{◌≤◌, vec_capacity};
+    ghost use Rattle.ata_types.specs.declared.limits.TheConstants.{MOST_UNANSWERED};
+    ghost use Rattle.request_queue.specs.Conflicts.{ConflictLists};
+
+    ghost Value = { ConflictLists };
+
+    ghost view = { λ c. record { sectors = c.sectors; flushes = c.flushes.items; lone = c.lone } };
+
+    ghost invariant = { λ c. MOST_UNANSWERED ≤ vec_capacity c.flushes };
+}
+
+impl Conflicts {
+    /// Lists of no requests. No other call takes memory.
+    pub fn new(alloc: Global) -> Result<Self, AllocError>
+        ensures { IfOk result (λ lists. AreConflictLists [] lists) }
+    {
+        let sectors = no_sectors(alloc)?;
+        let flushes = no_flushes(alloc)?;
+        Ok(Conflicts {
+            sectors,
+            flushes,
+            lone: false,
+        })
+    }
+
+    /// The holder of a request of the book.
+    pub fn holder(&self, request: &Unanswered) -> Holder
+        ensures { (book : List Unanswered) → AreConflictLists book self.now → Contains book request.now
+            → IsHolderOf book request.now result }
+    {
+        if self.lone {
+            return Holder::nobody();
+        }
+        holder_of(&self.sectors, self.flushes.as_slice(), request)
+    }
+
+    /// Lists a request, before it is put into the store, and tells its holder. None holds one that comes into an empty
+    /// book, and that isn't listed yet.
+    pub fn add(&mut self, store: &RequestSlab, request: &Unanswered) -> Holder
+        requires lists { AreConflictLists (asks_of store.now) self.old }
+        requires room { length store.now < MOST_UNANSWERED }
+        requires newest { All (λ r. r.id.0 < request.now.id.0) (asks_of store.now) }
+        ensures lists { AreConflictLists (asks_of store.now ++ request.now ∷ []) self.new }
+        ensures holder { IsHolderOf (asks_of store.now) request.now result }
+    {
+        if store.len() == 0 {
+            self.lone = true;
+            return Holder::nobody();
+        }
+        self.list_first(store);
+        let holder = holder_of(&self.sectors, self.flushes.as_slice(), request);
+        list_last(&mut self.sectors, &mut self.flushes, request);
+        holder
+    }
+
+    /// Lists the one request that isn't listed, if there is one.
+    fn list_first(&mut self, store: &RequestSlab)
+        requires { AreConflictLists (asks_of store.now) self.old }
+        ensures lists { AreConflictLists (asks_of store.now) self.new }
+        ensures listed { self.new.lone ≡ false }
+    {
+        if self.lone {
+            self.lone = false;
+            list_last(&mut self.sectors, &mut self.flushes, &store.asks(0));
+        }
+    }
+
+    /// Takes the request at a place out of the lists, before it is taken out of the store.
+    pub fn take(&mut self, store: &RequestSlab, place: usize)
+        requires lists { AreConflictLists (asks_of store.now) self.old }
+        requires ordered { BookIsInOrder store.now }
+        requires place { place < length store.now }
+        ensures { AreConflictLists (remove (asks_of store.now) place) self.new }
+    {
+        if self.lone {
+            self.lone = false;
+            return;
+        }
+        let request = store.request(place);
+        take_sectors(&mut self.sectors, store, place);
+        take_flush(&mut self.flushes, request.id);
+    }
+}
+
+/// Puts a request last into the lists.
+fn list_last(sectors: &mut [Ranges; PORTS], flushes: &mut Vec<Flush>, request: &Unanswered)
+    requires fits { (book : List Unanswered) × AreIndexed book sectors.old × (flushes.old.items ≡ flushes_of book)
+        × (length book < MOST_UNANSWERED) × All (λ r. r.id.0 < request.now.id.0) book }
+    requires room { MOST_UNANSWERED ≤ vec_capacity flushes.old }
+    ensures sectors { (book : List Unanswered) → AreIndexed book sectors.old
+        → All (λ r. r.id.0 < request.now.id.0) book → AreIndexed (book ++ request.now ∷ []) sectors.new }
+    ensures flushes { flushes.new.items ≡ flushes.old.items ++ flushes_of (request.now ∷ []) }
+    ensures room { vec_capacity flushes.new ≡ vec_capacity flushes.old }
+{
+    add_sectors(sectors, request);
+    add_flush(flushes, request);
+}

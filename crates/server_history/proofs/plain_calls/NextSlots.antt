@@ -1,0 +1,130 @@
+-- The slot that a due request finds, after others were put in theirs.
+use Rattle.std.proofs.Common.{ℕ, ◌≡◌, ⊎_elim, inl, inr, ◌<◌, ◌≤◌, ◌/◌, ◌%◌, true, false, List, [], ◌∷◌, None, Option, Some, refl, sym, ap, ◌∙◌, subst, arith}
+use Rattle.std.specs.List.{All, Contains}
+use Rattle.std.proofs.lemmas.Bool.{cases_Bool}
+use Rattle.std.proofs.lemmas.List.Elements.{All-append, All-cons, All-contains, All-nil, All-weaker}
+use Rattle.ata_types.specs.declared.Port.{Port}
+use Rattle.ata_types.specs.declared.PortState.TheVariants.{Ready as ReadyState}
+use Rattle.ata_types.specs.declared.request.RequestId.{RequestId}
+use Rattle.block_machine.specs.Due.{IsDue, is_plain}
+use Rattle.command_table.specs.Written.{IsUnused}
+use Rattle.commands.specs.Batches.{SlotTask}
+use Rattle.host_boot.specs.Taken.{probe_result_of}
+use Rattle.refinement.specs.Driven.{RelatesWith}
+use Rattle.refinement.specs.Slots.{Free}
+use Rattle.request_queue.specs.Entries.{BookEntry, asks, asks_of}
+use Rattle.slots.specs.Uses.{IsLowestFree, IsTaken}
+use Rattle.slots.specs.declared.SlotUse.{SlotUse}
+use Rattle.server_history.specs.Below.{LawsBelow}
+use Rattle.server_history.specs.Served.{LeavesBookInOrder, MayTakeSlot, PutsInSlots}
+use Rattle.server_history.specs.Server.{InCallInvariant, ServerState, mode_in, slots_at, state_of, used_for}
+use Rattle.server_history.proofs.plain_calls.RequestsInSlots.{BookAndSlotsInvariant, IsUsedFor, book_and_slots, due_ready, lowest_head, lowest_small, lowest_usable, never_full, none_beside, puts_free, puts_keep, puts_settings, puts_there, puts_still_used}
+use Rattle.server_history.proofs.state.FirstMembers.{first_here}
+use Rattle.server_history.proofs.state.PortSlots.{free_unused, its_mode, used_or_not}
+
+-- a list that isn't empty has a first member
+some_first : {X : Type 0} (xs : List X) → (xs ≡ [] → ⊥) → (x : X) × Contains xs x
+some_first [] none = absurd (none refl)
+some_first (x ∷ xs) some = (x, first_here x xs)
+
+-- what isn't used now wasn't before
+free_before : (was now : Option SlotUse) → ((used : SlotUse) → was ≡ Some used → now ≡ Some used) → now ≡ None → was ≡ None
+free_before was now still none = ⊎_elim
+    (λ (x : (used : SlotUse) × (was ≡ Some used)). let z : None ≡ Some x.0 = sym none ∙ still x.0 x.1 in absurd cc)
+    (λ (free : was ≡ None). free)
+    (used_or_not was)
+
+-- ---- after others
+
+module _ (laws : LawsBelow) (s mid : ServerState) (port : Port) (ids : List RequestId) (tasks : List SlotTask) (k : InCallInvariant s) (puts : PutsInSlots port ids tasks s mid) where
+  was : BookAndSlotsInvariant s
+  was = book_and_slots laws s k
+
+  now : BookAndSlotsInvariant mid
+  now = puts_keep laws port ids tasks s mid was puts
+
+  settings : mid ≡ record s { slots = mid.slots; book = mid.book }
+  settings = puts_settings laws port ids tasks s mid puts
+
+  pub leaves_in_order : LeavesBookInOrder s mid
+  leaves_in_order =
+      let then_is = subst BookAndSlotsInvariant settings now in
+      record { settings = settings; four = then_is.four; slots = then_is.slots; ordered = then_is.ordered; accepted = then_is.accepted }
+
+  module _ (request : BookEntry) (here : Contains mid.book request) (port_is : request.entry.port ≡ port) (due : IsDue (mode_in mid port) (asks_of mid.book) (asks request.entry)) where
+    mode_same : mode_in mid port ≡ mode_in s port
+    mode_same = ap (λ (n : ServerState). mode_in n port) settings
+
+    ready : state_of (probe_result_of s.ports port.0) ≡ ReadyState
+    ready = ap (λ (n : ServerState). state_of (probe_result_of n.ports port.0)) (sym settings) ∙ due_ready mid port now request here port_is due
+
+    -- the slot of each task is used as it
+    used : All (IsUsedFor port mid) tasks
+    used = puts_there laws port ids tasks s mid was puts
+
+    -- so where there is one, this one is queued, and all are
+    pub all_queued : (tasks ≡ [] → ⊥) → (is_plain (mode_in s port) request.entry.op ≡ false) × All (λ t. t.task.queued ≡ true) tasks
+    all_queued some = (
+      ⊎_elim
+          (λ (plain : is_plain (mode_in s port) request.entry.op ≡ true).
+          let t = some_first tasks some in
+          let u = All-contains (IsUsedFor port mid) tasks t.0 used t.1 in
+          absurd (none_beside mid port now request here port_is due t.0.slot u.0 u.1 (inl (ap (λ m. is_plain m request.entry.op) mode_same ∙ plain))))
+          (λ (queued : is_plain (mode_in s port) request.entry.op ≡ false). queued)
+          (cases_Bool (is_plain (mode_in s port) request.entry.op)),
+      All-weaker (IsUsedFor port mid) (λ t. t.task.queued ≡ true)
+          (λ t u. ⊎_elim
+          (λ (queued : t.task.queued ≡ true). queued)
+          (λ (plain : t.task.queued ≡ false). absurd (none_beside mid port now request here port_is due t.slot u.0 u.1 (inr (u.2 ∙ plain))))
+          (cases_Bool t.task.queued))
+          tasks used,
+    )
+
+    pub next_free : ((slot : ℕ) → slot < (slots_at mid.slots port.0).usable → IsTaken (slots_at mid.slots port.0) slot) → ⊥
+    next_free = never_full mid port now request here port_is due
+
+    pub may_take : (slot : ℕ) → IsLowestFree (slots_at mid.slots port.0) slot → MayTakeSlot s port tasks request slot
+    may_take slot lowest = record {
+      usable = small;
+      small = lowest_small mid port now request here port_is due slot lowest;
+      there = (let few = (its_mode s port.0 k (was.modes port.0 ready).0).1 in omega (arith, few, small));
+      head = λ plain. lowest_head mid port now request here port_is due slot lowest (ap (λ m. is_plain m request.entry.op) mode_same ∙ plain);
+      own = λ (t, there, its).
+          let u = All-contains (IsUsedFor port mid) tasks t used there in
+          let z : None ≡ Some u.0 = sym lowest.1 ∙ ap (λ (n : ℕ). used_for mid.slots port.0 n) (sym its) ∙ u.1 in cc;
+      agreed = λ t its. (
+        k.stands.uses,
+        All-append (λ x. k.stands.uses port.0 x.slot ≡ Free) tasks (t ∷ [])
+            (All-weaker (λ x. used_for s.slots port.0 x.slot ≡ None) (λ x. k.stands.uses port.0 x.slot ≡ Free) (λ x none. free_unused s k.machine port.0 k.stands ready x.slot none) tasks (puts_free laws port ids tasks s mid was puts))
+            (All-cons (λ x. k.stands.uses port.0 x.slot ≡ Free) t [] (free_unused s k.machine port.0 k.stands ready t.slot (ap (λ (n : ℕ). used_for s.slots port.0 n) its ∙ unused)) (All-nil (λ x. k.stands.uses port.0 x.slot ≡ Free))),
+        record { machine = k.machine; parked = k.stands.parked; reached = k.reached; knows = k.stands.knows },
+      );
+    }
+      where
+        small : slot < (mode_in s port).usable
+        small = subst (λ m. slot < m.usable) mode_same (lowest_usable mid port now request here port_is due slot lowest)
+
+        unused : used_for s.slots port.0 slot ≡ None
+        unused = free_before (used_for s.slots port.0 slot) (used_for mid.slots port.0 slot) (λ u is. puts_still_used laws port ids tasks s mid was puts port.0 slot u is) lowest.1
+
+-- ---- after none
+
+module _ (laws : LawsBelow) (s : ServerState) (request : BookEntry) (k : InCallInvariant s) (here : Contains s.book request) (due : IsDue (mode_in s request.entry.port) (asks_of s.book) (asks request.entry)) where
+  abbrev its_port : Port
+  its_port = request.entry.port
+
+  pub due_never_full : ((slot : ℕ) → slot < (slots_at s.slots its_port.0).usable → IsTaken (slots_at s.slots its_port.0) slot) → ⊥
+  due_never_full = next_free laws s s its_port [] [] k refl request here refl due
+
+  pub due_may : (slot : ℕ) → IsLowestFree (slots_at s.slots its_port.0) slot
+      → (slot < (mode_in s its_port).usable) × (slot < 32) × (slot ≤ s.device.cap / 256 % 32) × (is_plain (mode_in s its_port) request.entry.op ≡ true → slot ≡ 0) × RelatesWith (IsUnused its_port.0 slot) s.device
+  due_may slot lowest = (
+    may.usable,
+    may.small,
+    may.there,
+    may.head,
+    (k.stands.uses, free_unused s k.machine its_port.0 k.stands (due_ready s its_port (book_and_slots laws s k) request here refl due) slot lowest.1, record { machine = k.machine; parked = k.stands.parked; reached = k.reached; knows = k.stands.knows }),
+  )
+    where
+      may : MayTakeSlot s its_port [] request slot
+      may = may_take laws s s its_port [] [] k refl request here refl due slot lowest
